@@ -1,0 +1,9 @@
+//! Worked examples through the whole store. It has no code of its own.
+#![tactic(auto)]
+
+#[cfg(test)]
+mod answers;
+#[cfg(test)]
+mod fixtures;
+#[cfg(test)]
+mod refusals;

@@ -1,0 +1,11 @@
+pub mod Blocks
+pub mod Elsewhere
+pub mod Epochs
+pub mod Greatest
+pub mod Made
+pub mod Parts
+pub mod Published
+pub mod SlotFrames
+pub mod SlotImages
+pub mod Windows
+pub mod Within

@@ -1,0 +1,5 @@
+pub mod Extents
+pub mod Outside
+pub mod Publication
+pub mod Slots
+pub use Rattle.disk_model.specs.Disk

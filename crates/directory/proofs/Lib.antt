@@ -1,0 +1,6 @@
+pub mod Spelled
+pub mod Fitting
+pub mod Jumps
+pub mod Written
+pub mod Reading
+pub mod Adding

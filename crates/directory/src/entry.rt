@@ -1,0 +1,51 @@
+ghost use Rattle.std.specs.Prelude.{◌≡◌, ◌↔◌, ◌<◌, ◌^◌};
+
+use blocks::{BLOCK_LIMIT, Extent};
+
+/// The first block that a segment may lie in: the four before it hold the two slots.
+pub(crate) const DATA_START: u32 = 4;
+
+/// A segment: where it lies, and how many rows it holds.
+#[derive(Clone, Copy, Debug, PartialEq, Eq)]
+pub struct Entry {
+    /// Its first block.
+    pub first: u32,
+    pub bytes: u32,
+    pub rows: u32,
+}
+
+impl Entry {
+    ghost use Rattle.std.specs.Prelude.{IsTrue};
+    ghost use Rattle.directory.specs.Places.{extent_of};
+    ghost use Rattle.directory.specs.Listings.{IsEntry};
+
+    /// Where it lies.
+    pub fn extent(self) -> Extent
+        ensures { result ≡ extent_of self }
+    {
+        Extent {
+            first: self.first,
+            bytes: self.bytes,
+        }
+    }
+
+    /// Whether a directory may list it, as far as it goes by itself.
+    pub(crate) fn is_allowed(self) -> bool
+        ensures { IsTrue result ↔ IsEntry self }
+    {
+        self.first >= DATA_START
+            && self.bytes > 0
+            && self.rows > 0
+            && end_of(self.extent()) <= u64::from(BLOCK_LIMIT)
+    }
+}
+
+ghost use Rattle.directory.specs.Places.{end_block};
+
+/// The block behind an extent's last one.
+pub(crate) fn end_of(extent: Extent) -> u64
+    ensures end { result ≡ end_block extent }
+    ensures fits { result < 2 ^ 33 }
+{
+    u64::from(extent.first) + u64::from(extent.blocks())
+}

@@ -1,0 +1,62 @@
+ghost use Rattle.std.specs.Prelude.{◌≡◌, ◌↔◌, ◌+◌, ◌<◌, ◌^◌, ℕ, IsErr, IfOk, MatchResult, Some, None};
+ghost use Rattle.std.specs.List.{find};
+ghost use Rattle.directory.specs.Places.{taken};
+ghost use Rattle.directory.specs.Fit.{fit, meets, IsFit, IsFree};
+
+use crate::entry::{DATA_START, Entry, end_of};
+use blocks::{BLOCK_LIMIT, Extent};
+use thiserror::Error;
+
+/// There is no room.
+#[derive(Clone, Copy, Debug, PartialEq, Eq, Error)]
+#[error("no run of free blocks is long enough")]
+pub struct Full;
+
+/// Whether one of so many blocks from `first` on is one of the extent's.
+fn is_met(first: u64, blocks: u64, extent: Extent) -> bool
+    requires { first + blocks < 2 ^ 64 }
+    ensures { result ≡ meets first blocks extent }
+{
+    first.max(u64::from(extent.first)) < (first + blocks).min(end_of(extent))
+}
+
+/// An extent that is taken and has one of so many blocks from `first` on.
+pub(crate) fn extent_met(
+    first: u64,
+    blocks: u64,
+    live: &[Entry],
+    reserved: Option<Extent>,
+) -> Option<Extent>
+    requires { first + blocks < 2 ^ 64 }
+    ensures { result ≡ find (meets first blocks) (taken live.now reserved) }
+{
+    for entry in live {
+        let extent = entry.extent();
+        if is_met(first, blocks, extent) {
+            return Some(extent);
+        }
+    }
+    match reserved {
+        Some(extent) if is_met(first, blocks, extent) => Some(extent),
+        _ => None,
+    }
+}
+
+/// The least place where a segment of so many blocks shares no block with those that are live or reserved.
+pub fn first_fit(blocks: u32, live: &[Entry], reserved: Option<Extent>) -> Result<u32, Full>
+    ensures fit { MatchResult result (λ first. fit blocks live.now reserved ≡ Some first) (λ _. fit blocks live.now reserved ≡ None) }
+    ensures least { IfOk result (IsFit blocks (taken live.now reserved)) }
+    ensures full { IsErr result ↔ ((first : ℕ) → IsFree blocks (taken live.now reserved) first → ⊥) }
+{
+    let count = u64::from(blocks);
+    let mut first = u64::from(DATA_START);
+    // Each round passes the end of an extent that it never meets again.
+    'jumps: while let Some(extent) = extent_met(first, count, live, reserved) {
+        first = end_of(extent);
+    }
+    if first + count <= u64::from(BLOCK_LIMIT) {
+        Ok(first as u32)
+    } else {
+        Err(Full)
+    }
+}

@@ -1,0 +1,145 @@
+ghost use Rattle.std.specs.Prelude.{◌≡◌, ◌+◌, ◌-◌, ◌≤◌, ◌<◌, ◌^◌, ◌++◌, [], length, replicate, IfOk, MatchResult};
+
+use crate::decoding::{read_entries, split_header};
+use crate::encoding::{write_entries, write_header};
+use crate::entry::Entry;
+use std::alloc::{AllocError, Global};
+use std::marker::Model;
+use thiserror::Error;
+
+/// A directory lists no more entries than this.
+pub const MOST_ENTRIES: usize = 128;
+
+/// The epoch, the number of imports and where the segments lie. It always is what a content block may list, and has room for the most entries.
+#[derive(Drop)]
+pub struct Directory {
+    pub epoch: u64,
+    pub imports: u32,
+    entries: Vec<Entry>,
+}
+
+impl Model for Directory {
+    ghost use Rattle.std.specs.Prelude.{vec_capacity, ◌≤◌};
+    ghost use Rattle.directory.specs.Listings.{Listing, IsListing};
+
+    ghost Value = { Listing };
+
+    ghost view = { λ d. record { epoch = d.epoch; imports = d.imports; entries = d.entries.items } };
+
+    ghost invariant = { λ d. record { is : IsListing (record { epoch = d.epoch; imports = d.imports; entries = d.entries.items }); room : 128 ≤ vec_capacity d.entries } };
+}
+
+/// Why a content block gives no directory.
+#[derive(Clone, Copy, Debug, PartialEq, Eq, Error)]
+pub enum DirectoryFault {
+    #[error("out of memory")]
+    OutOfMemory,
+    #[error("the block lists no directory")]
+    BadDirectory,
+}
+
+impl From<AllocError> for DirectoryFault {
+    ghost use Rattle.std.specs.Prelude.{◌≡◌};
+    ghost use Rattle.directory.specs.declared.listing.DirectoryFault.TheVariants.{OutOfMemory};
+
+    ghost from_gives = { λ _ e. e ≡ OutOfMemory };
+
+    fn from(_: AllocError) -> Self {
+        DirectoryFault::OutOfMemory
+    }
+}
+
+impl Directory {
+    ghost use Rattle.directory.specs.Listings.{Listing, IsListing, with_entry, with_two_replaced};
+    ghost use Rattle.directory.specs.Content.{Lists, listing_bytes};
+    ghost use Rattle.directory.specs.declared.listing.DirectoryFault.TheVariants as faults;
+
+    /// The directory of a new store: epoch 1, no imports, no entries.
+    pub fn new(alloc: Global) -> Result<Directory, AllocError>
+        ensures { IfOk result (λ d. d ≡ record { epoch = 1; imports = 0; entries = [] }) }
+    {
+        let entries = Vec::with_capacity(alloc, MOST_ENTRIES)?;
+        Ok(Directory {
+            epoch: 1,
+            imports: 0,
+            entries,
+        })
+    }
+
+    /// The directory that a content block lists. What stands behind the last entry isn't read.
+    pub fn decode(alloc: Global, block: &[u8; 4096]) -> Result<Directory, DirectoryFault>
+        ensures found { IfOk result (λ d. Lists block.now d) }
+        // A block that lists something is never refused as bad.
+        ensures only { (d : Listing) → Lists block.now d → MatchResult result (λ found. found ≡ d) (λ e. e ≡ faults.OutOfMemory) }
+    {
+        let Some((header, rest)) = split_header(block) else {
+            return Err(DirectoryFault::BadDirectory);
+        };
+        let entries = read_entries(alloc, rest, header.count)?;
+        Ok(Directory {
+            epoch: header.epoch,
+            imports: header.imports,
+            entries,
+        })
+    }
+
+    /// Writes the content block that lists it.
+    pub fn encode(&self, block: &mut [u8; 4096])
+        ensures lists { Lists block.new self.now }
+        ensures bytes { block.new ≡ listing_bytes self.now ++ replicate (4096 - length (listing_bytes self.now)) 0 }
+    {
+        block.fill(0);
+        write_header(block, self.epoch, self.imports, self.entries.len() as u32);
+        write_entries(self.entries.as_slice(), &mut block[32..]);
+    }
+
+    pub fn epoch(&self) -> u64
+        ensures { result ≡ self.now.epoch }
+    {
+        self.epoch
+    }
+
+    /// The number of imports.
+    pub fn imports(&self) -> u32
+        ensures { result ≡ self.now.imports }
+    {
+        self.imports
+    }
+
+    pub fn entries(&self) -> &[Entry]
+        ensures entries { result.now ≡ self.now.entries }
+        ensures listing { IsListing self.now }
+    {
+        self.entries.as_slice()
+    }
+
+    /// Goes on to the next epoch, with so many imports.
+    pub fn advance(&mut self, imports: u32)
+        requires { self.old.epoch + 1 < 2 ^ 64 }
+        ensures { self.new ≡ record self.old { epoch = self.old.epoch + 1; imports = imports } }
+    {
+        self.epoch += 1;
+        self.imports = imports;
+    }
+
+    /// Lists one entry more, at the end.
+    pub fn add(&mut self, entry: Entry)
+        requires { IsListing (with_entry self.old entry) }
+        ensures { self.new ≡ with_entry self.old entry }
+    {
+        let Ok(()) = self.entries.push(entry) else {
+            unreachable!()
+        };
+    }
+
+    /// Puts the entry at place `i`, and closes up place `j`.
+    pub fn replace_two(&mut self, i: usize, j: usize, entry: Entry)
+        requires places { i < j }
+        requires within { j < length self.old.entries }
+        requires listing { IsListing (with_two_replaced self.old i j entry) }
+        ensures { self.new ≡ with_two_replaced self.old i j entry }
+    {
+        self.entries[i] = entry;
+        let _ = self.entries.remove(j);
+    }
+}

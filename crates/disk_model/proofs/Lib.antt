@@ -1,0 +1,10 @@
+pub mod Chosen
+pub mod Entries
+pub mod Filled
+pub mod Images
+pub mod MomentSteps
+pub mod Noted
+pub mod Pasted
+pub mod Places
+pub mod Replays
+pub mod Room

@@ -1,0 +1,26 @@
+use Rattle.std.specs.Prelude.{nat_lt}
+use Rattle.disk_model.specs.Faults.{cut_as}
+use Rattle.disk_model.specs.MemDisk.{first_bytes, record_of}
+use Rattle.disk_model.specs.declared.memory.faults.Fate.{Fate}
+use Rattle.disk_model.proofs.Noted.{passed, failed, cut_may_fail}
+use Rattle.disk_model.proofs.memory.MemDiskDisk.cut.Goals as goal
+
+pub returns-clause-made : goal.returns-clause-made
+returns-clause-made c =
+    let old = c.args.self.now in
+    let mid = c.note_cut-noted.new.self in
+    let new = c.answer.new.self in
+    passed c.answer.result c.note_cut-noted.result (first_bytes old) (first_bytes mid) (first_bytes new) (record_of old) (record_of mid) (record_of new) c.of_change-fate.result (λ (fate : Fate). cut_as fate c.args.len)
+    c.answer.ensures.passed c.note_cut-noted.ensures.ok c.note_cut-noted.ensures.first c.answer.ensures.kept
+
+pub returns-clause-failed : goal.returns-clause-failed
+returns-clause-failed c =
+    let old = c.args.self.now in
+    let mid = c.note_cut-noted.new.self in
+    let new = c.answer.new.self in
+    failed c.answer.result c.note_cut-noted.result (first_bytes old) (first_bytes mid) (first_bytes new) (record_of old) (record_of mid) (record_of new) c.of_change-fate.result (λ (fate : Fate). cut_as fate c.args.len)
+    (λ s part. cut_may_fail c.args.len (nat_lt 0 part) s)
+    c.answer.ensures.failed c.note_cut-noted.ensures.ok c.note_cut-noted.ensures.err c.note_cut-noted.ensures.first c.answer.ensures.kept
+
+pub returns-clause-room : goal.returns-clause-room
+returns-clause-room c = λ end calls bytes room. c.answer.ensures.room end calls bytes (c.note_cut-noted.ensures.room end calls bytes room)

@@ -1,0 +1,25 @@
+use Rattle.disk_model.specs.Faults.{written_as}
+use Rattle.disk_model.specs.MemDisk.{first_bytes, record_of}
+use Rattle.disk_model.specs.declared.memory.faults.Fate.{Fate}
+use Rattle.disk_model.proofs.Noted.{passed, failed, write_may_fail}
+use Rattle.disk_model.proofs.memory.MemDiskDisk.write_at.Goals as goal
+
+pub returns-clause-made : goal.returns-clause-made
+returns-clause-made c =
+    let old = c.args.self.now in
+    let mid = c.note_write-noted.new.self in
+    let new = c.answer.new.self in
+    passed c.answer.result c.note_write-noted.result (first_bytes old) (first_bytes mid) (first_bytes new) (record_of old) (record_of mid) (record_of new) c.of_change-fate.result (λ (fate : Fate). written_as fate c.args.at c.args.bytes.now)
+    c.answer.ensures.passed c.note_write-noted.ensures.ok c.note_write-noted.ensures.first c.answer.ensures.kept
+
+pub returns-clause-failed : goal.returns-clause-failed
+returns-clause-failed c =
+    let old = c.args.self.now in
+    let mid = c.note_write-noted.new.self in
+    let new = c.answer.new.self in
+    failed c.answer.result c.note_write-noted.result (first_bytes old) (first_bytes mid) (first_bytes new) (record_of old) (record_of mid) (record_of new) c.of_change-fate.result (λ (fate : Fate). written_as fate c.args.at c.args.bytes.now)
+    (write_may_fail c.args.at c.args.bytes.now)
+    c.answer.ensures.failed c.note_write-noted.ensures.ok c.note_write-noted.ensures.err c.note_write-noted.ensures.first c.answer.ensures.kept
+
+pub returns-clause-room : goal.returns-clause-room
+returns-clause-room c = λ end calls bytes room. c.answer.ensures.room end calls bytes (c.note_write-noted.ensures.room end calls bytes room)

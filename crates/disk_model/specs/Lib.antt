@@ -1,0 +1,12 @@
+pub mod Change
+pub mod Choice
+pub mod Contents
+pub mod Disk
+pub mod Entry
+pub mod Faults
+pub mod FileDisk
+pub mod MemDisk
+pub mod Put
+pub mod Record
+pub mod Replay
+pub mod Replayed

@@ -1,0 +1,134 @@
+ghost use Rattle.std.specs.Prelude.{◌≡◌, ◌≤◌, [], length, IfOk, IsErr, MatchResult};
+ghost use Rattle.disk_model.specs.Disk.{CountsFailure};
+ghost use Rattle.disk_model.specs.Change.{made};
+
+use crate::{Disk, DiskFault};
+use std::fs::{File, OpenOptions};
+use std::io::{self, ErrorKind};
+use std::os::unix::fs::FileExt;
+use std::rt::Files;
+
+/// How often one read is tried again after an interruption, before that counts as a failure.
+const MAX_INTERRUPTIONS: u32 = 1_000;
+
+/// A file of the system. It claims nothing of what the file holds.
+#[derive(Drop)]
+pub struct FileDisk {
+    file: File,
+    failures: u64,
+}
+
+impl FileDisk {
+    ghost use Rattle.disk_model.specs.FileDisk.{failures_of};
+
+    /// A file that exists, for reading and writing.
+    pub fn open<R: Files<File = File>>(rt: &R, path: &str) -> Result<FileDisk, DiskFault>
+        ensures { IfOk result (λ disk. failures_of disk ≡ 0) }
+    {
+        let file = OpenOptions::new().read(true).write(true).open(rt, path);
+        FileDisk::of(file)
+    }
+
+    /// A file for reading and writing, which is made empty where there is none.
+    pub fn open_or_make<R: Files<File = File>>(rt: &R, path: &str) -> Result<FileDisk, DiskFault>
+        ensures { IfOk result (λ disk. failures_of disk ≡ 0) }
+    {
+        let file = OpenOptions::new()
+            .read(true)
+            .write(true)
+            .create(true)
+            .open(rt, path);
+        FileDisk::of(file)
+    }
+
+    fn of(opened: io::Result<File>) -> Result<FileDisk, DiskFault>
+        ensures { IfOk result (λ disk. failures_of disk ≡ 0) }
+    {
+        match opened {
+            Ok(file) => Ok(FileDisk { file, failures: 0 }),
+            Err(_) => Err(DiskFault),
+        }
+    }
+}
+
+/// One read, tried again where it was interrupted.
+fn read_some(file: &File, at: u64, into: &mut [u8]) -> io::Result<usize>
+    ensures { IfOk result (λ n. n ≤ length into.old) }
+{
+    for _ in 0..MAX_INTERRUPTIONS {
+        match file.read_at(into, at) {
+            Err(error) if error.kind() == ErrorKind::Interrupted => {}
+            answer => return answer,
+        }
+    }
+    file.read_at(into, at)
+}
+
+/// Reads until `into` is full or the file ends.
+fn read_all(file: &File, at: u64, into: &mut [u8]) -> io::Result<usize>
+    ensures { IfOk result (λ n. n ≤ length into.old) }
+{
+    let mut done = 0;
+    for _ in 0..u64::MAX {
+        if done == into.len() {
+            break;
+        }
+        let count = read_some(file, at.wrapping_add(done as u64), &mut into[done..])?;
+        if count == 0 {
+            break;
+        }
+        done += count;
+    }
+    Ok(done)
+}
+
+/// Counts a failure.
+fn answer<T: Drop>(outcome: io::Result<T>, failures: &mut u64) -> Result<T, DiskFault>
+    ensures failures { CountsFailure result failures.old failures.new }
+    ensures value { MatchResult outcome (λ x. result ≡ Ok x) (λ _. IsErr result) }
+{
+    match outcome {
+        Ok(value) => Ok(value),
+        Err(_) => {
+            *failures = failures.saturating_add(1);
+            Err(DiskFault)
+        }
+    }
+}
+
+impl Disk for FileDisk {
+    ghost use Rattle.disk_model.specs.FileDisk.{failures_of};
+
+    ghost moments = { λ _. made [] };
+
+    ghost failures = { failures_of };
+
+    ghost is_honest = { λ _. ⊥ };
+
+    ghost now_is_image = { λ _ lie. absurd lie };
+
+    fn len(&mut self) -> Result<u64, DiskFault> {
+        let metadata = answer(self.file.metadata(), &mut self.failures)?;
+        Ok(metadata.len())
+    }
+
+    fn read_at(&mut self, at: u64, into: &mut [u8]) -> Result<usize, DiskFault> {
+        answer(read_all(&self.file, at, into), &mut self.failures)
+    }
+
+    fn write_at(&mut self, at: u64, bytes: &[u8]) -> Result<(), DiskFault> {
+        answer(self.file.write_all_at(bytes, at), &mut self.failures)
+    }
+
+    fn cut(&mut self, len: u64) -> Result<(), DiskFault> {
+        let metadata = answer(self.file.metadata(), &mut self.failures)?;
+        if len < metadata.len() {
+            answer(self.file.set_len(len), &mut self.failures)?;
+        }
+        Ok(())
+    }
+
+    fn sync(&mut self) -> Result<(), DiskFault> {
+        answer(self.file.sync_all(), &mut self.failures)
+    }
+}

@@ -1,0 +1,332 @@
+ghost use Rattle.std.specs.Prelude.{◌≡◌, ℕ, ◌+◌, ◌-◌, ◌≤◌, ◌++◌, [], ◌∷◌, Some, length, take, drop, min, ◌↔◌, IsTrue, IsOk, IfOk, IsErr, OnOk, OnErr, Contains};
+ghost use Rattle.disk_model.specs.Disk.{IsImage, CountsFailure, Fails, followed_by, settled, after_write, after_cut};
+ghost use Rattle.disk_model.specs.Change.{made, replayed};
+ghost use Rattle.disk_model.specs.Choice.{IsChosen};
+ghost use Rattle.disk_model.specs.Contents.{shown};
+ghost use Rattle.disk_model.specs.Record.{changes_in};
+ghost use Rattle.disk_model.specs.Replayed.{memory_image};
+ghost use Rattle.disk_model.specs.declared.memory.faults.Fate.TheVariants.{Passes};
+
+mod contents;
+mod faults;
+mod record;
+mod replay;
+
+use crate::{Choice, Disk, DiskFault, MAX_END};
+use contents::Contents;
+use faults::{Fate, Faults};
+use record::Record;
+use replay::Replay;
+use std::alloc::{AllocError, Global};
+
+/// A disk in memory. It keeps each call that changed it on record, so that it can give the images of each moment.
+/// Want of memory for a call or its record is a failure of the device, and changes nothing.
+#[derive(Drop)]
+pub struct MemDisk {
+    alloc: Global,
+    contents: Contents,
+    calls: Record,
+    faults: Faults,
+    failures: u64,
+    ghost read_is_replayed: { shown contents ≡ (replayed (made contents.first.items) (changes_in calls)).state.now },
+}
+
+impl MemDisk {
+    ghost use Rattle.disk_model.specs.MemDisk.{memory_moments, first_bytes, record_of, faults_of, changes_of, state_after, failure_count, SameRecord, HasRoomFor, KeepsRoom, UsesRoom};
+    ghost use Rattle.disk_model.specs.Faults.{no_faults, written_as, cut_as, synced_as};
+
+    /// An empty disk.
+    pub fn new(alloc: Global) -> MemDisk
+        ensures moments { memory_moments result ≡ made [] }
+        ensures kept { record_of result ≡ [] }
+        ensures faults { faults_of result ≡ no_faults }
+        ensures failures { failure_count result ≡ 0 }
+    {
+        MemDisk::from_bytes(alloc, Vec::new(alloc))
+    }
+
+    /// A disk that holds these bytes, as after a stop.
+    pub fn from_bytes(alloc: Global, bytes: Vec<u8>) -> MemDisk
+        ensures moments { memory_moments result ≡ made bytes.items }
+        ensures kept { record_of result ≡ [] }
+        ensures faults { faults_of result ≡ no_faults }
+        ensures failures { failure_count result ≡ 0 }
+    {
+        MemDisk {
+            alloc,
+            contents: Contents::new(bytes),
+            calls: Record::new(alloc),
+            faults: Faults::none(),
+            failures: 0,
+        }
+    }
+
+    /// So many calls more pass, reads among them, and then each one fails.
+    /// A write or a cut that fails so changes no byte, and counts as made for what a stop may leave.
+    pub fn set_fuse(&mut self, calls: u64)
+        ensures fuse { faults_of self.new ≡ record (faults_of self.old) { fuse = Some calls } }
+        ensures kept { SameRecord self.old self.new }
+        ensures failures { failure_count self.new ≡ failure_count self.old }
+        ensures room { KeepsRoom self.old self.new }
+    {
+        self.faults.fuse = Some(calls);
+    }
+
+    /// So many calls of `write_at`, `cut` and `sync` more pass, and the next one fails; later ones pass.
+    /// A write that fails so leaves its first `part` bytes written, and a cut is made where `part` isn't 0.
+    /// Both count as made for what a stop may leave. A sync that fails changes nothing.
+    pub fn set_break(&mut self, calls: u64, part: u64)
+        ensures fails { faults_of self.new ≡ record (faults_of self.old) { change_break = Some (calls, part) } }
+        ensures kept { SameRecord self.old self.new }
+        ensures failures { failure_count self.new ≡ failure_count self.old }
+        ensures room { KeepsRoom self.old self.new }
+    {
+        self.faults.change_break = Some((calls, part));
+    }
+
+    /// So many calls of `len` and `read_at` more pass, and the next one fails; later ones pass.
+    pub fn set_read_break(&mut self, calls: u64)
+        ensures fails { faults_of self.new ≡ record (faults_of self.old) { read_break = Some calls } }
+        ensures kept { SameRecord self.old self.new }
+        ensures failures { failure_count self.new ≡ failure_count self.old }
+        ensures room { KeepsRoom self.old self.new }
+    {
+        self.faults.read_break = Some(calls);
+    }
+
+    /// Takes all the memory for a disk of so many bytes, and for so many changing calls more that write no more bytes together.
+    /// Until either is passed no call fails for want of memory. An `Err` changes neither the bytes nor the record.
+    pub fn reserve(&mut self, bytes: u64, calls: u32) -> Result<(), AllocError>
+        ensures room { OnOk result (HasRoomFor self.new bytes calls bytes) }
+        ensures kept { SameRecord self.old self.new }
+        ensures failures { failure_count self.new ≡ failure_count self.old }
+        ensures faults { faults_of self.new ≡ faults_of self.old }
+    {
+        let len = bytes as usize;
+        self.contents.make_room(self.alloc, len)?;
+        self.calls.make_room(calls as usize, len)
+    }
+
+    /// How many calls of `write_at`, `cut` and `sync` have answered Ok since it was made.
+    pub fn changes(&self) -> u64
+        ensures { result ≡ changes_of self.now }
+    {
+        self.calls.made() as u64
+    }
+
+    /// What a read gives.
+    pub fn bytes(&self) -> &[u8]
+        ensures { result.now ≡ (memory_moments self.now).state.now }
+    {
+        self.contents.bytes()
+    }
+
+    /// An image of the moment right after the changing call of this number among those that answered Ok; for 0, of the moment when
+    /// it was made. Writes and cuts that failed before it count as made. It only fails for want of memory.
+    pub fn image(&self, after: u64, choice: Choice) -> Result<Vec<u8>, AllocError>
+        requires { after ≤ changes_of self.now }
+        ensures chosen { IfOk result (λ image. IsChosen (state_after self.now after) choice image.items) }
+        ensures image { IfOk result (λ image. IsImage (state_after self.now after) image.items) }
+        ensures moment { Contains ((memory_moments self.now).state ∷ (memory_moments self.now).past) (state_after self.now after) }
+    {
+        let count = self.calls.place_of(after);
+        let moment = Replay::of(self.alloc, &self.contents.first, &self.calls, count)?;
+        Ok(moment.into_image(choice))
+    }
+
+    /// An image of the present moment. It only fails for want of memory.
+    pub fn image_now(&self, choice: Choice) -> Result<Vec<u8>, AllocError>
+        ensures chosen { IfOk result (λ image. IsChosen (memory_moments self.now).state choice image.items) }
+        ensures image { IfOk result (λ image. IsImage (memory_moments self.now).state image.items) }
+    {
+        let count = self.calls.len();
+        let moment = Replay::of(self.alloc, &self.contents.first, &self.calls, count)?;
+        Ok(moment.into_image(choice))
+    }
+
+    /// Notes a write, and makes as much of it as its fate says; or changes nothing.
+    fn note_write(&mut self, at: u64, bytes: &[u8], fate: Fate) -> Result<(), AllocError>
+        requires { at + length bytes.now ≤ MAX_END }
+        ensures ok { OnOk result (record_of self.new ≡ record_of self.old ++ written_as fate at bytes.now ∷ []) }
+        ensures err { OnErr result (record_of self.new ≡ record_of self.old) }
+        ensures first { first_bytes self.new ≡ first_bytes self.old }
+        ensures failures { failure_count self.new ≡ failure_count self.old }
+        ensures faults { faults_of self.new ≡ faults_of self.old }
+        ensures succeeds { HasRoomFor self.old (at + length bytes.now) 1 (length bytes.now) → IsOk result }
+        ensures room { UsesRoom self.old self.new 1 (length bytes.now) }
+    {
+        let end = if bytes.is_empty() {
+            0
+        } else {
+            at as usize + bytes.len()
+        };
+        self.contents.make_room(self.alloc, end)?;
+        self.calls.make_room(1, bytes.len())?;
+        self.calls.note_write(at, bytes, fate);
+        self.contents.write(at, &bytes[..fate.part_of(bytes.len())]);
+        Ok(())
+    }
+
+    /// Notes a cut, and makes it as its fate says; or changes nothing.
+    fn note_cut(&mut self, len: u64, fate: Fate) -> Result<(), AllocError>
+        ensures ok { OnOk result (record_of self.new ≡ record_of self.old ++ cut_as fate len ∷ []) }
+        ensures err { OnErr result (record_of self.new ≡ record_of self.old) }
+        ensures first { first_bytes self.new ≡ first_bytes self.old }
+        ensures failures { failure_count self.new ≡ failure_count self.old }
+        ensures faults { faults_of self.new ≡ faults_of self.old }
+        ensures succeeds { HasRoomFor self.old 0 1 0 → IsOk result }
+        ensures room { UsesRoom self.old self.new 1 0 }
+    {
+        self.contents.make_room(self.alloc, 0)?;
+        self.calls.make_room(1, 0)?;
+        self.calls.note_cut(len, fate);
+        if fate.part_of(1) == 1 {
+            self.contents.cut(len);
+        }
+        Ok(())
+    }
+
+    /// Notes a sync, unless it fails.
+    fn note_sync(&mut self, fate: Fate) -> Result<(), AllocError>
+        ensures ok { OnOk result (record_of self.new ≡ record_of self.old ++ synced_as fate) }
+        ensures err { OnErr result (record_of self.new ≡ record_of self.old) }
+        ensures first { first_bytes self.new ≡ first_bytes self.old }
+        ensures failures { failure_count self.new ≡ failure_count self.old }
+        ensures faults { faults_of self.new ≡ faults_of self.old }
+        ensures succeeds { HasRoomFor self.old 0 1 0 → IsOk result }
+        ensures room { UsesRoom self.old self.new 1 0 }
+    {
+        self.calls.make_room(1, 0)?;
+        self.calls.note_sync(fate);
+        Ok(())
+    }
+
+    /// The answer of a changing call, by what became of it.
+    fn answer(&mut self, noted: Result<(), AllocError>, fate: Fate) -> Result<(), DiskFault>
+        ensures passed { OnOk result (IsOk noted × (fate ≡ Passes)) }
+        ensures failed { OnErr result (IsOk noted → ¬ (fate ≡ Passes)) }
+        ensures kept { SameRecord self.old self.new }
+        ensures faults { faults_of self.new ≡ faults_of self.old }
+        ensures room { KeepsRoom self.old self.new }
+        ensures failures { CountsFailure result (failure_count self.old) (failure_count self.new) }
+    {
+        match (noted, fate) {
+            (Ok(()), Fate::Passes) => Ok(()),
+            _ => self.fail(),
+        }
+    }
+
+    /// Counts a failure.
+    fn fail<T>(&mut self) -> Result<T, DiskFault>
+        ensures failed { IsErr result }
+        ensures kept { SameRecord self.old self.new }
+        ensures faults { faults_of self.new ≡ faults_of self.old }
+        ensures room { KeepsRoom self.old self.new }
+        ensures failures { CountsFailure result (failure_count self.old) (failure_count self.new) }
+    {
+        self.failures = self.failures.saturating_add(1);
+        Err(DiskFault)
+    }
+}
+
+impl Disk for MemDisk {
+    ghost use Rattle.disk_model.specs.MemDisk.{memory_moments, first_bytes, record_of, faults_of, failure_count, SameRecord, HasRoomFor, KeepsRoom, UsesRoom};
+    ghost use Rattle.disk_model.specs.Change.{Write, Cut, Sync};
+    ghost use Rattle.disk_model.specs.Faults.{fate_of, after_change_call, passes_read, after_read_call, written_as, cut_as, synced_as};
+
+    ghost moments = { memory_moments };
+
+    ghost failures = { failure_count };
+
+    ghost is_honest = { λ _. Unit {0} };
+
+    ghost now_is_image = { λ d _. memory_image d.contents.first.items (changes_in d.calls) };
+
+    fn len(&mut self) -> Result<u64, DiskFault>
+        ensures value { IfOk result (λ n. n ≡ length (memory_moments self.old).state.now) }
+        ensures moments { memory_moments self.new ≡ memory_moments self.old }
+        ensures kept { SameRecord self.old self.new }
+        ensures failures { CountsFailure result (failure_count self.old) (failure_count self.new) }
+        ensures passes { IsOk result ↔ IsTrue (passes_read (faults_of self.old)) }
+        ensures faults { faults_of self.new ≡ after_read_call (faults_of self.old) }
+        ensures room { KeepsRoom self.old self.new }
+    {
+        if !self.faults.of_read() {
+            return self.fail();
+        }
+        Ok(self.bytes().len() as u64)
+    }
+
+    fn read_at(&mut self, at: u64, into: &mut [u8]) -> Result<usize, DiskFault>
+        ensures within { IfOk result (λ n. n ≤ length into.old) }
+        ensures count { IfOk result (λ n. n ≡ min (length into.old) (length (memory_moments self.old).state.now - at)) }
+        ensures bytes { IfOk result (λ n. into.new ≡ take n (drop at (memory_moments self.old).state.now) ++ drop n into.old) }
+        ensures moments { memory_moments self.new ≡ memory_moments self.old }
+        ensures kept { SameRecord self.old self.new }
+        ensures failures { CountsFailure result (failure_count self.old) (failure_count self.new) }
+        ensures passes { IsOk result ↔ IsTrue (passes_read (faults_of self.old)) }
+        ensures faults { faults_of self.new ≡ after_read_call (faults_of self.old) }
+        ensures room { KeepsRoom self.old self.new }
+    {
+        if !self.faults.of_read() {
+            return self.fail();
+        }
+        let bytes = self.bytes();
+        let from = (at as usize).min(bytes.len());
+        let count = into.len().min(bytes.len() - from);
+        into[..count].copy_from_slice(&bytes[from..from + count]);
+        Ok(count)
+    }
+
+    fn write_at(&mut self, at: u64, bytes: &[u8]) -> Result<(), DiskFault>
+        requires { at + length bytes.now ≤ MAX_END }
+        ensures made { OnOk result (memory_moments self.new ≡ followed_by (memory_moments self.old) (after_write (memory_moments self.old).state at bytes.now)) }
+        ensures failed { OnErr result (Fails (memory_moments self.old) (after_write (memory_moments self.old).state at bytes.now) (memory_moments self.new)) }
+        ensures failures { CountsFailure result (failure_count self.old) (failure_count self.new) }
+        ensures passes { IsOk result → fate_of (faults_of self.old) ≡ Passes }
+        ensures faults { faults_of self.new ≡ after_change_call (faults_of self.old) }
+        ensures succeeds { HasRoomFor self.old (at + length bytes.now) 1 (length bytes.now) → fate_of (faults_of self.old) ≡ Passes → IsOk result }
+        ensures first { first_bytes self.new ≡ first_bytes self.old }
+        ensures noted { OnOk result (record_of self.new ≡ record_of self.old ++ Write at bytes.now ∷ []) }
+        ensures traced { HasRoomFor self.old (at + length bytes.now) 1 (length bytes.now) → record_of self.new ≡ record_of self.old ++ written_as (fate_of (faults_of self.old)) at bytes.now ∷ [] }
+        ensures room { UsesRoom self.old self.new 1 (length bytes.now) }
+    {
+        let fate = self.faults.of_change();
+        let noted = self.note_write(at, bytes, fate);
+        self.answer(noted, fate)
+    }
+
+    fn cut(&mut self, len: u64) -> Result<(), DiskFault>
+        ensures made { OnOk result (memory_moments self.new ≡ followed_by (memory_moments self.old) (after_cut (memory_moments self.old).state len)) }
+        ensures failed { OnErr result (Fails (memory_moments self.old) (after_cut (memory_moments self.old).state len) (memory_moments self.new)) }
+        ensures failures { CountsFailure result (failure_count self.old) (failure_count self.new) }
+        ensures passes { IsOk result → fate_of (faults_of self.old) ≡ Passes }
+        ensures faults { faults_of self.new ≡ after_change_call (faults_of self.old) }
+        ensures succeeds { HasRoomFor self.old 0 1 0 → fate_of (faults_of self.old) ≡ Passes → IsOk result }
+        ensures first { first_bytes self.new ≡ first_bytes self.old }
+        ensures noted { OnOk result (record_of self.new ≡ record_of self.old ++ Cut len ∷ []) }
+        ensures traced { HasRoomFor self.old 0 1 0 → record_of self.new ≡ record_of self.old ++ cut_as (fate_of (faults_of self.old)) len ∷ [] }
+        ensures room { UsesRoom self.old self.new 1 0 }
+    {
+        let fate = self.faults.of_change();
+        let noted = self.note_cut(len, fate);
+        self.answer(noted, fate)
+    }
+
+    fn sync(&mut self) -> Result<(), DiskFault>
+        ensures made { OnOk result (memory_moments self.new ≡ followed_by (memory_moments self.old) (settled (memory_moments self.old).state.now)) }
+        ensures failed { OnErr result (memory_moments self.new ≡ memory_moments self.old) }
+        ensures failures { CountsFailure result (failure_count self.old) (failure_count self.new) }
+        ensures passes { IsOk result → fate_of (faults_of self.old) ≡ Passes }
+        ensures faults { faults_of self.new ≡ after_change_call (faults_of self.old) }
+        ensures succeeds { HasRoomFor self.old 0 1 0 → fate_of (faults_of self.old) ≡ Passes → IsOk result }
+        ensures first { first_bytes self.new ≡ first_bytes self.old }
+        ensures noted { OnOk result (record_of self.new ≡ record_of self.old ++ Sync ∷ []) }
+        ensures traced { HasRoomFor self.old 0 1 0 → record_of self.new ≡ record_of self.old ++ synced_as (fate_of (faults_of self.old)) }
+        ensures room { UsesRoom self.old self.new 1 0 }
+    {
+        let fate = self.faults.of_change();
+        let noted = self.note_sync(fate);
+        self.answer(noted, fate)
+    }
+}

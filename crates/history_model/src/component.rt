@@ -1,0 +1,20 @@
+//! Tests on one row.
+
+ghost use Rattle.std.specs.Prelude.{◌≡◌};
+ghost use Rattle.history_model.specs.Queries.{is_kind, is_version_of};
+
+use rf2_values::{Kind, Row};
+
+/// Whether the row is of the kind.
+pub fn is_kind(row: &Row, kind: Kind) -> bool
+    ensures { result ≡ is_kind kind row.now }
+{
+    row.kind() as u8 == kind as u8
+}
+
+/// Whether the row is a version of the component.
+pub fn is_version_of(row: &Row, kind: Kind, id: u128) -> bool
+    ensures { result ≡ is_version_of kind id row.now }
+{
+    is_kind(row, kind) && row.id == id
+}

@@ -1,0 +1,14 @@
+//! What a history of releases says: the definitions, their laws, and a plain program that computes each definition.
+#![tactic(auto)]
+
+mod component;
+pub mod laws;
+pub mod listing;
+pub mod plain;
+mod receipt;
+mod stamped;
+#[cfg(test)]
+mod tests;
+
+pub use receipt::Receipt;
+pub use stamped::StampedRow;

@@ -1,0 +1,6 @@
+pub mod Stamped
+pub mod Files
+pub mod Sweeping
+pub mod Uniting
+pub mod Refusals
+pub mod Receipts

@@ -1,0 +1,16 @@
+use Rattle.std.proofs.Common.{◌≡◌, ◌+◌, ◌≤◌, length, ◌↔◌, List, ◌++◌}
+use Rattle.std.specs.Vec.Iter.{into_iter_items}
+use Rattle.import_check.specs.declared.release.PlacedLine.{PlacedLine}
+use Rattle.import_check.specs.Sweep.{IsSwept, IsRising, rank_cmp}
+use Rattle.import_check.proofs.sweep.take_all.Given as goal
+
+abbrev pub invariant-loop-line : goal.invariant-loop-line
+invariant-loop-line g l = record {
+  swept : g.K.Known.is_honest l.fn.known → IsRising rank_cmp l.fn.lines.items →
+      (done : List PlacedLine) × (l.fn.lines.items ≡ done ++ into_iter_items l.line-iterator) × IsSwept (g.K.Known.rows l.fn.known) l.fn.lines.items done l.sweep;
+  few : length l.sweep.fresh.items + length (into_iter_items l.line-iterator) ≤ length l.fn.lines.items;
+  rows : g.K.Known.is_honest l.fn.known → g.K.Known.rows l.known ≡ g.K.Known.rows l.fn.known;
+  honesty : g.K.Known.is_honest l.fn.known ↔ g.K.Known.is_honest l.known;
+  disk_faults : g.K.Known.disk_faults l.known ≡ g.K.Known.disk_faults l.fn.known;
+  damages : g.K.Known.damages l.known ≡ g.K.Known.damages l.fn.known;
+}

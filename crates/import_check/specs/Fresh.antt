@@ -1,0 +1,96 @@
+-- What a release brings, and what refuses it.
+use Rattle.std.specs.Prelude.{◌≡◌, ◌⊎◌, ℕ, ◌+◌, List, ◌++◌, length, ⊤}
+use Rattle.rf2_values.specs.declared.key.Key.{Key}
+use Rattle.rf2_values.specs.Row.{Version}
+use Rattle.rf2_rows.specs.declared.fault.LineFault.{LineFault}
+use Rattle.history_model.specs.InOrder.{Has, IsAscending}
+use Rattle.history_model.specs.History.{row_cmp}
+use Rattle.history_model.specs.History.{IsConsistent}
+use Rattle.import_check.specs.declared.release.Release.{Release}
+use Rattle.import_check.specs.declared.release.PlacedLine.{PlacedLine}
+use Rattle.import_check.specs.declared.fresh.Fresh.{Fresh}
+use Rattle.import_check.specs.declared.fault.ImportFault.{ImportFault}
+use Rattle.import_check.specs.declared.fault.ImportFault.TheVariants as importfault
+use Rattle.import_check.specs.Known.{CountsDiskFault, CountsDamage}
+use Rattle.import_check.specs.Release.{SpellFiles, IsReleaseOf, IsFaultOfRelease, IsFirstContradiction, HasContradiction}
+
+-- the rows that are not known, each once and in key order, and how many of the others there are
+pub record IsFresh (known rows fresh : List Version) (repeated : ℕ) : Type 0 where
+  pub ascending : IsAscending row_cmp fresh
+  pub from_release : (row : Version) → Has fresh row → Has rows row
+  pub not_known : (row : Version) → Has fresh row → Has known row → ⊥
+  pub each : (row : Version) → Has rows row → (Has known row → ⊥) → Has fresh row
+  pub counted : length fresh + repeated ≡ length rows
+
+-- a release that is taken: its rows and those that are known are consistent, and these rows are new
+pub record IsTaken (known : List Version) (rows : List Version) (fresh : Fresh) : Type 0 where
+  pub consistent : IsConsistent (known ++ rows)
+  pub fresh_is : IsFresh known rows fresh.rows.items fresh.repeated
+
+-- each file is a release file
+pub record IsRead (release : Release) : Type 0 where
+  pub lists : List (List Version)
+  pub spelled : SpellFiles release.files.items lists
+
+-- the release is one of these rows, and it is taken
+pub record IsAcceptedAs (known : List Version) (release : Release) (fresh : Fresh) : Type 0 where
+  pub rows : List Version
+  pub rows_are : IsReleaseOf release rows
+  pub taken : IsTaken known rows fresh
+
+-- a fault of a row is that of the release, and all files are read before any other refusal
+abbrev pub IsReadBefore : Release → ImportFault → Type 0
+IsReadBefore release importfault.OutOfMemory = ⊤
+IsReadBefore release (importfault.Known fault) = IsRead release
+IsReadBefore release (importfault.Row file line fault) = IsFaultOfRelease release file line fault
+IsReadBefore release (importfault.Contradiction file line key) = IsRead release
+
+-- that memory ran out, or that a known row could not be had, says nothing of the release
+abbrev pub IsNoRefusal : ImportFault → Type 0
+IsNoRefusal importfault.OutOfMemory = ⊤
+IsNoRefusal (importfault.Known fault) = ⊤
+IsNoRefusal (importfault.Row file line fault) = ⊥
+IsNoRefusal (importfault.Contradiction file line key) = ⊥
+
+-- no row has a fault
+abbrev pub IsNoRowFault : ImportFault → Type 0
+IsNoRowFault importfault.OutOfMemory = ⊤
+IsNoRowFault (importfault.Known fault) = ⊤
+IsNoRowFault (importfault.Row file line fault) = ⊥
+IsNoRowFault (importfault.Contradiction file line key) = ⊤
+
+-- a contradiction is the first one of these lines
+abbrev pub IsContradictionOf : List Version → List PlacedLine → ImportFault → Type 0
+IsContradictionOf known lines importfault.OutOfMemory = ⊤
+IsContradictionOf known lines (importfault.Known fault) = ⊤
+IsContradictionOf known lines (importfault.Row file line fault) = ⊤
+IsContradictionOf known lines (importfault.Contradiction file line key) = IsFirstContradiction known lines file line key
+
+-- a contradiction is the first one of the release
+abbrev pub IsContradictionIn : List Version → Release → ImportFault → Type 0
+IsContradictionIn known release importfault.OutOfMemory = ⊤
+IsContradictionIn known release (importfault.Known fault) = ⊤
+IsContradictionIn known release (importfault.Row file line fault) = ⊤
+IsContradictionIn known release (importfault.Contradiction file line key) = HasContradiction known release file line key
+
+-- this fault of a row, where memory lasts
+abbrev pub IsFaultAt : ℕ → ℕ → LineFault → ImportFault → Type 0
+IsFaultAt file line fault e = (e ≡ importfault.OutOfMemory) ⊎ (e ≡ importfault.Row file line fault)
+
+-- this contradiction, where memory lasts and known rows can be had
+abbrev pub IsContradictionAt : ℕ → ℕ → Key → ImportFault → Type 0
+IsContradictionAt file line key e = IsNoRefusal e ⊎ (e ≡ importfault.Contradiction file line key)
+
+-- the count of answers `DiskFault` of what is known goes up with that answer, and else stays
+abbrev pub CountsAnyDiskFault : ImportFault → ℕ → ℕ → Type 0
+CountsAnyDiskFault importfault.OutOfMemory old new = new ≡ old
+CountsAnyDiskFault (importfault.Known fault) old new = CountsDiskFault fault old new
+CountsAnyDiskFault (importfault.Row file line fault) old new = new ≡ old
+CountsAnyDiskFault (importfault.Contradiction file line key) old new = new ≡ old
+
+-- and likewise that of its answers `Damaged`
+abbrev pub CountsAnyDamage : ImportFault → ℕ → ℕ → Type 0
+CountsAnyDamage importfault.OutOfMemory old new = new ≡ old
+CountsAnyDamage (importfault.Known fault) old new = CountsDamage fault old new
+CountsAnyDamage (importfault.Row file line fault) old new = new ≡ old
+CountsAnyDamage (importfault.Contradiction file line key) old new = new ≡ old

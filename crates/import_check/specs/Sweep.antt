@@ -1,0 +1,129 @@
+-- What a pass over lines in key order has found so far.
+use Rattle.std.specs.Prelude.{◌≡◌, ◌≢◌, ℕ, ◌-◌, ◌≤◌, ◌<◌, ◌⊎◌, false, List, [], ◌∷◌, ◌++◌, length, slice_get, Option, Some, None, MatchOption, IfSome, Result, Err, IsOkAnd}
+use Rattle.std.specs.List.{AllByRecursion}
+use Rattle.std.specs.Ordering.{nat_cmp, ordering_then, is_gt}
+use Rattle.std.specs.declared.cmp.Ordering.{Ordering}
+use Rattle.rf2_values.specs.Row.{Version}
+use Rattle.rf2_values.specs.Key.{key_of}
+use Rattle.history_model.specs.InOrder.{Has, IsAscending}
+use Rattle.history_model.specs.History.{row_cmp}
+use Rattle.import_check.specs.declared.release.PlacedLine.{PlacedLine}
+use Rattle.import_check.specs.declared.sweep.Contradiction.{Contradiction}
+use Rattle.import_check.specs.declared.sweep.Sweep.{Sweep}
+use Rattle.import_check.specs.declared.fresh.Fresh.{Fresh}
+use Rattle.import_check.specs.declared.fault.ImportFault.{ImportFault}
+use Rattle.import_check.specs.declared.fault.ImportFault.TheVariants as importfault
+use Rattle.import_check.specs.Known.{IsUnknown}
+
+-- a line stands by another or before it
+abbrev pub StandsBy : ℕ → ℕ → ℕ → ℕ → Type 0
+StandsBy file line other_file other_line = (file < other_file) ⊎ ((file ≡ other_file) × (line ≤ other_line))
+
+-- by file, then by line
+abbrev pub place_cmp : PlacedLine → PlacedLine → Ordering
+place_cmp a b = ordering_then (nat_cmp a.file b.file) (nat_cmp a.line b.line)
+
+-- by key, then by place
+abbrev pub rank_cmp : PlacedLine → PlacedLine → Ordering
+rank_cmp a b = ordering_then (row_cmp a.row b.row) (place_cmp a b)
+
+-- none is above one that follows it
+abbrev pub IsRising : {X : Type 0} → (X → X → Ordering) → List X → Type 0
+IsRising cmp [] = Unit {0}
+IsRising cmp (x ∷ xs) = AllByRecursion (λ y. is_gt (cmp x y) ≡ false) xs × IsRising cmp xs
+
+-- no line with its key stands before it
+pub record IsEarliest (lines : List PlacedLine) (first : PlacedLine) : Type 0 where
+  pub there : Has lines first
+  pub least : (line : PlacedLine) → Has lines line → key_of line.row ≡ key_of first.row → StandsBy first.file first.line line.file line.line
+
+-- the row of the earliest line with a key that no known row has
+pub record IsNewRow (known : List Version) (lines : List PlacedLine) (row : Version) : Type 0 where
+  pub unknown : IsUnknown known (key_of row)
+  pub line : PlacedLine
+  pub earliest : IsEarliest lines line
+  pub row_is : line.row ≡ row
+
+-- the row that lines with its key have to agree with
+abbrev pub Stands : List Version → List PlacedLine → Version → Type 0
+Stands known lines row = Has known row ⊎ IsNewRow known lines row
+
+-- a line whose row isn't the one that stands
+pub record IsContradiction (known : List Version) (lines : List PlacedLine) (c : Contradiction) : Type 0 where
+  pub line : PlacedLine
+  pub there : Has lines line
+  pub standing : Version
+  pub stands : Stands known lines standing
+  pub same_key : key_of standing ≡ key_of line.row
+  pub differs : standing ≢ line.row
+  pub file_is : c.file ≡ line.file
+  pub line_is : c.line ≡ line.line
+  pub key_is : c.key ≡ key_of line.row
+
+-- a contradiction that stands by the line or before it
+abbrev pub IsBlamed : Option Contradiction → PlacedLine → Type 0
+IsBlamed first line = MatchOption first ⊥ (λ c. StandsBy c.file c.line line.file line.line)
+
+-- the line's row is the one that stands, or a contradiction is found no later
+pub record IsJudged (known : List Version) (lines : List PlacedLine) (first : Option Contradiction) (line : PlacedLine) : Type 0 where
+  pub standing : Version
+  pub stands : Stands known lines standing
+  pub same_key : key_of standing ≡ key_of line.row
+  pub verdict : (standing ≡ line.row) ⊎ IsBlamed first line
+
+-- the row that stands for the key of the last line: the one that is known, or else the last of the new rows
+abbrev pub standing_row : Option Version → List Version → Option Version
+standing_row None fresh = slice_get fresh (length fresh - 1)
+standing_row (Some row) fresh = Some row
+
+-- the row stands, and its key is that of a line and the greatest so far
+pub record IsLast (known : List Version) (lines done : List PlacedLine) (row : Version) : Type 0 where
+  pub stands : Stands known lines row
+  pub greatest : (line : PlacedLine) → Has done line → is_gt (row_cmp line.row row) ≡ false
+  pub at : (line : PlacedLine) × Has done line × (key_of line.row ≡ key_of row)
+
+-- of all these lines, so many have been taken and so many judged
+pub record Swept (known : List Version) (lines judged done : List PlacedLine) (known_row : Option Version) (fresh : List Version) (first : Option Contradiction) : Type 0 where
+  pub standing : MatchOption (standing_row known_row fresh) (done ≡ []) (IsLast known lines done)
+  pub each_judged : (line : PlacedLine) → Has judged line → IsJudged known lines first line
+  pub contradiction : IfSome first (IsContradiction known lines)
+  pub fresh_new : (row : Version) → Has fresh row → IsNewRow known lines row
+  pub fresh_done : (row : Version) → Has fresh row → (line : PlacedLine) × Has done line × (line.row ≡ row)
+  pub each_kept : (line : PlacedLine) → Has done line → (row : Version) × (key_of row ≡ key_of line.row) × (Has known row ⊎ Has fresh row)
+  pub ascending : IsAscending row_cmp fresh
+
+abbrev pub standing_of : Sweep → Option Version
+standing_of s = standing_row s.known_row s.fresh.items
+
+-- all lines so far are judged
+abbrev pub IsSwept : List Version → List PlacedLine → List PlacedLine → Sweep → Type 0
+IsSwept known lines done s = Swept known lines done done s.known_row s.fresh.items s.first
+
+-- one line more is taken
+abbrev pub TakesLine : List Version → PlacedLine → Sweep → Sweep → Type 0
+TakesLine known line old new =
+    (lines done rest : List PlacedLine) → lines ≡ done ++ line ∷ rest → IsRising rank_cmp lines
+    → IsSwept known lines done old → IsSwept known lines (done ++ line ∷ []) new
+
+-- the one of the two that stands first
+abbrev pub IsEarlierOf : Option Contradiction → Contradiction → Contradiction → Type 0
+IsEarlierOf None found result = result ≡ found
+IsEarlierOf (Some first) found result =
+    ((result ≡ first) × StandsBy first.file first.line found.file found.line)
+    ⊎ ((result ≡ found) × StandsBy found.file found.line first.file first.line)
+
+-- the line as a contradiction
+abbrev pub contradiction_at : PlacedLine → Contradiction
+contradiction_at line = record { file = line.file; line = line.line; key = key_of line.row }
+
+-- where the first contradiction stands after a line: as before if its row is the one that stands
+abbrev pub IsVerdict : Option Version → Option Contradiction → PlacedLine → Option Contradiction → Type 0
+IsVerdict standing first line now =
+    ((standing ≡ Some line.row) × (now ≡ first))
+    ⊎ ((standing ≢ Some line.row) × (c : Contradiction) × (now ≡ Some c) × IsEarlierOf first (contradiction_at line) c)
+
+-- the first contradiction, or without one the new rows and how many lines more there were
+abbrev pub IsOutcome : Sweep → ℕ → Result Fresh ImportFault → Type 0
+IsOutcome s count result = MatchOption s.first
+    (IsOkAnd result (λ fresh. (fresh.rows.items ≡ s.fresh.items) × (fresh.repeated ≡ count - length s.fresh.items)))
+    (λ c. result ≡ Err (importfault.Contradiction c.file c.line c.key))

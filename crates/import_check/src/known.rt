@@ -1,0 +1,78 @@
+//! What is known before a release.
+
+ghost use Rattle.std.specs.Prelude.{◌≡◌, ℕ, List, ◌↔◌, IfOk, MatchResult, map};
+ghost use Rattle.rf2_values.specs.Row.{Version};
+ghost use Rattle.rf2_values.specs.Key.{key_of, key_cmp};
+ghost use Rattle.history_model.specs.InOrder.{IsAscending};
+ghost use Rattle.history_model.specs.History.{IsConsistent, row_cmp, stamped_cmp};
+ghost use Rattle.history_model.proofs.Filtered.{IsAscending-map};
+ghost use Rattle.history_model.proofs.Snapshots.{IsConsistent-from_ascending};
+ghost use Rattle.import_check.specs.Known.{IsRowAt, Counts, CountsDiskFault, CountsDamage};
+
+use crate::fault::KnownFault;
+use crate::order::compare_keys;
+use history_model::StampedRow;
+use rf2_values::{Key, Row};
+use std::alloc::Global;
+use std::cmp::Ordering;
+
+/// The rows that are known before a release, lent to be looked up. A call leaves them as they are.
+pub trait Known {
+    /// The rows that are known.
+    ghost rows: { Self → List Version };
+
+    /// How often it answered `DiskFault`.
+    ghost disk_faults: { Self → ℕ };
+
+    /// How often it answered `Damaged`.
+    ghost damages: { Self → ℕ };
+
+    /// What it gives is what is known.
+    ghost is_honest: { Self → Type 0 };
+
+    fn row(&mut self, alloc: Global, key: &Key) -> Result<Option<Row>, KnownFault>
+        ensures found { is_honest self.old → IfOk result (IsRowAt (rows self.old) key.now) }
+        ensures rows { is_honest self.old → rows self.new ≡ rows self.old }
+        ensures honesty { is_honest self.old ↔ is_honest self.new }
+        ensures disk_faults { Counts CountsDiskFault result (disk_faults self.old) (disk_faults self.new) }
+        ensures damages { Counts CountsDamage result (damages self.old) (damages self.new) };
+
+    /// No two different rows that are known share a key.
+    ghost consistent: { (known : Self) → is_honest known → IsConsistent (rows known) };
+}
+
+/// Rows that stand in memory, in key order.
+#[derive(Drop)]
+pub struct KnownRows<'a> {
+    pub rows: &'a [StampedRow],
+}
+
+/// How the key of a row stands to a key.
+fn compare_to(known: &StampedRow, key: Key) -> Ordering
+    ensures { result ≡ key_cmp (key_of known.now.row) key }
+{
+    compare_keys(known.row.key(), key)
+}
+
+impl Known for KnownRows<'_> {
+    ghost rows = { λ known. map (λ s. s.row) known.rows.now };
+
+    ghost disk_faults = { λ _. 0 };
+
+    ghost damages = { λ _. 0 };
+
+    ghost is_honest = { λ known. IsAscending stamped_cmp known.rows.now };
+
+    ghost consistent = { λ known up. IsConsistent-from_ascending (map (λ s. s.row) known.rows.now) (IsAscending-map (λ s. s.row) row_cmp known.rows.now up) };
+
+    fn row(&mut self, alloc: Global, key: &Key) -> Result<Option<Row>, KnownFault> {
+        let key = *key;
+        match self.rows.binary_search_by(|known| compare_to(known, key)) {
+            Ok(index) => {
+                let found = &self.rows[index];
+                Ok(Some(found.row.try_clone(alloc)?))
+            }
+            Err(_) => Ok(None),
+        }
+    }
+}

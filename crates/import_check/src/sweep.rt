@@ -1,0 +1,230 @@
+//! One pass over the lines of a release in key order.
+
+ghost use Rattle.std.specs.Prelude.{◌≡◌, ◌+◌, ◌≤◌, ◌<◌, ◌⊎◌, ◌++◌, ◌↔◌, [], ◌∷◌, List, length, IsTrue, Some, IsSomeAnd, OnOk, IfOk, IfErr, MatchResult, option_copied};
+ghost use Rattle.history_model.specs.InOrder.{IsAscending};
+ghost use Rattle.rf2_values.specs.Row.{Version};
+ghost use Rattle.rf2_values.specs.Key.{key_of};
+ghost use Rattle.import_check.specs.declared.release.PlacedLine.{PlacedLine};
+ghost use Rattle.import_check.specs.Known.{Counts};
+ghost use Rattle.import_check.specs.Fresh.{IsTaken, IsNoRefusal, IsNoRowFault, IsContradictionOf, CountsAnyDiskFault, CountsAnyDamage};
+ghost use Rattle.import_check.specs.Release.{rows_of};
+ghost use Rattle.import_check.specs.Sweep.{StandsBy, IsEarlierOf, IsVerdict, standing_of, IsSwept, TakesLine, IsOutcome, IsRising, place_cmp, rank_cmp};
+
+use crate::fault::ImportFault;
+use crate::fresh::Fresh;
+use crate::known::Known;
+use crate::order::sort;
+use crate::release::PlacedLine;
+use rf2_values::{Key, Row};
+use std::alloc::Global;
+
+/// A line whose row differs from the one that stands for its key.
+#[derive(Clone, Copy)]
+pub(crate) struct Contradiction {
+    pub(crate) file: usize,
+    pub(crate) line: usize,
+    pub(crate) key: Key,
+}
+
+/// What a pass over lines in key order has found so far. For the key of the last line stands the row that is known, or else the last of the new rows.
+#[derive(Drop)]
+pub(crate) struct Sweep {
+    known_row: Option<Row>,
+    pub(crate) fresh: Vec<Row>,
+    pub(crate) first: Option<Contradiction>,
+}
+
+impl Contradiction {
+    fn refusal(self) -> ImportFault
+        ensures { result ≡ ImportFault.Contradiction self.file self.line self.key }
+    {
+        ImportFault::Contradiction {
+            file: self.file,
+            line: self.line,
+            key: self.key,
+        }
+    }
+}
+
+/// Whether a line stands by another or before it.
+fn stands_by(file: usize, line: usize, other_file: usize, other_line: usize) -> bool
+    ensures { IsTrue result ↔ StandsBy file line other_file other_line }
+{
+    if file == other_file {
+        line <= other_line
+    } else {
+        file < other_file
+    }
+}
+
+/// The one that stands first.
+fn earlier(first: Option<Contradiction>, found: Contradiction) -> Contradiction
+    ensures { IsEarlierOf first found result }
+{
+    match first {
+        Some(first) if stands_by(first.file, first.line, found.file, found.line) => first,
+        _ => found,
+    }
+}
+
+impl Sweep {
+    pub(crate) fn new(alloc: Global) -> Sweep
+        ensures swept { (known : List Version) (lines : List PlacedLine) → IsSwept known lines [] result }
+        ensures empty { result.fresh.items ≡ [] }
+    {
+        Sweep {
+            known_row: None,
+            fresh: Vec::new(alloc),
+            first: None,
+        }
+    }
+
+    /// The row that stands for the key of the last line.
+    fn standing(&self) -> Option<&Row>
+        ensures { option_copied result ≡ standing_of self.now }
+    {
+        match &self.known_row {
+            Some(row) => Some(row),
+            None => self.fresh.last(),
+        }
+    }
+
+    /// Whether the last line had this key.
+    fn is_at(&self, key: Key) -> bool
+        ensures { IsTrue result ↔ IsSomeAnd (standing_of self.now) (λ row. key_of row ≡ key) }
+    {
+        match self.standing() {
+            Some(row) => row.key() == key,
+            None => false,
+        }
+    }
+
+    /// Whether this is the row that stands.
+    fn agrees(&self, row: &Row) -> bool
+        ensures { IsTrue result ↔ (standing_of self.now ≡ Some row.now) }
+    {
+        match self.standing() {
+            Some(standing) => standing.is_same(row),
+            None => false,
+        }
+    }
+
+    /// Notes the line if its row isn't the one that stands.
+    fn judge(&mut self, line: &PlacedLine)
+        ensures kept { self.new ≡ record self.old { first = self.new.first } }
+        ensures verdict { IsVerdict (standing_of self.old) self.old.first line.now self.new.first }
+    {
+        if !self.agrees(&line.row) {
+            let found = Contradiction {
+                file: line.file,
+                line: line.line,
+                key: line.row.key(),
+            };
+            self.first = Some(earlier(self.first, found));
+        }
+    }
+
+    /// Turns to another key, of which this row is known.
+    fn turn_to(&mut self, known_row: Option<Row>)
+        ensures { self.new ≡ record self.old { known_row = known_row } }
+    {
+        self.known_row = known_row;
+    }
+
+    /// Takes the next line. What is known is asked once for each key.
+    pub(crate) fn take<K: Known>(
+        &mut self,
+        alloc: Global,
+        line: PlacedLine,
+        known: &mut K,
+    ) -> Result<(), ImportFault>
+        ensures swept { K.is_honest known.old → OnOk result (TakesLine (K.rows known.old) line self.old self.new) }
+        ensures few { OnOk result (length self.new.fresh.items ≤ length self.old.fresh.items + 1) }
+        ensures fault { IfErr result IsNoRefusal }
+        ensures rows { K.is_honest known.old → K.rows known.new ≡ K.rows known.old }
+        ensures honesty { K.is_honest known.old ↔ K.is_honest known.new }
+        ensures disk_faults { Counts CountsAnyDiskFault result (K.disk_faults known.old) (K.disk_faults known.new) }
+        ensures damages { Counts CountsAnyDamage result (K.damages known.old) (K.damages known.new) }
+    {
+        let key = line.row.key();
+        if self.is_at(key) {
+            self.judge(&line);
+            return Ok(());
+        }
+        match known.row(alloc, &key)? {
+            Some(row) => {
+                self.turn_to(Some(row));
+                self.judge(&line);
+                Ok(())
+            }
+            None => {
+                self.turn_to(None);
+                self.fresh.push(line.row)?;
+                Ok(())
+            }
+        }
+    }
+
+    /// What is found after so many lines.
+    fn finish(self, count: usize) -> Result<Fresh, ImportFault>
+        requires { length self.fresh.items ≤ count }
+        ensures { IsOutcome self count result }
+    {
+        let Sweep {
+            known_row: _,
+            fresh,
+            first,
+        } = self;
+        match first {
+            Some(found) => Err(found.refusal()),
+            None => {
+                let repeated = (count - fresh.len()) as u64;
+                Ok(Fresh {
+                    rows: fresh,
+                    repeated,
+                })
+            }
+        }
+    }
+}
+
+/// Takes all lines, in key order.
+fn take_all<K: Known>(
+    alloc: Global,
+    lines: Vec<PlacedLine>,
+    known: &mut K,
+) -> Result<Sweep, ImportFault>
+    ensures swept { K.is_honest known.old → IsRising rank_cmp lines.items → IfOk result (IsSwept (K.rows known.old) lines.items lines.items) }
+    ensures few { IfOk result (λ sweep. length sweep.fresh.items ≤ length lines.items) }
+    ensures fault { IfErr result IsNoRefusal }
+    ensures rows { K.is_honest known.old → K.rows known.new ≡ K.rows known.old }
+    ensures honesty { K.is_honest known.old ↔ K.is_honest known.new }
+    ensures disk_faults { Counts CountsAnyDiskFault result (K.disk_faults known.old) (K.disk_faults known.new) }
+    ensures damages { Counts CountsAnyDamage result (K.damages known.old) (K.damages known.new) }
+{
+    let mut sweep = Sweep::new(alloc);
+    for line in lines {
+        sweep.take(alloc, line, known)?;
+    }
+    Ok(sweep)
+}
+
+/// The new rows of lines that stand in the order of their places, or the first line that contradicts.
+pub(crate) fn unite<K: Known>(
+    alloc: Global,
+    mut lines: Vec<PlacedLine>,
+    known: &mut K,
+) -> Result<Fresh, ImportFault>
+    requires { IsAscending place_cmp lines.items }
+    ensures no_row { IfErr result IsNoRowFault }
+    ensures taken { K.is_honest known.old → IfOk result (IsTaken (K.rows known.old) (rows_of lines.items)) }
+    ensures contradiction { K.is_honest known.old → IfErr result (IsContradictionOf (K.rows known.old) lines.items) }
+    ensures rows { K.is_honest known.old → K.rows known.new ≡ K.rows known.old }
+    ensures honesty { K.is_honest known.old ↔ K.is_honest known.new }
+    ensures disk_faults { Counts CountsAnyDiskFault result (K.disk_faults known.old) (K.disk_faults known.new) }
+    ensures damages { Counts CountsAnyDamage result (K.damages known.old) (K.damages known.new) }
+{
+    let count = lines.len();
+    sort(&mut lines);
+    take_all(alloc, lines, known)?.finish(count)
+}

@@ -1,0 +1,36 @@
+//! Why a folder could not be read.
+
+use std::alloc::{AllocError, AllocFailed};
+use std::io::{self, ErrorKind};
+use thiserror::Error;
+
+/// Why a folder gives no release.
+#[derive(Clone, Copy, Debug, PartialEq, Eq, Error)]
+pub enum FolderFault {
+    #[error("out of memory")]
+    OutOfMemory,
+    /// It isn't a folder, or something in it could not be listed or read, or is too large, or it holds no release file.
+    #[error("there is no release in the folder")]
+    NoFolder,
+}
+
+impl From<AllocError> for FolderFault {
+    fn from(_: AllocError) -> FolderFault {
+        FolderFault::OutOfMemory
+    }
+}
+
+impl<T: Drop> From<AllocFailed<T>> for FolderFault {
+    fn from(_: AllocFailed<T>) -> FolderFault {
+        FolderFault::OutOfMemory
+    }
+}
+
+impl From<io::Error> for FolderFault {
+    fn from(error: io::Error) -> FolderFault {
+        match error.kind() {
+            ErrorKind::OutOfMemory => FolderFault::OutOfMemory,
+            _ => FolderFault::NoFolder,
+        }
+    }
+}

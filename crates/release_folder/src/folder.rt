@@ -1,0 +1,92 @@
+//! Reading a folder.
+
+use crate::fault::FolderFault;
+use crate::names::kind_to_take;
+use import_check::{Release, ReleaseFile};
+use std::alloc::Global;
+use std::fs::{self, File, Files};
+use std::io::{ErrorKind, Read};
+
+/// The most bytes that a release file has.
+const LARGEST: u64 = 4_294_967_295;
+
+/// The folders of a release in which files are looked for, in this order.
+const PARTS: [&str; 2] = ["Terminology", "Refset/Content"];
+
+/// The release in the folder `name` below `dir`: the files of the folders Terminology and then Refset/Content, the names
+/// of each in byte order, as far as their names are those of concept, description, relationship or association files of a Delta or a Full release.
+pub fn read_folder<R: Files<File = File> + AllocGlobal + Clone + Drop>(
+    rt: &R,
+    alloc: Global,
+    dir: &str,
+    name: &str,
+) -> Result<Release, FolderFault> {
+    let root = format!(in alloc; "{dir}/{name}")?;
+    if !fs::metadata(rt, root.as_str())?.is_dir() {
+        return Err(FolderFault::NoFolder);
+    }
+    let mut files = Vec::new(alloc);
+    for part in &PARTS {
+        let folder = format!(in alloc; "{root}/{part}")?;
+        add_files(rt, alloc, &folder, &mut files)?;
+    }
+    if files.is_empty() {
+        return Err(FolderFault::NoFolder);
+    }
+    Ok(Release { files })
+}
+
+/// Adds the release files of one folder. An absent folder has none.
+fn add_files<R: Files<File = File> + AllocGlobal + Clone + Drop>(
+    rt: &R,
+    alloc: Global,
+    folder: &str,
+    files: &mut Vec<ReleaseFile>,
+) -> Result<(), FolderFault> {
+    for name in names_in(rt, alloc, folder)? {
+        if let Some(kind) = kind_to_take(name.as_bytes()) {
+            let path = format!(in alloc; "{folder}/{name}")?;
+            let bytes = whole_file(rt, alloc, &path)?;
+            files.push(ReleaseFile { name, kind, bytes })?;
+        }
+    }
+    Ok(())
+}
+
+/// The names in a folder, in byte order. An absent folder has none.
+fn names_in<R: Files<File = File> + AllocGlobal + Clone + Drop>(
+    rt: &R,
+    alloc: Global,
+    folder: &str,
+) -> Result<Vec<String>, FolderFault> {
+    let mut names = Vec::new(alloc);
+    let entries = match fs::read_dir(rt, folder) {
+        Ok(entries) => entries,
+        Err(error) if error.kind() == ErrorKind::NotFound => return Ok(names),
+        Err(error) => return Err(FolderFault::from(error)),
+    };
+    for entry in entries {
+        let entry = entry?;
+        names.push(String::from_str(alloc, entry.file_name())?)?;
+    }
+    names.sort_unstable();
+    Ok(names)
+}
+
+/// All bytes of a file that isn't too large.
+fn whole_file<R: Files<File = File>>(
+    rt: &R,
+    alloc: Global,
+    path: &str,
+) -> Result<Vec<u8>, FolderFault> {
+    let file = fs::open(rt, path)?;
+    if file.metadata()?.len() > LARGEST {
+        return Err(FolderFault::NoFolder);
+    }
+    let mut bytes = Vec::new(alloc);
+    let count = file.take(LARGEST + 1).read_to_end(&mut bytes)?;
+    if count as u64 > LARGEST {
+        return Err(FolderFault::NoFolder);
+    }
+    Ok(bytes)
+}

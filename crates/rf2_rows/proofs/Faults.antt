@@ -1,0 +1,106 @@
+-- The first fault of texts in columns.
+use Rattle.std.proofs.Common.{◌≡◌, ℕ, ◌≤◌, ◌∙◌, Bool, ap, List, [], ◌∷◌, ◌++◌, length, drop, inl, inr, refl, sym, subst, arith}
+use Rattle.std.specs.Borrow.{Bor}
+use Rattle.std.proofs.lemmas.List.{length-map, length-drop}
+use Rattle.rf2_values.specs.declared.row.Kind.{Kind}
+use Rattle.std.specs.Prelude.{Result, Ok, Err, MatchResult, decimal}
+use Rattle.std.specs.Str.{IsUtf8}
+use Rattle.rf2_rows.specs.declared.fault.LineFault.{LineFault}
+use Rattle.rf2_rows.specs.declared.fault.RowFault.{RowFault}
+use Rattle.rf2_rows.specs.declared.fault.RowFault.TheVariants as rowfault
+use Rattle.rf2_values.specs.Row.{Version, version, IsVersion, IsIdOf, IsBody, IsConcept, SpellsId, SpellsColumns, kind_of, kind_of_body, line_of, id_text, later_columns, body_columns, flag}
+use Rattle.rf2_rows.specs.Line.{Column, MayStand, HasFault, AllStand, FirstFault, texts, columns as columns_of_kind, columns_in, common_layout, own_layout, columns_of, IsFaultOfColumns, IsLineFaultThat, IsLineReading}
+use Rattle.rf2_values.specs.Time.{IsTime}
+use Rattle.rf2_values.specs.declared.row.Body.{Body}
+use Rattle.rf2_values.specs.declared.row.Kind.TheVariants as kind
+use Rattle.rf2_values.proofs.Lengths.{length-line}
+use Rattle.uuid.proofs.TextLemmas.{by_index_length}
+use Rattle.rf2_rows.proofs.Texts.{text_at}
+
+pub fault_here : (c : Column) (cs : List Column) (t : List ℕ) (ts : List (List ℕ)) (f : LineFault) → HasFault c t f → FirstFault (c ∷ cs) (t ∷ ts) f
+unfolding FirstFault
+fault_here c cs t ts f h = inl h
+
+pub fault_later : (c : Column) (cs : List Column) (t : List ℕ) (ts : List (List ℕ)) (f : LineFault) → MayStand c t → FirstFault cs ts f → FirstFault (c ∷ cs) (t ∷ ts) f
+unfolding FirstFault
+fault_later c cs t ts f stands h = inr (stands, h)
+
+-- a fault of the first columns is one of all, and one of the others, where the first have none
+pub fault_within : (cs ds : List Column) (ts us : List (List ℕ)) (f : LineFault) → FirstFault cs ts f → FirstFault (cs ++ ds) (ts ++ us) f
+unfolding FirstFault
+fault_within [] ds ts us f h = absurd h
+fault_within (c ∷ cs) ds [] us f h = absurd h
+fault_within (c ∷ cs) ds (t ∷ ts) us f (inl h) = inl h
+fault_within (c ∷ cs) ds (t ∷ ts) us f (inr h) = inr (h.0, fault_within cs ds ts us f h.1)
+
+pub fault_after : (cs ds : List Column) (ts us : List (List ℕ)) (f : LineFault) → AllStand cs ts → FirstFault ds us f → FirstFault (cs ++ ds) (ts ++ us) f
+unfolding FirstFault
+fault_after [] ds [] us f stand h = h
+fault_after [] ds (t ∷ ts) us f stand h = absurd stand
+fault_after (c ∷ cs) ds [] us f stand h = absurd stand
+fault_after (c ∷ cs) ds (t ∷ ts) us f stand h = inr (stand.0, fault_after cs ds ts us f stand.1 h)
+
+-- the texts of at least four columns
+common_first : (columns : List (Bor (List ℕ))) → 4 ≤ length columns → texts columns ≡ (text_at columns 0 ∷ text_at columns 1 ∷ text_at columns 2 ∷ text_at columns 3 ∷ []) ++ texts (drop 4 columns)
+common_first (a ∷ b ∷ c ∷ d ∷ rest) le = refl
+common_first (a ∷ b ∷ c ∷ []) le = absurd (omega arith)
+common_first (a ∷ b ∷ []) le = absurd (omega arith)
+common_first (a ∷ []) le = absurd (omega arith)
+common_first [] le = absurd (omega arith)
+
+as_many : (kind : Kind) (columns : List (Bor (List ℕ))) → 4 ≤ length columns → length (drop 4 columns) ≡ length (own_layout kind) → length (texts columns) ≡ length (columns_of_kind kind)
+as_many kind columns le own =
+    let n = length-map columns (λ (x : Bor (List ℕ)). x.now) in
+    let m = length-map (own_layout kind) (λ (x : List ℕ × Column). x.1) in
+    let d = length-drop 4 columns in
+    omega arith
+
+pub fault_in_common : (kind : Kind) (columns : List (Bor (List ℕ))) (f : LineFault) → 4 ≤ length columns → length (drop 4 columns) ≡ length (own_layout kind)
+    → FirstFault (columns_in (common_layout kind)) (text_at columns 0 ∷ text_at columns 1 ∷ text_at columns 2 ∷ text_at columns 3 ∷ []) f → IsFaultOfColumns kind (texts columns) f
+fault_in_common kind columns f le own h =
+    inr (as_many kind columns le own, subst (λ (ts : List (List ℕ)). FirstFault (columns_of_kind kind) ts f) (sym (common_first columns le)) (fault_within (columns_in (common_layout kind)) (columns_in (own_layout kind)) _ (texts (drop 4 columns)) f h))
+
+pub fault_in_own : (kind : Kind) (columns : List (Bor (List ℕ))) (f : LineFault) → 4 ≤ length columns → length (drop 4 columns) ≡ length (own_layout kind)
+    → AllStand (columns_in (common_layout kind)) (text_at columns 0 ∷ text_at columns 1 ∷ text_at columns 2 ∷ text_at columns 3 ∷ []) → FirstFault (columns_in (own_layout kind)) (texts (drop 4 columns)) f → IsFaultOfColumns kind (texts columns) f
+fault_in_own kind columns f le own stand h =
+    inr (as_many kind columns le own, subst (λ (ts : List (List ℕ)). FirstFault (columns_of_kind kind) ts f) (sym (common_first columns le)) (fault_after (columns_in (common_layout kind)) (columns_in (own_layout kind)) (text_at columns 0 ∷ text_at columns 1 ∷ text_at columns 2 ∷ text_at columns 3 ∷ []) (texts (drop 4 columns)) f stand h))
+
+-- three columns at once, for a search of few steps
+pub fault_past_three : (c d e : Column) (cs : List Column) (t u v : List ℕ) (ts : List (List ℕ)) (f : LineFault) → MayStand c t → MayStand d u → MayStand e v → FirstFault cs ts f → FirstFault (c ∷ d ∷ e ∷ cs) (t ∷ u ∷ v ∷ ts) f
+fault_past_three c d e cs t u v ts f hc hd he h = fault_later c (d ∷ e ∷ cs) t (u ∷ v ∷ ts) f hc (fault_later d (e ∷ cs) u (v ∷ ts) f hd (fault_later e cs v ts f he h))
+
+pub given_map : (P Q : LineFault → Type 0) → ((f : LineFault) → P f → Q f) → (e : RowFault) → IsLineFaultThat P e → IsLineFaultThat Q e
+given_map P Q g rowfault.OutOfMemory h = tt
+given_map P Q g (rowfault.Line f) h = g f h
+
+-- what the columns of a line give is what the line gives
+pub line_reading : (kind : Kind) (text : List ℕ) (parts : List (List ℕ)) (r : Result Version RowFault) → length text ≤ 65535 → IsUtf8 text → text ≡ line_of parts → parts ≡ columns_of text
+    → MatchResult r (λ v. (kind_of v ≡ kind) × IsVersion v × SpellsColumns v parts) (IsLineFaultThat (IsFaultOfColumns kind parts)) → IsLineReading kind text r
+line_reading kind text parts (Ok v) short utf8 whole cut h = (h.0, record { is_row = h.1; columns = (parts, h.2, whole); short = short })
+line_reading kind text parts (Err rowfault.OutOfMemory) short utf8 whole cut h = tt
+line_reading kind text parts (Err (rowfault.Line f)) short utf8 whole cut h = inr (short, inr (utf8, subst (λ (ts : List (List ℕ)). IsFaultOfColumns kind ts f) cut h))
+
+-- ---- a row from its columns
+
+id_length : (kind : Kind) (n : ℕ) (text : List ℕ) → SpellsId kind n text → length (id_text kind n) ≡ length text
+id_length kind.Concept n text s = sym (ap length s)
+id_length kind.Description n text s = sym (ap length s)
+id_length kind.Relationship n text s = sym (ap length s)
+id_length kind.Association n text s = by_index_length 36 _ ∙ sym s.long
+
+-- what the columns of a line say is a row, if the line is short
+pub row_of_columns : (kind : Kind) (columns : List (Bor (List ℕ))) (id time : ℕ) (active : Bool) (m : ℕ) (body : Body) → 4 ≤ length columns
+    → IsIdOf kind id → SpellsId kind id (text_at columns 0) → IsTime time → text_at columns 1 ≡ decimal time → text_at columns 2 ≡ flag active → IsConcept m → text_at columns 3 ≡ decimal m
+    → kind_of_body body ≡ kind → IsBody body → texts (drop 4 columns) ≡ body_columns body → length (line_of (texts columns)) ≤ 65535 → IsVersion (version id time active m body)
+row_of_columns kind columns id time active m body le is_id spells_id is_time spells_time spells_flag is_module spells_module same is_body spells_body short =
+    let v = version id time active m body in
+    let all : texts columns ≡ text_at columns 0 ∷ later_columns v = common_first columns le ∙ cc in
+    let long : length (line_of (text_at columns 0 ∷ later_columns v)) ≤ 65535 = subst (λ (ts : List (List ℕ)). length (line_of ts) ≤ 65535) all short in
+    let first : length (id_text (kind_of_body body) id) ≡ length (text_at columns 0) = ap (λ (k : Kind). length (id_text k id)) same ∙ id_length kind id (text_at columns 0) spells_id in
+    record {
+      id = subst (λ (k : Kind). IsIdOf k id) (sym same) is_id;
+      time = is_time;
+      «module» = is_module;
+      body = is_body;
+      short = omega (arith, length-line (text_at columns 0) (later_columns v), length-line (id_text (kind_of_body body) id) (later_columns v));
+    }

@@ -1,0 +1,68 @@
+-- Files and their lines.
+use Rattle.std.proofs.Common.{◌≡◌, ℕ, suc, ◌+◌, ◌⊎◌, List, [], ◌∷◌, ◌++◌, length, take, drop, take-append-drop, Err, refl, sym, ap, subst, ◌∙◌, inl, inr, append_assoc}
+use Rattle.std.specs.Prelude.{nat_eq}
+use Rattle.std.specs.List.{AllZip, starts_with}
+use Rattle.std.proofs.lemmas.Bool.{cases_Bool, cond-true, cond-false}
+use Rattle.std.specs.Cmp.Lexicographic.{same_text}
+use Rattle.rf2_values.specs.declared.row.Kind.{Kind}
+use Rattle.rf2_rows.specs.declared.fault.RowFault.{RowFault}
+use Rattle.rf2_rows.specs.declared.fault.RowFault.TheVariants as rowfault
+use Rattle.rf2_values.specs.Row.{Version, Spells, kind_of}
+use Rattle.rf2_rows.specs.Line.{header, IsLineReading}
+use Rattle.rf2_rows.specs.Fault.{at_line_of}
+use Rattle.rf2_rows.specs.File.{InLines, mark, without_mark, lines_in, SpellsEach, IsReleaseFile, IsFaultOfRows, IsFaultThat}
+use Rattle.rf2_rows.proofs.Lines.{in_lines}
+
+zip_push : {A B : Type 0} (R : A → B → Type 0) (xs : List A) (ys : List B) (x : A) (y : B) → AllZip R xs ys → R x y → AllZip R (xs ++ x ∷ []) (ys ++ y ∷ [])
+zip_push R [] [] x y all r = (r, tt)
+zip_push R [] (b ∷ bs) x y all r = absurd all
+zip_push R (a ∷ rest) [] x y all r = absurd all
+zip_push R (a ∷ rest) (b ∷ bs) x y all r = (all.0, zip_push R rest bs x y all.1 r)
+
+pub zip_length : {A B : Type 0} (R : A → B → Type 0) (xs : List A) (ys : List B) → AllZip R xs ys → length xs ≡ length ys
+zip_length R [] [] all = refl
+zip_length R [] (b ∷ bs) all = absurd all
+zip_length R (a ∷ rest) [] all = absurd all
+zip_length R (a ∷ rest) (b ∷ bs) all = ap suc (zip_length R rest bs all.1)
+
+-- the lines before spell the rows so far, and those left follow
+abbrev pub SoFar : Kind → List (List ℕ) → List Version → List (List ℕ) → Type 0
+SoFar kind lines rows left = (before : List (List ℕ)) × (before ++ left ≡ lines) × SpellsEach kind rows before
+
+pub one_more : (kind : Kind) (lines : List (List ℕ)) (rows : List Version) (left rest : List (List ℕ)) (line : List ℕ) (v : Version)
+    → SoFar kind lines rows left → left ≡ line ∷ rest → (kind_of v ≡ kind) × Spells v line → SoFar kind lines (rows ++ v ∷ []) rest
+one_more kind lines rows left rest line v h e spelled = (
+  h.0 ++ line ∷ [],
+  append_assoc h.0 (line ∷ []) rest ∙ ap (λ (x : List (List ℕ)). h.0 ++ x) (sym e) ∙ h.1,
+  zip_push (λ w text. (kind_of w ≡ kind) × Spells w text) rows h.0 v line h.2 spelled,
+)
+
+pub fault_there : (kind : Kind) (lines : List (List ℕ)) (rows : List Version) (left rest : List (List ℕ)) (line : List ℕ) (e : RowFault) (n : ℕ)
+    → SoFar kind lines rows left → left ≡ line ∷ rest → IsLineReading kind line (Err e) → n ≡ length rows + 2 → IsFaultThat (IsFaultOfRows kind lines) (at_line_of n e)
+fault_there kind lines rows left rest line rowfault.OutOfMemory n h is given at = tt
+fault_there kind lines rows left rest line (rowfault.Line f) n h is given at =
+    (rows, h.0, line, rest, sym h.1 ∙ ap (λ (x : List (List ℕ)). h.0 ++ x) is, h.2, given, at ∙ ap (λ (k : ℕ). k + 2) (zip_length (λ w text. (kind_of w ≡ kind) × Spells w text) rows h.0 h.2))
+
+-- ---- a file that was read
+
+-- the bytes are an optional mark, and then those without it
+front_of : (bytes : List ℕ) → (front : List ℕ) × ((front ≡ []) ⊎ (front ≡ mark)) × (bytes ≡ front ++ without_mark bytes)
+front_of bytes =
+    elim (cases_Bool (starts_with nat_eq bytes mark)) [
+      | inl marked ↦ (mark, inr refl, sym (ap (λ (x : List ℕ). mark ++ x) (cond-true _ _ _ marked) ∙ ap (λ (x : List ℕ). x ++ drop 3 bytes) (same_text mark (take 3 bytes) (sym marked)) ∙ take-append-drop 3 bytes))
+      | inr plain ↦ ([], inl refl, sym (cond-false _ _ _ plain))
+    ]
+
+pub is_release_file : (kind : Kind) (rows : List Version) (bytes : List ℕ) (first : List ℕ) (others : List (List ℕ))
+    → lines_in (without_mark bytes) ≡ first ∷ others → first ≡ header kind → SpellsEach kind rows others → IsReleaseFile kind rows bytes
+is_release_file kind rows bytes first others cut head spelled =
+    let front = front_of bytes in
+    record {
+      front = front.0;
+      is_front = front.1;
+      body = without_mark bytes;
+      texts = others;
+      whole = front.2;
+      in_lines = subst (λ (ls : List (List ℕ)). InLines ls (without_mark bytes)) (cut ∙ ap (λ (x : List ℕ). x ∷ others) head) (in_lines (without_mark bytes));
+      spelled = spelled;
+    }

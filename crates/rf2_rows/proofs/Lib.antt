@@ -1,0 +1,10 @@
+pub mod Clean
+pub mod Faults
+pub mod FileLaws
+pub mod Files
+pub mod Lines
+pub mod Moves
+pub mod RowLaws
+pub mod Splits
+pub mod Texts
+pub mod Unique

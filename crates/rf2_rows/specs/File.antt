@@ -1,0 +1,75 @@
+-- What a release file is, and what is wrong with a file that is none.
+use Rattle.std.specs.Prelude.{◌≡◌, ◌≢◌, ℕ, ◌+◌, ◌≤◌, ◌<◌, ◌⊎◌, List, [], ◌∷◌, ◌++◌, length, map, drop, nat_eq, if◌then◌else◌}
+use Rattle.std.specs.List.{AllZip, starts_with}
+use Rattle.std.specs.Str.{IsUtf8}
+use Rattle.bstr.specs.Text.{lines_of, without_terminator}
+use Rattle.rf2_values.specs.declared.row.Kind.{Kind}
+use Rattle.rf2_rows.specs.declared.fault.LineFault.{LineFault}
+use Rattle.rf2_rows.specs.declared.fault.FileFault.{FileFault}
+use Rattle.rf2_rows.specs.declared.fault.FileFault.TheVariants as filefault
+use Rattle.rf2_rows.specs.declared.fault.LineFault.TheVariants as fault
+use Rattle.rf2_values.specs.Row.{Version, Spells, kind_of}
+use Rattle.rf2_rows.specs.Line.{header, IsFaultOf}
+
+-- a line end is LF or CR LF
+abbrev pub IsLineEnd : List ℕ → Type 0
+IsLineEnd end = (end ≡ 10 ∷ []) ⊎ (end ≡ 13 ∷ 10 ∷ [])
+
+-- the bytes are the texts in order, each with a line end, which the last one may lack
+abbrev pub InLines : List (List ℕ) → List ℕ → Type 0
+InLines [] bytes = bytes ≡ []
+InLines (t ∷ []) bytes = (bytes ≡ t) ⊎ ((end : List ℕ) × IsLineEnd end × (bytes ≡ t ++ end))
+InLines (t ∷ u ∷ us) bytes = (end : List ℕ) × (rest : List ℕ) × IsLineEnd end × (bytes ≡ t ++ (end ++ rest)) × InLines (u ∷ us) rest
+
+-- the byte order mark
+abbrev pub mark : List ℕ
+mark = 0xef ∷ 0xbb ∷ 0xbf ∷ []
+
+-- each text spells the row of its place
+abbrev pub SpellsEach : Kind → List Version → List (List ℕ) → Type 0
+SpellsEach kind rows texts = AllZip (λ v text. (kind_of v ≡ kind) × Spells v text) rows texts
+
+-- an optional mark, the header, and then one line for each row in order
+pub record IsReleaseFile (kind : Kind) (rows : List Version) (bytes : List ℕ) : Type 0 where
+  pub front : List ℕ
+  pub is_front : (front ≡ []) ⊎ (front ≡ mark)
+  pub body : List ℕ
+  pub texts : List (List ℕ)
+  pub whole : bytes ≡ front ++ body
+  pub in_lines : InLines (header kind ∷ texts) body
+  pub spelled : SpellsEach kind rows texts
+
+-- ---- faults
+
+-- the bytes after a mark
+abbrev pub without_mark : List ℕ → List ℕ
+without_mark bytes = if starts_with nat_eq bytes mark then drop 3 bytes else bytes
+
+-- the lines of the bytes: a CR is no part of a line only where LF follows it
+abbrev pub lines_in : List ℕ → List (List ℕ)
+lines_in bytes = map without_terminator (lines_of bytes)
+
+-- the first fault of a first line
+abbrev pub IsFirstLineFault : Kind → List ℕ → LineFault → Type 0
+IsFirstLineFault kind text f =
+    ((65535 < length text) × (f ≡ fault.LineLength))
+    ⊎ ((length text ≤ 65535) × ((¬ (IsUtf8 text) × (f ≡ fault.NotUtf8)) ⊎ (IsUtf8 text × (text ≢ header kind) × (f ≡ fault.Header))))
+
+-- Of the lines from line 2 on, line n is the first that has a fault, and f is its fault: those before it spell rows.
+abbrev pub IsFaultOfRows : Kind → List (List ℕ) → ℕ → LineFault → Type 0
+IsFaultOfRows kind lines n f =
+    (rows : List Version) × (before : List (List ℕ)) × (text : List ℕ) × (after : List (List ℕ))
+    × (lines ≡ before ++ text ∷ after) × SpellsEach kind rows before × IsFaultOf kind text f × (n ≡ length before + 2)
+
+-- Line n, counted from 1, is the first that has a fault, and f is its fault. No line at all is a first line that isn't the header.
+abbrev pub IsFaultOfLines : Kind → List (List ℕ) → ℕ → LineFault → Type 0
+IsFaultOfLines kind [] n f = (n ≡ 1) × (f ≡ fault.Header)
+IsFaultOfLines kind (first ∷ others) n f = ((n ≡ 1) × IsFirstLineFault kind first f) ⊎ ((first ≡ header kind) × IsFaultOfRows kind others n f)
+
+abbrev pub IsFaultOfFile : Kind → List ℕ → ℕ → LineFault → Type 0
+IsFaultOfFile kind bytes n f = IsFaultOfLines kind (lines_in (without_mark bytes)) n f
+
+-- a fault that reading gives is the one meant, where memory lasts
+abbrev pub IsFaultThat : (ℕ → LineFault → Type 0) → FileFault → Type 0
+IsFaultThat P filefault.OutOfMemory = Unit {0}
+IsFaultThat P (filefault.Row n f) = P n f

@@ -1,0 +1,10 @@
+pub use Rattle.rf2_values.specs.Number
+pub use Rattle.rf2_values.specs.Sctid
+pub use Rattle.rf2_values.specs.Time
+pub use Rattle.rf2_values.specs.Text
+pub use Rattle.rf2_values.specs.Member
+pub use Rattle.rf2_values.specs.Row
+pub use Rattle.rf2_values.specs.Key
+pub mod Line
+pub mod File
+pub mod Fault

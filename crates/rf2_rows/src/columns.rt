@@ -1,0 +1,124 @@
+//! The columns of a line, each with its fault.
+
+ghost use Rattle.std.specs.Prelude.{◌≡◌, ◌<◌, ◌^◌, IfOk, MatchResult, decimal};
+ghost use Rattle.rf2_values.specs.declared.row.Kind.TheVariants as kind;
+ghost use Rattle.rf2_values.specs.Time.{IsTime};
+ghost use Rattle.rf2_values.specs.Text.{IsText};
+ghost use Rattle.rf2_values.specs.Row.{IsOfClass, IsConcept, IsComponent, IsIdOf, SpellsId, flag};
+ghost use Rattle.rf2_rows.specs.Line.{Identifier, Time, Active, ConceptReference, ComponentReference, Number, Text as ColumnText, IsLineFaultThat, HasClassFault, HasFault, columns_of, texts};
+
+use crate::fault::{LineFault, RowFault};
+use bstr::ByteSlice;
+use rf2_values::{Class, EffectiveTime, Kind, Member, Sctid, Text, number};
+use std::alloc::{AllocError, Global};
+
+/// How many columns the kind with the most of them has.
+const MOST_COLUMNS: usize = 10;
+
+/// The texts between the TABs.
+pub fn cut(alloc: Global, text: &[u8]) -> Result<Vec<&[u8]>, AllocError>
+    ensures { IfOk result (λ columns. texts columns.items ≡ columns_of text.now) }
+{
+    let mut columns = Vec::with_capacity(alloc, MOST_COLUMNS)?;
+    for column in text.split_str(b"\t") {
+        columns.push(column)?;
+    }
+    Ok(columns)
+}
+
+/// An SCTID of a class.
+fn sctid_of(text: &[u8], class: Class) -> Result<Sctid, LineFault>
+    ensures { MatchResult result (λ n. IsOfClass class n × (text.now ≡ decimal n)) (HasClassFault class text.now) }
+{
+    let Some(id) = Sctid::parse(text) else {
+        return Err(LineFault::Id);
+    };
+    if id.class() == Some(class) {
+        Ok(id)
+    } else {
+        Err(LineFault::Partition)
+    }
+}
+
+/// The id of a member of a reference set.
+fn member_id(text: &[u8]) -> Result<u128, LineFault>
+    ensures { MatchResult result (λ n. IsIdOf kind.Association n × SpellsId kind.Association n text.now) (HasFault (Identifier kind.Association) text.now) }
+{
+    match Member::parse(text) {
+        Some(member) => Ok(member.value()),
+        None => Err(LineFault::MemberId),
+    }
+}
+
+/// A row's own identifier.
+pub fn identifier(kind: Kind, text: &[u8]) -> Result<u128, LineFault>
+    ensures { MatchResult result (λ n. IsIdOf kind n × SpellsId kind n text.now) (HasFault (Identifier kind) text.now) }
+{
+    match kind {
+        Kind::Concept => Ok(u128::from(sctid_of(text, Class::Concept)?.value())),
+        Kind::Description => Ok(u128::from(sctid_of(text, Class::Description)?.value())),
+        Kind::Relationship => Ok(u128::from(sctid_of(text, Class::Relationship)?.value())),
+        Kind::Association => member_id(text),
+    }
+}
+
+/// The day from which a row holds.
+pub fn effective_time(text: &[u8]) -> Result<EffectiveTime, LineFault>
+    ensures { MatchResult result (λ t. IsTime t × (text.now ≡ decimal t)) (HasFault Time text.now) }
+{
+    EffectiveTime::parse(text).ok_or(LineFault::Time)
+}
+
+/// Whether a row is active.
+pub fn active(text: &[u8]) -> Result<bool, LineFault>
+    ensures { MatchResult result (λ b. text.now ≡ flag b) (HasFault Active text.now) }
+{
+    match text {
+        [b'0'] => Ok(false),
+        [b'1'] => Ok(true),
+        _ => Err(LineFault::Active),
+    }
+}
+
+/// The identifier of a concept.
+pub fn concept_reference(text: &[u8]) -> Result<Sctid, LineFault>
+    ensures { MatchResult result (λ n. IsConcept n × (text.now ≡ decimal n)) (HasFault ConceptReference text.now) }
+{
+    match Sctid::parse(text) {
+        Some(id) if id.class() == Some(Class::Concept) => Ok(id),
+        _ => Err(LineFault::Reference),
+    }
+}
+
+/// The identifier of a concept, a description or a relationship.
+pub fn component_reference(text: &[u8]) -> Result<Sctid, LineFault>
+    ensures { MatchResult result (λ n. IsComponent n × (text.now ≡ decimal n)) (HasFault ComponentReference text.now) }
+{
+    match Sctid::parse(text) {
+        Some(id) if id.class().is_some() => Ok(id),
+        _ => Err(LineFault::Reference),
+    }
+}
+
+/// A number of 32 bits, without leading zeros.
+pub fn group(text: &[u8]) -> Result<u32, LineFault>
+    ensures { MatchResult result (λ n. (n < 2 ^ 32) × (text.now ≡ decimal n)) (HasFault Number text.now) }
+{
+    match number::parse(text) {
+        Some(value) => match u32::try_from(value) {
+            Ok(value) => Ok(value),
+            Err(_) => Err(LineFault::Number),
+        },
+        None => Err(LineFault::Number),
+    }
+}
+
+/// A text that isn't empty.
+pub fn some_text(alloc: Global, text: &[u8]) -> Result<Text, RowFault>
+    ensures { MatchResult result (λ t. IsText t × (t ≡ text.now)) (IsLineFaultThat (HasFault ColumnText text.now)) }
+{
+    match Text::of(alloc, text)? {
+        Some(text) => Ok(text),
+        None => Err(RowFault::Line(LineFault::EmptyText)),
+    }
+}

@@ -1,0 +1,108 @@
+//! Files: reading rows.
+
+ghost use Rattle.std.specs.Prelude.{◌≡◌, ℕ, ◌<◌, ◌↔◌, ◌⊎◌, length, List, MatchResult, MatchOption, IfOk, IfErr};
+ghost use Rattle.rf2_values.specs.Row.{Version};
+ghost use Rattle.rf2_rows.specs.declared.fault.LineFault.{LineFault};
+ghost use Rattle.rf2_rows.specs.declared.fault.FileFault.TheVariants as filefault;
+ghost use Rattle.rf2_rows.specs.Line.{header};
+ghost use Rattle.rf2_rows.specs.File.{without_mark as bytes_without_mark, lines_in, IsFirstLineFault, IsReleaseFile, SpellsEach, IsFaultOfRows, IsFaultOfFile, IsFaultThat};
+
+use crate::fault::{FileFault, LineFault};
+use crate::line::{LINE_LIMIT, read_line};
+use bstr::{ByteSlice, Lines};
+use rf2_values::{Kind, Row};
+use std::alloc::Global;
+
+/// The column names of a concept file.
+const CONCEPT_HEADER: &[u8] = b"id\teffectiveTime\tactive\tmoduleId\tdefinitionStatusId";
+
+/// The column names of a description file.
+const DESCRIPTION_HEADER: &[u8] =
+    b"id\teffectiveTime\tactive\tmoduleId\tconceptId\tlanguageCode\ttypeId\tterm\tcaseSignificanceId";
+
+/// The column names of a relationship file.
+const RELATIONSHIP_HEADER: &[u8] =
+    b"id\teffectiveTime\tactive\tmoduleId\tsourceId\tdestinationId\trelationshipGroup\ttypeId\tcharacteristicTypeId\tmodifierId";
+
+/// The column names of a file of members of association reference sets.
+const ASSOCIATION_HEADER: &[u8] =
+    b"id\teffectiveTime\tactive\tmoduleId\trefsetId\treferencedComponentId\ttargetComponentId";
+
+/// The bytes after a mark.
+fn without_mark(bytes: &[u8]) -> &[u8]
+    ensures { result.now ≡ bytes_without_mark bytes.now }
+{
+    match bytes {
+        [0xef, 0xbb, 0xbf, rest @ ..] => rest,
+        _ => bytes,
+    }
+}
+
+/// What is wrong with a first line, if anything.
+fn first_line_fault(kind: Kind, text: &[u8]) -> Option<LineFault>
+    ensures { MatchOption result (text.now ≡ header kind) (IsFirstLineFault kind text.now) }
+{
+    if text.len() > LINE_LIMIT {
+        return Some(LineFault::LineLength);
+    }
+    if !text.is_utf8() {
+        return Some(LineFault::NotUtf8);
+    }
+    let wanted = match kind {
+        Kind::Concept => CONCEPT_HEADER,
+        Kind::Description => DESCRIPTION_HEADER,
+        Kind::Relationship => RELATIONSHIP_HEADER,
+        Kind::Association => ASSOCIATION_HEADER,
+    };
+    if text == wanted {
+        None
+    } else {
+        Some(LineFault::Header)
+    }
+}
+
+/// The rows of the lines after the first.
+fn read_rows(alloc: Global, kind: Kind, lines: Lines<'_>) -> Result<Vec<Row>, FileFault>
+    ensures { MatchResult result (λ rows. SpellsEach kind rows.items lines.entry) (IsFaultThat (IsFaultOfRows kind lines.entry)) }
+{
+    let mut rows = Vec::new(alloc);
+    for line in lines {
+        match read_line(alloc, kind, line) {
+            Ok(row) => rows.push(row)?,
+            Err(fault) => return Err(fault.at_line(rows.len() + 2)),
+        }
+    }
+    Ok(rows)
+}
+
+/// The rows of a release file.
+fn read(alloc: Global, kind: Kind, bytes: &[u8]) -> Result<Vec<Row>, FileFault>
+    ensures found { IfOk result (λ rows. IsReleaseFile kind rows.items bytes.now) }
+    ensures fault { IfErr result (IsFaultThat (IsFaultOfFile kind bytes.now)) }
+{
+    let mut lines = without_mark(bytes).lines();
+    let Some(first) = lines.next() else {
+        return Err(FileFault::Row {
+            line: 1,
+            fault: LineFault::Header,
+        });
+    };
+    if let Some(fault) = first_line_fault(kind, first) {
+        return Err(FileFault::Row { line: 1, fault });
+    }
+    read_rows(alloc, kind, lines)
+}
+
+/// The rows of a release file.
+pub fn read_file(alloc: Global, kind: Kind, bytes: &[u8]) -> Result<Vec<Row>, FileFault>
+    // What is read is spelled so.
+    ensures found { IfOk result (λ rows. IsReleaseFile kind rows.items bytes.now) }
+    // What is spelled so is read, unless memory runs out.
+    ensures only { (rows : List Version) → IsReleaseFile kind rows bytes.now → MatchResult result (λ v. v.items ≡ rows) (λ e. e ≡ filefault.OutOfMemory) }
+    // Which line is faulty, and how.
+    ensures fault { IfErr result (IsFaultThat (IsFaultOfFile kind bytes.now)) }
+    // A file with that fault is refused so, unless memory runs out.
+    ensures refused { (n : ℕ) (f : LineFault) → IsFaultOfFile kind bytes.now n f → MatchResult result (λ v. ⊥) (λ e. (e ≡ filefault.OutOfMemory) ⊎ (e ≡ filefault.Row n f)) }
+{
+    read(alloc, kind, bytes)
+}

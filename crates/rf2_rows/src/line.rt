@@ -1,0 +1,208 @@
+//! Lines: reading a row.
+
+ghost use Rattle.std.specs.Prelude.{◌≡◌, ◌≤◌, ◌⊎◌, ℕ, [], ◌∷◌, length, MatchResult, IfOk, IfErr, decimal};
+ghost use Rattle.rf2_values.specs.declared.row.Kind.TheVariants as kind;
+ghost use Rattle.rf2_rows.specs.declared.fault.LineFault.{LineFault};
+ghost use Rattle.rf2_rows.specs.declared.fault.RowFault.TheVariants as rowfault;
+ghost use Rattle.rf2_values.specs.Time.{IsTime};
+ghost use Rattle.rf2_values.specs.Row.{Version, IsVersion, Spells, IsBody, kind_of_body, body_columns, IsConcept, IsIdOf, SpellsId, SpellsColumns, kind_of, flag as flag_text, line_of};
+ghost use Rattle.rf2_rows.specs.Line.{IsLineFaultThat, FirstFault, columns_in, common_layout, own_layout, texts, IsFaultOfColumns, IsFaultOf, IsLineReading};
+
+use crate::columns::{
+    active, component_reference, concept_reference, cut, effective_time, group, identifier,
+    some_text,
+};
+use crate::fault::{LineFault, RowFault};
+use bstr::ByteSlice;
+use rf2_values::{
+    Association, Body, Concept, Description, EffectiveTime, Kind, Relationship, Row, Sctid,
+};
+use std::alloc::Global;
+
+/// The most bytes that a line has.
+pub(crate) const LINE_LIMIT: usize = 65_535;
+
+/// The columns that every kind has.
+#[derive(Clone, Copy)]
+struct Common {
+    id: u128,
+    time: EffectiveTime,
+    active: bool,
+    module: Sctid,
+}
+
+/// The columns that every kind has, from their texts.
+#[tactic(auto, using(crate::proofs::Faults::fault_here, crate::proofs::Faults::fault_later, crate::proofs::Faults::fault_past_three))]
+fn read_common(
+    kind: Kind,
+    id: &[u8],
+    time: &[u8],
+    flag: &[u8],
+    module_id: &[u8],
+) -> Result<Common, LineFault>
+    ensures { MatchResult result
+        (λ c. IsIdOf kind c.id × SpellsId kind c.id id.now
+        × IsTime c.time × (time.now ≡ decimal c.time)
+        × (flag.now ≡ flag_text c.active)
+        × IsConcept c.module × (module_id.now ≡ decimal c.module))
+        (FirstFault (columns_in (common_layout kind)) (id.now ∷ time.now ∷ flag.now ∷ module_id.now ∷ [])) }
+{
+    Ok(Common {
+        id: identifier(kind, id)?,
+        time: effective_time(time)?,
+        active: active(flag)?,
+        module: concept_reference(module_id)?,
+    })
+}
+
+/// The columns of its own that a concept has.
+#[tactic(auto, using(crate::proofs::Faults::fault_here, crate::proofs::Faults::fault_later, crate::proofs::Faults::fault_past_three))]
+fn read_concept(definition_status: &[u8]) -> Result<Body, LineFault>
+    ensures { MatchResult result
+        (λ b. (kind_of_body b ≡ kind.Concept) × IsBody b × (definition_status.now ∷ [] ≡ body_columns b))
+        (FirstFault (columns_in (own_layout kind.Concept)) (definition_status.now ∷ [])) }
+{
+    Ok(Body::Concept(Concept {
+        definition_status: concept_reference(definition_status)?,
+    }))
+}
+
+/// The columns of its own that a description has.
+#[tactic(auto, using(crate::proofs::Faults::fault_here, crate::proofs::Faults::fault_later, crate::proofs::Faults::fault_past_three))]
+fn read_description(
+    alloc: Global,
+    concept: &[u8],
+    language_code: &[u8],
+    type_id: &[u8],
+    term: &[u8],
+    case_significance: &[u8],
+) -> Result<Body, RowFault>
+    ensures { MatchResult result
+        (λ b. (kind_of_body b ≡ kind.Description) × IsBody b
+        × (concept.now ∷ language_code.now ∷ type_id.now ∷ term.now ∷ case_significance.now ∷ [] ≡ body_columns b))
+        (IsLineFaultThat (FirstFault (columns_in (own_layout kind.Description))
+        (concept.now ∷ language_code.now ∷ type_id.now ∷ term.now ∷ case_significance.now ∷ []))) }
+{
+    Ok(Body::Description(Description {
+        concept: concept_reference(concept)?,
+        language_code: some_text(alloc, language_code)?,
+        type_id: concept_reference(type_id)?,
+        term: some_text(alloc, term)?,
+        case_significance: concept_reference(case_significance)?,
+    }))
+}
+
+/// The columns of its own that a relationship has.
+#[tactic(auto, using(crate::proofs::Faults::fault_here, crate::proofs::Faults::fault_later, crate::proofs::Faults::fault_past_three))]
+fn read_relationship(
+    source: &[u8],
+    destination: &[u8],
+    number: &[u8],
+    type_id: &[u8],
+    characteristic_type: &[u8],
+    modifier: &[u8],
+) -> Result<Body, LineFault>
+    ensures { MatchResult result
+        (λ b. (kind_of_body b ≡ kind.Relationship) × IsBody b
+        × (source.now ∷ destination.now ∷ number.now ∷ type_id.now ∷ characteristic_type.now ∷ modifier.now ∷ [] ≡ body_columns b))
+        (FirstFault (columns_in (own_layout kind.Relationship))
+        (source.now ∷ destination.now ∷ number.now ∷ type_id.now ∷ characteristic_type.now ∷ modifier.now ∷ [])) }
+{
+    Ok(Body::Relationship(Relationship {
+        source: concept_reference(source)?,
+        destination: concept_reference(destination)?,
+        group: group(number)?,
+        type_id: concept_reference(type_id)?,
+        characteristic_type: concept_reference(characteristic_type)?,
+        modifier: concept_reference(modifier)?,
+    }))
+}
+
+/// The columns of its own that a member of an association reference set has.
+#[tactic(auto, using(crate::proofs::Faults::fault_here, crate::proofs::Faults::fault_later, crate::proofs::Faults::fault_past_three))]
+fn read_association(refset: &[u8], referenced: &[u8], target: &[u8]) -> Result<Body, LineFault>
+    ensures { MatchResult result
+        (λ b. (kind_of_body b ≡ kind.Association) × IsBody b × (refset.now ∷ referenced.now ∷ target.now ∷ [] ≡ body_columns b))
+        (FirstFault (columns_in (own_layout kind.Association)) (refset.now ∷ referenced.now ∷ target.now ∷ [])) }
+{
+    Ok(Body::Association(Association {
+        refset: concept_reference(refset)?,
+        referenced: component_reference(referenced)?,
+        target: component_reference(target)?,
+    }))
+}
+
+/// How many columns of its own a kind has.
+fn own_count(kind: Kind) -> usize
+    ensures { result ≡ length (own_layout kind) }
+{
+    match kind {
+        Kind::Concept => 1,
+        Kind::Description => 5,
+        Kind::Relationship => 6,
+        Kind::Association => 3,
+    }
+}
+
+/// The columns of its own that a kind has.
+fn read_own(alloc: Global, kind: Kind, own: &[&[u8]]) -> Result<Body, RowFault>
+    requires { length own.now ≡ length (own_layout kind) }
+    ensures { MatchResult result
+        (λ b. (kind_of_body b ≡ kind) × IsBody b × (texts own.now ≡ body_columns b))
+        (IsLineFaultThat (FirstFault (columns_in (own_layout kind)) (texts own.now))) }
+{
+    match kind {
+        Kind::Concept => Ok(read_concept(own[0])?),
+        Kind::Description => read_description(alloc, own[0], own[1], own[2], own[3], own[4]),
+        Kind::Relationship => Ok(read_relationship(
+            own[0], own[1], own[2], own[3], own[4], own[5],
+        )?),
+        Kind::Association => Ok(read_association(own[0], own[1], own[2])?),
+    }
+}
+
+/// The row that the columns spell.
+fn read_columns(alloc: Global, kind: Kind, columns: &[&[u8]]) -> Result<Row, RowFault>
+    requires { length (line_of (texts columns.now)) ≤ 65535 }
+    ensures { MatchResult result
+        (λ v. (kind_of v ≡ kind) × IsVersion v × SpellsColumns v (texts columns.now))
+        (IsLineFaultThat (IsFaultOfColumns kind (texts columns.now))) }
+{
+    let [id, time, flag, module, own @ ..] = columns else {
+        return Err(RowFault::Line(LineFault::Columns));
+    };
+    if own.len() != own_count(kind) {
+        return Err(RowFault::Line(LineFault::Columns));
+    }
+    let common = read_common(kind, id, time, flag, module)?;
+    let body = read_own(alloc, kind, own)?;
+    Ok(Row::new(common.id, common.time, common.active, common.module, body))
+}
+
+/// The row that a line spells.
+pub(crate) fn read_line(alloc: Global, kind: Kind, text: &[u8]) -> Result<Row, RowFault>
+    ensures { IsLineReading kind text.now result }
+{
+    if text.len() > LINE_LIMIT {
+        return Err(RowFault::Line(LineFault::LineLength));
+    }
+    if !text.is_utf8() {
+        return Err(RowFault::Line(LineFault::NotUtf8));
+    }
+    let columns = cut(alloc, text)?;
+    read_columns(alloc, kind, &columns)
+}
+
+/// The row that a line of a file of the kind spells, without its line end.
+pub fn parse_line(alloc: Global, kind: Kind, text: &[u8]) -> Result<Row, RowFault>
+    // What is read is spelled so.
+    ensures found { IfOk result (λ v. (kind_of v ≡ kind) × Spells v text.now) }
+    // What is spelled so is read, unless memory runs out.
+    ensures only { (v : Version) → kind_of v ≡ kind → Spells v text.now → MatchResult result (λ w. w ≡ v) (λ e. e ≡ rowfault.OutOfMemory) }
+    // How the line is faulty.
+    ensures fault { IfErr result (IsLineFaultThat (IsFaultOf kind text.now)) }
+    // A line with that fault is refused so, unless memory runs out.
+    ensures refused { (f : LineFault) → IsFaultOf kind text.now f → MatchResult result (λ v. ⊥) (λ e. (e ≡ rowfault.OutOfMemory) ⊎ (e ≡ rowfault.Line f)) }
+{
+    read_line(alloc, kind, text)
+}

@@ -1,0 +1,637 @@
+use super::*;
+use std::alloc::{AllocError, Global};
+use std::test::*;
+
+const CONCEPTS: &[u8] = b"id|effectiveTime|active|moduleId|definitionStatusId";
+
+const ROOT: &[u8] = b"138875005|20200131|1|900000000000207008|900000000000074008";
+
+const GERMAN: &[u8] =
+    b"1000015|20200131|1|900000000000207008|1000004|de|900000000000013009|Stra\xc3\x9fe|900000000000448009";
+
+const IS_A: &[u8] =
+    b"1000027|20200131|1|900000000000207008|1000004|138875005|0|116680003|900000000000011006|900000000000451002";
+
+const SAME_AS: &[u8] =
+    b"0b6a0c2e-5d0f-4c53-9f6e-8d9d2a7b1c01|20210131|0|900000000000207008|900000000000527005|1000015|2000029";
+
+/// The text with a TAB for each bar.
+fn tabbed(alloc: Global, text: &[u8]) -> Result<Vec<u8>, AllocError> {
+    let mut line = Vec::new(alloc);
+    for b in text {
+        line.push(if *b == b'|' { b'\t' } else { *b })?;
+    }
+    Ok(line)
+}
+
+fn fault_of(alloc: Global, kind: Kind, text: &[u8]) -> Result<Option<LineFault>, AllocError> {
+    match parse_line(alloc, kind, &tabbed(alloc, text)?) {
+        Ok(_) => Ok(None),
+        Err(RowFault::Line(fault)) => Ok(Some(fault)),
+        Err(RowFault::OutOfMemory) => Err(AllocError),
+    }
+}
+
+#[test]
+fn identifiers(rt: HostRuntime) {
+    let known: [(&[u8], Option<Class>); 23] = [
+        (b"138875005", Some(Class::Concept)),
+        (b"116680003", Some(Class::Concept)),
+        (b"900000000000207008", Some(Class::Concept)),
+        (b"900000000000074008", Some(Class::Concept)),
+        (b"900000000000003001", Some(Class::Concept)),
+        (b"900000000000013009", Some(Class::Concept)),
+        (b"900000000000448009", Some(Class::Concept)),
+        (b"900000000000011006", Some(Class::Concept)),
+        (b"900000000000451002", Some(Class::Concept)),
+        (b"900000000000527005", Some(Class::Concept)),
+        (b"900000000000526001", Some(Class::Concept)),
+        (b"1000004", Some(Class::Concept)),
+        (b"2000001", Some(Class::Concept)),
+        (b"3000005", Some(Class::Concept)),
+        (b"1000015", Some(Class::Description)),
+        (b"2000017", Some(Class::Description)),
+        (b"1000027", Some(Class::Relationship)),
+        (b"2000029", Some(Class::Relationship)),
+        // The long form.
+        (b"11000003104", Some(Class::Concept)),
+        (b"11000003115", Some(Class::Description)),
+        (b"11000003127", Some(Class::Relationship)),
+        // Another partition, and the greatest number.
+        (b"11000003039", None),
+        (b"999999999999999006", Some(Class::Concept)),
+    ];
+    for (text, class) in &known {
+        let id = Sctid::parse(text);
+        assert!(rt; id.is_some(), "{text:?}");
+        assert_eq!(rt; id.and_then(|id| id.class()), *class, "{text:?}");
+        assert_eq!(rt; id.and_then(|id| Sctid::of(id.value())), id);
+    }
+    let wrong: [&[u8]; 9] = [
+        b"1000005",
+        b"01000004",
+        b"10003",
+        b"10000000000000000000",
+        b"",
+        b"+1000004",
+        b"1000004 ",
+        b"-1000004",
+        b"1000004\r",
+    ];
+    for text in &wrong {
+        assert_eq!(rt; Sctid::parse(text), None, "{text:?}");
+    }
+    assert_eq!(rt; Sctid::of(1_000_005), None);
+}
+
+#[test]
+fn times_and_members(rt: HostRuntime) {
+    let right: [&[u8]; 4] = [b"20200131", b"20230230", b"10000101", b"99991231"];
+    for text in &right {
+        let time = EffectiveTime::parse(text);
+        assert!(rt; time.is_some(), "{text:?}");
+        assert_eq!(rt; time.and_then(|time| EffectiveTime::of(time.value())), time);
+    }
+    let wrong: [&[u8]; 8] = [
+        b"20201301",
+        b"20200132",
+        b"20200100",
+        b"20200001",
+        b"09990131",
+        b"2020131",
+        b"+2020131",
+        b"020200131",
+    ];
+    for text in &wrong {
+        assert_eq!(rt; EffectiveTime::parse(text), None, "{text:?}");
+    }
+    let lower = Member::parse(b"0b6a0c2e-5d0f-4c53-9f6e-8d9d2a7b1c01");
+    assert_eq!(rt;
+        lower.map(|id| id.value()),
+        Some(0x0b6a0c2e_5d0f_4c53_9f6e_8d9d2a7b1c01)
+    );
+    assert_eq!(rt;
+        Member::parse(b"0B6A0C2E-5D0F-4C53-9F6E-8D9D2A7B1C01"),
+        lower
+    );
+    assert_eq!(rt;
+        lower,
+        Some(Member::of(0x0b6a0c2e_5d0f_4c53_9f6e_8d9d2a7b1c01))
+    );
+    let no_member: [&[u8]; 5] = [
+        b"0b6a0c2e-5d0f-4c53-9f6e-8d9d2a7b1c0",
+        b"0b6a0c2e5d0f4c539f6e8d9d2a7b1c01",
+        b"{0b6a0c2e-5d0f-4c53-9f6e-8d9d2a7b1c01}",
+        b"0b6a0c2e-5d0f-4c53-9f6e-8d9d2a7b1cg1",
+        b"0b6a0c2e5-d0f-4c53-9f6e-8d9d2a7b1c01",
+    ];
+    for text in &no_member {
+        assert_eq!(rt; Member::parse(text), None, "{text:?}");
+    }
+}
+
+#[test]
+fn faults_of_lines(rt: HostRuntime) -> Result<(), Fail> {
+    let concepts: [(&[u8], Option<LineFault>); 14] = [
+        (ROOT, None),
+        (
+            b"138875005|20230230|0|900000000000207008|900000000000074008",
+            None,
+        ),
+        (b"\xff", Some(LineFault::NotUtf8)),
+        (b"", Some(LineFault::Columns)),
+        (
+            b"138875005|20200131|1|900000000000207008",
+            Some(LineFault::Columns),
+        ),
+        (
+            b"138875005|20200131|1|900000000000207008|900000000000074008|",
+            Some(LineFault::Columns),
+        ),
+        (
+            b"1000005|20201301|1|900000000000207008|900000000000074008",
+            Some(LineFault::Id),
+        ),
+        (
+            b"01000004|20200131|1|900000000000207008|900000000000074008",
+            Some(LineFault::Id),
+        ),
+        (
+            b"1000015|20200131|1|900000000000207008|900000000000074008",
+            Some(LineFault::Partition),
+        ),
+        (
+            b"11000003039|20200131|1|900000000000207008|900000000000074008",
+            Some(LineFault::Partition),
+        ),
+        (
+            b"138875005|20201301|2|900000000000207008|900000000000074008",
+            Some(LineFault::Time),
+        ),
+        (
+            b"138875005|20200131|01|1000005|900000000000074008",
+            Some(LineFault::Active),
+        ),
+        (
+            b"138875005|20200131|1|1000015|900000000000074008",
+            Some(LineFault::Reference),
+        ),
+        (
+            b"138875005|20200131|1|900000000000207008|900000000000074008\r",
+            Some(LineFault::Reference),
+        ),
+    ];
+    for (text, fault) in &concepts {
+        assert_eq!(rt;
+            fault_of(rt.alloc(), Kind::Concept, text)?,
+            *fault,
+            "{text:?}"
+        );
+    }
+    let others: [(Kind, &[u8], Option<LineFault>); 14] = [
+        (Kind::Description, GERMAN, None),
+        (Kind::Description, ROOT, Some(LineFault::Columns)),
+        (
+            Kind::Description,
+            b"1000004|2020|1|C|1000004|de|S|x|E",
+            Some(LineFault::Partition),
+        ),
+        (
+            Kind::Description,
+            b"1000015|20200131|1|900000000000207008|1000015||S|x|E",
+            Some(LineFault::Reference),
+        ),
+        (
+            Kind::Description,
+            b"1000015|20200131|1|900000000000207008|1000004||S|x|E",
+            Some(LineFault::EmptyText),
+        ),
+        (
+            Kind::Description,
+            b"1000015|20200131|1|900000000000207008|1000004|de|900000000000013009||E",
+            Some(LineFault::EmptyText),
+        ),
+        (
+            Kind::Description,
+            b"1000015|20200131|1|900000000000207008|1000004|de|900000000000013009|a\nb|900000000000448009",
+            Some(LineFault::EmptyText),
+        ),
+        (Kind::Relationship, IS_A, None),
+        (
+            Kind::Relationship,
+            b"1000027|20200131|1|900000000000207008|1000004|138875005|00|S|I|M",
+            Some(LineFault::Number),
+        ),
+        (
+            Kind::Relationship,
+            b"1000027|20200131|1|900000000000207008|1000004|138875005|4294967296|S|I|M",
+            Some(LineFault::Number),
+        ),
+        (
+            Kind::Relationship,
+            b"1000027|20200131|1|900000000000207008|1000004|1000015|00|S|I|M",
+            Some(LineFault::Reference),
+        ),
+        (Kind::Association, SAME_AS, None),
+        (
+            Kind::Association,
+            b"0b6a0c2e-5d0f-4c53-9f6e-8d9d2a7b1c0|20210131|1|C|R|1|2",
+            Some(LineFault::MemberId),
+        ),
+        (
+            Kind::Association,
+            b"0b6a0c2e-5d0f-4c53-9f6e-8d9d2a7b1c01|20210131|1|900000000000207008|900000000000527005|11000003039|2",
+            Some(LineFault::Reference),
+        ),
+    ];
+    for (kind, text, fault) in &others {
+        assert_eq!(rt; fault_of(rt.alloc(), *kind, text)?, *fault, "{text:?}");
+    }
+    Ok(())
+}
+
+/// The number of rows, or the faulty line and its fault.
+fn outcome(
+    alloc: Global,
+    kind: Kind,
+    bytes: &[u8],
+) -> Result<(usize, Option<LineFault>), AllocError> {
+    match read_file(alloc, kind, bytes) {
+        Ok(rows) => Ok((rows.len(), None)),
+        Err(FileFault::Row { line, fault }) => Ok((line, Some(fault))),
+        Err(FileFault::OutOfMemory) => Err(AllocError),
+    }
+}
+
+#[test]
+fn concept_files(rt: HostRuntime) -> Result<(), Fail> {
+    // What stands after the column names, and the rows or the first faulty line.
+    let files: [(&[u8], (usize, Option<LineFault>)); 19] = [
+        (b"", (0, None)),
+        (b"\n", (0, None)),
+        (b"\r\n", (0, None)),
+        (
+            b"\r\n138875005|20200131|1|900000000000207008|900000000000074008",
+            (1, None),
+        ),
+        (
+            b"\n138875005|20200131|1|900000000000207008|900000000000074008\r\n",
+            (1, None),
+        ),
+        (
+            b"\n138875005|20230230|1|900000000000207008|900000000000074008\n",
+            (1, None),
+        ),
+        (
+            b"\n1000004|20200131|1|900000000000207008|900000000000074008\n2000001|20200131|1",
+            (3, Some(LineFault::Columns)),
+        ),
+        (
+            b"\n1000004|20200131|1|900000000000207008|900000000000074008\n1000004|20200131|0|900000000000207008|900000000000074008",
+            (2, None),
+        ),
+        (
+            b"\n1000004|20200131|1|900000000000207008|900000000000074008\n1000004|20200131|0|900000000000207008|900000000000074008\n2000001|20201301|1|1000005|900000000000074008\nx",
+            (4, Some(LineFault::Time)),
+        ),
+        (
+            b"\r\n1000005|20200131|1|900000000000207008|900000000000074008",
+            (2, Some(LineFault::Id)),
+        ),
+        (
+            b"\r\n01000004|20200131|1|900000000000207008|900000000000074008",
+            (2, Some(LineFault::Id)),
+        ),
+        (
+            b"\r\n1000015|20200131|1|900000000000207008|900000000000074008",
+            (2, Some(LineFault::Partition)),
+        ),
+        // A CR is taken off only before an LF, and only one.
+        (
+            b"\n138875005|20200131|1|900000000000207008|900000000000074008\r",
+            (2, Some(LineFault::Reference)),
+        ),
+        (
+            b"\n138875005|20200131|1|900000000000207008|900000000000074008\r\r\n",
+            (2, Some(LineFault::Reference)),
+        ),
+        (b"\n\r", (2, Some(LineFault::Columns))),
+        (b"\r", (1, Some(LineFault::Header))),
+        // An empty line is one of one empty column, but for what follows the last LF.
+        (
+            b"\n\n138875005|20200131|1|900000000000207008|900000000000074008",
+            (2, Some(LineFault::Columns)),
+        ),
+        (
+            b"\n138875005|20200131|1|900000000000207008|900000000000074008\n\r\n",
+            (3, Some(LineFault::Columns)),
+        ),
+        (b"|", (1, Some(LineFault::Header))),
+    ];
+    for (rest, want) in &files {
+        let mut file = tabbed(rt.alloc(), CONCEPTS)?;
+        file.extend_from_slice(&tabbed(rt.alloc(), rest)?)?;
+        assert_eq!(rt;
+            outcome(rt.alloc(), Kind::Concept, &file)?,
+            *want,
+            "{rest:?}"
+        );
+        let mut marked = b"\xef\xbb\xbf".to_vec(rt.alloc())?;
+        marked.extend_from_slice(&file)?;
+        assert_eq!(rt;
+            outcome(rt.alloc(), Kind::Concept, &marked)?,
+            *want,
+            "a mark and {rest:?}"
+        );
+    }
+    Ok(())
+}
+
+#[test]
+fn first_lines(rt: HostRuntime) -> Result<(), Fail> {
+    let heads: [(Kind, &[u8]); 4] = [
+        (
+            Kind::Concept,
+            b"id|effectiveTime|active|moduleId|definitionStatusId",
+        ),
+        (
+            Kind::Description,
+            b"id|effectiveTime|active|moduleId|conceptId|languageCode|typeId|term|caseSignificanceId",
+        ),
+        (
+            Kind::Relationship,
+            b"id|effectiveTime|active|moduleId|sourceId|destinationId|relationshipGroup|typeId|characteristicTypeId|modifierId",
+        ),
+        (
+            Kind::Association,
+            b"id|effectiveTime|active|moduleId|refsetId|referencedComponentId|targetComponentId",
+        ),
+    ];
+    for (kind, head) in &heads {
+        let file = tabbed(rt.alloc(), head)?;
+        for (other, _) in &heads {
+            let want = if other == kind {
+                (0, None)
+            } else {
+                (1, Some(LineFault::Header))
+            };
+            assert_eq!(rt; outcome(rt.alloc(), *other, &file)?, want, "{head:?}");
+        }
+    }
+    let wrong: [(&[u8], LineFault); 4] = [
+        (b"", LineFault::Header),
+        (b"\xef\xbb\xbf", LineFault::Header),
+        (b"\xef\xbb\xbf\xef\xbb\xbfid", LineFault::Header),
+        (b"id\xff\n", LineFault::NotUtf8),
+    ];
+    for (bytes, fault) in &wrong {
+        assert_eq!(rt;
+            outcome(rt.alloc(), Kind::Concept, bytes)?,
+            (1, Some(*fault)),
+            "{bytes:?}"
+        );
+    }
+    Ok(())
+}
+
+/// A text of as many bytes.
+fn long(alloc: Global, len: usize) -> Result<Vec<u8>, AllocError> {
+    let mut text = Vec::new(alloc);
+    for _ in 0..len {
+        text.push(b'x')?;
+    }
+    Ok(text)
+}
+
+/// What becomes of a file of one line that is no column names.
+fn long_first(
+    alloc: Global,
+    front: &[u8],
+    len: usize,
+) -> Result<(usize, Option<LineFault>), AllocError> {
+    let mut file = front.to_vec(alloc)?;
+    file.extend_from_slice(&long(alloc, len)?)?;
+    outcome(alloc, Kind::Concept, &file)
+}
+
+/// The line of a description with a term of as many bytes, which has 87 bytes more.
+fn long_line(alloc: Global, len: usize) -> Result<Vec<u8>, AllocError> {
+    let mut line = tabbed(
+        alloc,
+        b"1000015|20200131|1|900000000000207008|1000004|de|900000000000013009|",
+    )?;
+    line.extend_from_slice(&long(alloc, len)?)?;
+    line.extend_from_slice(&tabbed(alloc, b"|900000000000448009")?)?;
+    Ok(line)
+}
+
+#[test]
+fn long_lines(rt: HostRuntime) -> Result<(), Fail> {
+    assert_eq!(rt;
+        long_first(rt.alloc(), b"", 65_535)?,
+        (1, Some(LineFault::Header))
+    );
+    assert_eq!(rt;
+        long_first(rt.alloc(), b"\xef\xbb\xbf", 65_535)?,
+        (1, Some(LineFault::Header))
+    );
+    assert_eq!(rt;
+        long_first(rt.alloc(), b"", 65_536)?,
+        (1, Some(LineFault::LineLength))
+    );
+    let most = long_line(rt.alloc(), 65_448)?;
+    assert_eq!(rt; most.len(), 65_535);
+    let row = parse_line(rt.alloc(), Kind::Description, &most)
+        .ok()
+        .ok_or("a row")?;
+    let Body::Description(columns) = &row.body else {
+        return Err("a description".into());
+    };
+    assert_eq!(rt; columns.term.as_bytes().len(), 65_448);
+    let over = long_line(rt.alloc(), 65_449)?;
+    assert!(rt;
+        matches!(
+            parse_line(rt.alloc(), Kind::Description, &over),
+            Err(RowFault::Line(LineFault::LineLength))
+        )
+    );
+    let mut file = tabbed(
+        rt.alloc(),
+        b"id|effectiveTime|active|moduleId|conceptId|languageCode|typeId|term|caseSignificanceId\n",
+    )?;
+    file.extend_from_slice(&most)?;
+    assert_eq!(rt; outcome(rt.alloc(), Kind::Description, &file)?, (1, None));
+    file.push(b'\r')?;
+    assert_eq!(rt;
+        outcome(rt.alloc(), Kind::Description, &file)?,
+        (2, Some(LineFault::LineLength))
+    );
+    file.push(b'\n')?;
+    assert_eq!(rt; outcome(rt.alloc(), Kind::Description, &file)?, (1, None));
+    Ok(())
+}
+
+/// The row's line.
+fn written(alloc: Global, row: &Row) -> Result<Vec<u8>, AllocError> {
+    let mut line = Vec::new(alloc);
+    write_row(alloc, row, &mut line)?;
+    Ok(line)
+}
+
+/// Whether a copy of the row and the row made of its columns equal it.
+fn is_copied(alloc: Global, row: &Row) -> Result<bool, AllocError> {
+    let copy = row.try_clone(alloc)?;
+    let body = copy.body.try_clone(alloc)?;
+    Ok(
+        copy.is_same(row)
+            && Row::of(row.id, row.time, row.active, row.module, body).is_some_and(|made| made
+                == copy),
+    )
+}
+
+#[test]
+fn read_and_written(rt: HostRuntime) -> Result<(), Fail> {
+    let lines: [(Kind, &[u8], &[u8], u128); 5] = [
+        (Kind::Concept, ROOT, ROOT, 138_875_005),
+        (Kind::Description, GERMAN, GERMAN, 1_000_015),
+        (Kind::Relationship, IS_A, IS_A, 1_000_027),
+        (
+            Kind::Association,
+            SAME_AS,
+            SAME_AS,
+            0x0b6a0c2e_5d0f_4c53_9f6e_8d9d2a7b1c01,
+        ),
+        (
+            Kind::Association,
+            b"0B6A0C2E-5d0f-4C53-9F6E-8D9D2A7B1C01|20210131|0|900000000000207008|900000000000527005|1000015|2000029",
+            SAME_AS,
+            0x0b6a0c2e_5d0f_4c53_9f6e_8d9d2a7b1c01,
+        ),
+    ];
+    for (kind, line, canonical, id) in &lines {
+        let text = tabbed(rt.alloc(), line)?;
+        let wanted = tabbed(rt.alloc(), canonical)?;
+        let row = parse_line(rt.alloc(), *kind, &text).ok().ok_or("a row")?;
+        assert_eq!(rt; written(rt.alloc(), &row)?, wanted);
+        assert_eq!(rt; row.kind(), *kind);
+        assert_eq!(rt;
+            row.key(),
+            Key {
+                kind: *kind,
+                id: *id,
+                time: row.time
+            }
+        );
+        assert!(rt; is_copied(rt.alloc(), &row)?, "{line:?}");
+    }
+    Ok(())
+}
+
+/// Whether these are the columns of a description: its other columns fit.
+fn fits(
+    alloc: Global,
+    concept: Sctid,
+    time: EffectiveTime,
+    term: &[u8],
+) -> Result<bool, AllocError> {
+    let (Some(language_code), Some(term)) = (Text::of(alloc, b"de")?, Text::of(alloc, term)?) else {
+        return Ok(false);
+    };
+    let body = Body::Description(Description {
+        concept,
+        language_code,
+        type_id: concept,
+        term,
+        case_significance: concept,
+    });
+    Ok(Row::of(1_000_015, time, true, concept, body).is_some())
+}
+
+#[test]
+fn rows_of_columns(rt: HostRuntime) -> Result<(), Fail> {
+    let time = EffectiveTime::of(20_200_131).ok_or("a time")?;
+    let concept = Sctid::of(138_875_005).ok_or("a concept")?;
+    let description = Sctid::of(1_000_015).ok_or("a description")?;
+    let terms: [(&[u8], bool); 5] = [
+        (b"a", true),
+        (b"", false),
+        (b"a\tb", false),
+        (b"a\nb", false),
+        (b"\xff", false),
+    ];
+    for (term, allowed) in &terms {
+        assert_eq!(rt;
+            fits(rt.alloc(), concept, time, term)?,
+            *allowed,
+            "{term:?}"
+        );
+    }
+    // The line has 62 bytes more than the term, and at most 65,535.
+    assert!(rt; fits(rt.alloc(), concept, time, &long(rt.alloc(), 65_473)?)?);
+    assert!(rt; !fits(rt.alloc(), concept, time, &long(rt.alloc(), 65_474)?)?);
+    let cases = [
+        (138_875_005, concept, concept, true),
+        (1_000_005, concept, concept, false),
+        (1_000_015, concept, concept, false),
+        (138_875_005, description, concept, false),
+        (138_875_005, concept, description, false),
+    ];
+    for (id, module_id, definition_status, allowed) in cases {
+        let row = Row::of(
+            id,
+            time,
+            true,
+            module_id,
+            Body::Concept(Concept { definition_status }),
+        );
+        assert_eq!(rt; row.is_some(), allowed, "{id}");
+    }
+    Ok(())
+}
+
+#[test]
+fn order_of_keys(rt: HostRuntime) -> Result<(), Fail> {
+    let (early, late) = (
+        EffectiveTime::of(20_200_131).ok_or("a time")?,
+        EffectiveTime::of(20_200_201).ok_or("a time")?,
+    );
+    let keys = [
+        Key {
+            kind: Kind::Concept,
+            id: 5,
+            time: late,
+        },
+        Key {
+            kind: Kind::Description,
+            id: 4,
+            time: late,
+        },
+        Key {
+            kind: Kind::Description,
+            id: 40,
+            time: early,
+        },
+        Key {
+            kind: Kind::Description,
+            id: 40,
+            time: late,
+        },
+        Key {
+            kind: Kind::Relationship,
+            id: 3,
+            time: early,
+        },
+        Key {
+            kind: Kind::Association,
+            id: 2,
+            time: early,
+        },
+    ];
+    for (i, a) in keys.iter().enumerate() {
+        for (j, b) in keys.iter().enumerate() {
+            assert_eq!(rt; a.compare(b), i.cmp(&j));
+            assert_eq!(rt; a < b, i < j);
+        }
+    }
+    Ok(())
+}

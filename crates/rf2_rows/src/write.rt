@@ -1,0 +1,96 @@
+//! Lines: writing a row.
+
+ghost use Rattle.std.specs.Prelude.{◌≡◌, ◌++◌, ◌∷◌, IfOk, OnOk, OnErr, decimal};
+ghost use Rattle.rf2_values.specs.Row.{canonical, flag, id_text, body_columns, tabbed};
+
+use itoa::Buffer;
+use rf2_values::{Body, Kind, Member, Row, Text};
+use std::alloc::{AllocError, Global};
+
+/// Appends a TAB and a number.
+fn put_number(line: &mut Vec<u8>, number: u64) -> Result<(), AllocError>
+    ensures { OnOk result (line.new.items ≡ line.old.items ++ 9 ∷ decimal number) }
+{
+    line.push(b'\t')?;
+    line.extend_from_slice(Buffer::new().format(number).as_bytes())
+}
+
+/// Appends a TAB and a flag.
+fn put_flag(line: &mut Vec<u8>, active: bool) -> Result<(), AllocError>
+    ensures { OnOk result (line.new.items ≡ line.old.items ++ 9 ∷ flag active) }
+{
+    line.push(b'\t')?;
+    line.push(if active { b'1' } else { b'0' })?;
+    Ok(())
+}
+
+/// Appends a TAB and a text.
+fn put_text(line: &mut Vec<u8>, text: &Text) -> Result<(), AllocError>
+    ensures { OnOk result (line.new.items ≡ line.old.items ++ 9 ∷ text.now) }
+{
+    line.push(b'\t')?;
+    line.extend_from_slice(text.as_bytes())
+}
+
+/// Appends a row's own identifier.
+fn put_id(line: &mut Vec<u8>, kind: Kind, id: u128) -> Result<(), AllocError>
+    ensures { OnOk result (line.new.items ≡ line.old.items ++ id_text kind id) }
+{
+    match kind {
+        Kind::Concept | Kind::Description | Kind::Relationship => line.extend_from_slice(
+            Buffer::new().format(id).as_bytes(),
+        ),
+        Kind::Association => Member::of(id).write(line),
+    }
+}
+
+/// Appends the columns of its own that a kind has, each after a TAB.
+fn put_own(line: &mut Vec<u8>, body: &Body) -> Result<(), AllocError>
+    ensures { OnOk result (line.new.items ≡ line.old.items ++ tabbed (body_columns body.now)) }
+{
+    match body {
+        Body::Concept(concept) => put_number(line, concept.definition_status.value()),
+        Body::Description(description) => {
+            put_number(line, description.concept.value())?;
+            put_text(line, &description.language_code)?;
+            put_number(line, description.type_id.value())?;
+            put_text(line, &description.term)?;
+            put_number(line, description.case_significance.value())
+        }
+        Body::Relationship(relationship) => {
+            put_number(line, relationship.source.value())?;
+            put_number(line, relationship.destination.value())?;
+            put_number(line, u64::from(relationship.group))?;
+            put_number(line, relationship.type_id.value())?;
+            put_number(line, relationship.characteristic_type.value())?;
+            put_number(line, relationship.modifier.value())
+        }
+        Body::Association(association) => {
+            put_number(line, association.refset.value())?;
+            put_number(line, association.referenced.value())?;
+            put_number(line, association.target.value())
+        }
+    }
+}
+
+/// A row's canonical spelling.
+fn canonical_line(alloc: Global, row: &Row) -> Result<Vec<u8>, AllocError>
+    ensures { IfOk result (λ line. line.items ≡ canonical row.now) }
+{
+    let mut line = Vec::new(alloc);
+    put_id(&mut line, row.kind(), row.id)?;
+    put_number(&mut line, u64::from(row.time.value()))?;
+    put_flag(&mut line, row.active)?;
+    put_number(&mut line, row.module.value())?;
+    put_own(&mut line, &row.body)?;
+    Ok(line)
+}
+
+/// Appends the row's canonical spelling, without a line end.
+pub fn write_row(alloc: Global, row: &Row, out: &mut Vec<u8>) -> Result<(), AllocError>
+    ensures ok { OnOk result (out.new.items ≡ out.old.items ++ canonical row.now) }
+    ensures err { OnErr result (out.new.items ≡ out.old.items) }
+{
+    let line = canonical_line(alloc, row)?;
+    out.extend_from_slice(&line)
+}

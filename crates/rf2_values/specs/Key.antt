@@ -1,0 +1,23 @@
+-- What names a row, and the order of those names.
+use Rattle.std.specs.Prelude.{ℕ}
+use Rattle.std.specs.Ordering.{nat_cmp, ordering_then}
+use Rattle.std.specs.declared.cmp.Ordering.{Ordering}
+use Rattle.rf2_values.specs.declared.row.Kind.{Kind}
+use Rattle.rf2_values.specs.declared.row.Kind.TheVariants as kind
+use Rattle.rf2_values.specs.declared.key.Key.{Key}
+use Rattle.rf2_values.specs.Row.{Version, kind_of}
+
+-- a row is named by its kind, its id and its time
+abbrev pub key_of : Version → Key
+key_of v = record { kind = kind_of v; id = v.id; time = v.time }
+
+-- the kinds in their order
+abbrev pub kind_place : Kind → ℕ
+kind_place kind.Concept = 0
+kind_place kind.Description = 1
+kind_place kind.Relationship = 2
+kind_place kind.Association = 3
+
+-- by kind, then by id, then by time
+abbrev pub key_cmp : Key → Key → Ordering
+key_cmp a b = ordering_then (nat_cmp (kind_place a.kind) (kind_place b.kind)) (ordering_then (nat_cmp a.id b.id) (nat_cmp a.time b.time))

@@ -1,0 +1,124 @@
+-- What a row is, and how a line spells it.
+use Rattle.std.specs.Prelude.{◌≡◌, ℕ, ◌≤◌, ◌<◌, ◌^◌, ◌+◌, Bool, true, false, List, [], ◌∷◌, length, Some, IsSome, decimal}
+use Rattle.std.specs.List.{join_with_byte, flat_map}
+use Rattle.rf2_values.specs.declared.sctid.Class.{Class}
+use Rattle.rf2_values.specs.declared.sctid.Class.TheVariants as class
+use Rattle.rf2_values.specs.declared.row.Kind.{Kind}
+use Rattle.rf2_values.specs.declared.row.Kind.TheVariants as kind
+use Rattle.rf2_values.specs.declared.row.Body.{Body}
+use Rattle.rf2_values.specs.declared.row.Body.TheVariants as body
+use Rattle.rf2_values.specs.Sctid.{IsSctid, class_of}
+use Rattle.rf2_values.specs.Time.{IsTime}
+use Rattle.rf2_values.specs.Text.{IsText}
+use Rattle.rf2_values.specs.Member.{SpellsMember, member_text}
+
+-- a row as clauses see it
+pub record Version : Type 0 where
+  pub id : ℕ
+  pub time : ℕ
+  pub active : Bool
+  pub «module» : ℕ
+  pub body : Body
+
+abbrev pub version : ℕ → ℕ → Bool → ℕ → Body → Version
+version id time active module_id body = record { id = id; time = time; active = active; «module» = module_id; body = body }
+
+abbrev pub kind_of_body : Body → Kind
+kind_of_body (body.Concept c) = kind.Concept
+kind_of_body (body.Description d) = kind.Description
+kind_of_body (body.Relationship r) = kind.Relationship
+kind_of_body (body.Association a) = kind.Association
+
+abbrev pub kind_of : Version → Kind
+kind_of v = kind_of_body v.body
+
+-- an SCTID of a class
+pub record IsOfClass (c : Class) (n : ℕ) : Type 0 where
+  pub sctid : IsSctid n
+  pub «class» : class_of n ≡ Some c
+
+abbrev pub IsConcept : ℕ → Type 0
+IsConcept n = IsOfClass class.Concept n
+
+-- an SCTID of a concept, a description or a relationship
+pub record IsComponent (n : ℕ) : Type 0 where
+  pub sctid : IsSctid n
+  pub some_class : IsSome (class_of n)
+
+-- the identifiers of a kind
+abbrev pub IsIdOf : Kind → ℕ → Type 0
+IsIdOf kind.Concept n = IsOfClass class.Concept n
+IsIdOf kind.Description n = IsOfClass class.Description n
+IsIdOf kind.Relationship n = IsOfClass class.Relationship n
+IsIdOf kind.Association n = n < 2 ^ 128
+
+abbrev pub IsBody : Body → Type 0
+IsBody (body.Concept c) = IsConcept c.definition_status
+IsBody (body.Description d) = IsConcept d.concept × IsText d.language_code × IsConcept d.type_id × IsText d.term × IsConcept d.case_significance
+IsBody (body.Relationship r) = IsConcept r.source × IsConcept r.destination × (r.group < 2 ^ 32) × IsConcept r.type_id × IsConcept r.characteristic_type × IsConcept r.modifier
+IsBody (body.Association a) = IsConcept a.refset × IsComponent a.referenced × IsComponent a.target
+
+-- ---- how a line spells a row
+
+abbrev pub flag : Bool → List ℕ
+flag false = 48 ∷ []
+flag true = 49 ∷ []
+
+-- an identifier in its column
+abbrev pub SpellsId : Kind → ℕ → List ℕ → Type 0
+SpellsId kind.Concept n text = text ≡ decimal n
+SpellsId kind.Description n text = text ≡ decimal n
+SpellsId kind.Relationship n text = text ≡ decimal n
+SpellsId kind.Association n text = SpellsMember n text
+
+-- its canonical spelling
+abbrev pub id_text : Kind → ℕ → List ℕ
+id_text kind.Concept n = decimal n
+id_text kind.Description n = decimal n
+id_text kind.Relationship n = decimal n
+id_text kind.Association n = member_text n
+
+abbrev pub body_columns : Body → List (List ℕ)
+body_columns (body.Concept c) = decimal c.definition_status ∷ []
+body_columns (body.Description d) = decimal d.concept ∷ d.language_code ∷ decimal d.type_id ∷ d.term ∷ decimal d.case_significance ∷ []
+body_columns (body.Relationship r) = decimal r.source ∷ decimal r.destination ∷ decimal r.group ∷ decimal r.type_id ∷ decimal r.characteristic_type ∷ decimal r.modifier ∷ []
+body_columns (body.Association a) = decimal a.refset ∷ decimal a.referenced ∷ decimal a.target ∷ []
+
+-- the columns after the identifier
+abbrev pub later_columns : Version → List (List ℕ)
+later_columns v = decimal v.time ∷ flag v.active ∷ decimal v.module ∷ body_columns v.body
+
+-- how many bytes columns take, each with a TAB before it
+abbrev pub columns_len : List (List ℕ) → ℕ
+columns_len [] = 0
+columns_len (column ∷ columns) = length column + 1 + columns_len columns
+
+-- the columns joined by TAB
+abbrev pub line_of : List (List ℕ) → List ℕ
+line_of columns = join_with_byte 9 columns
+
+-- the columns, each after a TAB
+abbrev pub tabbed : List (List ℕ) → List ℕ
+tabbed columns = flat_map (λ column. 9 ∷ column) columns
+
+-- the canonical spelling
+abbrev pub canonical : Version → List ℕ
+canonical v = line_of (id_text (kind_of v) v.id ∷ later_columns v)
+
+-- what a row may be
+pub record IsVersion (v : Version) : Type 0 where
+  pub id : IsIdOf (kind_of v) v.id
+  pub time : IsTime v.time
+  pub «module» : IsOfClass class.Concept v.module
+  pub body : IsBody v.body
+  pub short : length (canonical v) ≤ 65535
+
+-- the texts are the spellings of the row's columns
+abbrev pub SpellsColumns : Version → List (List ℕ) → Type 0
+SpellsColumns v texts = (id : List ℕ) × SpellsId (kind_of v) v.id id × (texts ≡ id ∷ later_columns v)
+
+-- the text is the spellings of the row's columns, joined by TAB, within 65,535 bytes
+pub record Spells (v : Version) (text : List ℕ) : Type 0 where
+  pub is_row : IsVersion v
+  pub columns : (texts : List (List ℕ)) × SpellsColumns v texts × (text ≡ line_of texts)
+  pub short : length text ≤ 65535

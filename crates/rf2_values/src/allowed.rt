@@ -1,0 +1,89 @@
+//! What the columns of a row may be.
+
+ghost use Rattle.std.specs.Prelude.{◌≡◌, ◌↔◌, IsTrue};
+ghost use Rattle.rf2_values.specs.Row.{IsConcept, IsComponent, IsOfClass, IsIdOf, IsBody};
+ghost use Rattle.rf2_values.specs.Text.{IsText};
+
+use crate::row::{Association, Body, Description, Kind, Relationship};
+use crate::sctid::{Class, Sctid};
+
+/// Whether the identifier is a concept's.
+pub fn is_concept(id: Sctid) -> bool
+    ensures { IsTrue result ↔ IsConcept id }
+{
+    id.class() == Some(Class::Concept)
+}
+
+/// Whether the identifier is a concept's, a description's or a relationship's.
+pub fn is_component(id: Sctid) -> bool
+    ensures { IsTrue result ↔ IsComponent id }
+{
+    id.class().is_some()
+}
+
+/// Whether the number is an SCTID of the class.
+fn is_of_class(class: Class, id: u128) -> bool
+    ensures { IsTrue result ↔ IsOfClass «class» id }
+{
+    match u64::try_from(id) {
+        Ok(number) => match Sctid::of(number) {
+            Some(sctid) => sctid.class() == Some(class),
+            None => false,
+        },
+        Err(_) => false,
+    }
+}
+
+/// Whether the number may identify what rows of the kind describe.
+pub fn is_id_of(kind: Kind, id: u128) -> bool
+    ensures { IsTrue result ↔ IsIdOf kind id }
+{
+    match kind {
+        Kind::Concept => is_of_class(Class::Concept, id),
+        Kind::Description => is_of_class(Class::Description, id),
+        Kind::Relationship => is_of_class(Class::Relationship, id),
+        Kind::Association => true,
+    }
+}
+
+/// Whether these are columns of a description.
+fn is_description(columns: &Description) -> bool
+    ensures { IsTrue result ↔ IsBody (Body.Description columns.now) }
+{
+    // Nothing is to be tested of the two texts: each `Text` is one.
+    let _language_code = columns.language_code.as_bytes();
+    let _term = columns.term.as_bytes();
+    is_concept(columns.concept)
+        && (is_concept(columns.type_id) && is_concept(columns.case_significance))
+}
+
+/// Whether these are columns of a relationship.
+fn is_relationship(columns: &Relationship) -> bool
+    ensures { IsTrue result ↔ IsBody (Body.Relationship columns.now) }
+{
+    // Any group may stand in a line.
+    let _group = columns.group;
+    is_concept(columns.source)
+        && (is_concept(columns.destination)
+            && (is_concept(columns.type_id)
+                && (is_concept(columns.characteristic_type) && is_concept(columns.modifier))))
+}
+
+/// Whether these are columns of a member of an association reference set.
+fn is_association(columns: &Association) -> bool
+    ensures { IsTrue result ↔ IsBody (Body.Association columns.now) }
+{
+    is_concept(columns.refset) && is_component(columns.referenced) && is_component(columns.target)
+}
+
+/// Whether these are columns of a row.
+pub fn is_body(body: &Body) -> bool
+    ensures { IsTrue result ↔ IsBody body.now }
+{
+    match body {
+        Body::Concept(columns) => is_concept(columns.definition_status),
+        Body::Description(columns) => is_description(columns),
+        Body::Relationship(columns) => is_relationship(columns),
+        Body::Association(columns) => is_association(columns),
+    }
+}

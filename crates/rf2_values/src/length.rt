@@ -1,0 +1,81 @@
+//! How long the line of a row is.
+
+ghost use Rattle.std.specs.Prelude.{◌≡◌, ◌+◌, ◌≤◌, ◌^◌, length, decimal};
+ghost use Rattle.rf2_values.specs.Row.{version, canonical, id_text, body_columns, columns_len};
+
+use crate::row::{Body, Kind};
+use crate::sctid::Sctid;
+use crate::text::Text;
+use crate::time::EffectiveTime;
+use itoa::Buffer;
+
+/// How many bytes the number takes, with the TAB before it.
+fn number_len(number: u64) -> u128
+    ensures value { result ≡ length (decimal number) + 1 }
+    ensures short { result ≤ 41 }
+{
+    Buffer::new().format(number).len() as u128 + 1
+}
+
+/// How many bytes the text takes, with the TAB before it.
+fn text_len(text: &Text) -> u128
+    ensures value { result ≡ length text.now + 1 }
+    ensures short { result ≤ 2 ^ 64 }
+{
+    text.as_bytes().len() as u128 + 1
+}
+
+/// How many bytes the identifier of a row takes.
+fn id_len(kind: Kind, id: u128) -> u128
+    ensures value { result ≡ length (id_text kind id) }
+    ensures short { result ≤ 40 }
+{
+    match kind {
+        Kind::Concept | Kind::Description | Kind::Relationship => Buffer::new()
+            .format(id)
+            .len() as u128,
+        Kind::Association => 36,
+    }
+}
+
+/// How many bytes the columns that only one kind has take, each with the TAB before it.
+fn body_len(body: &Body) -> u128
+    ensures value { result ≡ columns_len (body_columns body.now) }
+    ensures short { result ≤ 2 ^ 66 }
+{
+    match body {
+        Body::Concept(columns) => number_len(columns.definition_status.value()),
+        Body::Description(columns) => {
+            number_len(columns.concept.value())
+                + text_len(&columns.language_code)
+                + number_len(columns.type_id.value())
+                + text_len(&columns.term)
+                + number_len(columns.case_significance.value())
+        }
+        Body::Relationship(columns) => {
+            number_len(columns.source.value())
+                + number_len(columns.destination.value())
+                + number_len(u64::from(columns.group))
+                + number_len(columns.type_id.value())
+                + number_len(columns.characteristic_type.value())
+                + number_len(columns.modifier.value())
+        }
+        Body::Association(columns) => {
+            number_len(columns.refset.value())
+                + number_len(columns.referenced.value())
+                + number_len(columns.target.value())
+        }
+    }
+}
+
+/// How many bytes the canonical spelling of a row with these columns has.
+pub fn line_len(id: u128, time: EffectiveTime, active: bool, module_id: Sctid, body: &Body) -> u128
+    ensures { result ≡ length (canonical (version id time active module_id body.now)) }
+{
+    let flag_len = 2;
+    id_len(body.kind(), id)
+        + number_len(u64::from(time.value()))
+        + flag_len
+        + number_len(module_id.value())
+        + body_len(body)
+}

@@ -1,0 +1,19 @@
+//! The values of SNOMED CT release files: identifiers, effective times, texts and rows.
+#![tactic(auto)]
+
+mod allowed;
+mod key;
+mod length;
+mod member;
+pub mod number;
+mod row;
+mod sctid;
+mod text;
+mod time;
+
+pub use key::Key;
+pub use member::Member;
+pub use row::{Association, Body, Concept, Description, Kind, Relationship, Row};
+pub use sctid::{Class, Sctid};
+pub use text::Text;
+pub use time::EffectiveTime;

@@ -1,0 +1,78 @@
+//! Texts of columns.
+
+ghost use Rattle.std.specs.Prelude.{◌≡◌, nat_eq, ℕ, IfOk, MatchOption, IsTrue, ◌↔◌, ⊤, length, ◌≤◌, List};
+ghost use Rattle.std.specs.Cmp.{partial_equiv_from_equiv};
+ghost use Rattle.std.specs.Cmp.Lexicographic.{nat_list_eq_equiv, pointwise};
+ghost use Rattle.rf2_values.specs.Text.{IsText};
+
+use bstr::ByteSlice;
+use std::alloc::{AllocError, Global};
+use std::marker::Model;
+
+/// Some text of a line, without TAB and LF.
+#[derive(Debug, Drop)]
+pub struct Text {
+    bytes: Vec<u8>,
+}
+
+impl Model for Text {
+    ghost Value = { List ℕ };
+
+    ghost view = { λ t. t.bytes.items };
+
+    ghost invariant = { λ t. IsText t.bytes.items };
+}
+
+/// Whether the bytes are some text without TAB and LF.
+fn is_text(bytes: &[u8]) -> bool
+    ensures { IsTrue result ↔ IsText bytes.now }
+{
+    !bytes.is_empty()
+        && bytes.is_utf8()
+        && bytes.iter().all(|b| *b != b'\t')
+        && bytes.iter().all(|b| *b != b'\n')
+}
+
+impl Text {
+    /// The text of these bytes.
+    pub fn of(alloc: Global, bytes: &[u8]) -> Result<Option<Text>, AllocError>
+        ensures { IfOk result (λ found. MatchOption found (IsText bytes.now → ⊥) (λ t. (t ≡ bytes.now) × IsText t)) }
+    {
+        if !is_text(bytes) {
+            return Ok(None);
+        }
+        Ok(Some(Text {
+            bytes: Vec::from_slice(alloc, bytes)?,
+        }))
+    }
+
+    pub fn as_bytes(&self) -> &[u8]
+        ensures bytes { result.now ≡ self.now }
+        ensures is_text { IsText self.now }
+    {
+        &self.bytes
+    }
+
+    /// An equal text.
+    pub fn try_clone(&self, alloc: Global) -> Result<Text, AllocError>
+        ensures { IfOk result (λ t. t ≡ self.now) }
+    {
+        Ok(Text {
+            bytes: Vec::from_slice(alloc, &self.bytes)?,
+        })
+    }
+}
+
+impl PartialEq for Text {
+    ghost eq = { λ a b. pointwise nat_eq a b };
+
+    ghost laws = { partial_equiv_from_equiv nat_list_eq_equiv };
+
+    fn eq(&self, other: &Text) -> bool {
+        self.bytes == other.bytes
+    }
+}
+
+impl Eq for Text {
+    ghost laws = { nat_list_eq_equiv };
+}

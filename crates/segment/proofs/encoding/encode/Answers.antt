@@ -1,0 +1,18 @@
+use Rattle.std.proofs.Common.{ℕ, List, ◌++◌, take, subst, sym, ap, ◌∙◌}
+use Rattle.std.specs.List.{AllByRecursion}
+use Rattle.segment.specs.Records.{record_of, IsStamped}
+use Rattle.segment.proofs.SegmentLaws.{segment_more, no_rows, taken_more, all_push}
+use Rattle.segment.proofs.encoding.encode.Goals as goal
+
+pub loop-stamped-init : goal.loop-stamped-init
+loop-stamped-init c = record { bytes = c.in_ok-out.ensures.items ∙ sym no_rows; each = tt }
+
+pub loop-stamped-preserved : goal.loop-stamped-preserved
+loop-stamped-preserved c =
+    let rows = c.args.rows.now in
+    let i = c.loop-stamped.stamped-index in
+    let item = c.stamped-item.result in
+    record {
+      bytes = c.in_ok-put_record.ensures.bytes ∙ ap (λ (bytes : List ℕ). bytes ++ record_of item) c.loop-stamped.invariant.bytes ∙ sym (segment_more rows i item c.loop-stamped-test.true c.stamped-item.is);
+      each = subst (AllByRecursion IsStamped) (sym (taken_more rows i item c.loop-stamped-test.true c.stamped-item.is)) (all_push IsStamped (take i rows) item c.loop-stamped.invariant.each c.in_ok-put_record.ensures.stamped);
+    }

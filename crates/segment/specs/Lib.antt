@@ -1,0 +1,5 @@
+pub use Rattle.history_model.specs.InOrder
+pub use Rattle.history_model.specs.History
+pub mod Records
+pub mod Reading
+pub mod Finding

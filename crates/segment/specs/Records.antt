@@ -1,0 +1,95 @@
+-- Rows as bytes: a record for each, and a segment of records in key order.
+use Rattle.std.specs.Prelude.{◌≡◌, ℕ, ◌+◌, ◌^◌, ◌<◌, ◌≤◌, Bool, true, false, List, [], ◌∷◌, ◌++◌, length, take, drop}
+use Rattle.std.specs.List.{AllByRecursion, flat_map}
+use Rattle.std.specs.Int.{Width, w8, w16, w32, w64, w128, to_be_bytes}
+use Rattle.rf2_values.specs.declared.row.Kind.{Kind}
+use Rattle.rf2_values.specs.declared.row.Kind.TheVariants as kinds
+use Rattle.rf2_values.specs.declared.row.Body.{Body}
+use Rattle.rf2_values.specs.declared.row.Body.TheVariants as bodies
+use Rattle.rf2_values.specs.Row.{IsVersion, kind_of}
+use Rattle.history_model.specs.declared.stamped.StampedRow.{StampedRow}
+use Rattle.history_model.specs.InOrder.{IsAscending}
+use Rattle.history_model.specs.History.{stamped_cmp}
+
+-- what a record is made of: a number in the bytes of its width, the highest first, or a text after the number of its bytes in two bytes
+pub data Field : Type 0 where
+  Number : Width → ℕ → Field
+  Text : List ℕ → Field
+
+-- the bytes of a field
+unfoldable pub field_bytes : Field → List ℕ
+field_bytes (Number width n) = to_be_bytes width n
+field_bytes (Text text) = to_be_bytes w16 (length text) ++ text
+
+-- fields one after the other
+abbrev pub spelled : List Field → List ℕ
+spelled fields = flat_map field_bytes fields
+
+abbrev pub kind_code : Kind → ℕ
+kind_code kinds.Concept = 1
+kind_code kinds.Description = 2
+kind_code kinds.Relationship = 3
+kind_code kinds.Association = 4
+
+abbrev pub active_code : Bool → ℕ
+active_code false = 0
+active_code true = 1
+
+-- the fields that each record has
+abbrev pub common_fields : StampedRow → List Field
+common_fields s =
+    Number w8 (kind_code (kind_of s.row)) ∷ Number w128 s.row.id ∷ Number w32 s.row.time ∷ Number w32 s.import ∷ Number w8 (active_code s.row.active) ∷ Number w64 s.row.«module» ∷ []
+
+-- the fields of its kind
+abbrev pub body_fields : Body → List Field
+body_fields (bodies.Concept c) = Number w64 c.definition_status ∷ []
+body_fields (bodies.Description d) = Number w64 d.concept ∷ Number w64 d.type_id ∷ Number w64 d.case_significance ∷ Text d.language_code ∷ Text d.term ∷ []
+body_fields (bodies.Relationship r) = Number w64 r.source ∷ Number w64 r.destination ∷ Number w32 r.group ∷ Number w64 r.type_id ∷ Number w64 r.characteristic_type ∷ Number w64 r.modifier ∷ []
+body_fields (bodies.Association a) = Number w64 a.refset ∷ Number w64 a.referenced ∷ Number w64 a.target ∷ []
+
+-- all but the length
+abbrev pub fields_of : StampedRow → List Field
+fields_of s = common_fields s ++ body_fields s.row.body
+
+-- the length of the whole record in four bytes, and then its fields
+unfoldable pub record_of : StampedRow → List ℕ
+record_of s = field_bytes (Number w32 (4 + length (spelled (fields_of s)))) ++ spelled (fields_of s)
+
+-- what has a record: a row that a line may hold, and a number of an import
+pub record IsStamped (s : StampedRow) : Type 0 where
+  pub row : IsVersion s.row
+  pub from_one : 1 ≤ s.import
+  pub fits : s.import < 2 ^ 32
+
+-- the records one after the other
+unfoldable pub segment_of : List StampedRow → List ℕ
+segment_of rows = flat_map record_of rows
+
+-- the bytes are the records of these rows, in strictly ascending key order
+pub record IsSegment (rows : List StampedRow) (bytes : List ℕ) : Type 0 where
+  pub each : AllByRecursion IsStamped rows
+  pub ascending : IsAscending stamped_cmp rows
+  pub bytes_are : bytes ≡ segment_of rows
+
+-- the row's record begins at the place, and the next would begin at next
+pub record IsRecordAt (bytes : List ℕ) (place : ℕ) (s : StampedRow) (next : ℕ) : Type 0 where
+  pub is : IsStamped s
+  pub next_is : next ≡ place + length (record_of s)
+  pub bytes_are : take (length (record_of s)) (drop place bytes) ≡ record_of s
+
+-- no bytes are two segments
+abbrev pub OneSegment : Type 0
+OneSegment = (rows others : List StampedRow) (bytes : List ℕ) → IsSegment rows bytes → IsSegment others bytes → rows ≡ others
+
+-- no place has two records
+abbrev pub OneRecord : Type 0
+OneRecord = (bytes : List ℕ) (place : ℕ) (s other : StampedRow) (next after : ℕ) → IsRecordAt bytes place s next → IsRecordAt bytes place other after → (s ≡ other) × (next ≡ after)
+
+-- in a segment a row's record stands where those of the rows before it end
+abbrev pub EachAtItsPlace : Type 0
+EachAtItsPlace = (before after : List StampedRow) (s : StampedRow) (bytes : List ℕ) → IsSegment (before ++ s ∷ after) bytes
+    → IsRecordAt bytes (length (segment_of before)) s (length (segment_of (before ++ s ∷ [])))
+
+-- what spells two lists, one after the other, spells them joined
+abbrev pub PiecesJoin : Type 0
+PiecesJoin = (rows others : List StampedRow) → segment_of (rows ++ others) ≡ segment_of rows ++ segment_of others

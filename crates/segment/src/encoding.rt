@@ -1,0 +1,144 @@
+//! Rows as the bytes of their records.
+
+ghost use Rattle.std.specs.Prelude.{◌≡◌, ℕ, ◌+◌, ◌-◌, ◌++◌, ◌^◌, ◌<◌, ◌≤◌, OnOk, IfOk, length, min};
+ghost use Rattle.std.specs.List.{AllByRecursion};
+ghost use Rattle.rf2_values.specs.declared.row.Kind.TheVariants as kinds;
+ghost use Rattle.rf2_values.specs.declared.row.Body.TheVariants as bodies;
+ghost use Rattle.history_model.specs.InOrder.{IsAscending};
+ghost use Rattle.history_model.specs.History.{stamped_cmp};
+ghost use Rattle.segment.specs.Records.{spelled, kind_code, active_code, body_fields, record_of, segment_of, IsStamped, IsSegment};
+ghost use Rattle.segment.specs.Reading.{Fits, fixed_len, texts_len};
+
+use crate::writing::{put_text, put_u8, put_u32, put_u64, put_u128};
+use history_model::StampedRow;
+use rf2_values::{Body, Description, Kind, Relationship};
+use std::alloc::{AllocError, Global};
+
+fn code_of(kind: Kind) -> u8
+    ensures { result ≡ kind_code kind }
+{
+    match kind {
+        Kind::Concept => 1,
+        Kind::Description => 2,
+        Kind::Relationship => 3,
+        Kind::Association => 4,
+    }
+}
+
+fn code_of_active(active: bool) -> u8
+    ensures { result ≡ active_code active }
+{
+    u8::from(active)
+}
+
+/// How many bytes the texts of a body have.
+fn text_bytes(body: &Body) -> u32
+    requires { texts_len body.now ≤ 65535 }
+    ensures { result ≡ texts_len body.now }
+{
+    match body {
+        Body::Description(description) => {
+            description.language_code.as_bytes().len() as u32
+                + description.term.as_bytes().len() as u32
+        }
+        Body::Concept(_) | Body::Relationship(_) | Body::Association(_) => 0,
+    }
+}
+
+/// How many bytes a record of this kind has besides its texts.
+fn fixed_bytes(kind: Kind) -> u32
+    ensures { result ≡ fixed_len kind }
+{
+    match kind {
+        Kind::Concept => 46,
+        Kind::Description => 66,
+        Kind::Relationship => 82,
+        Kind::Association => 62,
+    }
+}
+
+/// How many bytes the record of a row has.
+#[tactic(auto, using(crate::proofs::RecordLaws::record_size, crate::proofs::RecordLaws::texts_room))]
+fn record_len(stamped: &StampedRow) -> u32
+    ensures { result ≡ length (record_of stamped.now) }
+{
+    fixed_bytes(stamped.row.kind()) + text_bytes(&stamped.row.body)
+}
+
+fn put_description(out: &mut Vec<u8>, description: &Description) -> Result<(), AllocError>
+    requires { AllByRecursion Fits (body_fields (bodies.Description description.now)) }
+    ensures { OnOk result (out.new.items ≡ out.old.items ++ spelled (body_fields (bodies.Description description.now))) }
+{
+    put_u64(out, description.concept.value())?;
+    put_u64(out, description.type_id.value())?;
+    put_u64(out, description.case_significance.value())?;
+    put_text(out, description.language_code.as_bytes())?;
+    put_text(out, description.term.as_bytes())
+}
+
+fn put_relationship(out: &mut Vec<u8>, relationship: &Relationship) -> Result<(), AllocError>
+    ensures { OnOk result (out.new.items ≡ out.old.items ++ spelled (body_fields (bodies.Relationship relationship.now))) }
+{
+    put_u64(out, relationship.source.value())?;
+    put_u64(out, relationship.destination.value())?;
+    put_u32(out, relationship.group)?;
+    put_u64(out, relationship.type_id.value())?;
+    put_u64(out, relationship.characteristic_type.value())?;
+    put_u64(out, relationship.modifier.value())
+}
+
+fn put_body(out: &mut Vec<u8>, body: &Body) -> Result<(), AllocError>
+    requires { AllByRecursion Fits (body_fields body.now) }
+    ensures { OnOk result (out.new.items ≡ out.old.items ++ spelled (body_fields body.now)) }
+{
+    match body {
+        Body::Concept(concept) => put_u64(out, concept.definition_status.value()),
+        Body::Description(description) => put_description(out, description),
+        Body::Relationship(relationship) => put_relationship(out, relationship),
+        Body::Association(association) => {
+            put_u64(out, association.refset.value())?;
+            put_u64(out, association.referenced.value())?;
+            put_u64(out, association.target.value())
+        }
+    }
+}
+
+fn put_record(out: &mut Vec<u8>, stamped: &StampedRow) -> Result<(), AllocError>
+    requires { 1 ≤ stamped.now.import }
+    ensures bytes { OnOk result (out.new.items ≡ out.old.items ++ record_of stamped.now) }
+    ensures stamped { OnOk result (IsStamped stamped.now) }
+{
+    let row = &stamped.row;
+    put_u32(out, record_len(stamped))?;
+    put_u8(out, code_of(row.kind()))?;
+    put_u128(out, row.id)?;
+    put_u32(out, row.time.value())?;
+    put_u32(out, stamped.import)?;
+    put_u8(out, code_of_active(row.active))?;
+    put_u64(out, row.module.value())?;
+    put_body(out, &row.body)
+}
+
+/// How many bytes the segment of these rows has: exactly, or `u64::MAX` where it has more.
+pub fn encoded_len(rows: &[StampedRow]) -> u64
+    ensures { result ≡ min (length (segment_of rows.now)) (2 ^ 64 - 1) }
+{
+    let mut len = 0u64;
+    for stamped in rows {
+        len = len.saturating_add(u64::from(record_len(stamped)));
+    }
+    len
+}
+
+/// The segment of rows that are in key order.
+pub fn encode(alloc: Global, rows: &[StampedRow]) -> Result<Vec<u8>, AllocError>
+    requires ascending { IsAscending stamped_cmp rows.now }
+    requires from_one { AllByRecursion (λ s. 1 ≤ s.import) rows.now }
+    ensures { IfOk result (λ bytes. IsSegment rows.now bytes.items) }
+{
+    let mut out = Vec::with_capacity(alloc, encoded_len(rows) as usize)?;
+    for stamped in rows {
+        put_record(&mut out, stamped)?;
+    }
+    Ok(out)
+}

@@ -1,0 +1,23 @@
+//! Laws of the definitions, each the contract of a function that does nothing.
+
+ghost use Rattle.segment.specs.Records.{OneSegment, OneRecord, EachAtItsPlace, PiecesJoin};
+
+/// Bytes spell at most one list of rows.
+pub fn one_segment()
+    ensures { OneSegment }
+{}
+
+/// At a place stands the record of at most one row, and it ends at one place.
+pub fn one_record()
+    ensures { OneRecord }
+{}
+
+/// In a segment the record of each row stands where those of the rows before it end.
+pub fn each_at_its_place()
+    ensures { EachAtItsPlace }
+{}
+
+/// The bytes of two lists of rows are those of the two lists joined.
+pub fn pieces_join()
+    ensures { PiecesJoin }
+{}

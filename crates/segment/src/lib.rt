@@ -1,0 +1,20 @@
+//! Segments: rows as bytes, one record after the other in key order.
+#![tactic(auto)]
+
+mod columns;
+mod decoding;
+mod encoding;
+mod fault;
+mod fields;
+pub mod laws;
+mod raw;
+mod row;
+mod writing;
+
+pub use decoding::{decode, record_at};
+pub use encoding::{encode, encoded_len};
+pub use fault::SegmentFault;
+pub use history_model::StampedRow;
+
+#[cfg(test)]
+mod tests;

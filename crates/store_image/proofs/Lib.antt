@@ -1,0 +1,9 @@
+pub mod Listed
+pub mod Frames
+pub mod Standing
+pub mod Published
+pub mod Added
+pub mod Empty
+pub mod Apart
+pub mod Segments
+pub mod Opened

@@ -1,0 +1,32 @@
+use Rattle.std.proofs.Common.{◌++◌, ◌∷◌, [], ap, ◌*◌, length}
+use Rattle.disk_model.proofs.MomentSteps.{joined}
+use Rattle.store_image.proofs.Added.{entry_fits, added_is_next, old_stays, still_on_disk, all_held, add_elsewhere}
+use Rattle.store_image.proofs.adding.add_segment.Goals as goal
+
+pub returns-in_err-write_through-clause-any_moment : goal.returns-in_err-write_through-clause-any_moment
+returns-in_err-write_through-clause-any_moment g c honest d lists rows on added same =
+    old_stays _ _ c.args.slot d c.args.next.now lists c.args.entry rows _ c.args.bytes.now c.requires.entry c.requires.bytes (ap (λ n. 4096 * n) c.from.ensures) on added same (g.met.D.Disk.now_is_image c.args.disk.now honest) (c.write_through.ensures.any_moment honest)
+
+pub returns-clause-any_moment : goal.returns-clause-any_moment
+returns-clause-any_moment g c honest d lists rows on added same =
+    let now = g.met.D.Disk.now_is_image c.args.disk.now honest in
+    let wrote = c.write_through.ensures.any_moment honest in
+    let place = ap (λ n. 4096 * n) c.from.ensures in
+    let still = c.write_through.ensures.honesty.0 honest in
+    let first = old_stays _ _ c.args.slot d c.args.next.now lists c.args.entry rows _ c.args.bytes.now c.requires.entry c.requires.bytes place on added same now wrote in
+    let on_mid = still_on_disk _ _ c.args.slot d c.args.next.now lists c.args.entry rows _ c.args.bytes.now c.requires.entry c.requires.bytes place on added same now wrote in
+    let held = all_held _ _ c.args.slot d c.args.next.now lists c.args.entry rows _ c.args.bytes.now c.requires.entry c.requires.bytes place on added same now wrote (c.in_ok-write_through.ensures.on_disk honest) in
+    joined _ _ _ _ first (c.publish_listing.ensures.any_moment still d lists (lists ++ rows ∷ []) on_mid (added_is_next d c.args.next.now lists c.args.entry rows on.1.kept added) held)
+
+pub returns-clause-on_disk : goal.returns-clause-on_disk
+returns-clause-on_disk g c honest d lists rows on added same =
+    let now = g.met.D.Disk.now_is_image c.args.disk.now honest in
+    let wrote = c.write_through.ensures.any_moment honest in
+    let place = ap (λ n. 4096 * n) c.from.ensures in
+    let on_mid = still_on_disk _ _ c.args.slot d c.args.next.now lists c.args.entry rows _ c.args.bytes.now c.requires.entry c.requires.bytes place on added same now wrote in
+    let held = all_held _ _ c.args.slot d c.args.next.now lists c.args.entry rows _ c.args.bytes.now c.requires.entry c.requires.bytes place on added same now wrote (c.in_ok-write_through.ensures.on_disk honest) in
+    c.publish_listing.ensures.on_disk (c.write_through.ensures.honesty.0 honest) d lists (lists ++ rows ∷ []) on_mid (added_is_next d c.args.next.now lists c.args.entry rows on.1.kept added) held
+
+pub returns-clause-elsewhere : goal.returns-clause-elsewhere
+returns-clause-elsewhere g c honest =
+    add_elsewhere c.publish_listing.result c.args.entry _ _ (length c.args.bytes.now) _ _ _ (ap (λ n. 4096 * n) c.from.ensures) c.requires.bytes (c.in_ok-write_through.ensures.elsewhere honest) (c.publish_listing.ensures.elsewhere (c.write_through.ensures.honesty.0 honest))

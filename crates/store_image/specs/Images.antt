@@ -1,0 +1,30 @@
+-- What the bytes of a disk stand for.
+use Rattle.std.specs.Prelude.{◌≡◌, ◌⊎◌, ℕ, List}
+use Rattle.blocks.specs.declared.slots.Slot.{Slot}
+use Rattle.history_model.specs.declared.stamped.StampedRow.{StampedRow}
+use Rattle.history_model.specs.History.{History}
+use Rattle.history_model.specs.Lists.{listed}
+use Rattle.directory.specs.declared.entry.Entry.{Entry}
+use Rattle.store_image.specs.Stands.{Stands}
+use Rattle.store_image.specs.Says.{Says, pieces_of}
+
+-- The bytes stand for the history, at this epoch and with these entries: the current slot's content lists them, and each entry's extent is the segment of some of the
+-- rows, all of which together are the history's.
+pub record StandsFor (file : List ℕ) (h : History) (epoch : ℕ) (entries : List Entry) : Type 0 where
+  pub slot : Slot
+  pub content : List ℕ
+  pub lists : List (List StampedRow)
+  pub stands : Stands (record { slot = slot; epoch = epoch }) content (pieces_of entries lists) file
+  pub says : Says content (record { epoch = epoch; imports = h.imports; entries = entries }) lists
+  pub rows : h.rows ≡ listed lists
+
+abbrev pub StandsForHistory : History → List ℕ → Type 0
+StandsForHistory h file = (epoch : ℕ) × (entries : List Entry) × StandsFor file h epoch entries
+
+-- they stand for some history
+abbrev pub IsStore : List ℕ → Type 0
+IsStore file = (h : History) × StandsForHistory h file
+
+-- bytes stand for one history, epoch and list of entries at most
+abbrev pub StandsForOne : Type 0
+StandsForOne = (file : List ℕ) (h g : History) (epoch others : ℕ) (entries lists : List Entry) → StandsFor file h epoch entries → StandsFor file g others lists → (h ≡ g) × (epoch ≡ others) × (entries ≡ lists)

@@ -1,0 +1,17 @@
+pub mod Stands
+pub mod Says
+pub mod Images
+pub mod Shown
+pub mod Next
+pub mod Reading
+pub mod Answers
+pub use Rattle.disk_model.specs.Disk
+pub use Rattle.blocks.specs.Extents
+pub use Rattle.blocks.specs.Outside
+pub use Rattle.blocks.specs.Slots
+pub use Rattle.history_model.specs.History
+pub use Rattle.history_model.specs.Lists
+pub use Rattle.directory.specs.Content
+pub use Rattle.directory.specs.Listings
+pub use Rattle.directory.specs.Places
+pub use Rattle.segment.specs.Records

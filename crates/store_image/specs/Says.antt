@@ -1,0 +1,46 @@
+-- What a content block and the rows of its segments say. No file is seen here.
+use Rattle.std.specs.Prelude.{◌≡◌, ℕ, List, [], ◌∷◌, length}
+use Rattle.history_model.specs.declared.stamped.StampedRow.{StampedRow}
+use Rattle.history_model.specs.History.{History, IsHistory}
+use Rattle.history_model.specs.Lists.{AreLists, listed}
+use Rattle.blocks.specs.Extents.{start_of}
+use Rattle.directory.specs.declared.entry.Entry.{Entry}
+use Rattle.directory.specs.Places.{extent_of}
+use Rattle.directory.specs.Listings.{Listing, IsListing}
+use Rattle.directory.specs.Content.{Lists}
+use Rattle.segment.specs.Records.{IsSegment, segment_of}
+
+-- the segment of these rows has as many bytes and rows as the entry says
+pub record IsSegmentOf (entry : Entry) (rows : List StampedRow) : Type 0 where
+  pub is : IsSegment rows (segment_of rows)
+  pub bytes : length (segment_of rows) ≡ entry.bytes
+  pub count : length rows ≡ entry.rows
+
+-- one list of rows for each entry
+abbrev pub AreSegments : List Entry → List (List StampedRow) → Type 0
+AreSegments [] [] = Unit {0}
+AreSegments [] (rows ∷ lists) = ⊥
+AreSegments (entry ∷ entries) [] = ⊥
+AreSegments (entry ∷ entries) (rows ∷ lists) = IsSegmentOf entry rows × AreSegments entries lists
+
+-- the segments, each at its entry's place
+abbrev pub pieces_of : List Entry → List (List StampedRow) → List (ℕ × List ℕ)
+pieces_of [] lists = []
+pieces_of (entry ∷ entries) [] = []
+pieces_of (entry ∷ entries) (rows ∷ lists) = (start_of (extent_of entry), segment_of rows) ∷ pieces_of entries lists
+
+-- the rows of all lists, with the number of imports
+abbrev pub history_of : Listing → List (List StampedRow) → History
+history_of d lists = record { imports = d.imports; rows = listed lists }
+
+-- a directory and the rows of the segments that it lists: no key is in two of them, and together they are a history
+pub record IsKept (d : Listing) (lists : List (List StampedRow)) : Type 0 where
+  pub listing : IsListing d
+  pub segments : AreSegments d.entries lists
+  pub apart : AreLists lists
+  pub history : IsHistory (history_of d lists)
+
+-- the content block lists the directory
+pub record Says (content : List ℕ) (d : Listing) (lists : List (List StampedRow)) : Type 0 where
+  pub lists_it : Lists content d
+  pub kept : IsKept d lists

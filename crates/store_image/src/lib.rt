@@ -1,0 +1,20 @@
+//! What the bytes of a disk stand for as a store: reading it, making an empty store, and the two ways of writing the next directory.
+#![tactic(auto)]
+
+mod adding;
+mod content;
+mod fault;
+pub mod laws;
+mod making;
+mod numbers;
+mod opening;
+mod reading;
+mod shared;
+
+pub use adding::{add_segment, publish_listing};
+pub use fault::ImageFault;
+pub use making::{Made, make};
+pub use opening::{Loaded, load};
+
+#[cfg(test)]
+mod tests;

@@ -1,0 +1,45 @@
+//! Making an empty store.
+
+ghost use Rattle.std.specs.Prelude.{◌≡◌, ◌↔◌, [], IfOk, OnOk};
+ghost use Rattle.disk_model.specs.Disk.{EachImage};
+ghost use Rattle.history_model.specs.History.{no_history};
+ghost use Rattle.store_image.specs.Images.{StandsFor};
+ghost use Rattle.store_image.specs.Shown.{IsOnDisk};
+ghost use Rattle.store_image.specs.Answers.{empty_listing, IsMade, CountsFault, StaysIfRefused};
+
+use crate::content::content_of;
+use crate::fault::ImageFault;
+use blocks::{Slot, start};
+use directory::Directory;
+use disk_model::Disk;
+use std::alloc::Global;
+
+/// An empty store: its current slot and its directory.
+#[derive(Drop)]
+pub struct Made {
+    pub slot: Slot,
+    pub directory: Directory,
+}
+
+/// Makes an empty store on a disk of no bytes. A stop before it has answered may leave anything.
+pub fn make<D: Disk>(alloc: Global, disk: &mut D) -> Result<Made, ImageFault>
+    ensures made { IfOk result (λ made. (made.slot ≡ Slot.A) × (made.directory ≡ empty_listing)) }
+    ensures exact { D.is_honest disk.old → IsMade result (D.moments disk.old).state.now }
+    ensures on_disk { D.is_honest disk.old → IfOk result (λ made. IsOnDisk (D.moments disk.new).state made.slot made.directory []) }
+    // Whatever a stop leaves stands for the empty history.
+    ensures stands { D.is_honest disk.old → OnOk result (EachImage (D.moments disk.new).state (λ c. StandsFor c no_history 1 [])) }
+    ensures refused { D.is_honest disk.old → StaysIfRefused result (D.moments disk.old) (D.moments disk.new) }
+    ensures honesty { D.is_honest disk.old ↔ D.is_honest disk.new }
+    ensures failures { CountsFault result (D.failures disk.old) (D.failures disk.new) }
+{
+    if disk.len()? > 0 {
+        return Err(ImageFault::NotEmpty);
+    }
+    let directory = Directory::new(alloc)?;
+    let content = content_of(&directory);
+    let current = start(disk, &content)?;
+    Ok(Made {
+        slot: current.slot,
+        directory,
+    })
+}

@@ -1,0 +1,48 @@
+//! Reading what a disk stands for.
+
+ghost use Rattle.std.specs.Prelude.{◌≡◌, ◌↔◌, map, vec_items, IfOk, MatchResult};
+ghost use Rattle.disk_model.specs.Disk.{IsImage, LeavesOnly};
+ghost use Rattle.store_image.specs.Says.{IsKept};
+ghost use Rattle.store_image.specs.Shown.{Shows, IsOnDisk};
+ghost use Rattle.store_image.specs.Answers.{IsNotOpened, CountsFault};
+
+use crate::fault::ImageFault;
+use crate::reading::read_segments;
+use blocks::{Slot, read_current};
+use directory::Directory;
+use disk_model::Disk;
+use history_model::StampedRow;
+use std::alloc::Global;
+
+/// What was read.
+#[derive(Drop)]
+pub struct Loaded {
+    pub slot: Slot,
+    pub directory: Directory,
+    /// The rows of each segment, in the directory's order.
+    pub lists: Vec<Vec<StampedRow>>,
+}
+
+/// Reads what a disk stands for, after a sync.
+pub fn load<D: Disk>(alloc: Global, disk: &mut D) -> Result<Loaded, ImageFault>
+    ensures exact { D.is_honest disk.old → MatchResult result (λ l. Shows l.slot l.directory (map vec_items l.lists.items) (D.moments disk.old).state.now) (λ e. IsNotOpened e (D.moments disk.old).state.now) }
+    // What was read fits together, on every disk.
+    ensures kept { IfOk result (λ l. IsKept l.directory (map vec_items l.lists.items)) }
+    // A stop at any moment leaves what it might have left before.
+    ensures any_moment { D.is_honest disk.old → LeavesOnly (D.moments disk.old) (D.moments disk.new) (IsImage (D.moments disk.old).state) }
+    // After Ok each stop leaves what was read.
+    ensures on_disk { D.is_honest disk.old → IfOk result (λ l. IsOnDisk (D.moments disk.new).state l.slot l.directory (map vec_items l.lists.items)) }
+    ensures honesty { D.is_honest disk.old ↔ D.is_honest disk.new }
+    ensures failures { CountsFault result (D.failures disk.old) (D.failures disk.new) }
+{
+    disk.sync()?;
+    let mut content = [0; 4096];
+    let current = read_current(disk, &mut content)?;
+    let directory = Directory::decode(alloc, &content)?;
+    let lists = read_segments(alloc, disk, directory.entries(), directory.imports())?;
+    Ok(Loaded {
+        slot: current.slot,
+        directory,
+        lists,
+    })
+}

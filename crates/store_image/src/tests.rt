@@ -1,0 +1,156 @@
+//! A store byte for byte, and each way in which an image is damaged.
+
+use crate::*;
+use blocks::Slot;
+use directory::{Directory, Entry};
+use disk_model::{Disk, MemDisk};
+use std::alloc::Global;
+use std::test::Fail;
+
+// 138875005|20200131|1|900000000000207008|900000000000074008 at import 1
+const ROOT: [u8; 46] =
+    *b"\x00\x00\x00\x2e\x01\x00\x00\x00\x00\x00\x00\x00\x00\x00\x00\x00\x00\x08\x47\x10\
+    \x7d\x01\x34\x3a\xc3\x00\x00\x00\x01\x01\x0c\x7d\x71\x3b\x49\xdd\x28\xa0\x0c\x7d\
+    \x71\x3b\x49\xdb\x21\x18";
+
+// 1000004|20200131|1|900000000000207008|900000000000074008 at import 2
+const OTHER: [u8; 46] =
+    *b"\x00\x00\x00\x2e\x01\x00\x00\x00\x00\x00\x00\x00\x00\x00\x00\x00\x00\x00\x0f\x42\
+    \x44\x01\x34\x3a\xc3\x00\x00\x00\x02\x01\x0c\x7d\x71\x3b\x49\xdd\x28\xa0\x0c\x7d\
+    \x71\x3b\x49\xdb\x21\x18";
+
+/// The front of the content of epoch 2, with one import and one segment.
+const CONTENT: [u8; 48] = [
+    0, 0, 0, 0, 0, 0, 0, 2, 0x53, 0x43, 0x54, 0x48, 0x49, 0x53, 0x54, 0x31, 0, 0, 0, 1, 0, 0, 0, 1,
+    0, 0, 0, 0, 0, 0, 0, 0, 0, 0, 0, 4, 0, 0, 0, 0x2e, 0, 0, 0, 1, 0, 0, 0, 0,
+];
+
+const FIRST: Entry = Entry {
+    first: 4,
+    bytes: 46,
+    rows: 1,
+};
+
+const SECOND: Entry = Entry {
+    first: 5,
+    bytes: 46,
+    rows: 1,
+};
+
+/// A store after two imports, the second one with these bytes as its segment. Slot A is the current one.
+fn two_imports(alloc: Global, second: &[u8; 46]) -> Result<MemDisk, Fail> {
+    let mut disk = MemDisk::new(alloc);
+    let Made {
+        slot,
+        mut directory,
+    } = make(alloc, &mut disk)?;
+    directory.advance(1);
+    directory.add(FIRST);
+    let slot = add_segment(&mut disk, slot, &directory, FIRST, &ROOT)?;
+    directory.advance(2);
+    directory.add(SECOND);
+    let _slot = add_segment(&mut disk, slot, &directory, SECOND, second)?;
+    Ok(disk)
+}
+
+/// The disk with another byte at a place.
+fn patched(alloc: Global, disk: &MemDisk, place: usize, byte: u8) -> Result<MemDisk, Fail> {
+    let mut bytes = Vec::new(alloc);
+    bytes.extend_from_slice(disk.bytes())?;
+    if place < bytes.len() {
+        bytes[place] = byte;
+    }
+    Ok(MemDisk::from_bytes(alloc, bytes))
+}
+
+#[test]
+fn an_empty_store(rt: HostRuntime) -> Result<(), Fail> {
+    let mut disk = MemDisk::new(rt.alloc());
+    let made = make(rt.alloc(), &mut disk)?;
+    assert_eq!(rt; made.slot, Slot::A);
+    assert_eq!(rt; made.directory.epoch(), 1);
+    assert_eq!(rt; disk.bytes().len(), 16384);
+    let loaded = load(rt.alloc(), &mut disk)?;
+    assert_eq!(rt; loaded.slot, Slot::A);
+    assert_eq!(rt; loaded.directory.epoch(), 1);
+    assert_eq!(rt; loaded.lists.len(), 0);
+    let again = make(rt.alloc(), &mut disk);
+    assert_eq!(rt; again.err(), Some(ImageFault::NotEmpty));
+    Ok(())
+}
+
+#[test]
+fn an_import_byte_for_byte(rt: HostRuntime) -> Result<(), Fail> {
+    let mut disk = MemDisk::new(rt.alloc());
+    let Made {
+        slot,
+        mut directory,
+    } = make(rt.alloc(), &mut disk)?;
+    directory.advance(1);
+    directory.add(FIRST);
+    let slot = add_segment(&mut disk, slot, &directory, FIRST, &ROOT)?;
+    assert_eq!(rt; slot, Slot::B);
+    assert_eq!(rt; disk.bytes().len(), 16430);
+    assert!(rt; disk.bytes().ends_with(&ROOT));
+    assert_eq!(rt; disk.bytes().get(8192), Some(&0xa5));
+    assert_eq!(rt; disk.bytes().get(12288..12336), Some(CONTENT.as_slice()));
+    directory.advance(2);
+    assert_eq!(rt; publish_listing(&mut disk, slot, &directory)?, Slot::A);
+    let loaded = load(rt.alloc(), &mut disk)?;
+    assert_eq!(rt; loaded.directory.epoch(), 3);
+    assert_eq!(rt; loaded.directory.imports(), 2);
+    assert_eq!(rt; loaded.lists.len(), 1);
+    for rows in loaded.lists.iter() {
+        assert_eq!(rt; rows.len(), 1);
+        for s in rows.iter() {
+            assert_eq!(rt; s.row.id, 138_875_005);
+            assert_eq!(rt; s.import, 1);
+        }
+    }
+    Ok(())
+}
+
+#[test]
+fn each_way_in_which_an_image_is_damaged(rt: HostRuntime) -> Result<(), Fail> {
+    let mut good = two_imports(rt.alloc(), &OTHER)?;
+    assert_eq!(rt; load(rt.alloc(), &mut good)?.lists.len(), 2);
+    for (place, byte, cause) in [
+        (4111, b'2', "another mark, though the older slot is good"),
+        (4135, 0, "an entry of no bytes"),
+        (4139, 2, "another number of rows"),
+        (4151, 47, "a segment behind the end"),
+        (12295, 3, "two slots of one epoch"),
+        (16388, 9, "a record of no kind"),
+        (16412, 3, "a number above that of the imports"),
+    ] {
+        let mut disk = patched(rt.alloc(), &good, place, byte)?;
+        assert_eq!(rt;
+            load(rt.alloc(), &mut disk).err(),
+            Some(ImageFault::Damaged),
+            "{cause}"
+        );
+    }
+    let mut shared = two_imports(rt.alloc(), &ROOT)?;
+    assert_eq!(rt;
+        load(rt.alloc(), &mut shared).err(),
+        Some(ImageFault::Damaged)
+    );
+    let mut short = MemDisk::new(rt.alloc());
+    short.write_at(0, &[0xa5])?;
+    assert_eq!(rt;
+        load(rt.alloc(), &mut short).err(),
+        Some(ImageFault::Damaged)
+    );
+    let mut zeros = MemDisk::new(rt.alloc());
+    zeros.write_at(16383, &[0])?;
+    assert_eq!(rt;
+        load(rt.alloc(), &mut zeros).err(),
+        Some(ImageFault::NotAStore)
+    );
+    good.set_fuse(1);
+    assert_eq!(rt;
+        load(rt.alloc(), &mut good).err(),
+        Some(ImageFault::DiskFault)
+    );
+    Ok(())
+}
