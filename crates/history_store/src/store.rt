@@ -1,6 +1,6 @@
 //! The store: its calls.
 
-ghost use Rattle.std.specs.Prelude.{◌≡◌, ◌↔◌, ◌≤◌, ℕ, length, IfOk, IfErr, OnOk, OnErr};
+ghost use Rattle.std.specs.Prelude.{◌≡◌, ◌↔◌, ◌≤◌, ◌⊎◌, ℕ, List, length, IfOk, IfErr, MatchResult};
 ghost use Rattle.disk_model.specs.Disk.{EachImage};
 
 use crate::plain;
@@ -33,9 +33,11 @@ impl<D: Disk> Model for Store<D> {
 }
 
 impl<D: Disk> Store<D> {
-    ghost use Rattle.history_model.specs.History.{rows_at};
+    ghost use Rattle.rf2_values.specs.Row.{Version};
+    ghost use Rattle.history_model.specs.History.{Accepts, rows_at};
+    ghost use Rattle.import_check.specs.Release.{IsReleaseOf};
     ghost use Rattle.history_model.specs.Queries.{lookup};
-    ghost use Rattle.history_store.specs.Stored.{Stored, plain_store};
+    ghost use Rattle.history_store.specs.Stored.{Stored, last_import, plain_store};
     ghost use Rattle.history_store.specs.Answers.{device_of, CountsOpening, IsMakingOf, IsOpeningOf, OpensPrefix, IsImportOf};
     ghost use Rattle.history_store.specs.declared.refusal.Refusal.TheVariants as refusals;
 
@@ -81,6 +83,9 @@ impl<D: Disk> Store<D> {
     /// Adds a release: all of its rows, or nothing.
     pub fn import(&mut self, alloc: Global, release: &Release) -> Result<Receipt, Refusal>
         ensures answer { IsImportOf result self.old.history self.new.history release.now }
+        // A release that is accepted is never refused, unless memory runs out or the last number was given.
+        ensures only { (rows : List Version) → IsReleaseOf release.now rows → Accepts self.old.history rows
+            → MatchResult result (λ _. Unit {0}) (λ e. (e ≡ refusals.OutOfMemory) ⊎ ((e ≡ refusals.CountSpent) × (self.old.history.imports ≡ last_import))) }
         ensures disk { self.new.disk ≡ self.old.disk }
     {
         if self.imports == u32::MAX {
