@@ -1,5 +1,8 @@
 //! Reading a folder.
 
+ghost use Rattle.std.specs.Prelude.{◌≢◌, [], All, IfOk, OnOk};
+ghost use Rattle.release_folder.specs.Names.{IsTakenFile};
+
 use crate::fault::FolderFault;
 use crate::names::kind_to_take;
 use import_check::{Release, ReleaseFile};
@@ -20,7 +23,11 @@ pub fn read_folder<R: Files<File = File> + AllocGlobal + Clone + Drop>(
     alloc: Global,
     dir: &str,
     name: &str,
-) -> Result<Release, FolderFault> {
+) -> Result<Release, FolderFault>
+    // Each file has a name to take, and there is one. What a folder holds no clause can say.
+    ensures taken { IfOk result (λ release. All IsTakenFile release.files.items) }
+    ensures some { IfOk result (λ release. release.files.items ≢ []) }
+{
     let root = format!(in alloc; "{dir}/{name}")?;
     if !fs::metadata(rt, root.as_str())?.is_dir() {
         return Err(FolderFault::NoFolder);
@@ -42,7 +49,9 @@ fn add_files<R: Files<File = File> + AllocGlobal + Clone + Drop>(
     alloc: Global,
     folder: &str,
     files: &mut Vec<ReleaseFile>,
-) -> Result<(), FolderFault> {
+) -> Result<(), FolderFault>
+    ensures { All IsTakenFile files.old.items → OnOk result (All IsTakenFile files.new.items) }
+{
     for name in names_in(rt, alloc, folder)? {
         if let Some(kind) = kind_to_take(name.as_bytes()) {
             let path = format!(in alloc; "{folder}/{name}")?;
