@@ -4,8 +4,7 @@ use Rattle.rf2_values.specs.declared.key.Key.{Key}
 use Rattle.rf2_values.specs.Row.{Version}
 use Rattle.rf2_rows.specs.declared.fault.LineFault.{LineFault}
 use Rattle.history_model.specs.InOrder.{Has, IsAscending}
-use Rattle.history_model.specs.History.{row_cmp}
-use Rattle.history_model.specs.History.{IsConsistent}
+use Rattle.history_model.specs.History.{row_cmp, IsConsistent}
 use Rattle.import_check.specs.declared.release.Release.{Release}
 use Rattle.import_check.specs.declared.release.PlacedLine.{PlacedLine}
 use Rattle.import_check.specs.declared.fresh.Fresh.{Fresh}
