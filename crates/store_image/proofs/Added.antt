@@ -1,12 +1,12 @@
 -- A segment more.
 use Rattle.std.specs.Prelude.{All, Result, Ok, Err, OnOk}
-use Rattle.std.proofs.Common.{◌≡◌, ◌⊎◌, inl, inr, ℕ, ◌+◌, ◌*◌, ◌<◌, ◌≤◌, List, [], ◌∷◌, ◌++◌, length, refl, sym, ◌∙◌, ap, subst, arith}
+use Rattle.std.proofs.Common.{◌≡◌, ◌⊎◌, inl, inr, ℕ, ◌+◌, ◌*◌, ◌≤◌, List, [], ◌∷◌, ◌++◌, length, refl, sym, ◌∙◌, ap, subst, arith}
 use Rattle.std.specs.List.{AllByRecursion}
 use Rattle.std.specs.Int.{div_ceil}
 use Rattle.std.proofs.lemmas.Bool.{cases_lt}
 use Rattle.std.proofs.lemmas.List.Elements.{All-nil, All-cons, All-push}
-use Rattle.disk_model.specs.Disk.{DiskState, Moments, IsImage, EachImage, LeavesOnly, after_write, settled}
-use Rattle.disk_model.proofs.MomentSteps.{weaker, at_end, joined}
+use Rattle.disk_model.specs.Disk.{Moments, IsImage, EachImage, LeavesOnly, after_write, settled}
+use Rattle.disk_model.proofs.MomentSteps.{weaker, at_end}
 use Rattle.blocks.specs.declared.slots.Slot.{Slot}
 use Rattle.blocks.specs.Extents.{start_of, byte_range}
 use Rattle.blocks.specs.Outside.{SameOutside}
@@ -23,7 +23,7 @@ use Rattle.store_image.specs.Stands.{Holds, HoldsAll, Stands}
 use Rattle.store_image.specs.Says.{IsSegmentOf, AreSegments, IsKept, history_of, pieces_of}
 use Rattle.store_image.specs.Images.{StandsForHistory}
 use Rattle.store_image.specs.Shown.{IsOnDisk, current_of}
-use Rattle.store_image.specs.Next.{IsNext, IsAdded, IsRepeated, AddedIsNext, RepeatedIsNext}
+use Rattle.store_image.specs.Next.{IsAdded, AddedIsNext, RepeatedIsNext}
 use Rattle.store_image.proofs.Frames.{IsFree, write_step, written_piece}
 use Rattle.store_image.proofs.Published.{shown_for_history}
 

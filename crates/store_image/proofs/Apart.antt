@@ -1,8 +1,7 @@
 -- Lists that share no key.
-use Rattle.std.proofs.Common.{◌≡◌, ◌⊎◌, inl, inr, ℕ, zero, suc, ◌+◌, ◌<◌, List, [], ◌∷◌, ◌++◌, length, get_or, drop, map, refl, sym, ap, subst, ◌∙◌, arith}
+use Rattle.std.proofs.Common.{◌≡◌, inl, inr, ℕ, zero, suc, ◌+◌, ◌<◌, List, [], ◌∷◌, ◌++◌, length, get_or, drop, map, refl, sym, ap, subst, ◌∙◌, arith}
 use Rattle.std.proofs.Math.Seq.{drop-cons}
 use Rattle.std.specs.List.{AllByRecursion}
-use Rattle.std.specs.Cmp.{IsTotalOrder}
 use Rattle.std.specs.declared.cmp.Ordering.{Ordering}
 use Rattle.std.specs.declared.cmp.Ordering.TheVariants.{Less, Equal, Greater}
 use Rattle.rf2_values.specs.declared.key.Key.{Key}
@@ -10,7 +9,7 @@ use Rattle.rf2_values.specs.Key.{key_of, key_cmp}
 use Rattle.history_model.specs.declared.stamped.StampedRow.{StampedRow}
 use Rattle.history_model.specs.InOrder.{Has, IsAscending, joined}
 use Rattle.history_model.specs.History.{stamped_cmp}
-use Rattle.history_model.specs.Lists.{ShareNoKey, EachApart, AreLists}
+use Rattle.history_model.specs.Lists.{ShareNoKey, EachApart}
 use Rattle.history_model.proofs.InOrder.{Has-all, Has-append_cases, above}
 use Rattle.history_model.proofs.Keys.{stamped_total, same_key, tie_of_same}
 

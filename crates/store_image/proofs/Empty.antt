@@ -1,17 +1,14 @@
 -- A store that was made.
-use Rattle.std.specs.Prelude.{All}
 use Rattle.std.proofs.Common.{◌≡◌, ℕ, List, [], refl, sym, ◌∙◌, ap, subst}
-use Rattle.std.specs.Prelude.{Result, Ok, Err, OnOk, IfOk}
 use Rattle.std.proofs.lemmas.List.Elements.{All-nil}
 use Rattle.disk_model.specs.Disk.{DiskState, EachImage}
-use Rattle.blocks.specs.declared.slots.Slot.{Slot}
 use Rattle.blocks.specs.declared.slots.Current.{Current}
-use Rattle.blocks.specs.Slots.{first, epoch_of, IsFresh}
+use Rattle.blocks.specs.Slots.{first_current, epoch_of, IsFresh}
 use Rattle.history_model.specs.History.{no_history, IsHistory}
 use Rattle.history_model.specs.Lists.{listed}
 use Rattle.directory.specs.Listings.{Listing}
 use Rattle.directory.specs.Content.{Lists}
-use Rattle.store_image.specs.Stands.{Holds, Stands}
+use Rattle.store_image.specs.Stands.{Holds}
 use Rattle.store_image.specs.Says.{Says, history_of}
 use Rattle.store_image.specs.Images.{StandsFor}
 use Rattle.store_image.specs.Shown.{IsOnDisk}
@@ -25,9 +22,9 @@ listed_none = refl
 pub first_epoch : (content : List ℕ) (d : Listing) → d ≡ empty_listing → Lists content d → epoch_of content ≡ 1
 first_epoch content d same lists = listed_epoch content d lists ∙ ap (λ (l : Listing). l.epoch) same
 
-pub empty_on_disk : (state : DiskState) (content : List ℕ) (d : Listing) (current : Current) → d ≡ empty_listing → Lists content d → current ≡ first → EachImage state (IsFresh content) → IsOnDisk state current.slot d []
+pub empty_on_disk : (state : DiskState) (content : List ℕ) (d : Listing) (current : Current) → d ≡ empty_listing → Lists content d → current ≡ first_current → EachImage state (IsFresh content) → IsOnDisk state current.slot d []
 empty_on_disk state content d current same lists is fresh =
-    let P : Listing → Type 0 = λ l. IsOnDisk state first.slot l [] in
+    let P : Listing → Type 0 = λ l. IsOnDisk state first_current.slot l [] in
     let Q : Current → Type 0 = λ k. IsOnDisk state k.slot d [] in
     let listing : Lists content empty_listing = subst (Lists content) same lists in
     let none : IsHistory (history_of empty_listing []) = subst (λ rows. IsHistory (record { imports = 0; rows = rows })) (sym listed_none) (record { ascending = tt; numbered = tt }) in
@@ -35,7 +32,7 @@ empty_on_disk state content d current same lists is fresh =
     let on : P empty_listing = (content, says, λ c image. record { slot = (fresh c image).current; pieces_are = All-nil (λ piece. Holds piece c) }) in
     subst Q (sym is) (subst P (sym same) on)
 
-pub empty_stands : (state : DiskState) (content : List ℕ) (d : Listing) (current : Current) → d ≡ empty_listing → Lists content d → current ≡ first → EachImage state (IsFresh content) → EachImage state (λ c. StandsFor c no_history 1 [])
+pub empty_stands : (state : DiskState) (content : List ℕ) (d : Listing) (current : Current) → d ≡ empty_listing → Lists content d → current ≡ first_current → EachImage state (IsFresh content) → EachImage state (λ c. StandsFor c no_history 1 [])
 empty_stands state content d current same lists is fresh c image =
-    let on = empty_on_disk state content empty_listing first refl (subst (Lists content) same lists) refl fresh in
-    record { slot = first.slot; content = on.0; lists = []; stands = on.2 c image; says = on.1; rows = sym listed_none }
+    let on = empty_on_disk state content empty_listing first_current refl (subst (Lists content) same lists) refl fresh in
+    record { slot = first_current.slot; content = on.0; lists = []; stands = on.2 c image; says = on.1; rows = sym listed_none }

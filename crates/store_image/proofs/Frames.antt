@@ -7,9 +7,11 @@ use Rattle.disk_model.proofs.Images.{write_frame, settled_only}
 use Rattle.blocks.specs.declared.slots.Slot.{Slot}
 use Rattle.blocks.specs.declared.slots.Slot.TheVariants.{A, B}
 use Rattle.blocks.specs.declared.slots.Current.{Current}
-use Rattle.blocks.specs.Slots.{other, gate_at, content_at, slot_range}
-use Rattle.blocks.specs.Publication.{next_of, IsOldOrNext}
-use Rattle.blocks.proofs.SlotImages.{Either, window_same, window_put, now-after_write, greatest_beyond, content_beyond, content_beside}
+use Rattle.blocks.specs.Slots.{other, gate_at, content_at}
+use Rattle.blocks.specs.Publication.{IsOldOrNext}
+use Rattle.blocks.proofs.SlotFrames.{greatest_beyond, content_beyond, content_beside}
+use Rattle.blocks.proofs.SlotImages.{Either, now-after_write}
+use Rattle.blocks.proofs.Windows.{window_same, window_put}
 use Rattle.store_image.specs.Stands.{Holds, HoldsAll, Stands}
 
 -- no byte of the piece is in the range

@@ -1,23 +1,21 @@
 -- What an opening finds.
-use Rattle.std.specs.Prelude.{All}
-use Rattle.std.proofs.Common.{◌≡◌, ◌⊎◌, inl, inr, ℕ, ◌<◌, ◌≤◌, List, [], ◌∷◌, length, refl, sym, ◌∙◌, ap, subst, arith}
+use Rattle.std.proofs.Common.{◌≡◌, inl, inr, ℕ, ◌≤◌, List, [], ◌∷◌, sym, ◌∙◌, ap, subst, arith}
 use Rattle.std.specs.Prelude.{Result, Err}
 use Rattle.std.specs.List.{AllByRecursion}
 use Rattle.std.proofs.lemmas.List.Elements.{recursion_from_All, All-from_recursion}
-use Rattle.disk_model.specs.Disk.{DiskState, Moments, IsImage, EachImage, LeavesOnly, followed_by, settled}
+use Rattle.disk_model.specs.Disk.{DiskState, Moments, IsImage, LeavesOnly, followed_by, settled}
 use Rattle.disk_model.proofs.Images.{settled_only}
 use Rattle.disk_model.proofs.MomentSteps.{started, on_made, each_settled}
 use Rattle.blocks.specs.declared.slots.Slot.{Slot}
-use Rattle.blocks.specs.declared.slots.Slot.TheVariants.{A, B}
 use Rattle.blocks.specs.declared.slots.Current.{Current}
 use Rattle.blocks.specs.declared.slots.SlotFault.{SlotFault}
 use Rattle.blocks.specs.declared.slots.SlotFault.TheVariants as slots
-use Rattle.blocks.specs.Slots.{IsCurrent, IsCurrentWith, IsGreatest, IsOpen, content_of, epoch_of, ReadsCurrent, CountsSlotFault}
+use Rattle.blocks.specs.Slots.{IsCurrentWith, IsGreatest, content_of, epoch_of, ReadsCurrent, CountsSlotFault}
 use Rattle.blocks.proofs.Greatest.{one_slot, some_gate, not_two_equal}
 use Rattle.history_model.specs.declared.stamped.StampedRow.{StampedRow}
 use Rattle.history_model.specs.InOrder.{Has, joined}
 use Rattle.history_model.specs.History.{History, IsHistory}
-use Rattle.history_model.specs.Lists.{AreLists, listed}
+use Rattle.history_model.specs.Lists.{listed}
 use Rattle.history_model.proofs.InOrder.{Has-all, all_from_has, Has-append_left, Has-append_right, Has-append_cases}
 use Rattle.history_model.proofs.Snapshots.{IsAscending-listed, Has-listed_cases, Has-listed_from}
 use Rattle.directory.specs.declared.entry.Entry.{Entry}
@@ -30,8 +28,8 @@ use Rattle.segment.specs.Records.{IsStamped}
 use Rattle.store_image.specs.declared.fault.ImageFault.{ImageFault}
 use Rattle.store_image.specs.declared.fault.ImageFault.TheVariants as faults
 use Rattle.store_image.specs.Stands.{HoldsAll, Stands}
-use Rattle.store_image.specs.Says.{IsKept, AreSegments, Says, history_of, pieces_of}
-use Rattle.store_image.specs.Images.{StandsFor, IsStore}
+use Rattle.store_image.specs.Says.{IsKept, AreSegments, pieces_of}
+use Rattle.store_image.specs.Images.{StandsFor}
 use Rattle.store_image.specs.Shown.{Shows, IsOnDisk, current_of}
 use Rattle.store_image.specs.Reading.{AreRead, AreNumbered, AreNotRead}
 use Rattle.store_image.specs.Answers.{IsNotOpened, CountsFault, of_slot, of_directory}

@@ -1,7 +1,6 @@
 -- What a publication leaves.
-use Rattle.std.specs.Prelude.{All, Result, Ok, Err, OnOk}
-use Rattle.std.proofs.Common.{◌≡◌, ◌⊎◌, inl, inr, ℕ, ◌+◌, ◌-◌, ◌≤◌, List, refl, sym, ◌∙◌, ap, subst, arith}
-use Rattle.disk_model.specs.Disk.{Moments, IsImage, EachImage, LeavesOnly}
+use Rattle.std.proofs.Common.{◌≡◌, ◌⊎◌, inl, inr, ℕ, ◌+◌, ◌-◌, List, refl, sym, ap, subst, arith}
+use Rattle.disk_model.specs.Disk.{Moments, EachImage, LeavesOnly}
 use Rattle.disk_model.proofs.MomentSteps.{weaker, at_end}
 use Rattle.blocks.specs.declared.slots.Slot.{Slot}
 use Rattle.blocks.specs.declared.slots.Current.{Current}
@@ -11,8 +10,8 @@ use Rattle.history_model.specs.declared.stamped.StampedRow.{StampedRow}
 use Rattle.directory.specs.Listings.{Listing}
 use Rattle.directory.specs.Content.{Lists}
 use Rattle.store_image.specs.Stands.{HoldsAll, Stands}
-use Rattle.store_image.specs.Says.{Says, IsKept, history_of, pieces_of}
-use Rattle.store_image.specs.Images.{StandsFor, StandsForHistory}
+use Rattle.store_image.specs.Says.{Says, history_of, pieces_of}
+use Rattle.store_image.specs.Images.{StandsForHistory}
 use Rattle.store_image.specs.Shown.{Shows, IsOnDisk, current_of}
 use Rattle.store_image.specs.Next.{IsNext}
 use Rattle.store_image.proofs.Listed.{listed_epoch}

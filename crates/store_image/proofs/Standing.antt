@@ -1,5 +1,4 @@
 -- Bytes stand for one history at most.
-use Rattle.std.specs.Prelude.{All}
 use Rattle.std.proofs.Common.{◌≡◌, ℕ, List, [], ◌∷◌, length, take, drop, refl, sym, ◌∙◌, ap, subst}
 use Rattle.std.proofs.lemmas.List.Elements.{All-head, All-tail}
 use Rattle.blocks.specs.declared.slots.Slot.{Slot}
@@ -16,8 +15,8 @@ use Rattle.directory.specs.Content.{Lists}
 use Rattle.directory.proofs.Spelled.{one_listing}
 use Rattle.segment.specs.Records.{IsSegment, OneSegment, segment_of}
 use Rattle.store_image.specs.Stands.{Holds, HoldsAll}
-use Rattle.store_image.specs.Says.{IsSegmentOf, AreSegments, pieces_of}
-use Rattle.store_image.specs.Images.{StandsFor, StandsForOne}
+use Rattle.store_image.specs.Says.{AreSegments, pieces_of}
+use Rattle.store_image.specs.Images.{StandsForOne}
 use Rattle.store_image.specs.Reading.{IsAt}
 
 -- an extent holds one segment

@@ -1,5 +1,5 @@
 -- What making and opening answer.
-use Rattle.std.specs.Prelude.{◌≡◌, ◌⊎◌, ℕ, ◌+◌, ◌≤◌, List, [], length, Result, Ok, Err}
+use Rattle.std.specs.Prelude.{◌≡◌, ◌⊎◌, ℕ, ◌≤◌, List, [], length, Result, Ok, Err}
 use Rattle.disk_model.specs.Disk.{Moments, HasRisen}
 use Rattle.blocks.specs.declared.slots.Slot.TheVariants.{A, B}
 use Rattle.blocks.specs.declared.slots.SlotFault.{SlotFault}

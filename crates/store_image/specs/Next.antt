@@ -1,5 +1,5 @@
 -- The directory that comes after another.
-use Rattle.std.specs.Prelude.{◌≡◌, ℕ, ◌+◌, List, [], ◌∷◌, ◌++◌}
+use Rattle.std.specs.Prelude.{◌≡◌, ◌+◌, List, [], ◌∷◌, ◌++◌}
 use Rattle.disk_model.specs.Disk.{DiskState, EachImage}
 use Rattle.blocks.specs.declared.slots.Slot.{Slot}
 use Rattle.history_model.specs.declared.stamped.StampedRow.{StampedRow}

@@ -20,7 +20,7 @@ use blocks::{BLOCK, Current, Slot, publish, write_through};
 use directory::{Directory, Entry};
 use disk_model::{Disk, DiskFault};
 
-/// Publishes the next directory, of which all segments are on the disk. It answers the slot that is then the current one.
+/// Publishes the next directory, of which all segments are on the disk. `slot` is the current one, and the answer is the one that is current then.
 pub fn publish_listing<D: Disk>(
     disk: &mut D,
     slot: Slot,
@@ -48,7 +48,7 @@ pub fn publish_listing<D: Disk>(
     Ok(published.slot)
 }
 
-/// Writes the bytes of a segment into its extent, and then publishes the directory that lists it. It answers the slot that is then the current one.
+/// Writes the bytes of a segment into its extent, and then publishes the directory that lists it. `slot` is the current one, and the answer is the one that is current then.
 pub fn add_segment<D: Disk>(
     disk: &mut D,
     slot: Slot,

@@ -2,13 +2,12 @@
 
 ghost use Rattle.directory.specs.Content.{Lists};
 
-use directory::{Directory, MOST_ENTRIES};
+use directory::Directory;
 
 /// The content block that lists a directory.
 pub(crate) fn content_of(directory: &Directory) -> [u8; 4096]
     ensures { Lists result directory.now }
 {
-    prove!(directory.entries().len() <= MOST_ENTRIES);
     let mut content = [0; 4096];
     directory.encode(&mut content);
     content

@@ -19,7 +19,7 @@ use history_model::StampedRow;
 use segment::decode;
 use std::alloc::Global;
 
-/// The rows of each segment. Its entries may be those of a directory.
+/// The rows of each segment. A directory may list these entries.
 pub(crate) fn read_segments<D: Disk>(
     alloc: Global,
     disk: &mut D,

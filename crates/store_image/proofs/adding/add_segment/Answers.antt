@@ -1,6 +1,6 @@
 use Rattle.std.proofs.Common.{◌++◌, ◌∷◌, [], ap, ◌*◌, length}
 use Rattle.disk_model.proofs.MomentSteps.{joined}
-use Rattle.store_image.proofs.Added.{entry_fits, added_is_next, old_stays, still_on_disk, all_held, add_elsewhere}
+use Rattle.store_image.proofs.Added.{added_is_next, old_stays, still_on_disk, all_held, add_elsewhere}
 use Rattle.store_image.proofs.adding.add_segment.Goals as goal
 
 pub returns-in_err-write_through-clause-any_moment : goal.returns-in_err-write_through-clause-any_moment

@@ -1,14 +1,13 @@
-use Rattle.std.specs.Prelude.{Result, MatchResult, vec_items, map}
-use Rattle.std.proofs.Common.{◌≡◌, ℕ, List, refl, sym, ◌∙◌, ap, subst}
+use Rattle.std.specs.Prelude.{vec_items, map}
+use Rattle.std.proofs.Common.{◌≡◌, ℕ, List, ◌∙◌, ap, subst}
 use Rattle.std.proofs.lemmas.Result.{err_from_is_err_and}
 use Rattle.disk_model.specs.Disk.{Moments}
-use Rattle.directory.specs.Listings.{Listing}
 use Rattle.store_image.specs.Stands.{HoldsAll}
 use Rattle.store_image.specs.Says.{pieces_of}
 use Rattle.store_image.specs.Shown.{Shows}
 use Rattle.store_image.specs.Reading.{AreRead, AreNotRead}
 use Rattle.store_image.specs.Answers.{IsNotOpened}
-use Rattle.store_image.proofs.Opened.{opened_run, opened_state, now_after, no_slot, bad_directory, not_read, shows_read, read_is_kept, on_disk_read, slot_counts, of_listing}
+use Rattle.store_image.proofs.Opened.{opened_run, opened_state, now_after, no_slot, bad_directory, not_read, shows_read, read_is_kept, on_disk_read, of_listing}
 use Rattle.store_image.proofs.opening.load.Goals as goal
 
 pub returns-in_err-current-clause-any_moment : goal.returns-in_err-current-clause-any_moment

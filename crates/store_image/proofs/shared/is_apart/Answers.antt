@@ -1,5 +1,5 @@
 use Rattle.std.specs.Prelude.{vec_items}
-use Rattle.std.proofs.Common.{◌≡◌, List, sym, ap, subst, ◌∙◌, Vec, Global}
+use Rattle.std.proofs.Common.{List, sym, ap, subst, ◌∙◌, Vec, Global}
 use Rattle.history_model.specs.declared.stamped.StampedRow.{StampedRow}
 use Rattle.history_model.specs.InOrder.{IsAscending}
 use Rattle.history_model.specs.History.{stamped_cmp}

@@ -1,4 +1,3 @@
-use Rattle.std.proofs.Common.{◌<◌, length, arith}
 use Rattle.store_image.proofs.Apart.{at_less, at_greater, at_equal}
 use Rattle.store_image.proofs.shared.share_no_key.Goals as goal
 
