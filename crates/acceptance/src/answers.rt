@@ -105,34 +105,3 @@ fn a_retired_concept_is_shown_inactive(rt: HostRuntime) -> Result<(), Fail> {
     }
     Ok(())
 }
-
-#[test]
-fn an_opening_recovers_to_nothing(rt: HostRuntime) -> Result<(), Fail> {
-    let mut store = new_store(rt.alloc())?;
-    let release = one_file(
-        rt.alloc(),
-        Kind::Concept,
-        &["138875005|20200131|1|CORE|PRIM"],
-    )?;
-    store.import(rt.alloc(), &release)?;
-    let opened = match history_store::Store::open(rt.alloc(), store.close()) {
-        Ok(opened) => opened,
-        Err(_) => return Err(Fail::from("not opened")),
-    };
-    assert_eq!(rt; opened.imports(), 0);
-    assert_eq!(rt; opened.row_count(), 0);
-    let disk = opened.close();
-    assert_eq!(rt; disk.bytes(), b"SCTPLAIN".as_slice());
-    // A disk that holds anything takes no new store, and one that holds anything else is no store.
-    let Err((refusal, disk)) = history_store::Store::create(rt.alloc(), disk) else {
-        return Err(Fail::from("made twice"));
-    };
-    assert_eq!(rt; refusal.code(), 4);
-    assert_eq!(rt; disk.bytes(), b"SCTPLAIN".as_slice());
-    let other = disk_model::MemDisk::from_bytes(rt.alloc(), b"SCTPLAIN2".to_vec(rt.alloc())?);
-    let Err((refusal, _)) = history_store::Store::open(rt.alloc(), other) else {
-        return Err(Fail::from("opened"));
-    };
-    assert_eq!(rt; refusal.code(), 7);
-    Ok(())
-}

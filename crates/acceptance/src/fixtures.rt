@@ -78,6 +78,26 @@ pub fn new_store(alloc: Global) -> Result<Store<MemDisk>, Refusal> {
     }
 }
 
+/// The store that a disk stands for.
+pub fn opened(alloc: Global, disk: MemDisk) -> Result<Store<MemDisk>, Refusal> {
+    match Store::open(alloc, disk) {
+        Ok(store) => Ok(store),
+        Err((refusal, _)) => Err(refusal),
+    }
+}
+
+/// A release of the root concept's first row.
+pub fn root_release(alloc: Global) -> Result<Release, AllocError> {
+    one_file(alloc, Kind::Concept, &["138875005|20200131|1|CORE|PRIM"])
+}
+
+/// The disk of a store after that release.
+pub fn root_disk(alloc: Global) -> Result<MemDisk, Refusal> {
+    let mut store = new_store(alloc)?;
+    store.import(alloc, &root_release(alloc)?)?;
+    Ok(store.close())
+}
+
 /// The line of a component's row at a date, as all imports show it; no bytes where there is none.
 pub fn line_at(
     alloc: Global,

@@ -6,4 +6,10 @@ mod answers;
 #[cfg(test)]
 mod fixtures;
 #[cfg(test)]
+mod limits;
+#[cfg(test)]
+mod openings;
+#[cfg(test)]
 mod refusals;
+#[cfg(test)]
+mod stops;

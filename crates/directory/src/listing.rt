@@ -66,6 +66,19 @@ impl Directory {
         })
     }
 
+    /// An equal directory.
+    pub fn try_clone(&self, alloc: Global) -> Result<Directory, AllocError>
+        ensures { IfOk result (λ d. d ≡ self.now) }
+    {
+        let mut entries = Vec::with_capacity(alloc, MOST_ENTRIES)?;
+        entries.extend_from_slice(self.entries.as_slice())?;
+        Ok(Directory {
+            epoch: self.epoch,
+            imports: self.imports,
+            entries,
+        })
+    }
+
     /// The directory that a content block lists. What stands behind the last entry isn't read.
     pub fn decode(alloc: Global, block: &[u8; 4096]) -> Result<Directory, DirectoryFault>
         ensures found { IfOk result (λ d. Lists block.now d) }

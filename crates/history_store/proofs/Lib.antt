@@ -1,3 +1,6 @@
-pub mod Marks
+pub mod Sorted
+pub mod NewSegment
+pub mod Held
 pub mod FreshRows
-pub mod Refused
+pub mod Imported
+pub mod Reopened

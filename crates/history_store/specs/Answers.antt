@@ -1,15 +1,22 @@
 -- What the calls of a store answer.
-use Rattle.std.specs.Prelude.{◌≡◌, ◌≢◌, ℕ, ◌≤◌, ◌<◌, List, length, take, Result, Ok, Err}
+use Rattle.std.specs.Prelude.{◌≡◌, ◌≢◌, ◌⊎◌, ℕ, ◌≤◌, true, false, List, [], length, None, Result, Ok, Err}
 use Rattle.disk_model.specs.Disk.{HasRisen}
+use Rattle.blocks.specs.declared.slots.Slot.TheVariants.{A, B}
+use Rattle.blocks.specs.Slots.{IsOpen, IsClosed}
 use Rattle.rf2_values.specs.Row.{Version}
 use Rattle.rf2_values.specs.declared.key.Key.{Key}
-use Rattle.history_model.specs.History.{History, Accepts, AcceptsAll, after_release, then_all, ReceiptOf, no_history, full}
+use Rattle.history_model.specs.declared.stamped.StampedRow.{StampedRow}
+use Rattle.history_model.specs.declared.receipt.Receipt.{Receipt}
+use Rattle.history_model.specs.History.{History, Accepts, after_release, ReceiptOf, no_history, full}
+use Rattle.history_model.specs.Lists.{new_rows}
 use Rattle.import_check.specs.declared.release.Release.{Release}
 use Rattle.import_check.specs.Release.{IsReleaseOf, IsFaultOfRelease, HasContradiction}
+use Rattle.store_image.specs.Images.{StandsFor, StandsForHistory, IsStore}
 use Rattle.history_store.specs.declared.refusal.Refusal.{Refusal}
 use Rattle.history_store.specs.declared.refusal.Refusal.TheVariants as refusals
-use Rattle.history_model.specs.declared.receipt.Receipt.{Receipt}
-use Rattle.history_store.specs.Stored.{Stored, plain_store, last_import}
+use Rattle.history_store.specs.Shelf.{Shelf, IsShelfAfter, HasNoEntry, HasNoPlace}
+use Rattle.history_store.specs.Stored.{Stored, last_import, last_epoch}
+use Rattle.history_store.specs.Prepared.{IsNotSpent}
 
 -- where the device is, whatever was answered
 abbrev pub device_of : {D : Type 0} → Result (Stored D) (Refusal × D) → D
@@ -31,53 +38,99 @@ Counts (Err e) old new = CountsRefusal e old new
 
 -- why no store is made on a disk that holds these bytes
 abbrev pub IsNotMade : Refusal → List ℕ → Type 0
+IsNotMade refusals.OutOfMemory bytes = length bytes ≡ 0
 IsNotMade refusals.DiskFault bytes = Unit {0}
 IsNotMade refusals.NotEmpty bytes = 1 ≤ length bytes
 IsNotMade _ bytes = ⊥
 
--- a store is made on an empty disk, with the empty history
+-- a new store: nothing is imported, and it has no segment
+pub record IsNew {D : Type 0} (s : Stored D) : Type 0 where
+  pub history : s.history ≡ no_history
+  pub shelf : s.shelf ≡ record { epoch = 1; entries = []; merge = None }
+  pub open_still : s.needs_reopen ≡ false
+
+-- a store is made on an empty disk alone
 abbrev pub IsMakingOf : {D : Type 0} → Result (Stored D) (Refusal × D) → List ℕ → Type 0
-IsMakingOf (Ok store) bytes = (length bytes ≡ 0) × (store.history ≡ no_history)
+IsMakingOf (Ok store) bytes = (length bytes ≡ 0) × IsNew store
 IsMakingOf (Err e) bytes = IsNotMade e.0 bytes
 
--- why no store is opened
+-- Why no store is opened: the bytes are no store where no gate is open, and damaged where one is open and they stand for nothing.
 abbrev pub IsNotOpened : Refusal → List ℕ → Type 0
+IsNotOpened refusals.OutOfMemory bytes = IsOpen A bytes ⊎ IsOpen B bytes
 IsNotOpened refusals.DiskFault bytes = Unit {0}
-IsNotOpened refusals.NotAStore bytes = bytes ≢ plain_store
+IsNotOpened refusals.NotAStore bytes = IsClosed A bytes × IsClosed B bytes
+IsNotOpened refusals.Damaged bytes = (IsOpen A bytes ⊎ IsOpen B bytes) × ¬ (IsStore bytes)
 IsNotOpened _ bytes = ⊥
 
--- a store of the plain layout is opened with the empty history
+-- the store holds what the bytes stand for
+pub record IsOpened {D : Type 0} (s : Stored D) (bytes : List ℕ) : Type 0 where
+  pub stands : StandsFor bytes s.history s.shelf.epoch s.shelf.entries
+  pub no_merge : s.shelf.merge ≡ None
+  pub open_still : s.needs_reopen ≡ false
+
+-- a store is opened exactly where the bytes stand for a history, unless memory or the device fails
 abbrev pub IsOpeningOf : {D : Type 0} → Result (Stored D) (Refusal × D) → List ℕ → Type 0
-IsOpeningOf (Ok store) bytes = (bytes ≡ plain_store) × (store.history ≡ no_history)
+IsOpeningOf (Ok store) bytes = IsOpened store bytes
 IsOpeningOf (Err e) bytes = IsNotOpened e.0 bytes
 
--- The history is the one after some first part of the releases that were accepted.
-abbrev pub IsAfterPrefix : List (List Version) → History → Type 0
-IsAfterPrefix releases h = (j : ℕ) × (j ≤ length releases) × (h ≡ then_all no_history (take j releases))
-
--- Whatever releases were accepted one after the other, what is opened is the history after some first part of them.
-abbrev pub OpensPrefix : {D : Type 0} → Result (Stored D) (Refusal × D) → Type 0
-OpensPrefix (Ok store) = (releases : List (List Version)) → AcceptsAll no_history releases → IsAfterPrefix releases store.history
-OpensPrefix (Err e) = Unit {0}
-
--- a release that is taken: each file is a release file, the union is consistent, and the history goes on with its rows
-pub record IsTaken (h after : History) (release : Release) (receipt : Receipt) : Type 0 where
-  pub room : h.imports < last_import
+-- a release that is taken: each file is a release file, the union is consistent, the history goes on with its rows, and a segment of the new ones is added
+pub record IsTaken (h after : History) (shelf next : Shelf) (release : Release) (receipt : Receipt) : Type 0 where
+  pub room : IsNotSpent h.imports shelf.epoch
   pub rows : List Version
   pub is_release : IsReleaseOf release rows
   pub accepted : Accepts h rows
   pub history : after ≡ after_release h rows
   pub receipt_is : ReceiptOf h rows receipt.number receipt.new receipt.repeated
+  pub shelf_is : IsShelfAfter (new_rows h rows) shelf next
 
--- why a release isn't taken at a history
-abbrev pub IsNotTaken : Refusal → History → Release → Type 0
-IsNotTaken refusals.OutOfMemory h release = Unit {0}
-IsNotTaken refusals.CountSpent h release = h.imports ≡ last_import
-IsNotTaken (refusals.Line file line fault) h release = (h.imports < last_import) × IsFaultOfRelease release file line fault
-IsNotTaken (refusals.Contradiction file line) h release = (h.imports < last_import) × (key : Key) × HasContradiction (full h) release file line key
-IsNotTaken _ h release = ⊥
+-- a release that would be taken, but for its new rows
+pub record IsUnplaced (h : History) (shelf : Shelf) (release : Release) (Lacks : List StampedRow → Shelf → Type 0) : Type 0 where
+  pub room : IsNotSpent h.imports shelf.epoch
+  pub rows : List Version
+  pub is_release : IsReleaseOf release rows
+  pub accepted : Accepts h rows
+  pub lacks : Lacks (new_rows h rows) shelf
 
--- what an import answers, and the history after it
-abbrev pub IsImportOf : Result Receipt Refusal → History → History → Release → Type 0
-IsImportOf (Ok receipt) h after release = IsTaken h after release receipt
-IsImportOf (Err e) h after release = IsNotTaken e h release × (after ≡ h)
+-- why a release isn't taken at a history and a shelf
+abbrev pub IsNotTaken : Refusal → History → Shelf → Release → Type 0
+IsNotTaken refusals.OutOfMemory h shelf release = IsNotSpent h.imports shelf.epoch
+IsNotTaken refusals.CountSpent h shelf release = (h.imports ≡ last_import) ⊎ (shelf.epoch ≡ last_epoch)
+IsNotTaken (refusals.Line file line fault) h shelf release = IsNotSpent h.imports shelf.epoch × IsFaultOfRelease release file line fault
+IsNotTaken (refusals.Contradiction file line) h shelf release = IsNotSpent h.imports shelf.epoch × (key : Key) × HasContradiction (full h) release file line key
+IsNotTaken refusals.TooManySegments h shelf release = IsUnplaced h shelf release HasNoEntry
+IsNotTaken refusals.Full h shelf release = IsUnplaced h shelf release HasNoPlace
+IsNotTaken _ h shelf release = ⊥
+
+-- why an import is refused: after a failed call the store has to be opened again first
+abbrev pub IsImportRefusal : {D : Type 0} → Refusal → Stored D → Release → Type 0
+IsImportRefusal refusals.DiskFault s release = s.needs_reopen ≡ false
+IsImportRefusal refusals.ReopenNeeded s release = s.needs_reopen ≡ true
+IsImportRefusal e s release = (s.needs_reopen ≡ false) × IsNotTaken e s.history s.shelf release
+
+-- history and shelf stay, and a failure of the device alone closes the store
+pub record IsRefused {D : Type 0} (e : Refusal) (old new : Stored D) : Type 0 where
+  pub history : new.history ≡ old.history
+  pub shelf : new.shelf ≡ old.shelf
+  pub closed : e ≡ refusals.DiskFault → new.needs_reopen ≡ true
+  pub still : e ≢ refusals.DiskFault → new.needs_reopen ≡ old.needs_reopen
+
+-- what an import answers, and the store after it
+abbrev pub IsImportOf : {D : Type 0} → Result Receipt Refusal → Stored D → Stored D → Release → Type 0
+IsImportOf (Ok receipt) old new release = IsTaken old.history new.history old.shelf new.shelf release receipt × (old.needs_reopen ≡ false) × (new.needs_reopen ≡ false)
+IsImportOf (Err e) old new release = IsImportRefusal e old release × IsRefused e old new
+
+-- the bytes stand for the history with an accepted release
+pub record StandsWith (h : History) (release : Release) (c : List ℕ) : Type 0 where
+  pub rows : List Version
+  pub is_release : IsReleaseOf release rows
+  pub accepted : Accepts h rows
+  pub stands : StandsForHistory (after_release h rows) c
+
+-- what a stop inside an import may leave
+abbrev pub IsBeforeOrAfter : History → Release → List ℕ → Type 0
+IsBeforeOrAfter h release c = StandsForHistory h c ⊎ StandsWith h release c
+
+-- the store goes on to this history and shelf, or stays; memory may lack, or the device may fail
+abbrev pub IsStep : {D : Type 0} → Result (Unit {0}) Refusal → Stored D → Stored D → History → Shelf → Type 0
+IsStep (Ok done) old new after next = (new.history ≡ after) × (new.shelf ≡ next) × (new.needs_reopen ≡ false)
+IsStep (Err e) old new after next = ((e ≡ refusals.OutOfMemory) ⊎ (e ≡ refusals.DiskFault)) × IsRefused e old new

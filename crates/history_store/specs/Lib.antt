@@ -1,3 +1,9 @@
+pub mod Shelf
 pub mod Stored
+pub mod Prepared
 pub mod Answers
 pub mod Refusals
+pub mod Laws
+pub use Rattle.store_image.specs.Images
+pub use Rattle.history_model.specs.History
+pub use Rattle.directory.specs.Fit

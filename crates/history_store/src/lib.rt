@@ -1,10 +1,12 @@
-//! A store of the release history of a terminology.
+//! A store of the release history of a terminology, on a disk.
 //!
-//! This is the plainest layout: the rows stand in memory alone, and the disk holds a mark. It recovers to nothing.
+//! All rows stand in memory, in key order. On the disk each import that brought rows has a segment of them, and a directory lists the segments.
 #![tactic(auto)]
 
-mod plain;
+pub mod laws;
+mod preparing;
 mod refusal;
+mod rows;
 mod store;
 
 pub use history_model::Receipt;

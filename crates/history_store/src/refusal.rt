@@ -3,10 +3,12 @@
 ghost use Rattle.std.specs.Prelude.{◌≡◌};
 ghost use Rattle.history_store.specs.Refusals.{fault_number};
 
+use directory::Full as NoRoom;
 use disk_model::DiskFault;
 use import_check::ImportFault;
 use rf2_rows::LineFault;
-use std::alloc::AllocError;
+use std::alloc::{AllocError, AllocFailed};
+use store_image::ImageFault;
 use thiserror::Error;
 
 /// Why a call on a store was refused.
@@ -17,12 +19,23 @@ pub enum Refusal {
     OutOfMemory,
     #[error("the disk failed")]
     DiskFault,
+    /// The device failed in an earlier call. The store has to be opened again.
+    #[error("the store has to be opened again")]
+    ReopenNeeded,
     /// A store is made on an empty disk alone.
     #[error("the disk isn't empty")]
     NotEmpty,
+    /// The new rows are too many bytes for one segment, or no run of free blocks is long enough.
+    #[error("the store has no room for the new rows")]
+    Full,
+    /// The directory lists as many segments as it can.
+    #[error("the store has too many segments")]
+    TooManySegments,
     #[error("the disk doesn't hold a store")]
     NotAStore,
-    /// The last import number was given.
+    #[error("the store is damaged")]
+    Damaged,
+    /// The last import number was given, or the last epoch was reached.
     #[error("the last import number was given")]
     CountSpent,
     /// The first faulty file, counted from 1, its first faulty line, the header being line 1, and that line's first fault.
@@ -59,6 +72,45 @@ impl From<AllocError> for Refusal {
 
     fn from(_: AllocError) -> Refusal {
         Refusal::OutOfMemory
+    }
+}
+
+impl<T: Drop> From<AllocFailed<T>> for Refusal {
+    ghost use Rattle.std.specs.Prelude.{◌≡◌};
+    ghost use Rattle.history_store.specs.declared.refusal.Refusal.TheVariants.{OutOfMemory};
+
+    ghost from_gives = { λ _ e. e ≡ OutOfMemory };
+
+    fn from(_: AllocFailed<T>) -> Refusal {
+        Refusal::OutOfMemory
+    }
+}
+
+impl From<NoRoom> for Refusal {
+    ghost use Rattle.std.specs.Prelude.{◌≡◌};
+    ghost use Rattle.history_store.specs.declared.refusal.Refusal.TheVariants.{Full};
+
+    ghost from_gives = { λ _ e. e ≡ Full };
+
+    fn from(_: NoRoom) -> Refusal {
+        Refusal::Full
+    }
+}
+
+impl From<ImageFault> for Refusal {
+    ghost use Rattle.std.specs.Prelude.{◌≡◌};
+    ghost use Rattle.history_store.specs.Refusals.{of_image};
+
+    ghost from_gives = { λ fault e. e ≡ of_image fault };
+
+    fn from(fault: ImageFault) -> Refusal {
+        match fault {
+            ImageFault::OutOfMemory => Refusal::OutOfMemory,
+            ImageFault::DiskFault => Refusal::DiskFault,
+            ImageFault::NotEmpty => Refusal::NotEmpty,
+            ImageFault::NotAStore => Refusal::NotAStore,
+            ImageFault::Damaged => Refusal::Damaged,
+        }
     }
 }
 
@@ -108,8 +160,12 @@ impl Refusal {
         match self {
             Refusal::OutOfMemory => 1,
             Refusal::DiskFault => 2,
+            Refusal::ReopenNeeded => 3,
             Refusal::NotEmpty => 4,
+            Refusal::Full => 5,
+            Refusal::TooManySegments => 6,
             Refusal::NotAStore => 7,
+            Refusal::Damaged => 8,
             Refusal::CountSpent => 13,
             Refusal::Line { fault, .. } => fault_code(fault),
             Refusal::Contradiction { .. } => 32,

@@ -1,37 +1,96 @@
-use Rattle.std.proofs.Common.{◌≡◌, ◌<◌, ◌+◌, ◌++◌, inl, ℕ, List, map, length, refl, sym, ◌∙◌, ap, subst, arith, rules}
+use Rattle.std.proofs.Common.{◌≡◌, ◌+◌, ◌≤◌, List, map, length, vec_len, subst, ap, ◌∙◌, refl, arith, rules}
 use Rattle.std.proofs.lemmas.Bool.Decides.{nat_tests}
+use Rattle.std.proofs.lemmas.Result.{err_from_is_err_and}
 use Rattle.history_model.specs.declared.stamped.StampedRow.{StampedRow}
 use Rattle.history_model.specs.InOrder.{IsAscending}
 use Rattle.history_model.specs.History.{stamped_cmp}
-use Rattle.import_check.specs.Fresh.{IsAcceptedAs}
-use Rattle.history_store.specs.Stored.{last_import}
-use Rattle.std.proofs.lemmas.Result.{err_from_is_err_and}
-use Rattle.rf2_values.specs.Row.{Version}
-use Rattle.history_model.specs.History.{IsConsistent}
-use Rattle.import_check.specs.Release.{IsReleaseOf}
-use Rattle.import_check.specs.Fresh.{IsNoRefusal}
-use Rattle.history_store.proofs.FreshRows.{kept, taken}
-use Rattle.history_store.proofs.Refused.{only_memory}
+use Rattle.import_check.specs.Fresh.{IsAcceptedAs, IsContradictionIn}
+use Rattle.history_store.specs.Stored.{Stored}
+use Rattle.history_store.proofs.Held.{held_stands}
+use Rattle.history_store.proofs.Imported.{is_at, held_history, stays, not_fresh, not_prepared, without_new, taken, leaves_taken, none_after, prepared_for, nothing, extended, leaves_extended}
 use Rattle.history_store.proofs.store.Store.import.Goals as goal
 
-pub invariant_of-self-2 : goal.invariant_of-self-2
-invariant_of-self-2 g c =
-    kept (record { imports = c.self.inside.imports; rows = c.self.inside.rows.items }) c.in_ok-fresh.fresh.rows.items c.add_release.new.rows.items c.self.invariant (c.in_ok-add_release.ensures.added c.self.inside.imports refl)
+pub returns-then-is_spent-clause-any_moment : goal.returns-then-is_spent-clause-any_moment
+returns-then-is_spent-clause-any_moment g c = rw (← c.self.view_is) (λ honest still. stays _ _ _ c.self.inside.directory _ _ _ c.self.invariant honest still)
 
-pub returns-clause-answer : goal.returns-clause-answer
-returns-clause-answer g c =
-    let room : c.self.inside.imports < last_import = grind (arith, nat_tests, c.if-self.false, c.self.ranges) in
-    let P : List StampedRow → Type 0 = λ rows. IsAscending stamped_cmp rows → IsAcceptedAs (map (λ s. s.row) rows) c.args.release.now c.in_ok-fresh.fresh in
-    let brings = subst P c.deref.ensures.value c.in_ok-fresh.ensures.accepted c.self.invariant.ascending in
-    rw (← c.self.view_is)
-    (taken (record { imports = c.self.inside.imports; rows = c.self.inside.rows.items }) c.args.release.now c.in_ok-fresh.fresh c.add_release.new.rows.items c.len.result
-    c.self.invariant room brings (c.in_ok-add_release.ensures.added c.self.inside.imports refl) (c.len.ensures ∙ search (rules)))
+pub returns-then-is_spent-clause-acknowledged : goal.returns-then-is_spent-clause-acknowledged
+returns-then-is_spent-clause-acknowledged g c = rw (← c.self.view_is) (λ honest still. record { open_still = still; each = held_stands _ _ _ _ _ _ c.self.invariant honest still })
 
-pub returns-in_err-fresh-clause-only : goal.returns-in_err-fresh-clause-only
-returns-in_err-fresh-clause-only g c =
-    let fault = c.in_err-fresh.field-0.0 in
-    let P : List StampedRow → Type 0 = λ known. IsAscending stamped_cmp known
-    → (rows : List Version) → IsReleaseOf c.args.release.now rows → IsConsistent (map (λ s. s.row) known ++ rows) → IsNoRefusal fault in
-    let only = subst P c.deref.ensures.value c.in_err-fresh.ensures.only c.self.invariant.ascending in
+pub returns-in_err-fresh-clause-any_moment : goal.returns-in_err-fresh-clause-any_moment
+returns-in_err-fresh-clause-any_moment g c = rw (← c.self.view_is) (λ honest still. stays _ _ _ c.self.inside.directory _ _ _ c.self.invariant honest still)
+
+pub returns-in_err-next-clause-any_moment : goal.returns-in_err-next-clause-any_moment
+returns-in_err-next-clause-any_moment g c = rw (← c.self.view_is) (λ honest still. stays _ _ _ c.self.inside.directory _ _ _ c.self.invariant honest still)
+
+pub returns-in_err-prepared-clause-any_moment : goal.returns-in_err-prepared-clause-any_moment
+returns-in_err-prepared-clause-any_moment g c = rw (← c.self.view_is) (λ honest still. stays _ _ _ c.self.inside.directory _ _ _ c.self.invariant honest still)
+
+pub returns-in_err-fresh-clause-answer : goal.returns-in_err-fresh-clause-answer
+returns-in_err-fresh-clause-answer g c =
     let p = err_from_is_err_and c.from_residual.result c.from_residual.ensures.1 in
-    rw (← c.self.view_is) (λ rows is accepted. rw (p.1, p.2) (inl (only_memory fault (only rows is accepted))))
+    let P : List StampedRow → Type 0 = λ rows. IsAscending stamped_cmp rows → IsContradictionIn (map (λ s. s.row) rows) c.args.release.now c.in_err-fresh.field-0.0 in
+    let contradiction = subst P c.deref.ensures.value c.in_err-fresh.ensures.contradiction (held_history _ _ _ _ _ _ c.self.invariant).ascending in
+    rw (p.1, p.2, ← c.self.view_is) (not_fresh _ _ c.in_err-fresh.field-0.0 c.if-self.false (c.if-is_spent.ensures.left refl) c.in_err-fresh.ensures.read contradiction)
+
+pub returns-in_err-prepared-clause-answer : goal.returns-in_err-prepared-clause-answer
+returns-in_err-prepared-clause-answer g c =
+    let p = err_from_is_err_and c.from_residual-in_err-prepared.result c.from_residual-in_err-prepared.ensures.1 in
+    let P : List StampedRow → Type 0 = λ rows. IsAscending stamped_cmp rows → IsAcceptedAs (map (λ s. s.row) rows) c.args.release.now c.in_ok-fresh.fresh in
+    rw (p.1, p.2, ← c.self.view_is)
+    (not_prepared _ c.args.release.now c.in_ok-fresh.fresh _
+    (is_at _ _ c.args.release.now c.in_ok-fresh.fresh refl c.if-self.false (held_history _ _ _ _ _ _ c.self.invariant) (c.if-is_spent.ensures.left refl) (subst P c.deref.ensures.value c.in_ok-fresh.ensures.accepted))
+    c.in_err-prepared.ensures.refused)
+
+pub extend-requires-clause-prepared : goal.extend-requires-clause-prepared
+extend-requires-clause-prepared g c =
+    let P : List StampedRow → Type 0 = λ rows. IsAscending stamped_cmp rows → IsAcceptedAs (map (λ s. s.row) rows) c.args.release.now c.in_ok-fresh.fresh in
+    let at = is_at _ _ c.args.release.now c.in_ok-fresh.fresh c.self.view_is c.if-self.false (held_history _ _ _ _ _ _ c.self.invariant) (c.if-is_spent.ensures.left refl) (subst P c.deref.ensures.value c.in_ok-fresh.ensures.accepted) in
+    prepared_for _ _ c.args.release.now c.in_ok-fresh.fresh c.in_ok-prepared.prepared c.self.view_is at c.in_ok-prepared.ensures.prepared
+
+pub returns-in_err-repeat-clause-any_moment : goal.returns-in_err-repeat-clause-any_moment
+returns-in_err-repeat-clause-any_moment g c honest still =
+    let P : List StampedRow → Type 0 = λ rows. IsAscending stamped_cmp rows → IsAcceptedAs (map (λ s. s.row) rows) c.args.release.now c.in_ok-fresh.fresh in
+    let at = is_at _ _ c.args.release.now c.in_ok-fresh.fresh c.self.view_is c.if-self.false (held_history _ _ _ _ _ _ c.self.invariant) (c.if-is_spent.ensures.left refl) (subst P c.deref.ensures.value c.in_ok-fresh.ensures.accepted) in
+    let len : vec_len c.in_ok-fresh.fresh.rows ≡ length c.in_ok-fresh.fresh.rows.items = search (rules) in
+    let none = nothing c.in_ok-fresh.fresh.rows.items (grind (arith, nat_tests, len, c.if-is_empty.ensures)) in
+    leaves_taken _ c.args.release.now c.in_ok-fresh.fresh _ _ _ at (without_new c.args.self.now c.in_ok-fresh.fresh.rows.items none) (c.in_err-repeat.ensures.any_moment honest)
+
+pub returns-in_err-extend-clause-any_moment : goal.returns-in_err-extend-clause-any_moment
+returns-in_err-extend-clause-any_moment g c honest still =
+    let P : List StampedRow → Type 0 = λ rows. IsAscending stamped_cmp rows → IsAcceptedAs (map (λ s. s.row) rows) c.args.release.now c.in_ok-fresh.fresh in
+    let at = is_at _ _ c.args.release.now c.in_ok-fresh.fresh c.self.view_is c.if-self.false (held_history _ _ _ _ _ _ c.self.invariant) (c.if-is_spent.ensures.left refl) (subst P c.deref.ensures.value c.in_ok-fresh.ensures.accepted) in
+    leaves_extended _ _ c.args.release.now c.in_ok-fresh.fresh c.in_ok-prepared.prepared _ _ c.self.view_is at c.in_ok-prepared.ensures.prepared.list_is (c.in_err-extend.ensures.any_moment honest)
+
+pub returns-in_ok-repeat-clause-any_moment : goal.returns-in_ok-repeat-clause-any_moment
+returns-in_ok-repeat-clause-any_moment g c honest still =
+    let P : List StampedRow → Type 0 = λ rows. IsAscending stamped_cmp rows → IsAcceptedAs (map (λ s. s.row) rows) c.args.release.now c.in_ok-fresh.fresh in
+    let at = is_at _ _ c.args.release.now c.in_ok-fresh.fresh c.self.view_is c.if-self.false (held_history _ _ _ _ _ _ c.self.invariant) (c.if-is_spent.ensures.left refl) (subst P c.deref.ensures.value c.in_ok-fresh.ensures.accepted) in
+    let len : vec_len c.in_ok-fresh.fresh.rows ≡ length c.in_ok-fresh.fresh.rows.items = search (rules) in
+    let none = nothing c.in_ok-fresh.fresh.rows.items (grind (arith, nat_tests, len, c.if-is_empty.ensures)) in
+    leaves_taken _ c.args.release.now c.in_ok-fresh.fresh _ _ _ at (without_new c.args.self.now c.in_ok-fresh.fresh.rows.items none) (c.in_ok-repeat.ensures.any_moment honest)
+
+pub returns-in_ok-extend-clause-any_moment : goal.returns-in_ok-extend-clause-any_moment
+returns-in_ok-extend-clause-any_moment g c honest still =
+    let P : List StampedRow → Type 0 = λ rows. IsAscending stamped_cmp rows → IsAcceptedAs (map (λ s. s.row) rows) c.args.release.now c.in_ok-fresh.fresh in
+    let at = is_at _ _ c.args.release.now c.in_ok-fresh.fresh c.self.view_is c.if-self.false (held_history _ _ _ _ _ _ c.self.invariant) (c.if-is_spent.ensures.left refl) (subst P c.deref.ensures.value c.in_ok-fresh.ensures.accepted) in
+    leaves_extended _ _ c.args.release.now c.in_ok-fresh.fresh c.in_ok-prepared.prepared _ _ c.self.view_is at c.in_ok-prepared.ensures.prepared.list_is (c.in_ok-extend.ensures.any_moment honest)
+
+pub returns-in_ok-repeat-clause-answer : goal.returns-in_ok-repeat-clause-answer
+returns-in_ok-repeat-clause-answer g c =
+    let P : List StampedRow → Type 0 = λ rows. IsAscending stamped_cmp rows → IsAcceptedAs (map (λ s. s.row) rows) c.args.release.now c.in_ok-fresh.fresh in
+    let at = is_at _ _ c.args.release.now c.in_ok-fresh.fresh c.self.view_is c.if-self.false (held_history _ _ _ _ _ _ c.self.invariant) (c.if-is_spent.ensures.left refl) (subst P c.deref.ensures.value c.in_ok-fresh.ensures.accepted) in
+    let len : vec_len c.in_ok-fresh.fresh.rows ≡ length c.in_ok-fresh.fresh.rows.items = search (rules) in
+    let none = nothing c.in_ok-fresh.fresh.rows.items (grind (arith, nat_tests, len, c.if-is_empty.ensures)) in
+    let step = c.in_ok-repeat.ensures.step in
+    let number = ap (λ n. n + 1) (c.imports.ensures ∙ ap (λ (s : Stored g.row.D.Denot). s.history.imports) c.self.view_is) in
+    (taken c.args.self.now c.args.release.now c.in_ok-fresh.fresh _ _ _ _ at (step.0 ∙ without_new c.args.self.now c.in_ok-fresh.fresh.rows.items none) (none_after c.in_ok-fresh.fresh.rows.items _ c.args.self.now.shelf _ none step.1) number (c.len.ensures ∙ len), at.still, step.2)
+
+pub returns-in_ok-extend-clause-answer : goal.returns-in_ok-extend-clause-answer
+returns-in_ok-extend-clause-answer g c =
+    let P : List StampedRow → Type 0 = λ rows. IsAscending stamped_cmp rows → IsAcceptedAs (map (λ s. s.row) rows) c.args.release.now c.in_ok-fresh.fresh in
+    let at = is_at _ _ c.args.release.now c.in_ok-fresh.fresh c.self.view_is c.if-self.false (held_history _ _ _ _ _ _ c.self.invariant) (c.if-is_spent.ensures.left refl) (subst P c.deref.ensures.value c.in_ok-fresh.ensures.accepted) in
+    let len : vec_len c.in_ok-fresh.fresh.rows ≡ length c.in_ok-fresh.fresh.rows.items = search (rules) in
+    let some : 1 ≤ length c.in_ok-fresh.fresh.rows.items = grind (arith, nat_tests, len, c.if-is_empty.ensures) in
+    let step = c.in_ok-extend.ensures.step in
+    let is = c.in_ok-prepared.ensures.prepared in
+    (extended _ _ c.args.release.now c.in_ok-fresh.fresh c.in_ok-prepared.prepared _ _ _ _ c.self.view_is at is.list_is is.placed some step.0 step.1 (ap (λ n. n + 1) c.imports.ensures) (c.len.ensures ∙ len), at.still, step.2)

@@ -1,0 +1,33 @@
+use Rattle.std.proofs.Common.{◌+◌, ◌≤◌, List, length, sym, ap, subst, ◌∙◌}
+use Rattle.std.specs.List.{AllByRecursion}
+use Rattle.history_model.specs.declared.stamped.StampedRow.{StampedRow}
+use Rattle.history_model.specs.InOrder.{IsAscending}
+use Rattle.history_model.specs.History.{stamped, stamped_cmp}
+use Rattle.segment.specs.Records.{IsSegment}
+use Rattle.history_store.specs.Prepared.{IsPlacedAt}
+use Rattle.history_store.proofs.NewSegment.{ascending_stamped, from_one, added_listing, prepared_is, length-stamped}
+use Rattle.history_store.proofs.preparing.prepare.Goals as goal
+
+pub encode-requires-clause-ascending : goal.encode-requires-clause-ascending
+encode-requires-clause-ascending c =
+    let same = c.deref-2.ensures.value ∙ c.in_ok-list.ensures in
+    subst (λ (l : List StampedRow). IsAscending stamped_cmp l) (sym same) (ascending_stamped _ c.args.fresh.items c.requires.ascending)
+
+pub encode-requires-clause-from_one : goal.encode-requires-clause-from_one
+encode-requires-clause-from_one c =
+    let same = c.deref-2.ensures.value ∙ c.in_ok-list.ensures ∙ ap (λ n. stamped (n + 1) c.args.fresh.items) c.imports.ensures in
+    subst (λ (l : List StampedRow). AllByRecursion (λ s. 1 ≤ s.import) l) (sym same) (from_one c.args.directory.now.imports c.args.fresh.items)
+
+pub add-requires : goal.add-requires
+add-requires c =
+    let some = subst (λ n. 1 ≤ n) (sym (ap length (c.deref.ensures.value ∙ c.in_ok-list.ensures) ∙ length-stamped _ c.args.fresh.items)) c.requires.some in
+    added_listing c.args.directory.now c.in_ok-next.next c.deref.result.now c.in_ok-entry.entry c.place.ensures.listing c.requires.not_spent some c.in_ok-entry.ensures.placed c.in_ok-next.ensures
+
+pub returns-clause-prepared : goal.returns-clause-prepared
+returns-clause-prepared c =
+    let list = c.in_ok-list.ensures ∙ ap (λ n. stamped (n + 1) c.args.fresh.items) c.imports.ensures in
+    let some = subst (λ n. 1 ≤ n) (sym (ap length (c.deref.ensures.value ∙ c.in_ok-list.ensures) ∙ length-stamped _ c.args.fresh.items)) c.requires.some in
+    let listing = added_listing c.args.directory.now c.in_ok-next.next c.deref.result.now c.in_ok-entry.entry c.place.ensures.listing c.requires.not_spent some c.in_ok-entry.ensures.placed c.in_ok-next.ensures in
+    let placed = subst (λ (l : List StampedRow). IsPlacedAt c.args.directory.now l c.in_ok-entry.entry) (c.deref.ensures.value ∙ list) c.in_ok-entry.ensures.placed in
+    let segment = subst (λ (l : List StampedRow). IsSegment l c.in_ok-bytes.bytes.items) (c.deref-2.ensures.value ∙ list) c.in_ok-bytes.ensures in
+    prepared_is c.args.directory.now _ _ c.in_ok-next.next listing placed c.in_ok-next.ensures c.add.ensures list segment
