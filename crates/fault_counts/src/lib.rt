@@ -1,0 +1,25 @@
+//! A count of faults: one word for how it rises, for every crate whose calls count theirs.
+#![tactic(auto)]
+
+ghost use Rattle.fault_counts.specs.Counting.{HasRisen};
+
+/// The count after one fault more. At its last value it stays.
+pub fn raised(count: u64) -> u64
+    ensures { HasRisen count result }
+{
+    count.saturating_add(1)
+}
+
+#[cfg(test)]
+mod tests {
+    use super::raised;
+    use std::test::Fail;
+
+    #[test]
+    fn a_count_goes_up_and_stays_at_its_last_value(rt: HostRuntime) -> Result<(), Fail> {
+        assert_eq!(rt; raised(0), 1);
+        assert_eq!(rt; raised(u64::MAX - 1), u64::MAX);
+        assert_eq!(rt; raised(u64::MAX), u64::MAX);
+        Ok(())
+    }
+}
