@@ -1,4 +1,4 @@
--- The first places by id that are kept while postings are gone through: words of private functions alone.
+-- The first places by id that are kept while postings are gone through: words of private functions.
 use Rattle.std.specs.Prelude.{◌≡◌, ◌⊎◌, ◌≤◌, ◌<◌, ℕ, Bool, true, false, List, length, map, nat_eq}
 use Rattle.std.specs.List.{filter, starts_with}
 use Rattle.history_model.specs.declared.stamped.StampedRow.{StampedRow}
@@ -24,7 +24,8 @@ IsBeyond limit kept id = (limit ≤ length kept) × ((j : Chosen) → Has kept j
 abbrev pub IsTaken : ℕ → List Chosen → ℕ → Type 0
 IsTaken limit kept id = ((j : Chosen) × Has kept j × (j.at.key.id ≡ id)) ⊎ IsBeyond limit kept id
 
--- what a test answers of an id: it is taken, or one that is kept is above it where as many are as may be
+-- what a test answers of an id: it is taken, or, where as many are kept as may be, one that is kept
+-- is above it
 abbrev pub SaysTaken : ℕ → List Chosen → ℕ → Bool → Type 0
 SaysTaken limit kept id true = IsTaken limit kept id
 SaysTaken limit kept id false = limit ≤ length kept → (j : Chosen) × Has kept j × (id < j.at.key.id)
@@ -37,8 +38,10 @@ SaysWanted lists date pin limit kept k false =
     IsTaken limit kept k.at.key.id ⊎ (IsCurrentAt lists date pin k.segment k.at → ⊥)
 
 -- of those that are current, the first by id, as many as may be
-pub record AreKept (lists : List (List StampedRow)) (date pin limit : ℕ) (seen kept : List Chosen) : Type 0 where
+pub record AreKept (lists : List (List StampedRow)) (date pin limit : ℕ) (seen kept : List Chosen)
+    : Type 0 where
   pub ascending : IsAscending chosen_cmp kept
   pub few : length kept ≤ limit
-  pub all : (k : Chosen) → Has seen k → IsCurrentAt lists date pin k.segment k.at → IsTaken limit kept k.at.key.id
+  pub all : (k : Chosen) → Has seen k → IsCurrentAt lists date pin k.segment k.at
+      → IsTaken limit kept k.at.key.id
   pub only : (k : Chosen) → Has kept k → Has seen k × IsCurrentAt lists date pin k.segment k.at

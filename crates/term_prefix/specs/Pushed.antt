@@ -38,18 +38,21 @@ PostedTermsStand = (lists : List (List StampedRow)) (terms : List (List TermAt))
 
 -- and nothing is left out
 abbrev pub PostedTermsAreAll : Type 0
-PostedTermsAreAll = (lists : List (List StampedRow)) (posts : List (List TermAt)) (prefix : List ℕ) (date pin limit : ℕ)
+PostedTermsAreAll = (lists : List (List StampedRow)) (posts : List (List TermAt))
+    (prefix : List ℕ) (date pin limit : ℕ)
     → ArePosted lists posts
     → terms_among (term_keys posts) prefix date limit (rows_at pin (listed lists))
     ≡ terms prefix date limit (rows_at pin (listed lists))
 
 -- they stay such where a list is added
 abbrev pub PostedTermsMore : Type 0
-PostedTermsMore = (lists : List (List StampedRow)) (terms : List (List TermAt)) (rows : List StampedRow) (ts : List TermAt)
+PostedTermsMore = (lists : List (List StampedRow)) (terms : List (List TermAt))
+    (rows : List StampedRow) (ts : List TermAt)
     → ArePosted lists terms → IsPosted rows ts → ArePosted (lists ++ rows ∷ []) (terms ++ ts ∷ [])
 
 -- and where one is put in the place of two
 abbrev pub PostedTermsMerged : Type 0
-PostedTermsMerged = (lists : List (List StampedRow)) (terms : List (List TermAt)) (i j : ℕ) (rows : List StampedRow) (ts : List TermAt)
+PostedTermsMerged = (lists : List (List StampedRow)) (terms : List (List TermAt))
+    (i j : ℕ) (rows : List StampedRow) (ts : List TermAt)
     → ArePosted lists terms → IsPosted rows ts
     → ArePosted (remove (slice_set lists i rows) j) (remove (slice_set terms i ts) j)

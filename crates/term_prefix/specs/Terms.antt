@@ -23,7 +23,8 @@ pub record TermAt : Type 0 where
 -- no text is below one before it
 abbrev pub TextsRise : List TermAt → Type 0
 TextsRise [] = Unit {0}
-TextsRise (t ∷ ts) = AllByRecursion (λ u. is_lt (slice_cmp nat_cmp u.folded t.folded) ≡ false) ts × TextsRise ts
+TextsRise (t ∷ ts) =
+    AllByRecursion (λ u. is_lt (slice_cmp nat_cmp u.folded t.folded) ≡ false) ts × TextsRise ts
 
 -- the body is a description's, and this is the folding of its term
 abbrev pub HasFolded : List ℕ → Body → Type 0
@@ -46,7 +47,8 @@ PostsTerms lists terms = (x : ℕ × TermAt) → Has (numbered 0 terms) x
 abbrev pub term_keys : List (List TermAt) → List Key
 term_keys terms = map (λ t. t.at.key) (joined terms)
 
--- the first so many active descriptions at the date with such a term, drawn from the versions with these keys alone
+-- the first so many active descriptions at the date with such a term, drawn from the versions with
+-- these keys alone
 unfoldable pub terms_among : List Key → List ℕ → ℕ → ℕ → List Version → List Version
 terms_among keys prefix date limit rows =
     take limit (filter (λ row. is_term prefix row && is_among keys row) (snapshot rows date))
@@ -54,5 +56,6 @@ terms_among keys prefix date limit rows =
 -- where each of them is posted these are the answers
 abbrev pub EachTermIsPosted : Type 0
 EachTermIsPosted = (keys : List Key) (prefix : List ℕ) (date limit : ℕ) (rows : List Version)
-    → ((row : Version) → Has (snapshot rows date) row → is_term prefix row ≡ true → is_among keys row ≡ true)
+    → ((row : Version) → Has (snapshot rows date) row → is_term prefix row ≡ true
+    → is_among keys row ≡ true)
     → terms_among keys prefix date limit rows ≡ terms prefix date limit rows

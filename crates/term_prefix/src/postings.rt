@@ -90,7 +90,8 @@ fn cut(text: &mut Vec<u8>, terms: &mut Vec<Term>, len: usize)
 }
 
 fn compare(text: &[u8], a: &Term, b: &Term) -> Ordering
-    ensures { result ≡ slice_cmp nat_cmp (term_at text.now a.now).folded (term_at text.now b.now).folded }
+    ensures { result ≡ slice_cmp nat_cmp (term_at text.now a.now).folded
+        (term_at text.now b.now).folded }
 {
     piece(text, a.start, a.len).cmp(piece(text, b.start, b.len))
 }

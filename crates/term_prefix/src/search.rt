@@ -63,7 +63,8 @@ fn keep(kept: &mut Vec<Chosen>, limit: u32, segment: usize, at: Posted) -> Resul
     Ok(())
 }
 
-/// Whether there is no need to keep the id: as many are kept as there may be, none with a greater id.
+/// Whether there is no need to keep the id: as many are kept as there may be, none with a
+/// greater id.
 fn is_taken(kept: &[Chosen], limit: u32, id: u128) -> bool
     ensures { IsAscending chosen_cmp kept.now → SaysTaken limit kept.now id result }
 {
@@ -73,7 +74,8 @@ fn is_taken(kept: &[Chosen], limit: u32, id: u128) -> bool
     }
 }
 
-/// Whether the place is to be kept. What is current is asked last, since it costs a search of the index.
+/// Whether the place is to be kept. Whether it is current is asked last, since that costs a search
+/// of the index.
 fn is_wanted(
     kept: &[Chosen],
     limit: u32,
@@ -83,7 +85,8 @@ fn is_wanted(
     time: EffectiveTime,
     pin: u32,
 ) -> bool
-    ensures { (lists : List (List StampedRow)) → Lists index.now lists → IsAscending chosen_cmp kept.now
+    ensures { (lists : List (List StampedRow)) → Lists index.now lists
+        → IsAscending chosen_cmp kept.now
         → SaysWanted lists time pin limit kept.now (chosen segment at.now) result }
 {
     !is_taken(kept, limit, id_of(at)) && index.is_current(segment, *at, time, pin)
@@ -99,9 +102,10 @@ fn keep_current(
     time: EffectiveTime,
     pin: u32,
 ) -> Result<(), AllocError>
-    ensures { OnOk result ((lists : List (List StampedRow)) → Lists index.now lists → (seen : List Chosen)
-        → AreKept lists time pin limit seen kept.old.items
-        → AreKept lists time pin limit (seen ++ map (λ t. chosen segment t.at) terms.now) kept.new.items) }
+    ensures { OnOk result ((lists : List (List StampedRow)) → Lists index.now lists
+        → (seen : List Chosen) → AreKept lists time pin limit seen kept.old.items
+        → AreKept lists time pin limit (seen ++ map (λ t. chosen segment t.at) terms.now)
+        kept.new.items) }
 {
     for term in terms {
         if is_wanted(kept, limit, segment, &term.at, index, time, pin) {
@@ -132,8 +136,8 @@ fn keep_all(
     Ok(kept)
 }
 
-/// The first rows by id of active descriptions at the date of which the folded term begins with the folded prefix, of the
-/// rows that the pin shows and of the versions that are posted.
+/// The first rows by id of active descriptions at the date of which the folded term begins with the
+/// folded prefix, of the rows that the pin shows and of the versions that are posted.
 ///
 /// A row is read only where it is answered.
 pub fn find<R: RowReader>(
@@ -155,9 +159,11 @@ pub fn find<R: RowReader>(
     ensures lists { R.lists reader.new ≡ R.lists reader.old }
     ensures honesty { R.is_honest reader.old → R.is_honest reader.new }
     ensures stays { R.stays reader.old reader.new }
-    ensures disk_faults { Counts CountsDiskFault result (R.disk_faults reader.old) (R.disk_faults reader.new) }
+    ensures disk_faults { Counts CountsDiskFault result
+        (R.disk_faults reader.old) (R.disk_faults reader.new) }
     ensures damages { Counts CountsDamage result (R.damages reader.old) (R.damages reader.new) }
 {
+    // Its contract says that no key is listed twice.
     let _listed = index.lists();
     let folded = default_case_fold_str(alloc, prefix)?;
     let kept = keep_all(
