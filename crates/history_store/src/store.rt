@@ -51,12 +51,13 @@ impl<D: Disk> Store<D> {
     ghost use Rattle.history_store.specs.Shelf.{shelf_of};
     ghost use Rattle.history_store.specs.Stored.{Stored, IsAcknowledged, with_rows};
     ghost use Rattle.history_store.specs.Prepared.{IsNotSpent, IsPreparedFor};
-    ghost use Rattle.history_store.specs.Answers.{device_of, Counts, CountsOpening, IsMakingOf, IsOpeningOf, IsImportOf, IsBeforeOrAfter, IsStep};
+    ghost use Rattle.history_store.specs.Answers.{device_of, Counts, CountsOpening, IsMakingOf, IsOpeningOf, IsImportOf, IsBeforeOrAfter, IsStep, HandsBack, KeepsMoments};
     ghost use Rattle.history_store.specs.declared.refusal.Refusal.TheVariants as refusals;
 
     /// Makes a store on an empty disk.
     pub fn create(alloc: Global, disk: D) -> Result<Store<D>, (Refusal, D)>
         ensures made { D.is_honest disk → IsMakingOf result (D.moments disk).state.now }
+        ensures refused { D.is_honest disk → HandsBack D.moments result disk }
         // Whatever a stop leaves from now on stands for the empty history.
         ensures acknowledged { D.is_honest disk → IfOk result (IsAcknowledged D.moments) }
         ensures honesty { D.is_honest disk ↔ D.is_honest (device_of result) }
@@ -111,6 +112,7 @@ impl<D: Disk> Store<D> {
         requires room { IsNotSpent self.old.history.imports self.old.shelf.epoch }
         requires next { next ≡ record { epoch = self.old.shelf.epoch + 1; imports = self.old.history.imports + 1; entries = self.old.shelf.entries } }
         ensures step { IsStep result self.old self.new (record { imports = self.old.history.imports + 1; rows = self.old.history.rows }) (record { epoch = self.old.shelf.epoch + 1; entries = self.old.shelf.entries; merge = self.old.shelf.merge }) }
+        ensures refused { D.is_honest self.old.disk → KeepsMoments D.moments result self.old self.new }
         ensures any_moment { D.is_honest self.old.disk → LeavesOnly (D.moments self.old.disk) (D.moments self.new.disk) (λ c. StandsForHistory self.old.history c ⊎ StandsForHistory (record { imports = self.old.history.imports + 1; rows = self.old.history.rows }) c) }
         ensures acknowledged { D.is_honest self.old.disk → self.new.needs_reopen ≡ false → IsAcknowledged D.moments self.new }
         ensures honesty { D.is_honest self.old.disk ↔ D.is_honest self.new.disk }
@@ -134,6 +136,7 @@ impl<D: Disk> Store<D> {
         requires still { self.old.needs_reopen ≡ false }
         requires prepared { IsPreparedFor self.old prepared }
         ensures step { IsStep result self.old self.new (with_rows self.old.history prepared.list.items) (shelf_of prepared.directory) }
+        ensures refused { D.is_honest self.old.disk → KeepsMoments D.moments result self.old self.new }
         ensures any_moment { D.is_honest self.old.disk → LeavesOnly (D.moments self.old.disk) (D.moments self.new.disk) (λ c. StandsForHistory self.old.history c ⊎ StandsForHistory (with_rows self.old.history prepared.list.items) c) }
         ensures acknowledged { D.is_honest self.old.disk → self.new.needs_reopen ≡ false → IsAcknowledged D.moments self.new }
         ensures honesty { D.is_honest self.old.disk ↔ D.is_honest self.new.disk }
@@ -163,6 +166,9 @@ impl<D: Disk> Store<D> {
     /// Adds a release: all of its rows, or nothing. All memory is taken before the first write.
     pub fn import(&mut self, alloc: Global, release: &Release) -> Result<Receipt, Refusal>
         ensures answer { IsImportOf result self.old self.new release.now }
+        // A store that has to be opened again stays as it is, its disk too.
+        ensures closed { self.old.needs_reopen ≡ true → self.new ≡ self.old }
+        ensures refused { D.is_honest self.old.disk → KeepsMoments D.moments result self.old self.new }
         // A stop at any moment leaves the history from before, or that with the release.
         ensures any_moment { D.is_honest self.old.disk → self.old.needs_reopen ≡ false → LeavesOnly (D.moments self.old.disk) (D.moments self.new.disk) (IsBeforeOrAfter self.old.history release.now) }
         // After Ok each stop leaves the new one.
