@@ -19,6 +19,7 @@ use store_image::{Loaded, Made, add_segment, load, make, publish_listing};
 /// The release history of a terminology, on a disk.
 #[derive(Drop)]
 pub struct Store<D: Disk> {
+    alloc: Global,
     disk: D,
     slot: Slot,
     directory: Directory,
@@ -66,6 +67,7 @@ impl<D: Disk> Store<D> {
         let mut disk = disk;
         match make(alloc, &mut disk) {
             Ok(Made { slot, directory }) => Ok(Store {
+                alloc,
                 disk,
                 slot,
                 directory,
@@ -96,6 +98,7 @@ impl<D: Disk> Store<D> {
         };
         match in_order(alloc, lists) {
             Ok(rows) => Ok(Store {
+                alloc,
                 disk,
                 slot,
                 directory,
@@ -164,7 +167,7 @@ impl<D: Disk> Store<D> {
     }
 
     /// Adds a release: all of its rows, or nothing. All memory is taken before the first write.
-    pub fn import(&mut self, alloc: Global, release: &Release) -> Result<Receipt, Refusal>
+    pub fn import(&mut self, release: &Release) -> Result<Receipt, Refusal>
         ensures answer { IsImportOf result self.old self.new release.now }
         // A store that has to be opened again stays as it is, its disk too.
         ensures closed { self.old.needs_reopen ≡ true → self.new ≡ self.old }
@@ -182,17 +185,17 @@ impl<D: Disk> Store<D> {
         if is_spent(&self.directory) {
             return Err(Refusal::CountSpent);
         }
-        let fresh = new_rows(alloc, release, &mut KnownRows { rows: &self.rows })?;
+        let fresh = new_rows(self.alloc, release, &mut KnownRows { rows: &self.rows })?;
         let receipt = Receipt {
             number: self.directory.imports() + 1,
             new: fresh.rows.len() as u64,
             repeated: fresh.repeated,
         };
         if fresh.rows.is_empty() {
-            let next = repeated(alloc, &self.directory)?;
+            let next = repeated(self.alloc, &self.directory)?;
             self.repeat(next)?;
         } else {
-            let prepared = prepare(alloc, &self.directory, fresh.rows)?;
+            let prepared = prepare(self.alloc, &self.directory, fresh.rows)?;
             self.extend(prepared)?;
         }
         Ok(receipt)
@@ -201,7 +204,6 @@ impl<D: Disk> Store<D> {
     /// The component's row at the date, as the first `pin` imports show it.
     pub fn lookup(
         &mut self,
-        alloc: Global,
         kind: Kind,
         id: u128,
         time: EffectiveTime,
@@ -216,7 +218,7 @@ impl<D: Disk> Store<D> {
             return Err(Refusal::ReopenNeeded);
         }
         match listing::lookup(&self.rows, kind, id, time, pin) {
-            Some(row) => Ok(Some(row.try_clone(alloc)?)),
+            Some(row) => Ok(Some(row.try_clone(self.alloc)?)),
             None => Ok(None),
         }
     }
