@@ -12,7 +12,6 @@ ghost use Rattle.fault_counts.specs.Counting.{Counts};
 ghost use Rattle.import_check.specs.Known.{IsRowAt, IsUnknown, CountsDiskFault, CountsDamage};
 
 use crate::fault::KnownFault;
-use crate::order::compare_keys;
 use history_model::StampedRow;
 use rf2_values::{Key, Row};
 use std::alloc::Global;
@@ -74,7 +73,7 @@ pub struct KnownRows<'a> {
 fn compare_to(known: &StampedRow, key: Key) -> Ordering
     ensures { result ≡ key_cmp (key_of known.now.row) key }
 {
-    compare_keys(known.row.key(), key)
+    known.row.key().compare(&key)
 }
 
 impl Known for KnownRows<'_> {
