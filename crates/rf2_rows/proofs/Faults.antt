@@ -100,7 +100,7 @@ row_of_columns kind columns id time active m body le is_id spells_id is_time spe
     record {
       id = subst (λ (k : Kind). IsIdOf k id) (sym same) is_id;
       time = is_time;
-      «module» = is_module;
+      module_id = is_module;
       body = is_body;
       short = omega (arith, length-line (text_at columns 0) (later_columns v), length-line (id_text (kind_of_body body) id) (later_columns v));
     }

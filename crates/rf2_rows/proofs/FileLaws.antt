@@ -65,7 +65,7 @@ spelled_is_line : (v : Version) (text : List ℕ) → Spells v text → IsLineTe
 spelled_is_line v text s =
     let texts = s.columns.0 in
     let stand = columns_stand v texts s.is_row s.columns.1 in
-    let last : LastPlain texts = subst (λ (ts : List (List ℕ)). LastPlain ts) (sym s.columns.1.2) (own_last (decimal v.module) v.body s.is_row.body) in
+    let last : LastPlain texts = subst (λ (ts : List (List ℕ)). LastPlain ts) (sym s.columns.1.2) (own_last (decimal v.module_id) v.body s.is_row.body) in
     let ends = line_ends texts last in
     subst IsLineText (sym s.columns.2) (record { some = ends.0; no_lf = line_no_lf texts (all_clean (columns (kind_of v)) texts stand); no_cr = ends.1 })
 

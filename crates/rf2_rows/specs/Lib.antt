@@ -1,4 +1,3 @@
-pub use Rattle.rf2_values.specs.Number
 pub use Rattle.rf2_values.specs.Sctid
 pub use Rattle.rf2_values.specs.Time
 pub use Rattle.rf2_values.specs.Text
