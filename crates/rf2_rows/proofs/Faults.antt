@@ -9,7 +9,8 @@ use Rattle.rf2_rows.specs.declared.fault.LineFault.{LineFault}
 use Rattle.rf2_rows.specs.declared.fault.RowFault.{RowFault}
 use Rattle.rf2_rows.specs.declared.fault.RowFault.TheVariants as rowfault
 use Rattle.rf2_values.specs.Row.{Version, version, IsVersion, IsIdOf, IsBody, IsConcept, SpellsId, SpellsColumns, kind_of, kind_of_body, line_of, id_text, later_columns, body_columns, flag}
-use Rattle.rf2_rows.specs.Line.{Column, MayStand, HasFault, AllStand, FirstFault, texts, columns as columns_of_kind, columns_in, common_layout, own_layout, columns_of, IsFaultOfColumns, IsLineFaultThat, IsLineReading}
+use Rattle.rf2_rows.specs.Line.{Column, MayStand, HasFault, AllStand, FirstFault, columns as columns_of_kind, columns_in, common_layout, own_layout, columns_of, IsFaultOfColumns, IsLineFaultThat}
+use Rattle.rf2_rows.specs.Private.{texts, IsLineReading}
 use Rattle.rf2_values.specs.Time.{IsTime}
 use Rattle.rf2_values.specs.declared.row.Body.{Body}
 use Rattle.rf2_values.specs.declared.row.Kind.TheVariants as kind
@@ -82,7 +83,7 @@ line_reading kind text parts (Err (rowfault.Line f)) short utf8 whole cut h = in
 
 -- ---- a row from its columns
 
-id_length : (kind : Kind) (n : ℕ) (text : List ℕ) → SpellsId kind n text → length (id_text kind n) ≡ length text
+pub id_length : (kind : Kind) (n : ℕ) (text : List ℕ) → SpellsId kind n text → length (id_text kind n) ≡ length text
 id_length kind.Concept n text s = sym (ap length s)
 id_length kind.Description n text s = sym (ap length s)
 id_length kind.Relationship n text s = sym (ap length s)

@@ -6,4 +6,5 @@ pub use Rattle.rf2_values.specs.Row
 pub use Rattle.rf2_values.specs.Key
 pub mod Line
 pub mod File
-pub mod Fault
+pub mod Laws
+pub mod Private

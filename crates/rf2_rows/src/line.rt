@@ -6,7 +6,8 @@ ghost use Rattle.rf2_rows.specs.declared.fault.LineFault.{LineFault};
 ghost use Rattle.rf2_rows.specs.declared.fault.RowFault.TheVariants as rowfault;
 ghost use Rattle.rf2_values.specs.Time.{IsTime};
 ghost use Rattle.rf2_values.specs.Row.{Version, IsVersion, Spells, IsBody, kind_of_body, body_columns, IsConcept, IsIdOf, SpellsId, SpellsColumns, kind_of, flag as flag_text, line_of};
-ghost use Rattle.rf2_rows.specs.Line.{IsLineFaultThat, FirstFault, columns_in, common_layout, own_layout, texts, IsFaultOfColumns, IsFaultOf, IsLineReading};
+ghost use Rattle.rf2_rows.specs.Line.{IsLineFaultThat, FirstFault, columns_in, common_layout, own_layout, IsFaultOfColumns, IsFaultOf};
+ghost use Rattle.rf2_rows.specs.Private.{texts, IsLineReading};
 
 use crate::columns::{
     active, component_reference, concept_reference, cut, effective_time, group, identifier,
@@ -176,7 +177,13 @@ fn read_columns(alloc: Global, kind: Kind, columns: &[&[u8]]) -> Result<Row, Row
     }
     let common = read_common(kind, id, time, flag, module_id)?;
     let body = read_own(alloc, kind, own)?;
-    Ok(Row::new(common.id, common.time, common.active, common.module_id, body))
+    Ok(Row::new(
+        common.id,
+        common.time,
+        common.active,
+        common.module_id,
+        body,
+    ))
 }
 
 /// The row that a line spells.

@@ -1,6 +1,7 @@
 use Rattle.std.proofs.Common.{◌≡◌, length, drop, sym, ap, ◌∙◌, arith}
 use Rattle.std.proofs.lemmas.List.{take_rest}
-use Rattle.rf2_rows.specs.Line.{columns_in, own_layout, texts, FirstFault, IsFaultOfColumns}
+use Rattle.rf2_rows.specs.Line.{columns_in, own_layout, FirstFault, IsFaultOfColumns}
+use Rattle.rf2_rows.specs.Private.{texts}
 use Rattle.std.proofs.lemmas.Result.{err_from_is_err_and}
 use Rattle.rf2_rows.proofs.Faults.{fault_in_common, fault_in_own, given_map, row_of_columns}
 use Rattle.rf2_rows.proofs.line.read_columns.Goals as goal
