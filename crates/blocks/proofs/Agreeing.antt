@@ -38,8 +38,8 @@ still_agrees ranges old new file next agrees same keeps block bytes kept =
 -- what is kept after a forgetting
 pub kept_still : (test : ℕ → Bool) (old new : LruCache ℕ (List ℕ)) (block : ℕ) (bytes : List ℕ) → Forgets test old new → kept_of new block ≡ Some bytes → (kept_of old block ≡ Some bytes) × (test block ≡ false)
 kept_still test old new block bytes forgets kept = by_answer (test block)
-    (λ y. let wrong : None ≡ Some bytes = sym (forgets block ∙ cond-true None (kept_of old block) y) ∙ kept in cc)
-    (λ n. (sym (forgets block ∙ cond-false None (kept_of old block) n) ∙ kept, n))
+    (λ y. let wrong : None ≡ Some bytes = sym (forgets.each block ∙ cond-true None (kept_of old block) y) ∙ kept in cc)
+    (λ n. (sym (forgets.each block ∙ cond-false None (kept_of old block) n) ∙ kept, n))
 
 not_in : (extent : Extent) (block : ℕ) → is_in extent block ≡ false → (block < extent.first) ⊎ (extent.first + block_count extent ≤ block)
 not_in extent block out = by_answer (nat_le extent.first block)
