@@ -89,7 +89,8 @@ MayStand Text text = IsText text
 -- the fault of a text that is no SCTID of the class
 abbrev pub HasClassFault : Class → List ℕ → LineFault → Type 0
 HasClassFault c text f =
-    (¬ (SpellsSome IsSctid text) × (f ≡ fault.Id)) ⊎ (SpellsSome IsSctid text × ¬ (SpellsSome (IsOfClass c) text) × (f ≡ fault.Partition))
+    (¬ (SpellsSome IsSctid text) × (f ≡ fault.Id))
+    ⊎ (SpellsSome IsSctid text × ¬ (SpellsSome (IsOfClass c) text) × (f ≡ fault.Partition))
 
 -- the fault of a text that is no identifier of the kind
 abbrev pub HasIdFault : Kind → List ℕ → LineFault → Type 0
@@ -121,13 +122,16 @@ FirstFault (c ∷ cs) (t ∷ ts) f = HasFault c t f ⊎ (MayStand c t × FirstFa
 -- the first fault of columns
 abbrev pub IsFaultOfColumns : Kind → List (List ℕ) → LineFault → Type 0
 IsFaultOfColumns kind texts f =
-    ((length texts ≢ length (columns kind)) × (f ≡ fault.Columns)) ⊎ ((length texts ≡ length (columns kind)) × FirstFault (columns kind) texts f)
+    ((length texts ≢ length (columns kind)) × (f ≡ fault.Columns))
+    ⊎ ((length texts ≡ length (columns kind)) × FirstFault (columns kind) texts f)
 
 -- the first fault of a line
 abbrev pub IsFaultOf : Kind → List ℕ → LineFault → Type 0
 IsFaultOf kind text f =
     ((65535 < length text) × (f ≡ fault.LineLength))
-    ⊎ ((length text ≤ 65535) × ((¬ (IsUtf8 text) × (f ≡ fault.NotUtf8)) ⊎ (IsUtf8 text × IsFaultOfColumns kind (columns_of text) f)))
+    ⊎ ((length text ≤ 65535)
+    × ((¬ (IsUtf8 text) × (f ≡ fault.NotUtf8))
+    ⊎ (IsUtf8 text × IsFaultOfColumns kind (columns_of text) f)))
 
 -- a fault that reading gives is the one meant, where memory lasts
 abbrev pub IsLineFaultThat : (LineFault → Type 0) → RowFault → Type 0

@@ -1,4 +1,6 @@
 //! Release files of SNOMED CT: their rows, lines and faults.
+//!
+//! The files are those of the SNOMED CT Release File Specifications (RF2): text in UTF-8, one row a line, columns parted by TAB.
 #![tactic(auto)]
 
 mod columns;
@@ -9,7 +11,7 @@ mod line;
 mod write;
 
 pub use fault::{FileFault, LineFault, RowFault};
-pub use file::read_file;
+pub use file::{column_names, read_file};
 pub use line::parse_line;
 pub use rf2_values::{
     Association, Body, Class, Concept, Description, EffectiveTime, Key, Kind, Member, Relationship,

@@ -4,6 +4,9 @@ use std::test::*;
 
 const CONCEPTS: &[u8] = b"id|effectiveTime|active|moduleId|definitionStatusId";
 
+const DESCRIPTIONS: &[u8] =
+    b"id|effectiveTime|active|moduleId|conceptId|languageCode|typeId|term|caseSignificanceId";
+
 const ROOT: &[u8] = b"138875005|20200131|1|900000000000207008|900000000000074008";
 
 const GERMAN: &[u8] =
@@ -252,14 +255,8 @@ fn concept_files(rt: HostRuntime) -> Result<(), Fail> {
 #[test]
 fn first_lines(rt: HostRuntime) -> Result<(), Fail> {
     let heads: [(Kind, &[u8]); 4] = [
-        (
-            Kind::Concept,
-            b"id|effectiveTime|active|moduleId|definitionStatusId",
-        ),
-        (
-            Kind::Description,
-            b"id|effectiveTime|active|moduleId|conceptId|languageCode|typeId|term|caseSignificanceId",
-        ),
+        (Kind::Concept, CONCEPTS),
+        (Kind::Description, DESCRIPTIONS),
         (
             Kind::Relationship,
             b"id|effectiveTime|active|moduleId|sourceId|destinationId|relationshipGroup|typeId|characteristicTypeId|modifierId",
@@ -271,6 +268,7 @@ fn first_lines(rt: HostRuntime) -> Result<(), Fail> {
     ];
     for (kind, head) in &heads {
         let file = tabbed(rt.alloc(), head)?;
+        assert_eq!(rt; column_names(*kind), file.as_slice());
         for (other, _) in &heads {
             let want = if other == kind {
                 (0, None)
@@ -357,10 +355,25 @@ fn long_lines(rt: HostRuntime) -> Result<(), Fail> {
             Err(RowFault::Line(LineFault::LineLength))
         )
     );
-    let mut file = tabbed(
-        rt.alloc(),
-        b"id|effectiveTime|active|moduleId|conceptId|languageCode|typeId|term|caseSignificanceId\n",
-    )?;
+    // The length is looked at before UTF-8, in the first line too.
+    let mut not_text = long_line(rt.alloc(), 65_449)?;
+    not_text.push(0xff)?;
+    assert!(rt;
+        matches!(
+            parse_line(rt.alloc(), Kind::Description, &not_text),
+            Err(RowFault::Line(LineFault::LineLength))
+        )
+    );
+    assert_eq!(rt;
+        long_first(rt.alloc(), b"\xff", 65_535)?,
+        (1, Some(LineFault::LineLength))
+    );
+    assert_eq!(rt;
+        long_first(rt.alloc(), b"\xff", 65_534)?,
+        (1, Some(LineFault::NotUtf8))
+    );
+    let mut file = tabbed(rt.alloc(), DESCRIPTIONS)?;
+    file.push(b'\n')?;
     file.extend_from_slice(&most)?;
     assert_eq!(rt; outcome(rt.alloc(), Kind::Description, &file)?, (1, None));
     file.push(b'\r')?;

@@ -3,10 +3,10 @@ use Rattle.std.specs.Borrow.{Bor}
 use Rattle.rf2_rows.specs.Line.{columns_of}
 use Rattle.rf2_rows.proofs.Moves.{taken_more, taken_all}
 use Rattle.rf2_rows.proofs.Splits.{pieces}
-use Rattle.rf2_rows.proofs.columns.cut.Goals as goal
+use Rattle.rf2_rows.proofs.columns.put_columns.Goals as goal
 
 pub loop-column-init : goal.loop-column-init
-loop-column-init c = rw c.in_ok-columns.ensures.items (c.into_iter-column-iterator.ensures.into_iter_gives ∙ c.split_str-column-items.ensures.value ∙ pieces 9 c.args.text.now)
+loop-column-init c = rw c.clear.ensures.items (c.into_iter-column-iterator.ensures.into_iter_gives ∙ c.split_str-column-items.ensures.value ∙ pieces 9 c.args.text.now)
 
 pub loop-column-preserved : goal.loop-column-preserved
 loop-column-preserved c =
