@@ -25,7 +25,7 @@ use Rattle.history_store.specs.Refusals.{refusal_of}
 use Rattle.history_store.specs.Shelf.{Shelf, IsShelfAfter, IsPlaced, HasNoEntry, HasNoPlace, shelf_of}
 use Rattle.history_store.specs.Stored.{Stored, IsHeld, with_rows}
 use Rattle.history_store.specs.Prepared.{IsNotSpent, IsPrepared, IsPreparedFor, IsUnprepared}
-use Rattle.history_store.specs.Answers.{IsTaken, IsImportRefusal, IsRefused, IsBeforeOrAfter, IsUnplaced}
+use Rattle.history_store.specs.Answers.{IsTaken, IsWelcome, IsImportRefusal, IsRefused, IsBeforeOrAfter, IsUnplaced}
 use Rattle.history_store.proofs.FreshRows.{fresh_after, fresh_accepted, own_fresh, one_list, listed-one}
 use Rattle.history_store.proofs.Held.{kept_history, held_stands}
 use Rattle.history_store.proofs.NewSegment.{length-stamped}
@@ -131,6 +131,18 @@ after_whole s release fresh after at same =
 
 -- ---- a release that is taken
 
+welcome : {D : Type 0} (s : Stored D) (release : Release) (fresh : Fresh) (next : Shelf) → IsAt s release fresh → IsShelfAfter (stamped (s.history.imports + 1) fresh.rows.items) s.shelf next → IsWelcome s.history s.shelf release
+welcome s release fresh next at shelf =
+    let t = at.accepted in
+    record {
+      room = at.room;
+      rows = t.rows;
+      is_release = t.rows_are;
+      accepted = t.taken.consistent;
+      next = next;
+      shelf_is = subst (λ (l : List StampedRow). IsShelfAfter l s.shelf next) (new_is s release fresh at) shelf;
+    }
+
 pub taken : {D : Type 0} (s : Stored D) (release : Release) (fresh : Fresh) (after : History) (next : Shelf) (number new : ℕ) → IsAt s release fresh → after ≡ after_release s.history fresh.rows.items
     → IsShelfAfter (stamped (s.history.imports + 1) fresh.rows.items) s.shelf next → number ≡ s.history.imports + 1 → new ≡ length fresh.rows.items
     → IsTaken s.history after s.shelf next release (record { number = number; new = new; repeated = fresh.repeated })
@@ -148,6 +160,21 @@ taken s release fresh after next number new at same shelf number_is count =
       receipt_is = subst (λ n. ReceiptOf h t.rows n new fresh.repeated) (sym number_is) counted;
       shelf_is = subst (λ (l : List StampedRow). IsShelfAfter l s.shelf next) (new_is s release fresh at) shelf;
     }
+
+-- one that would be taken, but for memory or the device
+pub interrupted : {D : Type 0} (s new : Stored D) (release : Release) (fresh : Fresh) (e : Refusal) (next : Shelf) → IsAt s release fresh → IsShelfAfter (stamped (s.history.imports + 1) fresh.rows.items) s.shelf next
+    → (e ≡ refusals.OutOfMemory) ⊎ (e ≡ refusals.DiskFault) → IsRefused e s new → IsImportRefusal e s release × IsRefused e s new
+interrupted s new release fresh refusals.OutOfMemory next at shelf why refused = ((at.still, at.room), refused)
+interrupted s new release fresh refusals.DiskFault next at shelf why refused = ((at.still, welcome s release fresh next at shelf), refused)
+interrupted s new release fresh refusals.ReopenNeeded next at shelf why refused = absurd (elim why [ inl x ↦ absurd cc | inr x ↦ absurd cc ])
+interrupted s new release fresh refusals.NotEmpty next at shelf why refused = absurd (elim why [ inl x ↦ absurd cc | inr x ↦ absurd cc ])
+interrupted s new release fresh refusals.Full next at shelf why refused = absurd (elim why [ inl x ↦ absurd cc | inr x ↦ absurd cc ])
+interrupted s new release fresh refusals.TooManySegments next at shelf why refused = absurd (elim why [ inl x ↦ absurd cc | inr x ↦ absurd cc ])
+interrupted s new release fresh refusals.NotAStore next at shelf why refused = absurd (elim why [ inl x ↦ absurd cc | inr x ↦ absurd cc ])
+interrupted s new release fresh refusals.Damaged next at shelf why refused = absurd (elim why [ inl x ↦ absurd cc | inr x ↦ absurd cc ])
+interrupted s new release fresh refusals.CountSpent next at shelf why refused = absurd (elim why [ inl x ↦ absurd cc | inr x ↦ absurd cc ])
+interrupted s new release fresh (refusals.Line file line fault) next at shelf why refused = absurd (elim why [ inl x ↦ absurd cc | inr x ↦ absurd cc ])
+interrupted s new release fresh (refusals.Contradiction file line) next at shelf why refused = absurd (elim why [ inl x ↦ absurd cc | inr x ↦ absurd cc ])
 
 -- what a stop inside it leaves
 pub leaves_taken : {D : Type 0} (s : Stored D) (release : Release) (fresh : Fresh) (after : History) (old new : Moments) → IsAt s release fresh → after ≡ after_release s.history fresh.rows.items
@@ -188,14 +215,20 @@ extended_history {D} v s release fresh p same at list =
     let all : p.list.items ≡ stamped (s.history.imports + 1) fresh.rows.items = list ∙ ap (λ (x : Stored D). stamped (x.history.imports + 1) fresh.rows.items) same in
     ap (λ (l : List StampedRow). with_rows s.history l) all ∙ with_new s release fresh at
 
+-- the shelf with a segment of the new rows
+pub extended_shelf : {D : Type 0} (v s : Stored D) (fresh : Fresh) (next : Shelf) → v ≡ s → IsPlaced (stamped (v.history.imports + 1) fresh.rows.items) v.shelf next → 1 ≤ length fresh.rows.items
+    → IsShelfAfter (stamped (s.history.imports + 1) fresh.rows.items) s.shelf next
+extended_shelf {D} v s fresh next same placed some =
+    let P : Stored D → Type 0 = λ x. IsPlaced (stamped (x.history.imports + 1) fresh.rows.items) x.shelf next in
+    let long = length-stamped (s.history.imports + 1) fresh.rows.items in
+    placed_after (stamped (s.history.imports + 1) fresh.rows.items) s.shelf next (subst P same placed) (omega arith)
+
 pub extended : {D : Type 0} (v s : Stored D) (release : Release) (fresh : Fresh) (p : Prepared) (after : History) (next : Shelf) (number new : ℕ) → v ≡ s → IsAt s release fresh
     → p.list.items ≡ stamped (v.history.imports + 1) fresh.rows.items → IsPlaced (stamped (v.history.imports + 1) fresh.rows.items) v.shelf (shelf_of p.directory) → 1 ≤ length fresh.rows.items
     → after ≡ with_rows s.history p.list.items → next ≡ shelf_of p.directory → number ≡ v.history.imports + 1 → new ≡ length fresh.rows.items
     → IsTaken s.history after s.shelf next release (record { number = number; new = new; repeated = fresh.repeated })
 extended {D} v s release fresh p after next number new same at list placed some history shelf number_is count =
-    let P : Stored D → Type 0 = λ x. IsPlaced (stamped (x.history.imports + 1) fresh.rows.items) x.shelf (shelf_of p.directory) in
-    let long = length-stamped (s.history.imports + 1) fresh.rows.items in
-    let step = placed_after (stamped (s.history.imports + 1) fresh.rows.items) s.shelf (shelf_of p.directory) (subst P same placed) (omega arith) in
+    let step = extended_shelf v s fresh (shelf_of p.directory) same placed some in
     taken s release fresh after next number new at
     (history ∙ extended_history v s release fresh p same at list)
     (subst (λ (x : Shelf). IsShelfAfter (stamped (s.history.imports + 1) fresh.rows.items) s.shelf x) (sym shelf) step)

@@ -5,23 +5,15 @@ ghost use Rattle.history_model.specs.declared.stamped.StampedRow.{StampedRow};
 ghost use Rattle.history_model.specs.InOrder.{joined};
 ghost use Rattle.history_model.specs.History.{stamped_cmp};
 ghost use Rattle.history_model.specs.Lists.{AreLists, listed};
-ghost use Rattle.rf2_values.specs.Key.{key_cmp};
 
 use history_model::StampedRow;
-use rf2_values::Key;
 use std::alloc::{AllocError, Global};
 use std::cmp::Ordering;
-
-fn compare_keys(a: Key, b: Key) -> Ordering
-    ensures { result ≡ key_cmp a b }
-{
-    a.cmp(&b)
-}
 
 fn compare(a: &StampedRow, b: &StampedRow) -> Ordering
     ensures { result ≡ stamped_cmp a.now b.now }
 {
-    compare_keys(a.row.key(), b.row.key())
+    a.row.key().compare(&b.row.key())
 }
 
 /// Sorts rows by key, no two of which share one. It takes no memory.

@@ -19,6 +19,7 @@ use store_image::{Loaded, Made, add_segment, load, make, publish_listing};
 /// The release history of a terminology, on a disk.
 #[derive(Drop)]
 pub struct Store<D: Disk> {
+    alloc: Global,
     disk: D,
     slot: Slot,
     directory: Directory,
@@ -51,12 +52,13 @@ impl<D: Disk> Store<D> {
     ghost use Rattle.history_store.specs.Shelf.{shelf_of};
     ghost use Rattle.history_store.specs.Stored.{Stored, IsAcknowledged, with_rows};
     ghost use Rattle.history_store.specs.Prepared.{IsNotSpent, IsPreparedFor};
-    ghost use Rattle.history_store.specs.Answers.{device_of, Counts, CountsOpening, IsMakingOf, IsOpeningOf, IsImportOf, IsBeforeOrAfter, IsStep};
+    ghost use Rattle.history_store.specs.Answers.{device_of, Counts, CountsOpening, IsMakingOf, IsOpeningOf, IsImportOf, IsBeforeOrAfter, IsStep, HandsBack, KeepsMoments};
     ghost use Rattle.history_store.specs.declared.refusal.Refusal.TheVariants as refusals;
 
     /// Makes a store on an empty disk.
     pub fn create(alloc: Global, disk: D) -> Result<Store<D>, (Refusal, D)>
         ensures made { D.is_honest disk → IsMakingOf result (D.moments disk).state.now }
+        ensures refused { D.is_honest disk → HandsBack D.moments result disk }
         // Whatever a stop leaves from now on stands for the empty history.
         ensures acknowledged { D.is_honest disk → IfOk result (IsAcknowledged D.moments) }
         ensures honesty { D.is_honest disk ↔ D.is_honest (device_of result) }
@@ -65,6 +67,7 @@ impl<D: Disk> Store<D> {
         let mut disk = disk;
         match make(alloc, &mut disk) {
             Ok(Made { slot, directory }) => Ok(Store {
+                alloc,
                 disk,
                 slot,
                 directory,
@@ -78,6 +81,9 @@ impl<D: Disk> Store<D> {
     /// Opens the store that a disk stands for.
     pub fn open(alloc: Global, disk: D) -> Result<Store<D>, (Refusal, D)>
         ensures exact { D.is_honest disk → IsOpeningOf result (D.moments disk).state.now }
+        // Whatever it answers, a read gives what it gave before.
+        ensures read { D.is_honest disk
+            → (D.moments (device_of result)).state.now ≡ (D.moments disk).state.now }
         // A stop at any moment leaves what it might have left before.
         ensures any_moment { D.is_honest disk → LeavesOnly (D.moments disk) (D.moments (device_of result)) (IsImage (D.moments disk).state) }
         ensures acknowledged { D.is_honest disk → IfOk result (IsAcknowledged D.moments) }
@@ -95,6 +101,7 @@ impl<D: Disk> Store<D> {
         };
         match in_order(alloc, lists) {
             Ok(rows) => Ok(Store {
+                alloc,
                 disk,
                 slot,
                 directory,
@@ -111,6 +118,7 @@ impl<D: Disk> Store<D> {
         requires room { IsNotSpent self.old.history.imports self.old.shelf.epoch }
         requires next { next ≡ record { epoch = self.old.shelf.epoch + 1; imports = self.old.history.imports + 1; entries = self.old.shelf.entries } }
         ensures step { IsStep result self.old self.new (record { imports = self.old.history.imports + 1; rows = self.old.history.rows }) (record { epoch = self.old.shelf.epoch + 1; entries = self.old.shelf.entries; merge = self.old.shelf.merge }) }
+        ensures refused { D.is_honest self.old.disk → KeepsMoments D.moments result self.old self.new }
         ensures any_moment { D.is_honest self.old.disk → LeavesOnly (D.moments self.old.disk) (D.moments self.new.disk) (λ c. StandsForHistory self.old.history c ⊎ StandsForHistory (record { imports = self.old.history.imports + 1; rows = self.old.history.rows }) c) }
         ensures acknowledged { D.is_honest self.old.disk → self.new.needs_reopen ≡ false → IsAcknowledged D.moments self.new }
         ensures honesty { D.is_honest self.old.disk ↔ D.is_honest self.new.disk }
@@ -134,6 +142,7 @@ impl<D: Disk> Store<D> {
         requires still { self.old.needs_reopen ≡ false }
         requires prepared { IsPreparedFor self.old prepared }
         ensures step { IsStep result self.old self.new (with_rows self.old.history prepared.list.items) (shelf_of prepared.directory) }
+        ensures refused { D.is_honest self.old.disk → KeepsMoments D.moments result self.old self.new }
         ensures any_moment { D.is_honest self.old.disk → LeavesOnly (D.moments self.old.disk) (D.moments self.new.disk) (λ c. StandsForHistory self.old.history c ⊎ StandsForHistory (with_rows self.old.history prepared.list.items) c) }
         ensures acknowledged { D.is_honest self.old.disk → self.new.needs_reopen ≡ false → IsAcknowledged D.moments self.new }
         ensures honesty { D.is_honest self.old.disk ↔ D.is_honest self.new.disk }
@@ -161,8 +170,11 @@ impl<D: Disk> Store<D> {
     }
 
     /// Adds a release: all of its rows, or nothing. All memory is taken before the first write.
-    pub fn import(&mut self, alloc: Global, release: &Release) -> Result<Receipt, Refusal>
+    pub fn import(&mut self, release: &Release) -> Result<Receipt, Refusal>
         ensures answer { IsImportOf result self.old self.new release.now }
+        // A store that has to be opened again stays as it is, its disk too.
+        ensures closed { self.old.needs_reopen ≡ true → self.new ≡ self.old }
+        ensures refused { D.is_honest self.old.disk → KeepsMoments D.moments result self.old self.new }
         // A stop at any moment leaves the history from before, or that with the release.
         ensures any_moment { D.is_honest self.old.disk → self.old.needs_reopen ≡ false → LeavesOnly (D.moments self.old.disk) (D.moments self.new.disk) (IsBeforeOrAfter self.old.history release.now) }
         // After Ok each stop leaves the new one.
@@ -176,17 +188,17 @@ impl<D: Disk> Store<D> {
         if is_spent(&self.directory) {
             return Err(Refusal::CountSpent);
         }
-        let fresh = new_rows(alloc, release, &mut KnownRows::new(&self.rows))?;
+        let fresh = new_rows(self.alloc, release, &mut KnownRows::new(&self.rows))?;
         let receipt = Receipt {
             number: self.directory.imports() + 1,
             new: fresh.rows.len() as u64,
             repeated: fresh.repeated,
         };
         if fresh.rows.is_empty() {
-            let next = repeated(alloc, &self.directory)?;
+            let next = repeated(self.alloc, &self.directory)?;
             self.repeat(next)?;
         } else {
-            let prepared = prepare(alloc, &self.directory, fresh.rows)?;
+            let prepared = prepare(self.alloc, &self.directory, fresh.rows)?;
             self.extend(prepared)?;
         }
         Ok(receipt)
@@ -195,7 +207,6 @@ impl<D: Disk> Store<D> {
     /// The component's row at the date, as the first `pin` imports show it.
     pub fn lookup(
         &mut self,
-        alloc: Global,
         kind: Kind,
         id: u128,
         time: EffectiveTime,
@@ -210,7 +221,7 @@ impl<D: Disk> Store<D> {
             return Err(Refusal::ReopenNeeded);
         }
         match listing::lookup(&self.rows, kind, id, time, pin) {
-            Some(row) => Ok(Some(row.try_clone(alloc)?)),
+            Some(row) => Ok(Some(row.try_clone(self.alloc)?)),
             None => Ok(None),
         }
     }

@@ -4,7 +4,7 @@ use Rattle.std.specs.Cmp.{tied_itself}
 use Rattle.std.specs.declared.cmp.Ordering.{Ordering}
 use Rattle.std.specs.declared.cmp.Ordering.TheVariants.{Less, Equal, Greater}
 use Rattle.rf2_values.specs.declared.key.Key.{Key}
-use Rattle.rf2_values.specs.Key.{key_of, key_cmp}
+use Rattle.rf2_values.specs.Key.{key_of, key_cmp, keys_total}
 use Rattle.history_model.specs.declared.stamped.StampedRow.{StampedRow}
 use Rattle.history_model.specs.InOrder.{Has, IsAscending}
 use Rattle.history_model.specs.History.{stamped_cmp}
@@ -14,7 +14,7 @@ use Rattle.std.specs.Ordering.{ordering_index}
 use Rattle.std.proofs.lemmas.List.{length-take-le, length-drop, get_or-take, get_or-drop}
 use Rattle.history_model.proofs.InOrder.{Has-all, all_from_has, Has-append_cases}
 use Rattle.history_model.proofs.Filtered.{Has-map, Has-map_from}
-use Rattle.history_model.proofs.Keys.{keys_total, same_key}
+use Rattle.history_model.proofs.Keys.{same_key}
 use Rattle.import_check.specs.Known.{IsUnknown}
 use Rattle.import_check.specs.Search.{NoneBefore, NoneFrom, StandsAtKey}
 use Rattle.import_check.proofs.Stamped.{has_at, order_to, no_row}

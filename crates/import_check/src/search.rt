@@ -4,7 +4,6 @@ ghost use Rattle.std.specs.Prelude.{◌≡◌, ◌≤◌, length, IsTrue};
 ghost use Rattle.rf2_values.specs.Key.{key_of, key_cmp};
 ghost use Rattle.import_check.specs.Search.{NoneBefore, NoneFrom, IsPlaceOf};
 
-use crate::order::compare_keys;
 use history_model::StampedRow;
 use rf2_values::Key;
 use std::cmp::Ordering;
@@ -13,7 +12,7 @@ use std::cmp::Ordering;
 fn compare_to(known: &StampedRow, key: Key) -> Ordering
     ensures { result ≡ key_cmp (key_of known.now.row) key }
 {
-    compare_keys(known.row.key(), key)
+    known.row.key().compare(&key)
 }
 
 /// Whether all rows before the place have keys below.

@@ -59,7 +59,7 @@ fn fixed_bytes(kind: Kind) -> u32
 
 /// How many bytes the record of a row has.
 #[tactic(auto, using(crate::proofs::RecordLaws::record_size, crate::proofs::RecordLaws::texts_room))]
-fn record_len(stamped: &StampedRow) -> u32
+pub(crate) fn record_len(stamped: &StampedRow) -> u32
     ensures { result ≡ length (record_of stamped.now) }
 {
     fixed_bytes(stamped.row.kind()) + text_bytes(&stamped.row.body)
@@ -115,7 +115,7 @@ fn put_record(out: &mut Vec<u8>, stamped: &StampedRow) -> Result<(), AllocError>
     put_u32(out, row.time.value())?;
     put_u32(out, stamped.import)?;
     put_u8(out, code_of_active(row.active))?;
-    put_u64(out, row.module.value())?;
+    put_u64(out, row.module_id.value())?;
     put_body(out, &row.body)
 }
 

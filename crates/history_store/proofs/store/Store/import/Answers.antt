@@ -7,7 +7,7 @@ use Rattle.history_model.specs.History.{stamped_cmp}
 use Rattle.import_check.specs.Fresh.{IsAcceptedAs, IsRefusal}
 use Rattle.history_store.specs.Stored.{Stored}
 use Rattle.history_store.proofs.Held.{held_stands}
-use Rattle.history_store.proofs.Imported.{is_at, held_history, stays, not_fresh, not_prepared, without_new, taken, leaves_taken, none_after, prepared_for, nothing, extended, leaves_extended}
+use Rattle.history_store.proofs.Imported.{is_at, held_history, stays, not_fresh, not_prepared, without_new, taken, leaves_taken, none_after, prepared_for, nothing, extended, extended_shelf, leaves_extended, interrupted}
 use Rattle.history_store.proofs.store.Store.import.Goals as goal
 
 pub returns-then-is_spent-clause-any_moment : goal.returns-then-is_spent-clause-any_moment
@@ -93,3 +93,23 @@ returns-in_ok-extend-clause-answer g c =
     let step = c.in_ok-extend.ensures.step in
     let is = c.in_ok-prepared.ensures.prepared in
     (extended _ _ c.args.release.now c.in_ok-fresh.fresh c.in_ok-prepared.prepared _ _ _ _ c.self.view_is at is.list_is is.placed some step.0 step.1 (ap (λ n. n + 1) c.imports.ensures) (c.len.ensures ∙ len), at.still, step.2)
+
+pub returns-in_err-repeat-clause-answer : goal.returns-in_err-repeat-clause-answer
+returns-in_err-repeat-clause-answer g c =
+    let p = err_from_is_err_and c.from_residual-in_err-repeat.result c.from_residual-in_err-repeat.ensures.1 in
+    let P : List StampedRow → Type 0 = λ rows. IsAscending stamped_cmp rows → IsAcceptedAs (map (λ s. s.row) rows) c.args.release.now c.in_ok-fresh.fresh in
+    let at = is_at _ _ c.args.release.now c.in_ok-fresh.fresh c.self.view_is c.if-self.false (held_history _ _ _ _ _ _ c.self.invariant) (c.if-is_spent.ensures.left refl) (subst P c.deref.ensures.value c.in_ok-fresh.ensures.accepted) in
+    let len : vec_len c.in_ok-fresh.fresh.rows ≡ length c.in_ok-fresh.fresh.rows.items = search (rules) in
+    let none = nothing c.in_ok-fresh.fresh.rows.items (grind (arith, nat_tests, len, c.if-is_empty.ensures)) in
+    let step = c.in_err-repeat.ensures.step in
+    rw (p.1, p.2) (interrupted _ _ c.args.release.now c.in_ok-fresh.fresh _ _ at (none_after c.in_ok-fresh.fresh.rows.items _ c.args.self.now.shelf _ none refl) step.0 step.1)
+
+pub returns-in_err-extend-clause-answer : goal.returns-in_err-extend-clause-answer
+returns-in_err-extend-clause-answer g c =
+    let p = err_from_is_err_and c.from_residual-in_err-extend.result c.from_residual-in_err-extend.ensures.1 in
+    let P : List StampedRow → Type 0 = λ rows. IsAscending stamped_cmp rows → IsAcceptedAs (map (λ s. s.row) rows) c.args.release.now c.in_ok-fresh.fresh in
+    let at = is_at _ _ c.args.release.now c.in_ok-fresh.fresh c.self.view_is c.if-self.false (held_history _ _ _ _ _ _ c.self.invariant) (c.if-is_spent.ensures.left refl) (subst P c.deref.ensures.value c.in_ok-fresh.ensures.accepted) in
+    let len : vec_len c.in_ok-fresh.fresh.rows ≡ length c.in_ok-fresh.fresh.rows.items = search (rules) in
+    let some : 1 ≤ length c.in_ok-fresh.fresh.rows.items = grind (arith, nat_tests, len, c.if-is_empty.ensures) in
+    let step = c.in_err-extend.ensures.step in
+    rw (p.1, p.2) (interrupted _ _ c.args.release.now c.in_ok-fresh.fresh _ _ at (extended_shelf _ _ c.in_ok-fresh.fresh _ c.self.view_is c.in_ok-prepared.ensures.prepared.placed some) step.0 step.1)

@@ -1,0 +1,19 @@
+//! The answers at a date and a pin, from lists of places; rows are read through a reader that is lent.
+#![tactic(auto)]
+
+mod chosen;
+mod cursors;
+mod index;
+mod kept;
+pub mod laws;
+mod listed;
+mod reader;
+mod search;
+mod several;
+
+pub use chosen::{Chosen, read_all};
+pub use index::Index;
+pub use kept::KeptRows;
+pub use listed::Listed;
+pub use reader::{ReadFault, RowReader};
+pub use segment::Posted;
