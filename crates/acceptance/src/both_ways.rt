@@ -60,7 +60,7 @@ fn after(
 ) -> Result<Vec<StampedRow>, Fail> {
     let lines = rows_of(alloc, release)?;
     assert_eq!(rt; plain::accepts(&rows, &lines), want.is_ok());
-    match new_rows(alloc, release, &mut KnownRows { rows: &rows }) {
+    match new_rows(alloc, release, &mut KnownRows::new(&rows)) {
         Ok(fresh) => {
             let imports = u32::from(imports);
             let receipt = plain::receipt(alloc, imports, &rows, &lines)?;

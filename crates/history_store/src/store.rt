@@ -188,7 +188,7 @@ impl<D: Disk> Store<D> {
         if is_spent(&self.directory) {
             return Err(Refusal::CountSpent);
         }
-        let fresh = new_rows(self.alloc, release, &mut KnownRows { rows: &self.rows })?;
+        let fresh = new_rows(self.alloc, release, &mut KnownRows::new(&self.rows))?;
         let receipt = Receipt {
             number: self.directory.imports() + 1,
             new: fresh.rows.len() as u64,
