@@ -1,7 +1,7 @@
 use Rattle.std.proofs.Common.{subst, take, take_all}
 use Rattle.as_of_index.specs.Search.{all_places}
 use Rattle.as_of_index.proofs.Found.{Picks, pick_nothing, pick_more, places-more}
-use Rattle.as_of_index.proofs.index.latest.Goals as goal
+use Rattle.as_of_index.proofs.several.latest.Goals as goal
 
 pub loop-segment-init : goal.loop-segment-init
 loop-segment-init c = pick_nothing c.args.kind c.args.id c.args.time c.args.pin
