@@ -1,6 +1,6 @@
 -- What is kept of a file that is written.
 use Rattle.std.specs.Prelude.{All}
-use Rattle.std.proofs.Common.{◌≡◌, ◌⊎◌, inl, inr, ⊎_elim, ℕ, ◌+◌, ◌-◌, ◌*◌, ◌<◌, ◌≤◌, ◌&&◌, ◌++◌, min, Bool, true, false, cond, List, [], ◌∷◌, length, get_or, take, drop, Option, Some, None, nat_le, nat_lt, refl, sym, ap, ◌∙◌, subst, arith, length-take}
+use Rattle.std.proofs.Common.{◌≡◌, ◌⊎◌, inl, inr, ℕ, ◌+◌, ◌*◌, ◌<◌, ◌≤◌, Bool, false, List, [], length, get_or, take, drop, Some, None, nat_le, nat_lt, sym, ◌∙◌, arith, length-take}
 use Rattle.std.proofs.lemmas.Bool.Decides.{nat_tests}
 use Rattle.std.proofs.lemmas.List.{get_or-take}
 use Rattle.std.proofs.lemmas.List.Elements.{All-nil, All-cons, All-append}
@@ -8,8 +8,7 @@ use Rattle.lru.specs.LruCache.{LruCache}
 use Rattle.disk_model.specs.Disk.{IsOutside}
 use Rattle.blocks.specs.declared.extent.Extent.{Extent}
 use Rattle.blocks.specs.Extents.{block_count, byte_range}
-use Rattle.blocks.specs.Outside.{SameOutside}
-use Rattle.blocks.specs.Cache.{block_of, kept_of, is_in, AgreesWith, Forgets, IsBeside, KeepsBeside, EmptyAgrees, StillAgrees, ForgetsBeside, ForgetsBoth, CutAgrees}
+use Rattle.blocks.specs.Cache.{block_of, kept_of, is_in, Forgets, IsBeside, EmptyAgrees, StillAgrees, ForgetsBeside, ForgetsBoth, CutAgrees}
 use Rattle.blocks.proofs.Windows.{window_same, window_elsewhere}
 use Rattle.blocks.proofs.Kept.{by_answer, cond-true, cond-false}
 
@@ -38,8 +37,8 @@ still_agrees ranges old new file next agrees same keeps block bytes kept =
 -- what is kept after a forgetting
 pub kept_still : (test : ℕ → Bool) (old new : LruCache ℕ (List ℕ)) (block : ℕ) (bytes : List ℕ) → Forgets test old new → kept_of new block ≡ Some bytes → (kept_of old block ≡ Some bytes) × (test block ≡ false)
 kept_still test old new block bytes forgets kept = by_answer (test block)
-    (λ y. let wrong : None ≡ Some bytes = sym (forgets block ∙ cond-true None (kept_of old block) y) ∙ kept in cc)
-    (λ n. (sym (forgets block ∙ cond-false None (kept_of old block) n) ∙ kept, n))
+    (λ y. let wrong : None ≡ Some bytes = sym (forgets.each block ∙ cond-true None (kept_of old block) y) ∙ kept in cc)
+    (λ n. (sym (forgets.each block ∙ cond-false None (kept_of old block) n) ∙ kept, n))
 
 not_in : (extent : Extent) (block : ℕ) → is_in extent block ≡ false → (block < extent.first) ⊎ (extent.first + block_count extent ≤ block)
 not_in extent block out = by_answer (nat_le extent.first block)

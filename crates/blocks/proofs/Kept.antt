@@ -12,6 +12,10 @@ pub by_answer : {P : Type 0} (b : Bool) → (b ≡ true → P) → (b ≡ false 
 by_answer true p q = p refl
 by_answer false p q = q refl
 
+pub on_err : {T E P : Type 0} (r : Result T E) → P → OnErr r P
+on_err (Ok x) p = tt
+on_err (Err x) p = p
+
 pub cond-true : {A : Type 0} {b : Bool} (x y : A) → b ≡ true → cond b x y ≡ x
 cond-true x y e = ap (λ c. cond c x y) e
 
@@ -63,6 +67,14 @@ module _ {X : Type 0} where
           → ((q ≡ b) × (v ≡ w)) ⊎ (lookup (nat_eq q) c.entries ≡ Some w)
       at None h = front b (take (c.cap - 1) c.entries) refl (λ apart. lookup-take (c.cap - 1) q c.entries w)
       at (Some e) h = front e.0 (remove_entry (nat_eq b) c.entries) (eqb-true b e.0 (Contains-lookup_entry (nat_eq b) c.entries e h).1) (λ apart was. sym (lookup-removed b q c.entries apart) ∙ was)
+
+  -- a block that isn't kept goes nowhere
+  pub promoted_none : (b : ℕ) (es : List (ℕ × X)) → lookup (nat_eq b) es ≡ None → promoted (nat_eq b) es ≡ es
+  promoted_none b es none = at (lookup_entry (nat_eq b) es) refl
+    where
+      at : (o : Option (ℕ × X)) → lookup_entry (nat_eq b) es ≡ o → option_map_or (λ e. e ∷ remove_entry (nat_eq b) es) o es ≡ es
+      at None h = refl
+      at (Some e) h = let wrong : None ≡ Some e.1 = sym none ∙ value_of_entry b es ∙ ap (option_map (λ p. p.1)) h in absurd cc
 
 -- ---- blocks that agree with a file
 

@@ -1,6 +1,7 @@
 -- What the calls of a store answer.
 use Rattle.std.specs.Prelude.{◌≡◌, ◌≢◌, ◌⊎◌, ℕ, ◌≤◌, true, false, List, [], length, None, Result, Ok, Err}
-use Rattle.disk_model.specs.Disk.{Moments, HasRisen}
+use Rattle.fault_counts.specs.Counting.{HasRisen}
+use Rattle.disk_model.specs.Disk.{Moments}
 use Rattle.blocks.specs.declared.slots.Slot.TheVariants.{A, B}
 use Rattle.blocks.specs.Slots.{IsOpen, IsClosed}
 use Rattle.rf2_values.specs.Row.{Version}
@@ -25,7 +26,7 @@ device_of (Err e) = e.1
 
 -- the count of the device's failures: risen where it failed, and else as before
 abbrev pub CountsRefusal : Refusal → ℕ → ℕ → Type 0
-CountsRefusal refusals.DiskFault old new = HasRisen old new × (old ≤ new)
+CountsRefusal refusals.DiskFault old new = HasRisen old new
 CountsRefusal _ old new = new ≡ old
 
 abbrev pub CountsOpening : {D : Type 0} → Result (Stored D) (Refusal × D) → ℕ → ℕ → Type 0

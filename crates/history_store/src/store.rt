@@ -81,6 +81,9 @@ impl<D: Disk> Store<D> {
     /// Opens the store that a disk stands for.
     pub fn open(alloc: Global, disk: D) -> Result<Store<D>, (Refusal, D)>
         ensures exact { D.is_honest disk → IsOpeningOf result (D.moments disk).state.now }
+        // Whatever it answers, a read gives what it gave before.
+        ensures read { D.is_honest disk
+            → (D.moments (device_of result)).state.now ≡ (D.moments disk).state.now }
         // A stop at any moment leaves what it might have left before.
         ensures any_moment { D.is_honest disk → LeavesOnly (D.moments disk) (D.moments (device_of result)) (IsImage (D.moments disk).state) }
         ensures acknowledged { D.is_honest disk → IfOk result (IsAcknowledged D.moments) }

@@ -1,5 +1,4 @@
-use Rattle.std.proofs.Common.{◌≡◌, ◌+◌, ◌-◌, ◌*◌, ◌<◌, ◌≤◌, ◌++◌, take, drop, ◌/◌, ◌%◌, List, ℕ, length, refl, sym, ap, subst, ◌∙◌, arith}
-use Rattle.lru.specs.LruCache.{LruCache}
+use Rattle.std.proofs.Common.{◌≡◌, ◌+◌, ◌*◌, ◌≤◌, ◌++◌, take, drop, ◌/◌, ◌%◌, List, ℕ, length, refl, sym, ap, subst, ◌∙◌, arith}
 use Rattle.disk_model.specs.Disk.{Moments}
 use Rattle.blocks.specs.Cache.{count_of, AgreesWith}
 use Rattle.blocks.proofs.PartsRead.{IsReadSoFar, all_read, more_read, short_read}
@@ -49,4 +48,5 @@ loop-done-preserved g c =
             more_read c.args.from file c.loop-done.into c.loop-done.done at (at / 4096) (at % 4096) c.min-taken.result c.in_ok-count.count refl (omega arith) (counted ∙ ap (λ l. count_of l (at / 4096)) same)
                 c.loop-done.buffer c.read.new.into c.copy_part.new.into (c.in_ok-count.ensures.bytes (inv.2.0 honest) kept ∙ ap (λ (l : List ℕ). take c.in_ok-count.count (drop (4096 * (at / 4096)) l) ++ drop c.in_ok-count.count c.loop-done.buffer) same) c.if-count-skip.false c.read.array_long (omega (arith, c.min-taken.ensures)) room c.copy_part.ensures (inv.5 honest agrees).1,
           )),
+      c.in_ok-count.ensures.capacity ∙ inv.6,
     )
