@@ -16,7 +16,7 @@ use Rattle.import_check.specs.declared.release.Release.{Release}
 use Rattle.import_check.specs.declared.fresh.Fresh.{Fresh}
 use Rattle.import_check.specs.declared.fault.ImportFault.{ImportFault}
 use Rattle.import_check.specs.declared.fault.ImportFault.TheVariants as importfault
-use Rattle.import_check.specs.Fresh.{IsAcceptedAs, IsReadBefore, IsContradictionIn}
+use Rattle.import_check.specs.Fresh.{IsAcceptedAs, IsRefusal}
 use Rattle.import_check.proofs.Receipts.{fresh_rows_are_new}
 use Rattle.history_store.specs.declared.refusal.Refusal.{Refusal}
 use Rattle.history_store.specs.declared.refusal.Refusal.TheVariants as refusals
@@ -55,12 +55,13 @@ same_store : {D : Type 0} (e : Refusal) (s : Stored D) → (e ≡ refusals.DiskF
 same_store e s other = record { history = refl; shelf = refl; closed = λ is. absurd (other is); still = λ is. refl }
 
 -- what is refused because of the release itself
-pub not_fresh : {D : Type 0} (s : Stored D) (release : Release) (e : ImportFault) → s.needs_reopen ≡ false → IsNotSpent s.history.imports s.shelf.epoch → IsReadBefore release e → IsContradictionIn (full s.history) release e
+pub not_fresh : {D : Type 0} (s : Stored D) (release : Release) (e : ImportFault) → s.needs_reopen ≡ false → IsNotSpent s.history.imports s.shelf.epoch → IsAscending stamped_cmp s.history.rows
+    → IsRefusal (IsAscending stamped_cmp s.history.rows) (full s.history) release e
     → IsImportRefusal (refusal_of e) s release × IsRefused (refusal_of e) s s
-not_fresh s release importfault.OutOfMemory still room read other = ((still, room), same_store refusals.OutOfMemory s (λ x. absurd cc))
-not_fresh s release (importfault.Known fault) still room read other = ((still, room), same_store refusals.OutOfMemory s (λ x. absurd cc))
-not_fresh s release (importfault.Row file line fault) still room read other = ((still, (room, read)), same_store (refusals.Line file line fault) s (λ x. absurd cc))
-not_fresh s release (importfault.Contradiction file line key) still room read other = ((still, (room, key, other)), same_store (refusals.Contradiction file line) s (λ x. absurd cc))
+not_fresh s release importfault.OutOfMemory still room up why = ((still, room), same_store refusals.OutOfMemory s (λ x. absurd cc))
+not_fresh s release (importfault.Known fault) still room up why = ((still, room), same_store refusals.OutOfMemory s (λ x. absurd cc))
+not_fresh s release (importfault.Row file line fault) still room up why = ((still, (room, why)), same_store (refusals.Line file line fault) s (λ x. absurd cc))
+not_fresh s release (importfault.Contradiction file line key) still room up why = ((still, (room, key, why.1 up)), same_store (refusals.Contradiction file line) s (λ x. absurd cc))
 
 -- ---- the new rows
 

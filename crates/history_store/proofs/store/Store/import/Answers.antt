@@ -4,7 +4,7 @@ use Rattle.std.proofs.lemmas.Result.{err_from_is_err_and}
 use Rattle.history_model.specs.declared.stamped.StampedRow.{StampedRow}
 use Rattle.history_model.specs.InOrder.{IsAscending}
 use Rattle.history_model.specs.History.{stamped_cmp}
-use Rattle.import_check.specs.Fresh.{IsAcceptedAs, IsContradictionIn}
+use Rattle.import_check.specs.Fresh.{IsAcceptedAs, IsRefusal}
 use Rattle.history_store.specs.Stored.{Stored}
 use Rattle.history_store.proofs.Held.{held_stands}
 use Rattle.history_store.proofs.Imported.{is_at, held_history, stays, not_fresh, not_prepared, without_new, taken, leaves_taken, none_after, prepared_for, nothing, extended, extended_shelf, leaves_extended, interrupted}
@@ -28,9 +28,8 @@ returns-in_err-prepared-clause-any_moment g c = rw (← c.self.view_is) (λ hone
 pub returns-in_err-fresh-clause-answer : goal.returns-in_err-fresh-clause-answer
 returns-in_err-fresh-clause-answer g c =
     let p = err_from_is_err_and c.from_residual.result c.from_residual.ensures.1 in
-    let P : List StampedRow → Type 0 = λ rows. IsAscending stamped_cmp rows → IsContradictionIn (map (λ s. s.row) rows) c.args.release.now c.in_err-fresh.field-0.0 in
-    let contradiction = subst P c.deref.ensures.value c.in_err-fresh.ensures.contradiction (held_history _ _ _ _ _ _ c.self.invariant).ascending in
-    rw (p.1, p.2, ← c.self.view_is) (not_fresh _ _ c.in_err-fresh.field-0.0 c.if-self.false (c.if-is_spent.ensures.left refl) c.in_err-fresh.ensures.read contradiction)
+    let P : List StampedRow → Type 0 = λ rows. IsRefusal (IsAscending stamped_cmp rows) (map (λ s. s.row) rows) c.args.release.now c.in_err-fresh.field-0.0 in
+    rw (p.1, p.2, ← c.self.view_is) (not_fresh _ _ c.in_err-fresh.field-0.0 c.if-self.false (c.if-is_spent.ensures.left refl) (held_history _ _ _ _ _ _ c.self.invariant).ascending (subst P c.deref.ensures.value c.in_err-fresh.ensures.refused))
 
 pub returns-in_err-prepared-clause-answer : goal.returns-in_err-prepared-clause-answer
 returns-in_err-prepared-clause-answer g c =
@@ -38,19 +37,19 @@ returns-in_err-prepared-clause-answer g c =
     let P : List StampedRow → Type 0 = λ rows. IsAscending stamped_cmp rows → IsAcceptedAs (map (λ s. s.row) rows) c.args.release.now c.in_ok-fresh.fresh in
     rw (p.1, p.2, ← c.self.view_is)
     (not_prepared _ c.args.release.now c.in_ok-fresh.fresh _
-    (is_at _ _ c.args.release.now c.in_ok-fresh.fresh refl c.if-self.false (held_history _ _ _ _ _ _ c.self.invariant) (c.if-is_spent.ensures.left refl) (subst P c.deref.ensures.value c.in_ok-fresh.ensures.accepted))
+    (is_at _ _ c.args.release.now c.in_ok-fresh.fresh refl c.if-self.false (held_history _ _ _ _ _ _ c.self.invariant) (c.if-is_spent.ensures.left refl) (subst P c.deref.ensures.value c.in_ok-fresh.ensures.accepted.1))
     c.in_err-prepared.ensures.refused)
 
 pub extend-requires-clause-prepared : goal.extend-requires-clause-prepared
 extend-requires-clause-prepared g c =
     let P : List StampedRow → Type 0 = λ rows. IsAscending stamped_cmp rows → IsAcceptedAs (map (λ s. s.row) rows) c.args.release.now c.in_ok-fresh.fresh in
-    let at = is_at _ _ c.args.release.now c.in_ok-fresh.fresh c.self.view_is c.if-self.false (held_history _ _ _ _ _ _ c.self.invariant) (c.if-is_spent.ensures.left refl) (subst P c.deref.ensures.value c.in_ok-fresh.ensures.accepted) in
+    let at = is_at _ _ c.args.release.now c.in_ok-fresh.fresh c.self.view_is c.if-self.false (held_history _ _ _ _ _ _ c.self.invariant) (c.if-is_spent.ensures.left refl) (subst P c.deref.ensures.value c.in_ok-fresh.ensures.accepted.1) in
     prepared_for _ _ c.args.release.now c.in_ok-fresh.fresh c.in_ok-prepared.prepared c.self.view_is at c.in_ok-prepared.ensures.prepared
 
 pub returns-in_err-repeat-clause-any_moment : goal.returns-in_err-repeat-clause-any_moment
 returns-in_err-repeat-clause-any_moment g c honest still =
     let P : List StampedRow → Type 0 = λ rows. IsAscending stamped_cmp rows → IsAcceptedAs (map (λ s. s.row) rows) c.args.release.now c.in_ok-fresh.fresh in
-    let at = is_at _ _ c.args.release.now c.in_ok-fresh.fresh c.self.view_is c.if-self.false (held_history _ _ _ _ _ _ c.self.invariant) (c.if-is_spent.ensures.left refl) (subst P c.deref.ensures.value c.in_ok-fresh.ensures.accepted) in
+    let at = is_at _ _ c.args.release.now c.in_ok-fresh.fresh c.self.view_is c.if-self.false (held_history _ _ _ _ _ _ c.self.invariant) (c.if-is_spent.ensures.left refl) (subst P c.deref.ensures.value c.in_ok-fresh.ensures.accepted.1) in
     let len : vec_len c.in_ok-fresh.fresh.rows ≡ length c.in_ok-fresh.fresh.rows.items = search (rules) in
     let none = nothing c.in_ok-fresh.fresh.rows.items (grind (arith, nat_tests, len, c.if-is_empty.ensures)) in
     leaves_taken _ c.args.release.now c.in_ok-fresh.fresh _ _ _ at (without_new c.args.self.now c.in_ok-fresh.fresh.rows.items none) (c.in_err-repeat.ensures.any_moment honest)
@@ -58,13 +57,13 @@ returns-in_err-repeat-clause-any_moment g c honest still =
 pub returns-in_err-extend-clause-any_moment : goal.returns-in_err-extend-clause-any_moment
 returns-in_err-extend-clause-any_moment g c honest still =
     let P : List StampedRow → Type 0 = λ rows. IsAscending stamped_cmp rows → IsAcceptedAs (map (λ s. s.row) rows) c.args.release.now c.in_ok-fresh.fresh in
-    let at = is_at _ _ c.args.release.now c.in_ok-fresh.fresh c.self.view_is c.if-self.false (held_history _ _ _ _ _ _ c.self.invariant) (c.if-is_spent.ensures.left refl) (subst P c.deref.ensures.value c.in_ok-fresh.ensures.accepted) in
+    let at = is_at _ _ c.args.release.now c.in_ok-fresh.fresh c.self.view_is c.if-self.false (held_history _ _ _ _ _ _ c.self.invariant) (c.if-is_spent.ensures.left refl) (subst P c.deref.ensures.value c.in_ok-fresh.ensures.accepted.1) in
     leaves_extended _ _ c.args.release.now c.in_ok-fresh.fresh c.in_ok-prepared.prepared _ _ c.self.view_is at c.in_ok-prepared.ensures.prepared.list_is (c.in_err-extend.ensures.any_moment honest)
 
 pub returns-in_ok-repeat-clause-any_moment : goal.returns-in_ok-repeat-clause-any_moment
 returns-in_ok-repeat-clause-any_moment g c honest still =
     let P : List StampedRow → Type 0 = λ rows. IsAscending stamped_cmp rows → IsAcceptedAs (map (λ s. s.row) rows) c.args.release.now c.in_ok-fresh.fresh in
-    let at = is_at _ _ c.args.release.now c.in_ok-fresh.fresh c.self.view_is c.if-self.false (held_history _ _ _ _ _ _ c.self.invariant) (c.if-is_spent.ensures.left refl) (subst P c.deref.ensures.value c.in_ok-fresh.ensures.accepted) in
+    let at = is_at _ _ c.args.release.now c.in_ok-fresh.fresh c.self.view_is c.if-self.false (held_history _ _ _ _ _ _ c.self.invariant) (c.if-is_spent.ensures.left refl) (subst P c.deref.ensures.value c.in_ok-fresh.ensures.accepted.1) in
     let len : vec_len c.in_ok-fresh.fresh.rows ≡ length c.in_ok-fresh.fresh.rows.items = search (rules) in
     let none = nothing c.in_ok-fresh.fresh.rows.items (grind (arith, nat_tests, len, c.if-is_empty.ensures)) in
     leaves_taken _ c.args.release.now c.in_ok-fresh.fresh _ _ _ at (without_new c.args.self.now c.in_ok-fresh.fresh.rows.items none) (c.in_ok-repeat.ensures.any_moment honest)
@@ -72,13 +71,13 @@ returns-in_ok-repeat-clause-any_moment g c honest still =
 pub returns-in_ok-extend-clause-any_moment : goal.returns-in_ok-extend-clause-any_moment
 returns-in_ok-extend-clause-any_moment g c honest still =
     let P : List StampedRow → Type 0 = λ rows. IsAscending stamped_cmp rows → IsAcceptedAs (map (λ s. s.row) rows) c.args.release.now c.in_ok-fresh.fresh in
-    let at = is_at _ _ c.args.release.now c.in_ok-fresh.fresh c.self.view_is c.if-self.false (held_history _ _ _ _ _ _ c.self.invariant) (c.if-is_spent.ensures.left refl) (subst P c.deref.ensures.value c.in_ok-fresh.ensures.accepted) in
+    let at = is_at _ _ c.args.release.now c.in_ok-fresh.fresh c.self.view_is c.if-self.false (held_history _ _ _ _ _ _ c.self.invariant) (c.if-is_spent.ensures.left refl) (subst P c.deref.ensures.value c.in_ok-fresh.ensures.accepted.1) in
     leaves_extended _ _ c.args.release.now c.in_ok-fresh.fresh c.in_ok-prepared.prepared _ _ c.self.view_is at c.in_ok-prepared.ensures.prepared.list_is (c.in_ok-extend.ensures.any_moment honest)
 
 pub returns-in_ok-repeat-clause-answer : goal.returns-in_ok-repeat-clause-answer
 returns-in_ok-repeat-clause-answer g c =
     let P : List StampedRow → Type 0 = λ rows. IsAscending stamped_cmp rows → IsAcceptedAs (map (λ s. s.row) rows) c.args.release.now c.in_ok-fresh.fresh in
-    let at = is_at _ _ c.args.release.now c.in_ok-fresh.fresh c.self.view_is c.if-self.false (held_history _ _ _ _ _ _ c.self.invariant) (c.if-is_spent.ensures.left refl) (subst P c.deref.ensures.value c.in_ok-fresh.ensures.accepted) in
+    let at = is_at _ _ c.args.release.now c.in_ok-fresh.fresh c.self.view_is c.if-self.false (held_history _ _ _ _ _ _ c.self.invariant) (c.if-is_spent.ensures.left refl) (subst P c.deref.ensures.value c.in_ok-fresh.ensures.accepted.1) in
     let len : vec_len c.in_ok-fresh.fresh.rows ≡ length c.in_ok-fresh.fresh.rows.items = search (rules) in
     let none = nothing c.in_ok-fresh.fresh.rows.items (grind (arith, nat_tests, len, c.if-is_empty.ensures)) in
     let step = c.in_ok-repeat.ensures.step in
@@ -88,7 +87,7 @@ returns-in_ok-repeat-clause-answer g c =
 pub returns-in_ok-extend-clause-answer : goal.returns-in_ok-extend-clause-answer
 returns-in_ok-extend-clause-answer g c =
     let P : List StampedRow → Type 0 = λ rows. IsAscending stamped_cmp rows → IsAcceptedAs (map (λ s. s.row) rows) c.args.release.now c.in_ok-fresh.fresh in
-    let at = is_at _ _ c.args.release.now c.in_ok-fresh.fresh c.self.view_is c.if-self.false (held_history _ _ _ _ _ _ c.self.invariant) (c.if-is_spent.ensures.left refl) (subst P c.deref.ensures.value c.in_ok-fresh.ensures.accepted) in
+    let at = is_at _ _ c.args.release.now c.in_ok-fresh.fresh c.self.view_is c.if-self.false (held_history _ _ _ _ _ _ c.self.invariant) (c.if-is_spent.ensures.left refl) (subst P c.deref.ensures.value c.in_ok-fresh.ensures.accepted.1) in
     let len : vec_len c.in_ok-fresh.fresh.rows ≡ length c.in_ok-fresh.fresh.rows.items = search (rules) in
     let some : 1 ≤ length c.in_ok-fresh.fresh.rows.items = grind (arith, nat_tests, len, c.if-is_empty.ensures) in
     let step = c.in_ok-extend.ensures.step in
