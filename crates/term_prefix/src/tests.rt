@@ -6,7 +6,7 @@ use crate::making::{
 };
 use crate::{Postings, Terms, find};
 use as_of_index::{KeptRows, ReadFault};
-use history_model::{StampedRow, listing, plain};
+use history_model::{StampedRow, plain};
 use rf2_values::{Body, Row};
 use std::alloc::Global;
 use std::process::Abort;
@@ -27,10 +27,8 @@ fn second_release(alloc: Global) -> Result<Vec<Row>, Fail> {
 
 /// The rows of both, in key order.
 fn both_releases(alloc: Global) -> Result<Vec<StampedRow>, Fail> {
-    let mut rows = Vec::new(alloc);
-    listing::add_release(&mut rows, 1, first_release(alloc)?)?;
-    listing::add_release(&mut rows, 2, second_release(alloc)?)?;
-    Ok(rows)
+    let first = plain::after_release(alloc, 0, &[], &first_release(alloc)?)?;
+    Ok(plain::after_release(alloc, 1, &first, &second_release(alloc)?)?)
 }
 
 /// The time of a description, and its term.
@@ -157,7 +155,7 @@ fn made_rows(alloc: Global) -> Result<Vec<StampedRow>, Fail> {
                 )?)?;
             }
         }
-        listing::add_release(&mut rows, import, release)?;
+        rows = plain::after_release(alloc, import - 1, &rows, &release)?;
     }
     Ok(rows)
 }
