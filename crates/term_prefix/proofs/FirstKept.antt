@@ -9,7 +9,8 @@ use Rattle.std.specs.declared.cmp.Ordering.TheVariants.{Less, Equal, Greater}
 use Rattle.std.proofs.lemmas.Bool.Decides.{nat_tests}
 use Rattle.std.proofs.lemmas.List.{take_more, length-take-le}
 use Rattle.history_model.specs.declared.stamped.StampedRow.{StampedRow}
-use Rattle.history_model.specs.InOrder.{Has, IsAscending, put, IsPlace}
+use Rattle.history_model.specs.InOrder.{Has, IsAscending, put}
+use Rattle.history_model.specs.Searches.{IsPlace}
 use Rattle.history_model.proofs.InOrder.{Has-all, all_from_has, Has-append_left, Has-append_right, Has-append_cases, Has-put_cases, Has-put_old, Has-put_new, IsAscending-put}
 use Rattle.as_of_index.specs.declared.chosen.Chosen.{Chosen}
 use Rattle.as_of_index.specs.Chosen.{chosen_cmp}
@@ -41,9 +42,6 @@ taken_id limit ys j id up h e = elim (taken_or_above chosen_total limit ys j up 
 ]
 
 module _ (lists : List (List StampedRow)) (date pin limit : ℕ) where
-  pub kept_none : AreKept lists date pin limit [] []
-  kept_none = record { ascending = tt; few = omega arith; all = λ k h. absurd h; only = λ k h. absurd h }
-
   pub kept_more : (seen kept : List Chosen) (k : Chosen) → AreKept lists date pin limit seen kept → SaysWanted lists date pin limit kept k true → AreKept lists date pin limit (seen ++ k ∷ []) (take limit (put chosen_cmp k kept))
   kept_more seen kept k a w =
       let up = IsAscending-put chosen_total k kept a.ascending in
@@ -136,16 +134,6 @@ says_by_last limit kept id i l e len full up =
       | false ↦ λ f. λ k. (l, there_at kept i l e, grind (arith, nat_tests, f))
     ] refl
 
-pub says_room : (limit : ℕ) (kept : List Chosen) (id : ℕ) → (limit ≤ length kept → ⊥) → SaysTaken limit kept id false
-says_room limit kept id room = λ k. absurd (room k)
-
-pub says_none : (limit id : ℕ) → SaysTaken limit [] id (limit == 0)
-says_none limit id =
-    elim (limit == 0) as (λ b. (limit == 0) ≡ b → SaysTaken limit [] id b) [
-      | true ↦ λ e. inr (let z : limit ≡ 0 = grind (arith, nat_tests, e) in omega arith, λ j h. absurd h)
-      | false ↦ λ e. λ le. absurd (let z : limit ≡ 0 → ⊥ = λ f. grind (arith, nat_tests, e, f) in z (omega arith))
-    ] refl
-
 pub says_last : (limit : ℕ) (kept : List Chosen) (id : ℕ) (l : Chosen) → slice_get kept (length kept - 1) ≡ Some l → limit ≤ length kept → IsAscending chosen_cmp kept → SaysTaken limit kept id (nat_le l.at.key.id id)
 says_last limit [] id l e full up = absurd (cc)
 says_last limit (k ∷ kept) id l e full up = says_by_last limit (k ∷ kept) id (length (k ∷ kept) - 1) l e (omega arith) full up
@@ -208,11 +196,6 @@ ids_parted id [] up = tt
 ids_parted id (k ∷ kept) up = (all_from_has (λ j. nat_lt j.at.key.id id ≡ true → nat_lt k.at.key.id id ≡ true) kept (λ j h e. below_too k j (lower k j (Has-all (λ j. chosen_cmp k j ≡ Less) kept j up.0 h)) e), ids_parted id kept up.1) where
   below_too : (k j : Chosen) → k.at.key.id < j.at.key.id → nat_lt j.at.key.id id ≡ true → nat_lt k.at.key.id id ≡ true
   below_too k j lt e = grind (arith, nat_tests, lt, e)
-
--- ---- keeping
-
-pub few_all : (limit : ℕ) (kept : List Chosen) → length kept ≤ limit → take limit kept ≡ kept
-few_all limit kept le = take_all limit kept le
 
 -- ---- one of a list more
 

@@ -84,9 +84,6 @@ cut_short text ts n t a lt e =
           ∙ sym (take-map (term_at text) n ts);
     }
 
-pub cut_none : (text : List ℕ) (ts : List Term) (n : ℕ) → AreLaid 0 ts (length text) → length ts ≤ n → IsCut text ts n text ts
-cut_none text ts n a le = record { laid = a; same = ap (terms_at text) (sym (take_all n ts le)) ∙ sym (take-map (term_at text) n ts) }
-
 -- ---- in order
 
 module _ (text : List ℕ) where

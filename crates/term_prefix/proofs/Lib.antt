@@ -3,3 +3,4 @@ pub mod FirstKept
 pub mod Terming
 pub mod Laid
 pub mod Posted
+mod Growing
