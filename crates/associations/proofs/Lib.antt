@@ -5,3 +5,4 @@ pub mod Ranked
 pub mod ChildRows
 pub mod ReplacingRows
 pub mod Posted
+pub mod Apart

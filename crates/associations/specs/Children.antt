@@ -20,7 +20,8 @@ pub record IsLinkOf (l : Link) (row : Version) : Type 0 where
 
 -- each link is of a row of these lists, at its own place, in the list with the same number
 abbrev pub PostsLinks : List (List StampedRow) → List Edges → Type 0
-PostsLinks lists edges = (x : ℕ × Link) → Has (numbered 0 (links_in edges)) x → (s : StampedRow) × StandsAt lists x.0 x.1.at s × IsLinkOf x.1 s.row
+PostsLinks lists edges = (x : ℕ × Link) → Has (numbered 0 (links_in edges)) x
+    → (s : StampedRow) × StandsAt lists x.0 x.1.at s × IsLinkOf x.1 s.row
 
 -- the keys of the versions that are posted as links
 abbrev pub link_keys : List Edges → List Key
@@ -28,10 +29,13 @@ link_keys edges = map (λ l. l.at.key) (joined (links_in edges))
 
 -- the children at the date, drawn from the versions with these keys alone
 unfoldable pub children_among : List Key → ℕ → ℕ → List Version → List ℕ
-children_among keys concept date rows = in_order nat_cmp (map (λ row. source_of row.body) (filter (λ row. is_child_of concept row && is_among keys row) (snapshot rows date)))
+children_among keys concept date rows =
+    in_order nat_cmp (map (λ row. source_of row.body)
+    (filter (λ row. is_child_of concept row && is_among keys row) (snapshot rows date)))
 
 -- where each version that says a child is among them, these are the children
 abbrev pub EachChildIsPosted : Type 0
 EachChildIsPosted = (keys : List Key) (concept date : ℕ) (rows : List Version)
-    → ((row : Version) → Has (snapshot rows date) row → is_child_of concept row ≡ true → is_among keys row ≡ true)
+    → ((row : Version) → Has (snapshot rows date) row → is_child_of concept row ≡ true
+    → is_among keys row ≡ true)
     → children_among keys concept date rows ≡ children concept date rows

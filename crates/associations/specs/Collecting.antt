@@ -1,4 +1,4 @@
--- What the steps say that collect an answer from postings. The contracts of private functions alone cite these.
+-- What the steps say that collect an answer from postings. Private functions alone cite these.
 use Rattle.std.specs.Prelude.{◌≡◌, ◌⊎◌, ℕ, List}
 use Rattle.std.specs.Ordering.{nat_cmp}
 use Rattle.std.specs.declared.cmp.Ordering.{Ordering}

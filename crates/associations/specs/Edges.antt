@@ -1,7 +1,9 @@
 -- What is posted of relationships and associations.
 use Rattle.std.specs.Prelude.{◌≡◌, ℕ, min, ◌==◌, List, [], ◌∷◌, ◌++◌, length, take, map, if◌then◌else◌}
 use Rattle.std.specs.List.Sorted.{IsNonDecreasingBy, IsPermutation}
+use Rattle.rf2_values.specs.declared.row.Association.{Association}
 use Rattle.rf2_values.specs.declared.row.Body.{Body}
+use Rattle.rf2_values.specs.declared.row.Relationship.{Relationship}
 use Rattle.rf2_values.specs.declared.row.Body.TheVariants as body
 use Rattle.rf2_values.specs.Row.{Version}
 use Rattle.history_model.specs.Queries.{is_a}
@@ -30,7 +32,8 @@ count_of e = record { links = length e.links; references = length e.references }
 
 -- the first so many of each
 abbrev pub first_edges : EdgeCount → Edges → Edges
-first_edges n e = record { links = take n.links e.links; references = take n.references e.references }
+first_edges n e =
+    record { links = take n.links e.links; references = take n.references e.references }
 
 -- the same, in whatever order
 pub record AreSameEdges (a b : Edges) : Type 0 where
@@ -49,11 +52,18 @@ links_in lists = map (λ e. e.links) lists
 abbrev pub references_in : List Edges → List (List Reference)
 references_in lists = map (λ e. e.references) lists
 
+-- a relationship's source and destination, and an association's columns, with a place
+abbrev pub link : Relationship → Posted → Link
+link r at = record { destination = r.destination; source = r.source; at = at }
+
+abbrev pub reference : Association → Posted → Reference
+reference a at = record { referenced = a.referenced; refset = a.refset; target = a.target; at = at }
+
 -- what a body says that stands at a place: a relationship of the type "is a" is a link
 abbrev pub link_of_body : Body → Posted → List Link
 link_of_body (body.Concept c) at = []
 link_of_body (body.Description d) at = []
-link_of_body (body.Relationship r) at = if r.type_id == is_a then record { destination = r.destination; source = r.source; at = at } ∷ [] else []
+link_of_body (body.Relationship r) at = if r.type_id == is_a then link r at ∷ [] else []
 link_of_body (body.Association a) at = []
 
 -- an association is a reference
@@ -61,7 +71,7 @@ abbrev pub reference_of_body : Body → Posted → List Reference
 reference_of_body (body.Concept c) at = []
 reference_of_body (body.Description d) at = []
 reference_of_body (body.Relationship r) at = []
-reference_of_body (body.Association a) at = record { referenced = a.referenced; refset = a.refset; target = a.target; at = at } ∷ []
+reference_of_body (body.Association a) at = reference a at ∷ []
 
 -- what is posted of a row: what an active one says
 abbrev pub posted_link : Version → Posted → List Link
@@ -75,4 +85,5 @@ edges_of row at = record { links = posted_link row at; references = posted_refer
 
 -- and of rows with their places
 abbrev pub posted_edges : List (StampedRow × Posted) → Edges
-posted_edges rows = record { links = posted_all posted_link rows; references = posted_all posted_reference rows }
+posted_edges rows =
+    record { links = posted_all posted_link rows; references = posted_all posted_reference rows }

@@ -23,30 +23,40 @@ EachPosted (rows ∷ lists) (e ∷ edges) = ArePostingsOf rows e × EachPosted l
 
 -- one row more
 abbrev pub PushedOneByOne : Type 0
-PushedOneByOne = (rows : List (StampedRow × Posted)) (row : StampedRow × Posted) → posted_edges (rows ++ row ∷ []) ≡ joined_edges (posted_edges rows) (edges_of row.0.row row.1)
+PushedOneByOne = (rows : List (StampedRow × Posted)) (row : StampedRow × Posted)
+    → posted_edges (rows ++ row ∷ []) ≡ joined_edges (posted_edges rows) (edges_of row.0.row row.1)
 
 -- such lists post rows of their own lists
 abbrev pub PostedLinksStand : Type 0
-PostedLinksStand = (lists : List (List StampedRow)) (edges : List Edges) → EachPosted lists edges → PostsLinks lists edges
+PostedLinksStand = (lists : List (List StampedRow)) (edges : List Edges)
+    → EachPosted lists edges → PostsLinks lists edges
 
 abbrev pub PostedReferencesStand : Type 0
-PostedReferencesStand = (lists : List (List StampedRow)) (edges : List Edges) → EachPosted lists edges → PostsReferences lists edges
+PostedReferencesStand = (lists : List (List StampedRow)) (edges : List Edges)
+    → EachPosted lists edges → PostsReferences lists edges
 
 -- and nothing is left out
 abbrev pub PostedLinksAreAll : Type 0
-PostedLinksAreAll = (lists : List (List StampedRow)) (edges : List Edges) (concept date pin : ℕ) → EachPosted lists edges
-    → children_among (link_keys edges) concept date (rows_at pin (listed lists)) ≡ children concept date (rows_at pin (listed lists))
+PostedLinksAreAll = (lists : List (List StampedRow)) (edges : List Edges) (concept date pin : ℕ)
+    → EachPosted lists edges
+    → children_among (link_keys edges) concept date (rows_at pin (listed lists))
+    ≡ children concept date (rows_at pin (listed lists))
 
 abbrev pub PostedReferencesAreAll : Type 0
-PostedReferencesAreAll = (lists : List (List StampedRow)) (edges : List Edges) (id date pin : ℕ) → EachPosted lists edges
-    → replacements_among (reference_keys edges) id date (rows_at pin (listed lists)) ≡ replacements id date (rows_at pin (listed lists))
+PostedReferencesAreAll = (lists : List (List StampedRow)) (edges : List Edges) (id date pin : ℕ)
+    → EachPosted lists edges
+    → replacements_among (reference_keys edges) id date (rows_at pin (listed lists))
+    ≡ replacements id date (rows_at pin (listed lists))
 
 -- they stay such where a list is added
 abbrev pub EdgesMore : Type 0
-EdgesMore = (lists : List (List StampedRow)) (edges : List Edges) (rows : List StampedRow) (e : Edges) → EachPosted lists edges → ArePostingsOf rows e
+EdgesMore = (lists : List (List StampedRow)) (edges : List Edges) (rows : List StampedRow) (e : Edges)
+    → EachPosted lists edges → ArePostingsOf rows e
     → EachPosted (lists ++ rows ∷ []) (edges ++ e ∷ [])
 
 -- and where one is put in the place of two
 abbrev pub EdgesMerged : Type 0
-EdgesMerged = (lists : List (List StampedRow)) (edges : List Edges) (i j : ℕ) (rows : List StampedRow) (e : Edges) → EachPosted lists edges → ArePostingsOf rows e
+EdgesMerged = (lists : List (List StampedRow)) (edges : List Edges) (i j : ℕ)
+    (rows : List StampedRow) (e : Edges)
+    → EachPosted lists edges → ArePostingsOf rows e
     → EachPosted (remove (slice_set lists i rows) j) (remove (slice_set edges i e) j)

@@ -21,10 +21,8 @@ use std::alloc::{AllocError, Global};
 
 /// Those of the links that lead to a destination.
 fn links_to(list: &[Link], destination: u64) -> &[Link]
-    ensures {
-        IsNonDecreasingBy (λ l. l.destination) list.now →
-            (l : _) → Has result.now l ↔ (Has list.now l × (l.destination ≡ destination))
-    }
+    ensures { IsNonDecreasingBy (λ l. l.destination) list.now →
+        (l : _) → Has result.now l ↔ (Has list.now l × (l.destination ≡ destination)) }
 {
     let first = list.partition_point(|l| l.destination < destination);
     let rest = &list[first..];
@@ -41,7 +39,8 @@ fn place_for(ids: &[u64], id: u64) -> Result<usize, usize>
 }
 
 fn put(ids: &mut Vec<u64>, id: u64) -> Result<(), AllocError>
-    ensures { OnOk result (IsAscending nat_cmp ids.old.items → ids.new.items ≡ put nat_cmp id ids.old.items) }
+    ensures { OnOk result (IsAscending nat_cmp ids.old.items
+        → ids.new.items ≡ put nat_cmp id ids.old.items) }
 {
     if let Err(place) = place_for(ids, id) {
         ids.insert(place, id)?;
@@ -58,10 +57,9 @@ fn add_sources(
     time: EffectiveTime,
     pin: u32,
 ) -> Result<(), AllocError>
-    ensures {
-        OnOk result ((lists : List (List StampedRow)) → Lists index.now lists → IsAscending nat_cmp ids.old.items
-            → TakesLinks lists time pin segment links.now ids.old.items ids.new.items)
-    }
+    ensures { OnOk result ((lists : List (List StampedRow)) → Lists index.now lists
+        → IsAscending nat_cmp ids.old.items
+        → TakesLinks lists time pin segment links.now ids.old.items ids.new.items) }
 {
     for link in links {
         if index.is_current(segment, link.at, time, pin) {
@@ -80,10 +78,8 @@ fn sources(
     time: EffectiveTime,
     pin: u32,
 ) -> Result<Vec<u64>, AllocError>
-    ensures {
-        IfOk result (λ ids. (lists : List (List StampedRow)) → Lists index.now lists
-            → AreSources lists time pin destination (numbered 0 (links_in links.now)) ids.items)
-    }
+    ensures { IfOk result (λ ids. (lists : List (List StampedRow)) → Lists index.now lists
+        → AreSources lists time pin destination (numbered 0 (links_in links.now)) ids.items) }
 {
     let mut ids = Vec::new(alloc);
     for (segment, list) in links.iter().enumerate() {
@@ -93,8 +89,8 @@ fn sources(
     Ok(ids)
 }
 
-/// The distinct sources of active "is a" relationships to the concept at the date, ascending, of the rows that the pin shows
-/// and of the versions that are posted. It reads no row.
+/// The distinct sources of active "is a" relationships to the concept at the date, ascending, of the
+/// rows that the pin shows and of the versions that are posted. It reads no row.
 pub fn children(
     alloc: Global,
     links: &Links,
@@ -103,12 +99,13 @@ pub fn children(
     time: EffectiveTime,
     pin: u32,
 ) -> Result<Vec<u64>, AllocError>
-    // Whatever lists of rows the index lists the places of, and the links post rows of.
-    ensures found {
-        IfOk result (λ ids. (lists : List (List StampedRow)) → Lists index.now lists → PostsLinks lists links.now
-            → ids.items ≡ children_among (link_keys links.now) concept time (rows_at pin (listed lists)))
-    }
+    // Whatever lists of rows they are that the index lists the places of, and the links post rows of.
+    ensures found { IfOk result (λ ids. (lists : List (List StampedRow)) → Lists index.now lists
+        → PostsLinks lists links.now
+        → ids.items ≡ children_among (link_keys links.now) concept time
+        (rows_at pin (listed lists))) }
 {
+    // It says that no key is listed twice.
     let _listed = index.lists();
     sources(alloc, links.sealed(), index, concept.value(), time, pin)
 }

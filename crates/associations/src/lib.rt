@@ -1,7 +1,9 @@
-//! Which concepts are children of a concept, and what stands in the place of a component, at a date and a pin.
+//! Which concepts are children of a concept, and what stands in the place of a component, at a date
+//! and a pin.
 //!
-//! Active relationships and associations are posted as rows are written, each with its place. A posting is a candidate: it
-//! counts only where the index picks that very version at the date and the pin.
+//! Active relationships and associations are posted as rows are written, each with its place. A
+//! posting is a candidate: it counts only where the index picks that very version at the date and the
+//! pin.
 #![tactic(auto)]
 
 mod hierarchy;
@@ -14,3 +16,8 @@ pub use hierarchy::children;
 pub use links::Links;
 pub use postings::{EdgeCount, Link, Postings, Reference, Sealed};
 pub use substitutes::replacements;
+
+#[cfg(test)]
+mod making;
+#[cfg(test)]
+mod tests;

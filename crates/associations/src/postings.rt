@@ -2,19 +2,20 @@
 
 ghost use Rattle.std.specs.Prelude.{◌≡◌, OnOk, OnErr};
 ghost use Rattle.std.specs.List.Sorted.{IsNonDecreasingBy, IsPermutation};
-ghost use Rattle.associations.specs.Edges.{Edges, no_edges, edges_of, joined_edges, count_of, first_edges, AreSameEdges, IsSealed};
+ghost use Rattle.associations.specs.Edges.{Edges, no_edges, link, reference, edges_of, joined_edges, count_of, first_edges, AreSameEdges, IsSealed};
 
-use segment::Posted;
 use history_model::StampedRow;
 use rf2_values::{Association, Body, Relationship};
+use segment::Posted;
 use std::alloc::{AllocError, Global};
 use std::marker::Model;
 
 /// The type of a relationship that says "is a".
 const IS_A: u64 = 116_680_003;
 
-/// An active relationship that says that its source is a kind of its destination, and where its row stands.
-#[derive(Clone, Copy, Debug, PartialEq, Eq)]
+/// An active relationship that says that its source is a kind of its destination, and where its row
+/// stands.
+#[derive(Clone, Copy)]
 pub struct Link {
     pub destination: u64,
     pub source: u64,
@@ -22,7 +23,7 @@ pub struct Link {
 }
 
 /// An active association, and where its row stands. The member's id is that of the place's key.
-#[derive(Clone, Copy, Debug, PartialEq, Eq)]
+#[derive(Clone, Copy)]
 pub struct Reference {
     /// The component that it refers to.
     pub referenced: u64,
@@ -53,7 +54,8 @@ impl Model for Postings {
     ghost view = { λ a. record { links = a.links.items; references = a.references.items } };
 }
 
-/// The links of a segment, ascending by destination, and its references, ascending by what they refer to.
+/// The links of a segment, ascending by destination, and its references, ascending by what they
+/// refer to.
 #[derive(Drop)]
 pub struct Sealed {
     links: Vec<Link>,
@@ -71,7 +73,7 @@ impl Model for Sealed {
 }
 
 fn link_of(relationship: &Relationship, at: Posted) -> Link
-    ensures { result ≡ record { destination = relationship.now.destination; source = relationship.now.source; at = at } }
+    ensures { result ≡ link relationship.now at }
 {
     Link {
         destination: relationship.destination.value(),
@@ -81,14 +83,7 @@ fn link_of(relationship: &Relationship, at: Posted) -> Link
 }
 
 fn reference_of(association: &Association, at: Posted) -> Reference
-    ensures {
-        result ≡ record {
-            referenced = association.now.referenced;
-            refset = association.now.refset;
-            target = association.now.target;
-            at = at
-        }
-    }
+    ensures { result ≡ reference association.now at }
 {
     Reference {
         referenced: association.referenced.value(),

@@ -25,10 +25,8 @@ use std::cmp::Ordering;
 
 /// Those that refer to a component.
 fn references_to(list: &[Reference], referenced: u64) -> &[Reference]
-    ensures {
-        IsNonDecreasingBy (λ r. r.referenced) list.now →
-            (r : _) → Has result.now r ↔ (Has list.now r × (r.referenced ≡ referenced))
-    }
+    ensures { IsNonDecreasingBy (λ r. r.referenced) list.now →
+        (r : _) → Has result.now r ↔ (Has list.now r × (r.referenced ≡ referenced)) }
 {
     let first = list.partition_point(|r| r.referenced < referenced);
     let rest = &list[first..];
@@ -51,9 +49,7 @@ fn chosen(segment: usize, r: &Reference) -> Chosen
 fn rank(a: &Chosen, b: &Chosen) -> Ordering
     ensures { result ≡ ranked_cmp a.now b.now }
 {
-    a.refset
-        .cmp(&b.refset)
-        .then(a.target.cmp(&b.target).then(a.at.key.id.cmp(&b.at.key.id)))
+    a.refset.cmp(&b.refset).then(a.target.cmp(&b.target).then(a.at.key.id.cmp(&b.at.key.id)))
 }
 
 /// Where one of the same rank stands, or else the place at which it is to be inserted.
@@ -65,10 +61,8 @@ fn place_for(kept: &[Chosen], k: &Chosen) -> Result<usize, usize>
 }
 
 fn put(kept: &mut Vec<Chosen>, segment: usize, r: &Reference) -> Result<(), AllocError>
-    ensures {
-        OnOk result (IsAscending ranked_cmp kept.old.items
-            → kept.new.items ≡ put ranked_cmp (ranked segment r.now) kept.old.items)
-    }
+    ensures { OnOk result (IsAscending ranked_cmp kept.old.items
+        → kept.new.items ≡ put ranked_cmp (ranked segment r.now) kept.old.items) }
 {
     if let Err(place) = place_for(kept, &chosen(segment, r)) {
         kept.insert(place, chosen(segment, r))?;
@@ -85,10 +79,9 @@ fn add_references(
     time: EffectiveTime,
     pin: u32,
 ) -> Result<(), AllocError>
-    ensures {
-        OnOk result ((lists : List (List StampedRow)) → Lists index.now lists → IsAscending ranked_cmp kept.old.items
-            → TakesReferences lists time pin segment references.now kept.old.items kept.new.items)
-    }
+    ensures { OnOk result ((lists : List (List StampedRow)) → Lists index.now lists
+        → IsAscending ranked_cmp kept.old.items
+        → TakesReferences lists time pin segment references.now kept.old.items kept.new.items) }
 {
     for r in references {
         if index.is_current(segment, r.at, time, pin) {
@@ -107,10 +100,8 @@ fn chosen_all(
     time: EffectiveTime,
     pin: u32,
 ) -> Result<Vec<Chosen>, AllocError>
-    ensures {
-        IfOk result (λ kept. (lists : List (List StampedRow)) → Lists index.now lists
-            → AreRanked lists time pin referenced (numbered 0 (references_in links.now)) kept.items)
-    }
+    ensures { IfOk result (λ kept. (lists : List (List StampedRow)) → Lists index.now lists
+        → AreRanked lists time pin referenced (numbered 0 (references_in links.now)) kept.items) }
 {
     let mut kept = Vec::new(alloc);
     for (segment, list) in links.iter().enumerate() {
@@ -120,8 +111,8 @@ fn chosen_all(
     Ok(kept)
 }
 
-/// The active associations of the component at the date, by refset, target and member, of the rows that the pin shows and of
-/// the versions that are posted.
+/// The active associations of the component at the date, by refset, target and member, of the rows
+/// that the pin shows and of the versions that are posted. It reads these rows alone.
 pub fn replacements<R: RowReader>(
     alloc: Global,
     links: &Links,
@@ -131,21 +122,22 @@ pub fn replacements<R: RowReader>(
     time: EffectiveTime,
     pin: u32,
 ) -> Result<Vec<Row>, ReadFault>
-    ensures found {
-        R.is_honest reader.old → Lists index.now (R.lists reader.old) → PostsReferences (R.lists reader.old) links.now
-        → IfOk result (λ rows. rows.items ≡ replacements_among (reference_keys links.now) component time
-            (rows_at pin (listed (R.lists reader.old))))
-    }
-    ensures undamaged {
-        R.is_honest reader.old → Lists index.now (R.lists reader.old) → PostsReferences (R.lists reader.old) links.now
-        → IfErr result (λ e. e ≢ readfault.Damaged)
-    }
+    ensures found { R.is_honest reader.old → Lists index.now (R.lists reader.old)
+        → PostsReferences (R.lists reader.old) links.now
+        → IfOk result (λ rows.
+        rows.items ≡ replacements_among (reference_keys links.now) component time
+        (rows_at pin (listed (R.lists reader.old)))) }
+    ensures undamaged { R.is_honest reader.old → Lists index.now (R.lists reader.old)
+        → PostsReferences (R.lists reader.old) links.now
+        → IfErr result (λ e. e ≢ readfault.Damaged) }
     ensures lists { R.lists reader.new ≡ R.lists reader.old }
     ensures honesty { R.is_honest reader.old → R.is_honest reader.new }
     ensures stays { R.stays reader.old reader.new }
-    ensures disk_faults { Counts CountsDiskFault result (R.disk_faults reader.old) (R.disk_faults reader.new) }
+    ensures disk_faults { Counts CountsDiskFault result
+        (R.disk_faults reader.old) (R.disk_faults reader.new) }
     ensures damages { Counts CountsDamage result (R.damages reader.old) (R.damages reader.new) }
 {
+    // It says that no key is listed twice.
     let _listed = index.lists();
     let kept = chosen_all(alloc, links.sealed(), index, component.value(), time, pin)?;
     read_all(alloc, reader, kept.as_slice())
