@@ -1,27 +1,32 @@
 //! What an import makes before its first write.
 
-ghost use Rattle.std.specs.Prelude.{◌≡◌, ◌⊎◌, ◌+◌, ◌≤◌, length, IfOk, IfErr, true, false};
+ghost use Rattle.std.specs.Prelude.{◌≡◌, ◌⊎◌, ◌+◌, ◌<◌, ◌≤◌, ◌^◌, length, IfOk, IfErr, true, false};
 ghost use Rattle.history_model.specs.InOrder.{IsAscending};
-ghost use Rattle.history_model.specs.History.{row_cmp, stamped};
+ghost use Rattle.history_model.specs.History.{row_cmp, stamped_cmp, stamped};
 ghost use Rattle.directory.specs.Listings.{Listing, IsListing};
+ghost use Rattle.segment.specs.Records.{segment_of};
+ghost use Rattle.as_of_index.specs.Places.{posted, places_of};
 ghost use Rattle.history_store.specs.Stored.{last_import, last_epoch};
 ghost use Rattle.history_store.specs.Shelf.{shelf_of};
 ghost use Rattle.history_store.specs.Prepared.{IsNotSpent, IsPlacedAt, IsPrepared, IsUnprepared};
 
 use crate::refusal::Refusal;
+use crate::shown::Shown;
+use as_of_index::{Listed, Posted};
 use blocks::Extent;
 use directory::{Directory, Entry, MOST_ENTRIES, first_fit};
 use history_model::StampedRow;
 use rf2_values::Row;
-use segment::{encode, encoded_len};
+use segment::{encode, encoded_len, record_len};
 use std::alloc::{AllocError, Global};
 
-/// A segment of new rows, and the directory that lists it.
+/// A segment of new rows, its places, and the directory that lists it.
 #[derive(Drop)]
 pub(crate) struct Prepared {
     pub(crate) directory: Directory,
     pub(crate) entry: Entry,
-    pub(crate) list: Vec<StampedRow>,
+    pub(crate) places: Listed,
+    pub(crate) shown: Shown,
     pub(crate) bytes: Vec<u8>,
 }
 
@@ -76,7 +81,37 @@ fn place(directory: &Directory, rows: &[StampedRow]) -> Result<Entry, Refusal>
     })
 }
 
-/// The segment of new rows, and the directory with it.
+/// The row's place, its record beginning at this byte.
+fn place_of(row: &StampedRow, at: u32) -> Posted
+    ensures { result ≡ posted row.now at }
+{
+    Posted {
+        key: row.row.key(),
+        import: row.import,
+        at,
+        bytes: record_len(row),
+    }
+}
+
+/// The places of a segment's rows, and the rows, which only clauses read.
+fn place_all(alloc: Global, rows: &[StampedRow]) -> Result<(Listed, Shown), AllocError>
+    requires ascending { IsAscending stamped_cmp rows.now }
+    requires short { length (segment_of rows.now) < 2 ^ 32 }
+    ensures { IfOk result (λ placed. (placed.0 ≡ places_of rows.now) × (placed.1 ≡ rows.now)) }
+{
+    let mut places = Vec::with_capacity(alloc, rows.len())?;
+    let mut shown = Shown::new(alloc);
+    let mut at = 0u32;
+    for row in rows {
+        let place = place_of(row, at);
+        places.push(place)?;
+        shown.push(row)?;
+        at += place.bytes;
+    }
+    Ok((Listed::new(places), shown))
+}
+
+/// The segment of new rows, its places, and the directory with it.
 pub(crate) fn prepare(
     alloc: Global,
     directory: &Directory,
@@ -91,12 +126,14 @@ pub(crate) fn prepare(
     let list = stamp(alloc, fresh, directory.imports() + 1)?;
     let entry = place(directory, &list)?;
     let bytes = encode(alloc, &list)?;
+    let (places, shown) = place_all(alloc, &list)?;
     let mut next = repeated(alloc, directory)?;
     next.add(entry);
     Ok(Prepared {
         directory: next,
         entry,
-        list,
+        places,
+        shown,
         bytes,
     })
 }

@@ -5,6 +5,7 @@ use Rattle.history_model.specs.InOrder.{IsAscending}
 use Rattle.history_model.specs.History.{stamped, stamped_cmp}
 use Rattle.segment.specs.Records.{IsSegment}
 use Rattle.history_store.specs.Prepared.{IsPlacedAt}
+use Rattle.as_of_index.specs.Places.{places_of}
 use Rattle.history_store.proofs.NewSegment.{ascending_stamped, from_one, added_listing, prepared_is, length-stamped}
 use Rattle.history_store.proofs.preparing.prepare.Goals as goal
 
@@ -30,4 +31,4 @@ returns-clause-prepared c =
     let listing = added_listing c.args.directory.now c.in_ok-next.next c.deref.result.now c.in_ok-entry.entry c.place.ensures.listing c.requires.not_spent some c.in_ok-entry.ensures.placed c.in_ok-next.ensures in
     let placed = subst (λ (l : List StampedRow). IsPlacedAt c.args.directory.now l c.in_ok-entry.entry) (c.deref.ensures.value ∙ list) c.in_ok-entry.ensures.placed in
     let segment = subst (λ (l : List StampedRow). IsSegment l c.in_ok-bytes.bytes.items) (c.deref-2.ensures.value ∙ list) c.in_ok-bytes.ensures in
-    prepared_is c.args.directory.now _ _ c.in_ok-next.next listing placed c.in_ok-next.ensures c.add.ensures list segment
+    prepared_is c.args.directory.now _ _ c.in_ok-next.next listing placed c.in_ok-next.ensures c.add.ensures (c.in_ok-placed.ensures.1 ∙ c.deref-3.ensures.value ∙ list) (c.in_ok-placed.ensures.0 ∙ ap places_of (c.deref-3.ensures.value ∙ list)) segment
