@@ -6,9 +6,11 @@ pub mod laws;
 pub mod listing;
 pub mod plain;
 mod receipt;
+mod shown;
 mod stamped;
 #[cfg(test)]
 mod tests;
 
 pub use receipt::Receipt;
+pub use shown::Shown;
 pub use stamped::StampedRow;

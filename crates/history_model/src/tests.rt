@@ -3,13 +3,16 @@
 ghost use Rattle.std.specs.Prelude.{◌<◌};
 
 use crate::receipt::Receipt;
+use crate::shown::Shown;
 use crate::stamped::StampedRow;
 use crate::{listing, plain};
 use rf2_values::{
     Association, Body, Concept, Description, EffectiveTime, Kind, Relationship, Row, Sctid, Text,
 };
 use std::alloc::{AllocError, Global};
+use std::mem::size_of;
 use std::process::Abort;
+use std::snapshot::Snapshot;
 use std::test::Fail;
 
 const CORE: u64 = 900_000_000_000_207_008;
@@ -303,5 +306,16 @@ fn terms_and_pages(rt: HostRuntime) -> Result<(), Fail> {
         let ids: Vec<u128> = found.iter().map(|row| row.id).collect(alloc)?;
         assert_eq!(rt; ids.as_slice(), want);
     }
+    Ok(())
+}
+
+#[test]
+fn shown_rows_take_rows_and_no_memory(rt: HostRuntime) -> Result<(), Fail> {
+    let alloc = rt.alloc();
+    let mut shown = Shown::new(alloc);
+    for row in first_release(alloc)? {
+        assert!(rt; shown.push(&StampedRow { row, import: 1 }).is_ok());
+    }
+    assert_eq!(rt; size_of::<Snapshot<StampedRow>>(), 0);
     Ok(())
 }

@@ -23,7 +23,7 @@ use Rattle.history_store.specs.Refusals.{refusal_of}
 use Rattle.history_store.specs.Shelf.{Shelf, IsShelfAfter, IsPlaced, HasNoEntry, HasNoPlace, shelf_of}
 use Rattle.history_store.specs.Stored.{Stored, with_rows}
 use Rattle.history_store.specs.Prepared.{IsNotSpent, IsUnprepared}
-use Rattle.history_store.specs.Answers.{IsTaken, IsNotTaken, IsPlaceable, IsImportRefusal, IsRefusalAtAll, IsRefused, IsNotFresh, IsBeforeOrAfter, IsStill, IsUnplaced}
+use Rattle.history_store.specs.Answers.{IsTaken, IsNotTaken, IsWelcome, IsImportRefusal, IsRefusalAtAll, IsRefused, IsNotFresh, IsBeforeOrAfter, IsStill, IsUnplaced}
 use Rattle.history_store.proofs.NewSegment.{length-stamped}
 use Rattle.history_store.proofs.FreshRows.{fresh_after, fresh_accepted, own_fresh, one_list, listed-one}
 
@@ -120,7 +120,7 @@ not_fresh {D} s release honest e still room up why = subst (λ x. IsImportRefusa
   each : (fault : ImportFault) → IsReadBefore release fault → IsContradictionIn (full s.history) release fault × IsUndamaged fault → IsImportRefusal (refusal_of fault) s release
   each importfault.OutOfMemory read is = (still, room)
   each (importfault.Known knownfault.OutOfMemory) read is = (still, room)
-  each (importfault.Known knownfault.DiskFault) read is = (still, (room, inl read))
+  each (importfault.Known knownfault.DiskFault) read is = (still, inl (room, read))
   each (importfault.Known knownfault.Damaged) read is = absurd (is.1 refl)
   each (importfault.Row file line fault) read is = (still, (room, read))
   each (importfault.Contradiction file line key) read is = (still, (room, key, is.0))
@@ -195,19 +195,28 @@ refused_from old mid new e still refused = record {
   still = λ other. refused.still other ∙ still.open_still ∙ sym still.open_before;
 }
 
-placeable : {D : Type 0} (s : Stored D) (release : Release) (fresh : Fresh) (next : Shelf) → IsAt s release fresh → IsShelfAfter (stamped (s.history.imports + 1) fresh.rows.items) s.shelf next → IsPlaceable s.history s.shelf release
-placeable s release fresh next at shelf = record {
+welcome : {D : Type 0} (s : Stored D) (release : Release) (fresh : Fresh) (next : Shelf) → IsAt s release fresh → IsShelfAfter (stamped (s.history.imports + 1) fresh.rows.items) s.shelf next → IsWelcome s.history s.shelf release
+welcome s release fresh next at shelf = record {
+  room = at.room;
   rows = at.accepted.rows;
   is_release = at.accepted.rows_are;
   accepted = at.accepted.taken.consistent;
   next = next;
-  placed = subst (λ (l : List StampedRow). IsShelfAfter l s.shelf next) (new_is s release fresh at) shelf;
+  shelf_is = subst (λ (l : List StampedRow). IsShelfAfter l s.shelf next) (new_is s release fresh at) shelf;
 }
 
-pub not_stepped : {D : Type 0} (old mid : Stored D) (release : Release) (fresh : Fresh) (next : Shelf) (e : Refusal) → IsStill old mid → IsAt mid release fresh → IsShelfAfter (stamped (mid.history.imports + 1) fresh.rows.items) mid.shelf next
+pub interrupted : {D : Type 0} (old mid : Stored D) (release : Release) (fresh : Fresh) (next : Shelf) (e : Refusal) → IsStill old mid → IsAt mid release fresh → IsShelfAfter (stamped (mid.history.imports + 1) fresh.rows.items) mid.shelf next
     → (e ≡ refusals.OutOfMemory) ⊎ (e ≡ refusals.DiskFault) → IsImportRefusal e old release
-not_stepped old mid release fresh next e still at shelf (inl memory) = subst (λ x. IsImportRefusal x old release) (sym memory) (still.open_before, before_reading old mid release refusals.OutOfMemory still at.room)
-not_stepped old mid release fresh next e still at shelf (inr device) = subst (λ x. IsImportRefusal x old release) (sym device) (still.open_before, before_reading old mid release refusals.DiskFault still (at.room, inr (placeable mid release fresh next at shelf)))
+interrupted old mid release fresh next e still at shelf (inl memory) = subst (λ x. IsImportRefusal x old release) (sym memory) (still.open_before, before_reading old mid release refusals.OutOfMemory still at.room)
+interrupted old mid release fresh next e still at shelf (inr device) = subst (λ x. IsImportRefusal x old release) (sym device) (still.open_before, before_reading old mid release refusals.DiskFault still (inr (welcome mid release fresh next at shelf)))
+
+pub interrupted_at_all : {D : Type 0} (u old : Stored D) (release : Release) (e : Refusal) → u ≡ old → old.needs_reopen ≡ false → IsNotSpent u.history.imports u.shelf.epoch → IsRead release → (e ≡ refusals.OutOfMemory) ⊎ (e ≡ refusals.DiskFault) → IsRefusalAtAll e old release
+interrupted_at_all {D} u old release e same still left read why =
+    let room : IsNotSpent old.history.imports old.shelf.epoch = subst (λ (x : Stored D). IsNotSpent x.history.imports x.shelf.epoch) same left in
+    elim why [
+      | inl memory ↦ subst (λ x. IsRefusalAtAll x old release) (sym memory) (still, room)
+      | inr device ↦ subst (λ x. IsRefusalAtAll x old release) (sym device) (still, room, read)
+    ]
 
 -- ---- a release that is taken
 

@@ -1,6 +1,6 @@
 -- What the calls of a store answer.
 use Rattle.std.specs.Prelude.{◌≡◌, ◌≢◌, ◌⊎◌, ℕ, ◌+◌, ◌<◌, ◌≤◌, true, false, List, [], length, None, Result, Ok, Err}
-use Rattle.disk_model.specs.Disk.{HasRisen}
+use Rattle.disk_model.specs.Disk.{Moments, HasRisen}
 use Rattle.blocks.specs.declared.slots.Slot.TheVariants.{A, B}
 use Rattle.blocks.specs.Slots.{IsOpen, IsClosed}
 use Rattle.rf2_values.specs.Row.{Version}
@@ -52,6 +52,11 @@ pub record IsNew {D : Type 0} (s : Stored D) : Type 0 where
   pub shelf : s.shelf ≡ record { epoch = 1; entries = []; merge = None }
   pub open_still : s.needs_reopen ≡ false
 
+-- every refusal but the failed device leaves the device as it was, and what a stop may leave of it
+abbrev pub HandsBack : {D : Type 0} → (D → Moments) → Result (Stored D) (Refusal × D) → D → Type 0
+HandsBack moments (Ok store) disk = Unit {0}
+HandsBack moments (Err e) disk = e.0 ≢ refusals.DiskFault → moments e.1 ≡ moments disk
+
 -- a store is made on an empty disk alone
 abbrev pub IsMakingOf : {D : Type 0} → Result (Stored D) (Refusal × D) → List ℕ → Type 0
 IsMakingOf (Ok store) bytes = (length bytes ≡ 0) × IsNew store
@@ -94,22 +99,23 @@ pub record IsUnplaced (h : History) (shelf : Shelf) (release : Release) (Lacks :
   pub accepted : Accepts h rows
   pub lacks : Lacks (new_rows h rows) shelf
 
--- a release that is accepted, and whose new rows, if there are any, have an entry and a place
-pub record IsPlaceable (h : History) (shelf : Shelf) (release : Release) : Type 0 where
+-- a release that would be taken: its new rows have a place, or there are none
+pub record IsWelcome (h : History) (shelf : Shelf) (release : Release) : Type 0 where
+  pub room : IsNotSpent h.imports shelf.epoch
   pub rows : List Version
   pub is_release : IsReleaseOf release rows
   pub accepted : Accepts h rows
   pub next : Shelf
-  pub placed : IsShelfAfter (new_rows h rows) shelf next
+  pub shelf_is : IsShelfAfter (new_rows h rows) shelf next
 
--- where an import needs the device: each file is a release file, so that known rows are read, or the new rows have a place, so that they are written
+-- where the device may fail: known rows are read once each file is a release file, and it is written to only for a release that would be taken
 abbrev pub IsAtDevice : History → Shelf → Release → Type 0
-IsAtDevice h shelf release = IsRead release ⊎ IsPlaceable h shelf release
+IsAtDevice h shelf release = (IsNotSpent h.imports shelf.epoch × IsRead release) ⊎ IsWelcome h shelf release
 
 -- why a release isn't taken at a history and a shelf, on an honest device
 abbrev pub IsNotTaken : Refusal → History → Shelf → Release → Type 0
 IsNotTaken refusals.OutOfMemory h shelf release = IsNotSpent h.imports shelf.epoch
-IsNotTaken refusals.DiskFault h shelf release = IsNotSpent h.imports shelf.epoch × IsAtDevice h shelf release
+IsNotTaken refusals.DiskFault h shelf release = IsAtDevice h shelf release
 IsNotTaken refusals.CountSpent h shelf release = (h.imports ≡ last_import) ⊎ (shelf.epoch ≡ last_epoch)
 IsNotTaken (refusals.Line file line fault) h shelf release = IsNotSpent h.imports shelf.epoch × IsFaultOfRelease release file line fault
 IsNotTaken (refusals.Contradiction file line) h shelf release = IsNotSpent h.imports shelf.epoch × (key : Key) × HasContradiction (full h) release file line key
@@ -128,6 +134,11 @@ pub record IsRefused {D : Type 0} (e : Refusal) (old new : Stored D) : Type 0 wh
   pub shelf : new.shelf ≡ old.shelf
   pub closed : e ≡ refusals.DiskFault → new.needs_reopen ≡ true
   pub still : e ≢ refusals.DiskFault → new.needs_reopen ≡ old.needs_reopen
+
+-- what a stop may leave stays as it is at every refusal but the failed device
+abbrev pub KeepsMoments : {T D : Type 0} → (D → Moments) → Result T Refusal → Stored D → Stored D → Type 0
+KeepsMoments moments (Ok x) old new = Unit {0}
+KeepsMoments moments (Err e) old new = e ≢ refusals.DiskFault → moments new.disk ≡ moments old.disk
 
 -- what an import answers, and the store after it
 abbrev pub IsImportOf : {D : Type 0} → Result Receipt Refusal → Stored D → Stored D → Release → Type 0

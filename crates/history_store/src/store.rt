@@ -25,6 +25,7 @@ use store_image::{add_segment, publish_listing};
 /// The release history of a terminology, on a disk.
 #[derive(Drop)]
 pub struct Store<D: Disk> {
+    alloc: Global,
     disk: D,
     cache: BlockCache,
     slot: Slot,
@@ -34,7 +35,6 @@ pub struct Store<D: Disk> {
     /// The rows of each segment, which only clauses read.
     shown: Vec<Shown>,
     needs_reopen: bool,
-    alloc: Global,
 }
 
 impl<D: Disk> Model for Store<D> {
@@ -64,14 +64,14 @@ impl<D: Disk> Store<D> {
     ghost use Rattle.history_store.specs.Shelf.{shelf_of};
     ghost use Rattle.history_store.specs.Stored.{Stored, IsAcknowledged, with_rows};
     ghost use Rattle.history_store.specs.Prepared.{IsNotSpent, IsPreparedFor};
-    ghost use Rattle.history_store.specs.Answers.{Counts, IsStep, device_of, CountsOpening, IsMakingOf, IsOpeningOf, IsReadingOf, IsStill, IsRefused, IsNotFresh, IsImportOf, IsImportAtAll, IsBeforeOrAfter};
+    ghost use Rattle.history_store.specs.Answers.{Counts, IsStep, device_of, CountsOpening, IsMakingOf, IsOpeningOf, IsReadingOf, IsStill, IsRefused, IsNotFresh, IsImportOf, IsImportAtAll, IsBeforeOrAfter, HandsBack, KeepsMoments};
     ghost use Rattle.history_store.specs.declared.refusal.Refusal.TheVariants as refusals;
 
     /// Makes a store on an empty disk. The length of the disk is looked at first, then all memory is taken, then the disk is written.
     pub fn create(alloc: Global, disk: D) -> Result<Store<D>, (Refusal, D)>
         ensures made { D.is_honest disk → IsMakingOf result (D.moments disk).state.now }
         // Refused for any other reason than the device, it leaves whatever a stop may leave as it was.
-        ensures refused { D.is_honest disk → IfErr result (λ e. e.0 ≢ refusals.DiskFault → D.moments e.1 ≡ D.moments disk) }
+        ensures refused { D.is_honest disk → HandsBack D.moments result disk }
         // Whatever a stop leaves from now on stands for the empty history.
         ensures acknowledged { D.is_honest disk → IfOk result (IsAcknowledged D.moments) }
         ensures honesty { D.is_honest disk ↔ D.is_honest (device_of result) }
@@ -210,7 +210,7 @@ impl<D: Disk> Store<D> {
         requires next { next ≡ record { epoch = self.old.shelf.epoch + 1; imports = self.old.history.imports + 1; entries = self.old.shelf.entries } }
         ensures step { IsStep result self.old self.new (record { imports = self.old.history.imports + 1; rows = self.old.history.rows }) (record { epoch = self.old.shelf.epoch + 1; entries = self.old.shelf.entries; merge = self.old.shelf.merge }) }
         ensures any_moment { D.is_honest self.old.disk → LeavesOnly (D.moments self.old.disk) (D.moments self.new.disk) (λ c. StandsForHistory self.old.history c ⊎ StandsForHistory (record { imports = self.old.history.imports + 1; rows = self.old.history.rows }) c) }
-        ensures refused { IfErr result (λ e. e ≡ refusals.DiskFault) }
+        ensures refused { D.is_honest self.old.disk → KeepsMoments D.moments result self.old self.new }
         ensures acknowledged { D.is_honest self.old.disk → self.new.needs_reopen ≡ false → IsAcknowledged D.moments self.new }
         ensures honesty { D.is_honest self.old.disk ↔ D.is_honest self.new.disk }
         ensures failures { Counts result (D.failures self.old.disk) (D.failures self.new.disk) }
@@ -235,7 +235,7 @@ impl<D: Disk> Store<D> {
         requires prepared { IsPreparedFor self.old prepared }
         ensures step { IsStep result self.old self.new (with_rows self.old.history prepared.shown) (shelf_of prepared.directory) }
         ensures any_moment { D.is_honest self.old.disk → LeavesOnly (D.moments self.old.disk) (D.moments self.new.disk) (λ c. StandsForHistory self.old.history c ⊎ StandsForHistory (with_rows self.old.history prepared.shown) c) }
-        ensures refused { D.is_honest self.old.disk → IfErr result (λ e. e ≢ refusals.DiskFault → D.moments self.new.disk ≡ D.moments self.old.disk) }
+        ensures refused { D.is_honest self.old.disk → KeepsMoments D.moments result self.old self.new }
         ensures acknowledged { D.is_honest self.old.disk → self.new.needs_reopen ≡ false → IsAcknowledged D.moments self.new }
         ensures honesty { D.is_honest self.old.disk ↔ D.is_honest self.new.disk }
         ensures failures { Counts result (D.failures self.old.disk) (D.failures self.new.disk) }
@@ -277,7 +277,7 @@ impl<D: Disk> Store<D> {
         // After Ok each stop leaves the new one.
         ensures acknowledged { D.is_honest self.old.disk → self.new.needs_reopen ≡ false → IsAcknowledged D.moments self.new }
         // Refused for any other reason than the device, it leaves whatever a stop may leave as it was.
-        ensures refused { D.is_honest self.old.disk → IfErr result (λ e. e ≢ refusals.DiskFault → D.moments self.new.disk ≡ D.moments self.old.disk) }
+        ensures refused { D.is_honest self.old.disk → KeepsMoments D.moments result self.old self.new }
         // A store that has to be opened again leaves everything as it is.
         ensures closed { self.old.needs_reopen ≡ true → self.new ≡ self.old }
         ensures honesty { D.is_honest self.old.disk ↔ D.is_honest self.new.disk }

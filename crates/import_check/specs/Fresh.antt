@@ -1,7 +1,8 @@
 -- What a release brings, and what refuses it.
-use Rattle.std.specs.Prelude.{◌≡◌, ◌⊎◌, ℕ, ◌+◌, List, ◌++◌, length, ⊤}
+use Rattle.std.specs.Prelude.{◌≡◌, ◌≢◌, ◌⊎◌, ℕ, ◌+◌, List, ◌++◌, length, ⊤}
 use Rattle.rf2_values.specs.declared.key.Key.{Key}
 use Rattle.rf2_values.specs.Row.{Version}
+use Rattle.rf2_values.specs.Key.{key_of}
 use Rattle.rf2_rows.specs.declared.fault.LineFault.{LineFault}
 use Rattle.history_model.specs.InOrder.{Has, IsAscending}
 use Rattle.history_model.specs.History.{row_cmp, IsConsistent}
@@ -10,7 +11,8 @@ use Rattle.import_check.specs.declared.release.PlacedLine.{PlacedLine}
 use Rattle.import_check.specs.declared.fresh.Fresh.{Fresh}
 use Rattle.import_check.specs.declared.fault.ImportFault.{ImportFault}
 use Rattle.import_check.specs.declared.fault.ImportFault.TheVariants as importfault
-use Rattle.import_check.specs.Known.{CountsDiskFault, CountsDamage}
+use Rattle.import_check.specs.declared.fault.KnownFault.TheVariants as knownfault
+use Rattle.import_check.specs.Known.{IsUnknown, CountsDiskFault, CountsDamage}
 use Rattle.import_check.specs.Release.{SpellFiles, IsReleaseOf, IsFaultOfRelease, IsFirstContradiction, HasContradiction}
 
 -- the rows that are not known, each once and in key order, and how many of the others there are
@@ -20,6 +22,11 @@ pub record IsFresh (known rows fresh : List Version) (repeated : ℕ) : Type 0 w
   pub not_known : (row : Version) → Has fresh row → Has known row → ⊥
   pub each : (row : Version) → Has rows row → (Has known row → ⊥) → Has fresh row
   pub counted : length fresh + repeated ≡ length rows
+
+-- these rows ascend, and none of their keys is known
+pub record IsApart (known fresh : List Version) : Type 0 where
+  pub ascending : IsAscending row_cmp fresh
+  pub unknown : (row : Version) → Has fresh row → IsUnknown known (key_of row)
 
 -- a release that is taken: its rows and those that are known are consistent, and these rows are new
 pub record IsTaken (known : List Version) (rows : List Version) (fresh : Fresh) : Type 0 where
@@ -50,6 +57,13 @@ IsNoRefusal importfault.OutOfMemory = ⊤
 IsNoRefusal (importfault.Known fault) = ⊤
 IsNoRefusal (importfault.Row file line fault) = ⊥
 IsNoRefusal (importfault.Contradiction file line key) = ⊥
+
+-- a known row isn't refused as damaged
+abbrev pub IsUndamaged : ImportFault → Type 0
+IsUndamaged importfault.OutOfMemory = ⊤
+IsUndamaged (importfault.Known fault) = fault ≢ knownfault.Damaged
+IsUndamaged (importfault.Row file line fault) = ⊤
+IsUndamaged (importfault.Contradiction file line key) = ⊤
 
 -- no row has a fault
 abbrev pub IsNoRowFault : ImportFault → Type 0

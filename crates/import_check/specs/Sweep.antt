@@ -3,6 +3,7 @@ use Rattle.std.specs.Prelude.{◌≡◌, ◌≢◌, ℕ, ◌-◌, ◌≤◌, ◌
 use Rattle.std.specs.List.{AllByRecursion}
 use Rattle.std.specs.Ordering.{nat_cmp, ordering_then, is_gt}
 use Rattle.std.specs.declared.cmp.Ordering.{Ordering}
+use Rattle.std.specs.declared.cmp.Ordering.TheVariants.{Less}
 use Rattle.rf2_values.specs.Row.{Version}
 use Rattle.rf2_values.specs.Key.{key_of}
 use Rattle.history_model.specs.InOrder.{Has, IsAscending}
@@ -14,6 +15,7 @@ use Rattle.import_check.specs.declared.fresh.Fresh.{Fresh}
 use Rattle.import_check.specs.declared.fault.ImportFault.{ImportFault}
 use Rattle.import_check.specs.declared.fault.ImportFault.TheVariants as importfault
 use Rattle.import_check.specs.Known.{IsUnknown}
+use Rattle.import_check.specs.Fresh.{IsApart}
 
 -- a line stands by another or before it
 abbrev pub StandsBy : ℕ → ℕ → ℕ → ℕ → Type 0
@@ -127,3 +129,14 @@ abbrev pub IsOutcome : Sweep → ℕ → Result Fresh ImportFault → Type 0
 IsOutcome s count result = MatchOption s.first
     (IsOkAnd result (λ fresh. (fresh.rows.items ≡ s.fresh.items) × (fresh.repeated ≡ count - length s.fresh.items)))
     (λ c. result ≡ Err (importfault.Contradiction c.file c.line c.key))
+
+-- the new rows ascend, none of their keys is known, and each is below all lines to come but those for whose key it stands
+pub record IsOwn (known : List Version) (rest : List PlacedLine) (s : Sweep) : Type 0 where
+  pub apart : IsApart known s.fresh.items
+  pub below : (row : Version) → Has s.fresh.items row → (line : PlacedLine) → Has rest line
+      → (row_cmp row line.row ≡ Less) ⊎ ((key_of row ≡ key_of line.row) × (standing_of s ≡ Some row))
+
+-- so it stays when one line more is taken
+abbrev pub KeepsApart : List Version → PlacedLine → Sweep → Sweep → Type 0
+KeepsApart known line old new =
+    (rest : List PlacedLine) → IsRising rank_cmp (line ∷ rest) → IsOwn known (line ∷ rest) old → IsOwn known rest new

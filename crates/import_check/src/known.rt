@@ -1,16 +1,17 @@
 //! What is known before a release.
 
-ghost use Rattle.std.specs.Prelude.{◌≡◌, ℕ, List, ◌↔◌, IfOk, MatchResult, map};
+ghost use Rattle.std.specs.Prelude.{◌≡◌, ◌≢◌, ℕ, List, IfOk, IfErr, MatchResult, None, map};
+ghost use Rattle.import_check.specs.declared.fault.KnownFault.TheVariants as knownfault;
 ghost use Rattle.rf2_values.specs.Row.{Version};
 ghost use Rattle.rf2_values.specs.Key.{key_of, key_cmp};
 ghost use Rattle.history_model.specs.InOrder.{IsAscending};
 ghost use Rattle.history_model.specs.History.{IsConsistent, row_cmp, stamped_cmp};
 ghost use Rattle.history_model.proofs.Filtered.{IsAscending-map};
 ghost use Rattle.history_model.proofs.Snapshots.{IsConsistent-from_ascending};
-ghost use Rattle.import_check.specs.Known.{IsRowAt, Counts, CountsDiskFault, CountsDamage};
+ghost use Rattle.fault_counts.specs.Counting.{Counts};
+ghost use Rattle.import_check.specs.Known.{IsRowAt, IsUnknown, CountsDiskFault, CountsDamage};
 
 use crate::fault::KnownFault;
-use crate::order::compare_keys;
 use history_model::StampedRow;
 use rf2_values::{Key, Row};
 use std::alloc::Global;
@@ -30,15 +31,36 @@ pub trait Known {
     /// What it gives is what is known.
     ghost is_honest: { Self → Type 0 };
 
+    /// It knows which keys are known, whatever row it gives for one of them.
+    ghost is_sound: { Self → Type 0 };
+
+    /// What its calls leave as it is.
+    ghost stays: { Self → Self → Type 0 };
+
+    /// The known row with this key.
     fn row(&mut self, alloc: Global, key: &Key) -> Result<Option<Row>, KnownFault>
         ensures found { is_honest self.old → IfOk result (IsRowAt (rows self.old) key.now) }
-        ensures rows { is_honest self.old → rows self.new ≡ rows self.old }
-        ensures honesty { is_honest self.old ↔ is_honest self.new }
-        ensures disk_faults { Counts CountsDiskFault result (disk_faults self.old) (disk_faults self.new) }
+        // Then only the device or memory keeps a row from being had.
+        ensures undamaged { is_honest self.old → IfErr result (λ e. e ≢ knownfault.Damaged) }
+        // A key for which it gives no row is that of no row that is known.
+        ensures absent { is_sound self.old
+            → IfOk result (λ found. found ≡ None → IsUnknown (rows self.old) key.now) }
+        ensures rows { rows self.new ≡ rows self.old }
+        ensures honesty { is_honest self.old → is_honest self.new }
+        ensures soundness { is_sound self.old → is_sound self.new }
+        ensures stays { stays self.old self.new }
+        ensures disk_faults { Counts CountsDiskFault result
+            (disk_faults self.old) (disk_faults self.new) }
         ensures damages { Counts CountsDamage result (damages self.old) (damages self.new) };
 
     /// No two different rows that are known share a key.
     ghost consistent: { (known : Self) → is_honest known → IsConsistent (rows known) };
+
+    /// What stays as it is includes what no call was made on.
+    ghost stays_still: { (known : Self) → stays known known };
+
+    /// What stays as it is in each of two calls stays as it is in both.
+    ghost stays_on: { (a b c : Self) → stays a b → stays b c → stays a c };
 }
 
 /// Rows that stand in memory, in key order.
@@ -51,10 +73,13 @@ pub struct KnownRows<'a> {
 fn compare_to(known: &StampedRow, key: Key) -> Ordering
     ensures { result ≡ key_cmp (key_of known.now.row) key }
 {
-    compare_keys(known.row.key(), key)
+    known.row.key().compare(&key)
 }
 
 impl Known for KnownRows<'_> {
+    ghost use Rattle.std.specs.Prelude.{◌≡◌};
+    ghost use Rattle.std.proofs.Common.{refl, ◌∙◌};
+
     ghost rows = { λ known. map (λ s. s.row) known.rows.now };
 
     ghost disk_faults = { λ _. 0 };
@@ -62,6 +87,14 @@ impl Known for KnownRows<'_> {
     ghost damages = { λ _. 0 };
 
     ghost is_honest = { λ known. IsAscending stamped_cmp known.rows.now };
+
+    ghost is_sound = { λ known. IsAscending stamped_cmp known.rows.now };
+
+    ghost stays = { λ a b. b.rows ≡ a.rows };
+
+    ghost stays_still = { λ known. refl };
+
+    ghost stays_on = { λ a b c ab bc. bc ∙ ab };
 
     ghost consistent = { λ known up. IsConsistent-from_ascending (map (λ s. s.row) known.rows.now) (IsAscending-map (λ s. s.row) row_cmp known.rows.now up) };
 

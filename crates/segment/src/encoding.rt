@@ -59,7 +59,7 @@ fn fixed_bytes(kind: Kind) -> u32
 
 /// How many bytes the record of a row has.
 #[tactic(auto, using(crate::proofs::RecordLaws::record_size, crate::proofs::RecordLaws::texts_room))]
-fn record_len(stamped: &StampedRow) -> u32
+pub(crate) fn record_len(stamped: &StampedRow) -> u32
     ensures { result ≡ length (record_of stamped.now) }
 {
     fixed_bytes(stamped.row.kind()) + text_bytes(&stamped.row.body)

@@ -1,6 +1,7 @@
 //! Laws of the definitions, each the contract of a function that does nothing.
 
 ghost use Rattle.segment.specs.Records.{OneSegment, OneRecord, EachAtItsPlace, PiecesJoin};
+ghost use Rattle.segment.specs.Standing.{EachStandsAtItsByte};
 
 /// Bytes spell at most one list of rows.
 pub fn one_segment()
@@ -20,4 +21,9 @@ pub fn each_at_its_place()
 /// The bytes of two lists of rows are those of the two lists joined.
 pub fn pieces_join()
     ensures { PiecesJoin }
+{}
+
+/// Where a row stands, its record is at that byte of its list's segment, and the place has its key and its number.
+pub fn each_stands_at_its_byte()
+    ensures { EachStandsAtItsByte }
 {}

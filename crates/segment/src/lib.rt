@@ -7,6 +7,7 @@ mod encoding;
 mod fault;
 mod fields;
 pub mod laws;
+mod place;
 mod raw;
 mod row;
 mod writing;
@@ -15,6 +16,7 @@ pub use decoding::{decode, record_at};
 pub use encoding::{encode, encoded_len};
 pub use fault::SegmentFault;
 pub use history_model::StampedRow;
+pub use place::Posted;
 
 #[cfg(test)]
 mod tests;

@@ -88,6 +88,9 @@ pub now_after : (old mid : Moments) → mid ≡ followed_by old (settled old.sta
 unfolding settled
 now_after old mid made = ap (λ (m : Moments). m.state.now) made
 
+pub now_unchanged : (old mid new : Moments) → mid ≡ followed_by old (settled old.state.now) → new ≡ mid → new.state.now ≡ old.state.now
+now_unchanged old mid new made same = ap (λ (m : Moments). m.state.now) same ∙ now_after old mid made
+
 -- ---- why nothing is opened
 
 pub no_slot : (e : SlotFault) (file into : List ℕ) → ReadsCurrent (Err e) file into → IsNotOpened (of_slot e) file

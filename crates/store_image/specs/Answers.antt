@@ -1,6 +1,6 @@
 -- What making and opening answer.
 use Rattle.std.specs.Prelude.{◌≡◌, ◌⊎◌, ℕ, ◌≤◌, List, [], length, Result, Ok, Err}
-use Rattle.disk_model.specs.Disk.{Moments, HasRisen}
+use Rattle.disk_model.specs.Disk.{Moments, HasRisen, followed_by, settled}
 use Rattle.blocks.specs.declared.slots.Slot.TheVariants.{A, B}
 use Rattle.blocks.specs.declared.slots.SlotFault.{SlotFault}
 use Rattle.blocks.specs.declared.slots.SlotFault.TheVariants as slots
@@ -39,6 +39,26 @@ StaysIfRefused (Err faults.DiskFault) old new = Unit {0}
 StaysIfRefused (Err faults.NotEmpty) old new = new ≡ old
 StaysIfRefused (Err faults.NotAStore) old new = ⊥
 StaysIfRefused (Err faults.Damaged) old new = ⊥
+
+-- the disk was looked at alone: it has no byte, or some, or the device failed
+abbrev pub IsLookedAt : {T : Type 0} → Result T ImageFault → List ℕ → Type 0
+IsLookedAt (Ok none) file = length file ≡ 0
+IsLookedAt (Err faults.DiskFault) file = Unit {0}
+IsLookedAt (Err faults.NotEmpty) file = 1 ≤ length file
+IsLookedAt (Err other) file = ⊥
+
+-- the moments after a sync
+abbrev pub synced : Moments → Moments
+synced old = followed_by old (settled old.state.now)
+
+-- One sync and nothing else changed the disk; where the device failed, at most that one.
+abbrev pub IsSynced : {T : Type 0} → Result T ImageFault → Moments → Moments → Type 0
+IsSynced (Ok read) old new = new ≡ synced old
+IsSynced (Err faults.OutOfMemory) old new = new ≡ synced old
+IsSynced (Err faults.DiskFault) old new = (new ≡ old) ⊎ (new ≡ synced old)
+IsSynced (Err faults.NotEmpty) old new = ⊥
+IsSynced (Err faults.NotAStore) old new = new ≡ synced old
+IsSynced (Err faults.Damaged) old new = new ≡ synced old
 
 -- Why bytes aren't opened: they are no store where no gate is open, and damaged where one is open and they stand for nothing.
 abbrev pub IsNotOpened : ImageFault → List ℕ → Type 0

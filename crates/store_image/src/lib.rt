@@ -13,7 +13,7 @@ mod shared;
 
 pub use adding::{add_segment, publish_listing};
 pub use fault::ImageFault;
-pub use making::{Made, make};
+pub use making::{Made, check_empty, make};
 pub use opening::{Loaded, load};
 
 #[cfg(test)]

@@ -1,11 +1,12 @@
 //! Making an empty store.
 
-ghost use Rattle.std.specs.Prelude.{◌≡◌, ◌↔◌, [], IfOk, OnOk};
+ghost use Rattle.std.specs.Prelude.{◌≡◌, ◌⊎◌, ◌↔◌, [], IfOk, IfErr, OnOk};
 ghost use Rattle.disk_model.specs.Disk.{EachImage};
 ghost use Rattle.history_model.specs.History.{no_history};
+ghost use Rattle.store_image.specs.declared.fault.ImageFault.TheVariants as faults;
 ghost use Rattle.store_image.specs.Images.{StandsFor};
 ghost use Rattle.store_image.specs.Shown.{IsOnDisk};
-ghost use Rattle.store_image.specs.Answers.{empty_listing, IsMade, CountsFault, StaysIfRefused};
+ghost use Rattle.store_image.specs.Answers.{empty_listing, IsLookedAt, IsMade, CountsFault, StaysIfRefused};
 
 use crate::content::content_of;
 use crate::fault::ImageFault;
@@ -21,7 +22,22 @@ pub struct Made {
     pub directory: Directory,
 }
 
-/// Makes an empty store on a disk of no bytes. A stop before it has answered may leave anything.
+/// Looks whether a disk has no byte. `NotEmpty` where it has one.
+pub fn check_empty<D: Disk>(disk: &mut D) -> Result<(), ImageFault>
+    ensures exact { D.is_honest disk.old → IsLookedAt result (D.moments disk.old).state.now }
+    ensures refused { IfErr result (λ e. (e ≡ faults.NotEmpty) ⊎ (e ≡ faults.DiskFault)) }
+    ensures moments { D.is_honest disk.old → D.moments disk.new ≡ D.moments disk.old }
+    ensures honesty { D.is_honest disk.old ↔ D.is_honest disk.new }
+    ensures failures { CountsFault result (D.failures disk.old) (D.failures disk.new) }
+{
+    if disk.len()? > 0 {
+        return Err(ImageFault::NotEmpty);
+    }
+    Ok(())
+}
+
+/// Makes an empty store on a disk of no bytes: the length is looked at, then all room is taken, and then
+/// it writes. So `OutOfMemory` leaves the disk empty. A stop before it has answered may leave anything.
 pub fn make<D: Disk>(alloc: Global, disk: &mut D) -> Result<Made, ImageFault>
     ensures made { IfOk result (λ made. (made.slot ≡ Slot.A) × (made.directory ≡ empty_listing)) }
     ensures exact { D.is_honest disk.old → IsMade result (D.moments disk.old).state.now }
@@ -32,9 +48,7 @@ pub fn make<D: Disk>(alloc: Global, disk: &mut D) -> Result<Made, ImageFault>
     ensures honesty { D.is_honest disk.old ↔ D.is_honest disk.new }
     ensures failures { CountsFault result (D.failures disk.old) (D.failures disk.new) }
 {
-    if disk.len()? > 0 {
-        return Err(ImageFault::NotEmpty);
-    }
+    check_empty(disk)?;
     let directory = Directory::new(alloc)?;
     let content = content_of(&directory);
     let current = start(disk, &content)?;

@@ -4,7 +4,7 @@ ghost use Rattle.std.specs.Prelude.{◌≡◌, ◌↔◌, map, vec_items, IfOk, 
 ghost use Rattle.disk_model.specs.Disk.{IsImage, LeavesOnly};
 ghost use Rattle.store_image.specs.Says.{IsKept};
 ghost use Rattle.store_image.specs.Shown.{Shows, IsOnDisk};
-ghost use Rattle.store_image.specs.Answers.{IsNotOpened, CountsFault};
+ghost use Rattle.store_image.specs.Answers.{IsNotOpened, IsSynced, CountsFault};
 
 use crate::fault::ImageFault;
 use crate::reading::read_segments;
@@ -30,6 +30,11 @@ pub fn load<D: Disk>(alloc: Global, disk: &mut D) -> Result<Loaded, ImageFault>
     ensures kept { IfOk result (λ l. IsKept l.directory (map vec_items l.lists.items)) }
     // A stop at any moment leaves what it might have left before.
     ensures any_moment { D.is_honest disk.old → LeavesOnly (D.moments disk.old) (D.moments disk.new) (IsImage (D.moments disk.old).state) }
+    // It syncs once and changes nothing else, whatever it answers.
+    ensures synced { D.is_honest disk.old → IsSynced result (D.moments disk.old) (D.moments disk.new) }
+    // So a read gives what it gave before.
+    ensures unchanged { D.is_honest disk.old
+        → (D.moments disk.new).state.now ≡ (D.moments disk.old).state.now }
     // After Ok each stop leaves what was read.
     ensures on_disk { D.is_honest disk.old → IfOk result (λ l. IsOnDisk (D.moments disk.new).state l.slot l.directory (map vec_items l.lists.items)) }
     ensures honesty { D.is_honest disk.old ↔ D.is_honest disk.new }

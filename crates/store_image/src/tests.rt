@@ -66,6 +66,7 @@ fn patched(alloc: Global, disk: &MemDisk, place: usize, byte: u8) -> Result<MemD
 #[test]
 fn an_empty_store(rt: HostRuntime) -> Result<(), Fail> {
     let mut disk = MemDisk::new(rt.alloc());
+    assert_eq!(rt; check_empty(&mut disk), Ok(()));
     let made = make(rt.alloc(), &mut disk)?;
     assert_eq!(rt; made.slot, Slot::A);
     assert_eq!(rt; made.directory.epoch(), 1);
@@ -74,6 +75,7 @@ fn an_empty_store(rt: HostRuntime) -> Result<(), Fail> {
     assert_eq!(rt; loaded.slot, Slot::A);
     assert_eq!(rt; loaded.directory.epoch(), 1);
     assert_eq!(rt; loaded.lists.len(), 0);
+    assert_eq!(rt; check_empty(&mut disk), Err(ImageFault::NotEmpty));
     let again = make(rt.alloc(), &mut disk);
     assert_eq!(rt; again.err(), Some(ImageFault::NotEmpty));
     Ok(())

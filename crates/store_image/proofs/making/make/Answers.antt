@@ -6,8 +6,8 @@ start-requires g c = first_epoch c.content_of-content.result c.in_ok-directory.d
 
 pub returns-clause-on_disk : goal.returns-clause-on_disk
 returns-clause-on_disk g c honest =
-    empty_on_disk _ c.content_of-content.result c.in_ok-directory.directory c.in_ok-current.current c.in_ok-directory.ensures c.content_of-content.ensures c.in_ok-current.ensures.next (c.in_ok-current.ensures.fresh (c.len.ensures.honesty.0 honest))
+    empty_on_disk _ c.content_of-content.result c.in_ok-directory.directory c.in_ok-current.current c.in_ok-directory.ensures c.content_of-content.ensures c.in_ok-current.ensures.next (c.in_ok-current.ensures.fresh (c.in_ok-check_empty.ensures.honesty.0 honest))
 
 pub returns-clause-stands : goal.returns-clause-stands
 returns-clause-stands g c honest =
-    empty_stands _ c.content_of-content.result c.in_ok-directory.directory c.in_ok-current.current c.in_ok-directory.ensures c.content_of-content.ensures c.in_ok-current.ensures.next (c.in_ok-current.ensures.fresh (c.len.ensures.honesty.0 honest))
+    empty_stands _ c.content_of-content.result c.in_ok-directory.directory c.in_ok-current.current c.in_ok-directory.ensures c.content_of-content.ensures c.in_ok-current.ensures.next (c.in_ok-current.ensures.fresh (c.in_ok-check_empty.ensures.honesty.0 honest))

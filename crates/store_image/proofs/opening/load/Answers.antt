@@ -7,7 +7,7 @@ use Rattle.store_image.specs.Says.{pieces_of}
 use Rattle.store_image.specs.Shown.{Shows}
 use Rattle.store_image.specs.Reading.{AreRead, AreNotRead}
 use Rattle.store_image.specs.Answers.{IsNotOpened}
-use Rattle.store_image.proofs.Opened.{opened_run, opened_state, now_after, no_slot, bad_directory, not_read, shows_read, read_is_kept, on_disk_read, of_listing}
+use Rattle.store_image.proofs.Opened.{opened_run, opened_state, now_after, now_unchanged, no_slot, bad_directory, not_read, shows_read, read_is_kept, on_disk_read, of_listing}
 use Rattle.store_image.proofs.opening.load.Goals as goal
 
 pub returns-in_err-current-clause-any_moment : goal.returns-in_err-current-clause-any_moment
@@ -92,3 +92,25 @@ returns-clause-on_disk g c honest =
     let shows = subst (Shows c.in_ok-current.current.slot d lists) (now_after _ _ (c.in_ok-sync.ensures.made honest))
     (shows_read synced _ c.in_ok-current.current d lists (c.in_ok-current.ensures.slot still) c.in_ok-directory.ensures.found read (subst (λ (f : List ℕ). HoldsAll (pieces_of d.entries lists) f) same hold)) in
     on_disk_read _ _ c.in_ok-current.current.slot d lists (opened_state _ _ _ (c.in_ok-sync.ensures.made honest) (c.in_ok-lists.ensures.moments then_still ∙ c.in_ok-current.ensures.moments still)) shows
+
+pub returns-in_err-current-clause-unchanged : goal.returns-in_err-current-clause-unchanged
+returns-in_err-current-clause-unchanged g c honest =
+    let still = c.in_ok-sync.ensures.honesty.0 honest in
+    now_unchanged _ _ _ (c.in_ok-sync.ensures.made honest) (c.in_err-current.ensures.moments still)
+
+pub returns-in_err-directory-clause-unchanged : goal.returns-in_err-directory-clause-unchanged
+returns-in_err-directory-clause-unchanged g c honest =
+    let still = c.in_ok-sync.ensures.honesty.0 honest in
+    now_unchanged _ _ _ (c.in_ok-sync.ensures.made honest) (c.in_ok-current.ensures.moments still)
+
+pub returns-in_err-lists-clause-unchanged : goal.returns-in_err-lists-clause-unchanged
+returns-in_err-lists-clause-unchanged g c honest =
+    let still = c.in_ok-sync.ensures.honesty.0 honest in
+    let then_still = c.in_ok-current.ensures.honesty.0 still in
+    now_unchanged _ _ _ (c.in_ok-sync.ensures.made honest) (c.in_err-lists.ensures.moments then_still ∙ c.in_ok-current.ensures.moments still)
+
+pub returns-clause-unchanged : goal.returns-clause-unchanged
+returns-clause-unchanged g c honest =
+    let still = c.in_ok-sync.ensures.honesty.0 honest in
+    let then_still = c.in_ok-current.ensures.honesty.0 still in
+    now_unchanged _ _ _ (c.in_ok-sync.ensures.made honest) (c.in_ok-lists.ensures.moments then_still ∙ c.in_ok-current.ensures.moments still)

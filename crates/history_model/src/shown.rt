@@ -1,0 +1,44 @@
+//! Rows that only clauses see.
+
+ghost use Rattle.std.specs.Prelude.{◌≡◌, ◌++◌, ◌∷◌, [], OnOk, OnErr};
+
+use crate::stamped::StampedRow;
+use std::alloc::{AllocError, Global};
+use std::marker::Model;
+use std::snapshot::Snapshot;
+
+/// A list of rows that only clauses see: how many there are is all that is held of them.
+#[derive(Drop)]
+pub struct Shown {
+    rows: Vec<Snapshot<StampedRow>>,
+}
+
+impl Model for Shown {
+    ghost use Rattle.std.specs.Prelude.{List, map};
+    ghost use Rattle.history_model.specs.declared.stamped.StampedRow.{StampedRow};
+
+    ghost Value = { List StampedRow };
+
+    ghost view = { λ s. map (λ r. r.value) s.rows.items };
+}
+
+impl Shown {
+    pub fn new(alloc: Global) -> Shown
+        ensures { result ≡ [] }
+    {
+        Shown {
+            rows: Vec::new(alloc),
+        }
+    }
+
+    /// Adds a row at the end. It holds nothing of the row, which may be dropped or changed.
+    pub fn push(&mut self, row: &StampedRow) -> Result<(), AllocError>
+        ensures ok { OnOk result (self.new ≡ self.old ++ row.now ∷ []) }
+        ensures err { OnErr result (self.new ≡ self.old) }
+    {
+        match self.rows.push(Snapshot::of(row)) {
+            Ok(()) => Ok(()),
+            Err(_) => Err(AllocError),
+        }
+    }
+}

@@ -1,0 +1,35 @@
+//! Where rows stand in their segments.
+
+ghost use Rattle.std.specs.Prelude.{◌≡◌};
+ghost use Rattle.segment.specs.Standing.{posted};
+
+use crate::encoding::record_len;
+use history_model::StampedRow;
+use rf2_values::Key;
+
+/// Where a row's record stands in its segment, with what names the row and the number of its import.
+#[derive(Clone, Copy, Debug, PartialEq, Eq)]
+pub struct Posted {
+    pub key: Key,
+    /// The number of the import that first brought the row, from 1 on.
+    pub import: u32,
+    /// The byte of the segment at which the record begins, from 0 on.
+    pub at: u32,
+    /// How many bytes the record has, with the four of its length.
+    pub bytes: u32,
+}
+
+impl Posted {
+    /// The place of a row whose record begins at this byte of its segment.
+    #[tactic(auto, unfolding(crate::specs::Standing::posted))]
+    pub fn new(stamped: &StampedRow, at: u32) -> Posted
+        ensures { result ≡ posted stamped.now at }
+    {
+        Posted {
+            key: stamped.row.key(),
+            import: stamped.import,
+            at,
+            bytes: record_len(stamped),
+        }
+    }
+}
