@@ -11,7 +11,7 @@ use Rattle.history_model.specs.Lists.{listed, AreLists, ShareNoKey}
 use Rattle.history_model.proofs.InOrder.{Has-all, all_from_has, Has-append_cases}
 use Rattle.history_model.proofs.Filtered.{Has-map_from}
 use Rattle.history_model.proofs.Snapshots.{IsAscending-listed, Has-listed_cases}
-use Rattle.import_check.specs.Sweep.{IsApart}
+use Rattle.import_check.specs.Fresh.{IsApart}
 use Rattle.history_store.specs.declared.preparing.Prepared.{Prepared}
 use Rattle.history_store.specs.Stored.{Stored, with_rows}
 use Rattle.history_store.specs.Prepared.{IsPrepared, IsPreparedFor}

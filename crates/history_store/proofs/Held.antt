@@ -24,8 +24,9 @@ use Rattle.store_image.specs.Shown.{IsOnDisk}
 use Rattle.store_image.specs.Next.{IsNext, IsAdded, IsRepeated}
 use Rattle.store_image.specs.Answers.{empty_listing}
 use Rattle.store_image.proofs.Added.{added_is_next, repeated_is_next}
-use Rattle.as_of_index.specs.declared.posted.Posted.{Posted}
-use Rattle.as_of_index.specs.Places.{Lists, places_of}
+use Rattle.segment.specs.declared.place.Posted.{Posted}
+use Rattle.as_of_index.specs.Places.{Lists}
+use Rattle.segment.specs.Standing.{places_of}
 use Rattle.history_store.specs.Reading.{AreThere, MomentsStay, Early}
 use Rattle.history_store.specs.declared.preparing.Prepared.{Prepared}
 use Rattle.history_store.specs.Stored.{Stored, IsHeld, with_rows}

@@ -11,9 +11,10 @@ use Rattle.history_model.specs.Lists.{ShareNoKey as RowsShareNoKey, EachApart as
 use Rattle.history_model.proofs.InOrder.{Has-all, all_from_has}
 use Rattle.history_model.proofs.Filtered.{Has-map}
 use Rattle.segment.specs.Records.{record_of, segment_of}
-use Rattle.as_of_index.specs.Segment.{record_len}
-use Rattle.as_of_index.specs.declared.posted.Posted.{Posted}
-use Rattle.as_of_index.specs.Places.{posted, with_places, places_of, place_cmp, ShareNoKey, EachApart, ArePlaces}
+use Rattle.segment.specs.Standing.{record_len}
+use Rattle.segment.specs.declared.place.Posted.{Posted}
+use Rattle.as_of_index.specs.Places.{place_cmp, ShareNoKey, EachApart, ArePlaces}
+use Rattle.segment.specs.Standing.{posted, with_places, places_of}
 use Rattle.as_of_index.proofs.Standing.{row_there, says}
 
 abbrev second : StampedRow × Posted → Posted

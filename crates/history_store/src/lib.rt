@@ -11,7 +11,6 @@ mod loading;
 mod preparing;
 mod reading;
 mod refusal;
-mod shown;
 mod starting;
 mod store;
 

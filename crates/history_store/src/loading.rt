@@ -1,16 +1,15 @@
 //! (Stand-ins for store_image.)
 
-ghost use Rattle.std.specs.Prelude.{◌≡◌, ◌⊎◌, ◌↔◌, ◌++◌, ◌∷◌, [], List, map, vec_items, IfOk, IfErr, OnOk, MatchResult};
+ghost use Rattle.std.specs.Prelude.{◌≡◌, ◌↔◌, ◌++◌, ◌∷◌, [], List, map, vec_items, IfOk, OnOk, MatchResult};
 ghost use Rattle.disk_model.specs.Disk.{IsImage, LeavesOnly};
 ghost use Rattle.history_model.specs.declared.stamped.StampedRow.{StampedRow};
-ghost use Rattle.as_of_index.specs.declared.posted.Posted.{Posted};
-ghost use Rattle.as_of_index.specs.Places.{with_places, places_of};
+ghost use Rattle.segment.specs.declared.place.Posted.{Posted};
+ghost use Rattle.segment.specs.Standing.{with_places, places_of};
 ghost use Rattle.store_image.specs.Says.{IsKept};
 ghost use Rattle.store_image.specs.Shown.{Shows, IsOnDisk};
-ghost use Rattle.store_image.specs.Answers.{IsMade, IsNotOpened, CountsFault};
-ghost use Rattle.store_image.specs.declared.fault.ImageFault.TheVariants as images;
+ghost use Rattle.store_image.specs.Answers.{IsNotOpened, CountsFault};
 
-use crate::shown::Shown;
+use history_model::Shown;
 use as_of_index::Posted;
 use blocks::Slot;
 use directory::Directory;
@@ -18,20 +17,6 @@ use disk_model::Disk;
 use history_model::StampedRow;
 use std::alloc::{AllocError, Global};
 use store_image::ImageFault;
-
-/// Looks whether a disk has no bytes. Nothing is written.
-pub(crate) fn check_empty<D: Disk>(disk: &mut D) -> Result<(), ImageFault>
-    ensures exact { D.is_honest disk.old → IsMade result (D.moments disk.old).state.now }
-    ensures only { IfErr result (λ e. (e ≡ images.NotEmpty) ⊎ (e ≡ images.DiskFault)) }
-    ensures moments { D.is_honest disk.old → D.moments disk.new ≡ D.moments disk.old }
-    ensures honesty { D.is_honest disk.old ↔ D.is_honest disk.new }
-    ensures failures { CountsFault result (D.failures disk.old) (D.failures disk.new) }
-{
-    if disk.len()? > 0 {
-        return Err(ImageFault::NotEmpty);
-    }
-    Ok(())
-}
 
 pub(crate) trait RowSink {
     ghost has_taken: { Self → List (List (StampedRow × Posted)) → List (StampedRow × Posted) → Type 0 };
@@ -77,7 +62,6 @@ pub(crate) fn load<D: Disk, S: RowSink>(
 pub(crate) struct Nothing;
 
 impl RowSink for Nothing {
-    ghost use Rattle.std.specs.Prelude.{Unit};
     ghost has_taken = { λ s segments rows. Unit {0} };
 
     fn take(&mut self, row: &StampedRow, at: Posted) -> Result<(), AllocError> {

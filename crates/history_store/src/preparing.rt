@@ -5,19 +5,19 @@ ghost use Rattle.history_model.specs.InOrder.{IsAscending};
 ghost use Rattle.history_model.specs.History.{row_cmp, stamped_cmp, stamped};
 ghost use Rattle.directory.specs.Listings.{Listing, IsListing};
 ghost use Rattle.segment.specs.Records.{segment_of};
-ghost use Rattle.as_of_index.specs.Places.{posted, places_of};
+ghost use Rattle.segment.specs.Standing.{places_of};
 ghost use Rattle.history_store.specs.Stored.{last_import, last_epoch};
 ghost use Rattle.history_store.specs.Shelf.{shelf_of};
 ghost use Rattle.history_store.specs.Prepared.{IsNotSpent, IsPlacedAt, IsPrepared, IsUnprepared};
 
 use crate::refusal::Refusal;
-use crate::shown::Shown;
+use history_model::Shown;
 use as_of_index::{Listed, Posted};
 use blocks::Extent;
 use directory::{Directory, Entry, MOST_ENTRIES, first_fit};
 use history_model::StampedRow;
 use rf2_values::Row;
-use segment::{encode, encoded_len, record_len};
+use segment::{encode, encoded_len};
 use std::alloc::{AllocError, Global};
 
 /// A segment of new rows, its places, and the directory that lists it.
@@ -81,18 +81,6 @@ fn place(directory: &Directory, rows: &[StampedRow]) -> Result<Entry, Refusal>
     })
 }
 
-/// The row's place, its record beginning at this byte.
-fn place_of(row: &StampedRow, at: u32) -> Posted
-    ensures { result ≡ posted row.now at }
-{
-    Posted {
-        key: row.row.key(),
-        import: row.import,
-        at,
-        bytes: record_len(row),
-    }
-}
-
 /// The places of a segment's rows, and the rows, which only clauses read.
 fn place_all(alloc: Global, rows: &[StampedRow]) -> Result<(Listed, Shown), AllocError>
     requires ascending { IsAscending stamped_cmp rows.now }
@@ -103,10 +91,11 @@ fn place_all(alloc: Global, rows: &[StampedRow]) -> Result<(Listed, Shown), Allo
     let mut shown = Shown::new(alloc);
     let mut at = 0u32;
     for row in rows {
-        let place = place_of(row, at);
+        let place = Posted::new(row, at);
+        let bytes = place.bytes;
         places.push(place)?;
         shown.push(row)?;
-        at += place.bytes;
+        at += bytes;
     }
     Ok((Listed::new(places), shown))
 }

@@ -8,13 +8,12 @@ ghost use Rattle.store_image.specs.Answers.{empty_listing};
 ghost use Rattle.history_store.specs.Answers.{Counts, IsNotMade};
 ghost use Rattle.history_store.specs.declared.refusal.Refusal.TheVariants as refusals;
 
-use crate::loading::check_empty;
 use crate::refusal::Refusal;
 use as_of_index::{Index, Listed, Posted};
 use blocks::BlockCache;
 use disk_model::Disk;
 use std::alloc::{AllocError, Global};
-use store_image::{Made, make};
+use store_image::{Made, check_empty, make};
 
 /// How many blocks of the disk are kept in memory: 4 MiB.
 const KEPT_BLOCKS: usize = 1024;

@@ -9,7 +9,7 @@ use crate::loading::{Loaded, Nothing, load};
 use crate::preparing::{Prepared, is_spent, prepare, repeated};
 use crate::reading::DiskRows;
 use crate::refusal::Refusal;
-use crate::shown::Shown;
+use history_model::Shown;
 use crate::starting::{Room, Started, room_for, start};
 use as_of_index::{Index, ReadFault};
 use blocks::{BlockCache, Slot};
@@ -59,7 +59,7 @@ impl<D: Disk> Store<D> {
     ghost use Rattle.history_model.specs.Queries.{lookup};
     ghost use Rattle.directory.specs.Listings.{Listing};
     ghost use Rattle.import_check.specs.Fresh.{IsAcceptedAs, IsRead};
-    ghost use Rattle.import_check.specs.Sweep.{IsApart};
+    ghost use Rattle.import_check.specs.Fresh.{IsApart};
     ghost use Rattle.store_image.specs.Images.{StandsFor, StandsForHistory};
     ghost use Rattle.history_store.specs.Shelf.{shelf_of};
     ghost use Rattle.history_store.specs.Stored.{Stored, IsAcknowledged, with_rows};

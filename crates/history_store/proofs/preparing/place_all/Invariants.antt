@@ -1,6 +1,6 @@
 use Rattle.std.proofs.Common.{◌≡◌, length, take}
 use Rattle.segment.specs.Records.{segment_of}
-use Rattle.as_of_index.specs.Places.{places_of}
+use Rattle.segment.specs.Standing.{places_of}
 use Rattle.history_store.proofs.preparing.place_all.Given as goal
 
 -- the rows so far have their places

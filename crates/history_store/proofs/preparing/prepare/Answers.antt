@@ -5,7 +5,7 @@ use Rattle.history_model.specs.InOrder.{IsAscending}
 use Rattle.history_model.specs.History.{stamped, stamped_cmp}
 use Rattle.segment.specs.Records.{IsSegment}
 use Rattle.history_store.specs.Prepared.{IsPlacedAt}
-use Rattle.as_of_index.specs.Places.{places_of}
+use Rattle.segment.specs.Standing.{places_of}
 use Rattle.history_store.proofs.NewSegment.{ascending_stamped, from_one, added_listing, prepared_is, length-stamped}
 use Rattle.history_store.proofs.preparing.prepare.Goals as goal
 
