@@ -1,0 +1,5 @@
+pub mod Prefixed
+pub mod FirstKept
+pub mod Terming
+pub mod Laid
+pub mod Posted
