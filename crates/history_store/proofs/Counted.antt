@@ -18,11 +18,11 @@ use Rattle.history_store.proofs.Sorted.{flips, untied_joined}
 
 length-put : (x : StampedRow) (ys : List StampedRow) → ((y : StampedRow) → Has ys y → stamped_cmp x y ≡ Equal → ⊥) → length (put stamped_cmp x ys) ≡ suc (length ys)
 length-put x [] apart = refl
-length-put x (y ∷ ys) apart = each (stamped_cmp x y) refl where
-  each : (r : Ordering) → stamped_cmp x y ≡ r → length (placed r x y ys (put stamped_cmp x ys)) ≡ suc (length (y ∷ ys))
-  each Less e = refl
-  each Equal e = absurd (apart y (inl refl) e)
-  each Greater e = ap (λ n. suc n) (length-put x ys (λ z h. apart z (inr h)))
+length-put x (y ∷ ys) apart = each (length-put x ys (λ z h. apart z (inr h))) (stamped_cmp x y) refl where
+  each : length (put stamped_cmp x ys) ≡ suc (length ys) → (r : Ordering) → stamped_cmp x y ≡ r → length (placed r x y ys (put stamped_cmp x ys)) ≡ suc (length (y ∷ ys))
+  each rest Less e = refl
+  each rest Equal e = absurd (apart y (inl refl) e)
+  each rest Greater e = ap (λ n. suc n) rest
 
 tied : (x y : StampedRow) → stamped_cmp x y ≡ Equal → eq_by_cmp stamped_cmp y x ≡ false → ⊥
 tied x y tie differ = let wrong : true ≡ false = sym (ap is_eq tie) ∙ flips x y ∙ differ in absurd (cc)

@@ -12,7 +12,7 @@ use Rattle.blocks.specs.Outside.{SameOutside}
 use Rattle.blocks.specs.Cache.{is_in, AgreesWith, Forgets, KeepsBeside}
 use Rattle.blocks.proofs.Agreeing.{empty_agrees, still_agrees, forgets_beside, forgets_both}
 use Rattle.history_model.specs.declared.stamped.StampedRow.{StampedRow}
-use Rattle.history_model.specs.History.{History, IsHistory}
+use Rattle.history_model.specs.History.{History, IsHistory, no_history}
 use Rattle.history_model.specs.Lists.{listed, AreLists}
 use Rattle.directory.specs.declared.entry.Entry.{Entry}
 use Rattle.directory.specs.Listings.{Listing, IsListing}
@@ -85,6 +85,13 @@ held_first honest state cache slot d index lists same no_places no_rows empty on
     (subst (λ l. IsKept d l) (sym no_rows) (subst (λ (l : Listing). IsKept l []) (sym same) empty_kept))
     (no_places ∙ ap (map places_of) (sym no_rows))
     empty (λ up. subst (λ l. IsOnDisk state slot d l) (sym no_rows) (on up))
+
+-- nothing is imported, and there is no segment
+pub new_history : (d : Listing) (lists : List (List StampedRow)) → d ≡ empty_listing → lists ≡ [] → history_of d lists ≡ no_history
+new_history d lists same none =
+    let imports : d.imports ≡ 0 = ap (λ (l : Listing). l.imports) same in
+    let rows : listed lists ≡ [] = ap listed none ∙ listed_none in
+    λ i. record { imports = imports i; rows = rows i }
 
 -- after reads
 pub held_read : (was is : Type 0) (old new : Moments) (cache after : LruCache ℕ (List ℕ)) (slot : Slot) (d : Listing) (index : List (List Posted)) (lists : List (List StampedRow)) (needs : Bool) → IsHeld was old.state cache slot d index lists needs → MomentsStay was is old new

@@ -185,6 +185,14 @@ not_prepared_at_all {D} u old v mid release rows e first left same still read wh
     let here : IsUnprepared e rows old.shelf = subst (λ (x : Shelf). IsUnprepared e rows x) (ap (λ (x : Stored D). x.shelf) same ∙ still.shelf) why in
     lacking old release rows e still.open_before room read here
 
+pub unprepared_refused : {D : Type 0} (old mid : Stored D) (rows : List StampedRow) (shelf : Shelf) (e : Refusal) → IsStill old mid → IsUnprepared e rows shelf → IsRefused e old mid
+unprepared_refused old mid rows shelf e still why = record {
+  history = still.history;
+  shelf = still.shelf;
+  closed = λ device. absurd (subst (λ x. IsUnprepared x rows shelf) device why);
+  still = λ other. still.open_still ∙ sym still.open_before;
+}
+
 -- ---- what is refused at the device, or for want of memory, when all is prepared
 
 pub refused_from : {D : Type 0} (old mid new : Stored D) (e : Refusal) → IsStill old mid → IsRefused e mid new → IsRefused e old new

@@ -9,4 +9,5 @@ pub mod Refusing
 pub mod Apart
 pub mod FreshRows
 pub mod Imported
+pub mod Shortness
 pub mod Reopened

@@ -15,8 +15,7 @@ use Rattle.store_image.specs.Says.{IsSegmentOf}
 use Rattle.history_store.specs.declared.preparing.Prepared.{Prepared}
 use Rattle.history_store.specs.Shelf.{shelf_of}
 use Rattle.history_store.specs.Prepared.{IsNotSpent, IsPlacedAt, IsPrepared}
-use Rattle.segment.specs.Standing.{posted, with_places, places_of}
-use Rattle.segment.specs.Standing.{record_len}
+use Rattle.segment.specs.Standing.{places_of}
 use Rattle.history_store.proofs.Held.{repeated_listing}
 use Rattle.history_model.specs.declared.stamped.StampedRow.{StampedRow}
 use Rattle.rf2_values.specs.Row.{Version}

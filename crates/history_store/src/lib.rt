@@ -8,6 +8,7 @@ mod counting;
 mod known;
 pub mod laws;
 mod loading;
+mod placing;
 mod preparing;
 mod reading;
 mod refusal;

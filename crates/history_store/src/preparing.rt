@@ -1,21 +1,20 @@
 //! What an import makes before its first write.
 
-ghost use Rattle.std.specs.Prelude.{◌≡◌, ◌⊎◌, ◌+◌, ◌<◌, ◌≤◌, ◌^◌, length, IfOk, IfErr, true, false};
+ghost use Rattle.std.specs.Prelude.{◌≡◌, ◌⊎◌, ◌+◌, ◌≤◌, length, IfOk, IfErr, true, false};
 ghost use Rattle.history_model.specs.InOrder.{IsAscending};
-ghost use Rattle.history_model.specs.History.{row_cmp, stamped_cmp, stamped};
+ghost use Rattle.history_model.specs.History.{row_cmp, stamped};
 ghost use Rattle.directory.specs.Listings.{Listing, IsListing};
-ghost use Rattle.segment.specs.Records.{segment_of};
-ghost use Rattle.segment.specs.Standing.{places_of};
 ghost use Rattle.history_store.specs.Stored.{last_import, last_epoch};
 ghost use Rattle.history_store.specs.Shelf.{shelf_of};
 ghost use Rattle.history_store.specs.Prepared.{IsNotSpent, IsPlacedAt, IsPrepared, IsUnprepared};
 
+use crate::loading::Nothing;
+use crate::placing::place_all;
 use crate::refusal::Refusal;
-use history_model::Shown;
-use as_of_index::{Listed, Posted};
+use as_of_index::Listed;
 use blocks::Extent;
 use directory::{Directory, Entry, MOST_ENTRIES, first_fit};
-use history_model::StampedRow;
+use history_model::{Shown, StampedRow};
 use rf2_values::Row;
 use segment::{encode, encoded_len};
 use std::alloc::{AllocError, Global};
@@ -81,25 +80,6 @@ fn place(directory: &Directory, rows: &[StampedRow]) -> Result<Entry, Refusal>
     })
 }
 
-/// The places of a segment's rows, and the rows, which only clauses read.
-fn place_all(alloc: Global, rows: &[StampedRow]) -> Result<(Listed, Shown), AllocError>
-    requires ascending { IsAscending stamped_cmp rows.now }
-    requires short { length (segment_of rows.now) < 2 ^ 32 }
-    ensures { IfOk result (λ placed. (placed.0 ≡ places_of rows.now) × (placed.1 ≡ rows.now)) }
-{
-    let mut places = Vec::with_capacity(alloc, rows.len())?;
-    let mut shown = Shown::new(alloc);
-    let mut at = 0u32;
-    for row in rows {
-        let place = Posted::new(row, at);
-        let bytes = place.bytes;
-        places.push(place)?;
-        shown.push(row)?;
-        at += bytes;
-    }
-    Ok((Listed::new(places), shown))
-}
-
 /// The segment of new rows, its places, and the directory with it.
 pub(crate) fn prepare(
     alloc: Global,
@@ -115,13 +95,14 @@ pub(crate) fn prepare(
     let list = stamp(alloc, fresh, directory.imports() + 1)?;
     let entry = place(directory, &list)?;
     let bytes = encode(alloc, &list)?;
-    let (places, shown) = place_all(alloc, &list)?;
+    let mut sink = Nothing;
+    let (places, shown) = place_all(alloc, &list, &mut sink)?;
     let mut next = repeated(alloc, directory)?;
     next.add(entry);
     Ok(Prepared {
         directory: next,
         entry,
-        places,
+        places: Listed::new(places),
         shown,
         bytes,
     })

@@ -10,7 +10,8 @@ ghost use Rattle.history_store.specs.declared.refusal.Refusal.TheVariants as ref
 
 use crate::refusal::Refusal;
 use as_of_index::{Index, Listed, Posted};
-use blocks::BlockCache;
+use blocks::{BlockCache, Slot};
+use directory::Directory;
 use disk_model::Disk;
 use std::alloc::{AllocError, Global};
 use store_image::{Made, check_empty, make};
@@ -28,8 +29,10 @@ pub(crate) struct Room {
 /// An empty store.
 #[derive(Drop)]
 pub(crate) struct Started {
-    pub(crate) made: Made,
-    pub(crate) room: Room,
+    pub(crate) slot: Slot,
+    pub(crate) directory: Directory,
+    pub(crate) index: Index,
+    pub(crate) cache: BlockCache,
 }
 
 /// An index of these places, and a cache that keeps no block.
@@ -49,16 +52,21 @@ pub(crate) fn room_for(alloc: Global, places: Vec<Vec<Posted>>) -> Result<Room, 
 
 /// Makes a store on an empty disk.
 pub(crate) fn start<D: Disk>(alloc: Global, disk: &mut D) -> Result<Started, Refusal>
-    ensures empty { IfOk result (λ s. (s.made.directory ≡ empty_listing) × (s.room.index ≡ []) × (s.room.cache ≡ lru_cache [] 1024)) }
+    ensures empty { IfOk result (λ s. (s.directory ≡ empty_listing) × (s.index ≡ []) × (s.cache ≡ lru_cache [] 1024)) }
     ensures made { D.is_honest disk.old → OnOk result (length (D.moments disk.old).state.now ≡ 0) }
-    ensures on_disk { D.is_honest disk.old → IfOk result (λ s. IsOnDisk (D.moments disk.new).state s.made.slot s.made.directory []) }
+    ensures on_disk { D.is_honest disk.old → IfOk result (λ s. IsOnDisk (D.moments disk.new).state s.slot s.directory []) }
     ensures why { D.is_honest disk.old → IfErr result (λ e. IsNotMade e (D.moments disk.old).state.now) }
     ensures refused { D.is_honest disk.old → IfErr result (λ e. e ≢ refusals.DiskFault → D.moments disk.new ≡ D.moments disk.old) }
     ensures honesty { D.is_honest disk.old ↔ D.is_honest disk.new }
     ensures failures { Counts result (D.failures disk.old) (D.failures disk.new) }
 {
     check_empty(disk)?;
-    let room = room_for(alloc, Vec::new(alloc))?;
-    let made = make(alloc, disk)?;
-    Ok(Started { made, room })
+    let Room { index, cache } = room_for(alloc, Vec::new(alloc))?;
+    let Made { slot, directory } = make(alloc, disk)?;
+    Ok(Started {
+        slot,
+        directory,
+        index,
+        cache,
+    })
 }

@@ -56,7 +56,7 @@ impl<D: Disk> Model for Store<D> {
 
 impl<D: Disk> Store<D> {
     ghost use Rattle.history_model.specs.History.{rows_at, full};
-    ghost use Rattle.history_model.specs.Queries.{lookup};
+    ghost use Rattle.history_model.specs.Queries.{lookup, versions, page};
     ghost use Rattle.directory.specs.Listings.{Listing};
     ghost use Rattle.import_check.specs.Fresh.{IsAcceptedAs, IsRead};
     ghost use Rattle.import_check.specs.Fresh.{IsApart};
@@ -79,15 +79,20 @@ impl<D: Disk> Store<D> {
     {
         let mut disk = disk;
         match start(alloc, &mut disk) {
-            Ok(Started { made, room }) => Ok(Store {
+            Ok(Started {
+                slot,
+                directory,
+                index,
+                cache,
+            }) => Ok(Store {
+                alloc,
                 disk,
-                cache: room.cache,
-                slot: made.slot,
-                directory: made.directory,
-                index: room.index,
+                cache,
+                slot,
+                directory,
+                index,
                 shown: Vec::new(alloc),
                 needs_reopen: false,
-                alloc,
             }),
             Err(refusal) => Err((refusal, disk)),
         }
@@ -117,6 +122,7 @@ impl<D: Disk> Store<D> {
         };
         match room_for(alloc, places) {
             Ok(Room { index, cache }) => Ok(Store {
+                alloc,
                 disk,
                 cache,
                 slot,
@@ -124,7 +130,6 @@ impl<D: Disk> Store<D> {
                 index,
                 shown,
                 needs_reopen: false,
-                alloc,
             }),
             Err(error) => Err((Refusal::from(error), disk)),
         }
@@ -303,6 +308,84 @@ impl<D: Disk> Store<D> {
             self.extend(prepared)?;
         }
         Ok(receipt)
+    }
+
+    /// All versions of the component that the first `pin` imports brought, ascending by time.
+    pub fn history(
+        &mut self,
+        kind: Kind,
+        id: u128,
+        pin: u32,
+    ) -> Result<Vec<Row>, Refusal>
+        requires { pin ≤ self.old.history.imports }
+        ensures found { D.is_honest self.old.disk → IfOk result (λ rows. rows.items ≡ versions kind id (rows_at pin self.old.history.rows)) }
+        ensures undamaged { D.is_honest self.old.disk → IfErr result (λ e. e ≢ refusals.Damaged) }
+        ensures read { IsReadingOf result self.old self.new }
+        ensures closed { self.old.needs_reopen ≡ true → self.new ≡ self.old }
+        ensures moments { D.is_honest self.old.disk → D.moments self.new.disk ≡ D.moments self.old.disk }
+        ensures acknowledged { D.is_honest self.old.disk → self.new.needs_reopen ≡ false → IsAcknowledged D.moments self.new }
+        ensures honesty { D.is_honest self.old.disk ↔ D.is_honest self.new.disk }
+        ensures failures { Counts result (D.failures self.old.disk) (D.failures self.new.disk) }
+    {
+        if self.needs_reopen {
+            return Err(Refusal::ReopenNeeded);
+        }
+        let mut reader = DiskRows {
+            disk: &mut self.disk,
+            cache: &mut self.cache,
+            entries: self.directory.entries(),
+            shown: self.shown.as_slice(),
+            damages: 0,
+        };
+        match self.index.history(&mut reader, kind, id, pin) {
+            Ok(found) => Ok(found),
+            Err(fault) => {
+                if matches!(fault, ReadFault::DiskFault) {
+                    self.needs_reopen = true;
+                }
+                Err(Refusal::from(fault))
+            }
+        }
+    }
+
+    /// The first rows of a kind at the date, at most `limit`, ascending by id from above `after` on.
+    pub fn page(
+        &mut self,
+        kind: Kind,
+        time: EffectiveTime,
+        pin: u32,
+        after: Option<u128>,
+        limit: u32,
+    ) -> Result<Vec<Row>, Refusal>
+        requires { pin ≤ self.old.history.imports }
+        ensures found { D.is_honest self.old.disk → IfOk result (λ rows. rows.items ≡ page kind time after limit (rows_at pin self.old.history.rows)) }
+        ensures undamaged { D.is_honest self.old.disk → IfErr result (λ e. e ≢ refusals.Damaged) }
+        ensures read { IsReadingOf result self.old self.new }
+        ensures closed { self.old.needs_reopen ≡ true → self.new ≡ self.old }
+        ensures moments { D.is_honest self.old.disk → D.moments self.new.disk ≡ D.moments self.old.disk }
+        ensures acknowledged { D.is_honest self.old.disk → self.new.needs_reopen ≡ false → IsAcknowledged D.moments self.new }
+        ensures honesty { D.is_honest self.old.disk ↔ D.is_honest self.new.disk }
+        ensures failures { Counts result (D.failures self.old.disk) (D.failures self.new.disk) }
+    {
+        if self.needs_reopen {
+            return Err(Refusal::ReopenNeeded);
+        }
+        let mut reader = DiskRows {
+            disk: &mut self.disk,
+            cache: &mut self.cache,
+            entries: self.directory.entries(),
+            shown: self.shown.as_slice(),
+            damages: 0,
+        };
+        match self.index.page(&mut reader, kind, time, pin, after, limit) {
+            Ok(found) => Ok(found),
+            Err(fault) => {
+                if matches!(fault, ReadFault::DiskFault) {
+                    self.needs_reopen = true;
+                }
+                Err(Refusal::from(fault))
+            }
+        }
     }
 
     /// How many releases were imported.
