@@ -4,6 +4,8 @@
 #[cfg(test)]
 mod answers;
 #[cfg(test)]
+mod both_ways;
+#[cfg(test)]
 mod fixtures;
 #[cfg(test)]
 mod limits;

@@ -2,6 +2,7 @@ pub mod Ordered
 pub mod Found
 pub mod Standing
 pub mod Following
+pub mod Walking
 pub mod OnePlace
 pub mod Among
 pub mod Keeping

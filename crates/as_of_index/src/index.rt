@@ -14,31 +14,15 @@ ghost use Rattle.as_of_index.specs.Current.{is_same_place, IsCurrentAt};
 ghost use Rattle.as_of_index.specs.Search.{all_places, IsPick, IsPlaceOf, IsNext, IsNextId, IsNextVersion};
 ghost use Rattle.as_of_index.specs.declared.reader.ReadFault.TheVariants as readfault;
 
+use crate::cursors::{cursors_at, latest_on, next_id};
+use crate::listed::Listed;
 use crate::reader::{ReadFault, RowReader};
-use crate::search::{Start, is_of, later, latest_in, next_in, sooner};
+use crate::search::Start;
+use crate::several::{latest, next_version};
 use rf2_values::{EffectiveTime, Kind, Row};
 use segment::Posted;
 use std::alloc::{AllocError, Global};
 use std::marker::Model;
-
-/// The places of a segment's rows, in strictly ascending key order.
-#[derive(Drop)]
-pub struct Listed {
-    places: Vec<Posted>,
-}
-
-impl Model for Listed {
-    ghost use Rattle.std.specs.Prelude.{List};
-    ghost use Rattle.history_model.specs.InOrder.{IsAscending};
-    ghost use Rattle.segment.specs.declared.place.Posted.{Posted};
-    ghost use Rattle.as_of_index.specs.Places.{place_cmp};
-
-    ghost Value = { List Posted };
-
-    ghost view = { λ a. a.places.items };
-
-    ghost invariant = { λ a. IsAscending place_cmp a.places.items };
-}
 
 /// The places of several segments' rows, no key of which is listed twice.
 #[derive(Drop)]
@@ -59,22 +43,6 @@ impl Model for Index {
     ghost invariant = { λ a. record { places : ArePlaces a.lists.items; room : 128 ≤ vec_capacity a.lists } };
 }
 
-impl Listed {
-    pub fn new(places: Vec<Posted>) -> Listed
-        requires { IsAscending place_cmp places.items }
-        ensures { result ≡ places.items }
-    {
-        Listed { places }
-    }
-
-    pub fn places(&self) -> &[Posted]
-        ensures places { result.now ≡ self.now }
-        ensures ascending { IsAscending place_cmp self.now }
-    {
-        self.places.as_slice()
-    }
-}
-
 fn is_same_place(n: usize, p: &Posted, m: usize, q: &Posted) -> bool
     ensures { result ≡ is_same_place n p.now m q.now }
 {
@@ -85,63 +53,6 @@ fn is_same_place(n: usize, p: &Posted, m: usize, q: &Posted) -> bool
         && p.import == q.import
         && p.at == q.at
         && p.bytes == q.bytes
-}
-
-/// The latest version of the component up to the date that the pin shows, and the number of its list.
-fn latest(
-    lists: &[Listed],
-    kind: Kind,
-    id: u128,
-    time: EffectiveTime,
-    pin: u32,
-) -> Option<(usize, Posted)>
-    ensures { IsPick kind id time pin (λ x. x.1) (all_places 0 lists.now) result }
-{
-    let mut best = None;
-    for (segment, list) in lists.iter().enumerate() {
-        let found = latest_in(list.places(), kind, id, time, pin);
-        best = later(best, segment, found);
-    }
-    best
-}
-
-/// The first place of all lists that isn't passed over, and the number of its list.
-fn next(lists: &[Listed], start: &Start) -> Option<(usize, Posted)>
-    ensures { IsNext start.now (λ x. x.1) (all_places 0 lists.now) result }
-{
-    let mut best = None;
-    for (segment, list) in lists.iter().enumerate() {
-        let found = next_in(list.places(), *start);
-        best = sooner(best, segment, found);
-    }
-    best
-}
-
-/// The least id of a kind above `after`, if that is given.
-fn next_id(lists: &[Listed], kind: Kind, after: Option<u128>) -> Option<u128>
-    ensures { IsNextId kind after (all_places 0 lists.now) result }
-{
-    let start = Start::Components { kind, after };
-    match next(lists, &start) {
-        Some((_, first)) if is_of(kind, first.key.id, &first) => Some(first.key.id),
-        _ => None,
-    }
-}
-
-/// The first version of a component after a time, if that is given.
-fn next_version(
-    lists: &[Listed],
-    kind: Kind,
-    id: u128,
-    after: Option<EffectiveTime>,
-) -> Option<(usize, Posted)>
-    ensures { IsNextVersion kind id after (all_places 0 lists.now) result }
-{
-    let start = Start::Later { kind, id, after };
-    match next(lists, &start) {
-        Some((segment, p)) if is_of(kind, id, &p) => Some((segment, p)),
-        _ => None,
-    }
 }
 
 fn time_of(p: &Posted) -> EffectiveTime
@@ -299,12 +210,14 @@ impl Index {
         ensures disk_faults { Counts CountsDiskFault result (R.disk_faults reader.old) (R.disk_faults reader.new) }
         ensures damages { Counts CountsDamage result (R.damages reader.old) (R.damages reader.new) }
     {
+        let lists = self.lists.as_slice();
         let mut rows = Vec::new(self.alloc);
         let mut last = after;
+        let mut cursors = cursors_at(self.alloc, lists, &Start::Components { kind, after })?;
         while rows.len() < limit as usize {
-            match next_id(self.lists.as_slice(), kind, last) {
+            match next_id(lists, &mut cursors, kind, last) {
                 Some(id) => {
-                    if let Some((segment, at)) = self.picked(kind, id, time, pin) {
+                    if let Some((segment, at)) = latest_on(lists, &cursors, kind, id, time, pin) {
                         let found = reader.row(self.alloc, segment, at)?;
                         rows.push(found.row)?;
                     }

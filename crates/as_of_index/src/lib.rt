@@ -2,14 +2,18 @@
 #![tactic(auto)]
 
 mod chosen;
+mod cursors;
 mod index;
 mod kept;
 pub mod laws;
+mod listed;
 mod reader;
 mod search;
+mod several;
 
 pub use chosen::{Chosen, read_all};
-pub use index::{Index, Listed};
+pub use index::Index;
 pub use kept::KeptRows;
+pub use listed::Listed;
 pub use reader::{ReadFault, RowReader};
 pub use segment::Posted;

@@ -1,6 +1,6 @@
 -- What is kept of a file that is written.
 use Rattle.std.specs.Prelude.{All}
-use Rattle.std.proofs.Common.{◌≡◌, ◌⊎◌, inl, inr, ⊎_elim, ℕ, ◌+◌, ◌-◌, ◌*◌, ◌<◌, ◌≤◌, ◌&&◌, ◌++◌, min, Bool, true, false, cond, List, [], ◌∷◌, length, get_or, take, drop, Option, Some, None, nat_le, nat_lt, refl, sym, ap, ◌∙◌, subst, arith, length-take}
+use Rattle.std.proofs.Common.{◌≡◌, ◌⊎◌, inl, inr, ℕ, ◌+◌, ◌*◌, ◌<◌, ◌≤◌, Bool, false, List, [], length, get_or, take, drop, Some, None, nat_le, nat_lt, sym, ◌∙◌, arith, length-take}
 use Rattle.std.proofs.lemmas.Bool.Decides.{nat_tests}
 use Rattle.std.proofs.lemmas.List.{get_or-take}
 use Rattle.std.proofs.lemmas.List.Elements.{All-nil, All-cons, All-append}
@@ -8,8 +8,7 @@ use Rattle.lru.specs.LruCache.{LruCache}
 use Rattle.disk_model.specs.Disk.{IsOutside}
 use Rattle.blocks.specs.declared.extent.Extent.{Extent}
 use Rattle.blocks.specs.Extents.{block_count, byte_range}
-use Rattle.blocks.specs.Outside.{SameOutside}
-use Rattle.blocks.specs.Cache.{block_of, kept_of, is_in, AgreesWith, Forgets, IsBeside, KeepsBeside, EmptyAgrees, StillAgrees, ForgetsBeside, ForgetsBoth, CutAgrees}
+use Rattle.blocks.specs.Cache.{block_of, kept_of, is_in, Forgets, IsBeside, EmptyAgrees, StillAgrees, ForgetsBeside, ForgetsBoth, CutAgrees}
 use Rattle.blocks.proofs.Windows.{window_same, window_elsewhere}
 use Rattle.blocks.proofs.Kept.{by_answer, cond-true, cond-false}
 

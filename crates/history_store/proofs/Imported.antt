@@ -14,7 +14,7 @@ use Rattle.import_check.specs.declared.fresh.Fresh.{Fresh}
 use Rattle.import_check.specs.declared.fault.ImportFault.{ImportFault}
 use Rattle.import_check.specs.declared.fault.ImportFault.TheVariants as importfault
 use Rattle.import_check.specs.declared.fault.KnownFault.TheVariants as knownfault
-use Rattle.import_check.specs.Fresh.{IsRead, IsAcceptedAs, IsReadBefore, IsContradictionIn, IsUndamaged}
+use Rattle.import_check.specs.Fresh.{IsRead, IsAcceptedAs, IsRefusal}
 use Rattle.import_check.proofs.Receipts.{fresh_rows_are_new}
 use Rattle.history_store.specs.declared.preparing.Prepared.{Prepared}
 use Rattle.history_store.specs.declared.refusal.Refusal.{Refusal}
@@ -116,24 +116,24 @@ nothing (x ∷ xs) none = absurd (omega arith)
 
 -- what is refused because of the release itself, or while known rows are read
 pub not_fresh : {D : Type 0} (s : Stored D) (release : Release) (honest : Type 0) (e : Refusal) → s.needs_reopen ≡ false → IsNotSpent s.history.imports s.shelf.epoch → honest → IsNotFresh honest e (full s.history) release → IsImportRefusal e s release
-not_fresh {D} s release honest e still room up why = subst (λ x. IsImportRefusal x s release) (sym why.1) (each why.0 why.2 (why.3 up)) where
-  each : (fault : ImportFault) → IsReadBefore release fault → IsContradictionIn (full s.history) release fault × IsUndamaged fault → IsImportRefusal (refusal_of fault) s release
-  each importfault.OutOfMemory read is = (still, room)
-  each (importfault.Known knownfault.OutOfMemory) read is = (still, room)
-  each (importfault.Known knownfault.DiskFault) read is = (still, inl (room, read))
-  each (importfault.Known knownfault.Damaged) read is = absurd (is.1 refl)
-  each (importfault.Row file line fault) read is = (still, (room, read))
-  each (importfault.Contradiction file line key) read is = (still, (room, key, is.0))
+not_fresh {D} s release honest e still room up why = subst (λ x. IsImportRefusal x s release) (sym why.1) (each why.0 why.2) where
+  each : (fault : ImportFault) → IsRefusal honest (full s.history) release fault → IsImportRefusal (refusal_of fault) s release
+  each importfault.OutOfMemory is = (still, room)
+  each (importfault.Known knownfault.OutOfMemory) is = (still, room)
+  each (importfault.Known knownfault.DiskFault) is = (still, inl (room, is.0))
+  each (importfault.Known knownfault.Damaged) is = absurd (is.1 up refl)
+  each (importfault.Row file line fault) is = (still, (room, is))
+  each (importfault.Contradiction file line key) is = (still, (room, key, is.1 up))
 
 pub not_fresh_at_all : {D : Type 0} (s : Stored D) (release : Release) (honest : Type 0) (e : Refusal) → s.needs_reopen ≡ false → IsNotSpent s.history.imports s.shelf.epoch → IsNotFresh honest e (full s.history) release → IsRefusalAtAll e s release
 not_fresh_at_all {D} s release honest e still room why = subst (λ x. IsRefusalAtAll x s release) (sym why.1) (each why.0 why.2) where
-  each : (fault : ImportFault) → IsReadBefore release fault → IsRefusalAtAll (refusal_of fault) s release
-  each importfault.OutOfMemory read = (still, room)
-  each (importfault.Known knownfault.OutOfMemory) read = (still, room)
-  each (importfault.Known knownfault.DiskFault) read = (still, room, read)
-  each (importfault.Known knownfault.Damaged) read = (still, room, read)
-  each (importfault.Row file line fault) read = (still, room, read)
-  each (importfault.Contradiction file line key) read = (still, room, read)
+  each : (fault : ImportFault) → IsRefusal honest (full s.history) release fault → IsRefusalAtAll (refusal_of fault) s release
+  each importfault.OutOfMemory is = (still, room)
+  each (importfault.Known knownfault.OutOfMemory) is = (still, room)
+  each (importfault.Known knownfault.DiskFault) is = (still, room, is.0)
+  each (importfault.Known knownfault.Damaged) is = (still, room, is.0)
+  each (importfault.Row file line fault) is = (still, room, is)
+  each (importfault.Contradiction file line key) is = (still, room, is.0)
 
 pub new_is : {D : Type 0} (s : Stored D) (release : Release) (fresh : Fresh) → (at : IsAt s release fresh) → stamped (s.history.imports + 1) fresh.rows.items ≡ new_rows s.history at.accepted.rows
 new_is s release fresh at =

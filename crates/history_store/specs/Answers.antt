@@ -1,6 +1,7 @@
 -- What the calls of a store answer.
 use Rattle.std.specs.Prelude.{◌≡◌, ◌≢◌, ◌⊎◌, ℕ, ◌+◌, ◌<◌, ◌≤◌, true, false, List, [], length, None, Result, Ok, Err}
-use Rattle.disk_model.specs.Disk.{Moments, HasRisen}
+use Rattle.fault_counts.specs.Counting.{HasRisen}
+use Rattle.disk_model.specs.Disk.{Moments}
 use Rattle.blocks.specs.declared.slots.Slot.TheVariants.{A, B}
 use Rattle.blocks.specs.Slots.{IsOpen, IsClosed}
 use Rattle.rf2_values.specs.Row.{Version}
@@ -12,7 +13,7 @@ use Rattle.history_model.specs.Lists.{new_rows}
 use Rattle.import_check.specs.declared.release.Release.{Release}
 use Rattle.import_check.specs.Release.{IsReleaseOf, IsFaultOfRelease, HasContradiction}
 use Rattle.import_check.specs.declared.fault.ImportFault.{ImportFault}
-use Rattle.import_check.specs.Fresh.{IsRead, IsReadBefore, IsContradictionIn, IsUndamaged}
+use Rattle.import_check.specs.Fresh.{IsRead, IsRefusal}
 use Rattle.history_store.specs.Refusals.{refusal_of}
 use Rattle.store_image.specs.Images.{StandsFor, StandsForHistory, IsStore}
 use Rattle.history_store.specs.declared.refusal.Refusal.{Refusal}
@@ -28,7 +29,7 @@ device_of (Err e) = e.1
 
 -- the count of the device's failures: risen where it failed, and else as before
 abbrev pub CountsRefusal : Refusal → ℕ → ℕ → Type 0
-CountsRefusal refusals.DiskFault old new = HasRisen old new × (old ≤ new)
+CountsRefusal refusals.DiskFault old new = HasRisen old new
 CountsRefusal _ old new = new ≡ old
 
 abbrev pub CountsOpening : {D : Type 0} → Result (Stored D) (Refusal × D) → ℕ → ℕ → Type 0
@@ -183,7 +184,7 @@ IsReadingOf (Err e) old new = IsReadRefusal e old × IsRefused e old new
 
 -- why the new rows of a release are not had: a fault of the files on every disk, a contradiction and no damage on an honest one
 abbrev pub IsNotFresh : Type 0 → Refusal → List Version → Release → Type 0
-IsNotFresh honest e known release = (fault : ImportFault) × (e ≡ refusal_of fault) × IsReadBefore release fault × (honest → IsContradictionIn known release fault × IsUndamaged fault)
+IsNotFresh honest e known release = (fault : ImportFault) × (e ≡ refusal_of fault) × IsRefusal honest known release fault
 
 -- Why an import is refused, on every disk: what the counts, the files and the directory say. Whether a row contradicts the known ones is said on an honest disk alone.
 abbrev pub IsRefusalAtAll : {D : Type 0} → Refusal → Stored D → Release → Type 0

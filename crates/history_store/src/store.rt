@@ -103,8 +103,9 @@ impl<D: Disk> Store<D> {
         ensures exact { D.is_honest disk → IsOpeningOf result (D.moments disk).state.now }
         // A stop at any moment leaves what it might have left before.
         ensures any_moment { D.is_honest disk → LeavesOnly (D.moments disk) (D.moments (device_of result)) (IsImage (D.moments disk).state) }
-        // Opened or not, what a read gives is as before.
-        ensures unchanged { D.is_honest disk → (D.moments (device_of result)).state.now ≡ (D.moments disk).state.now }
+        // Whatever it answers, a read gives what it gave before.
+        ensures read { D.is_honest disk
+            → (D.moments (device_of result)).state.now ≡ (D.moments disk).state.now }
         ensures acknowledged { D.is_honest disk → IfOk result (IsAcknowledged D.moments) }
         ensures honesty { D.is_honest disk ↔ D.is_honest (device_of result) }
         ensures failures { CountsOpening result (D.failures disk) (D.failures (device_of result)) }

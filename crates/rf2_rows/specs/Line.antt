@@ -2,7 +2,6 @@
 use Rattle.std.specs.Prelude.{◌≡◌, ◌≢◌, ℕ, ◌≤◌, ◌<◌, ◌^◌, ◌==◌, ◌⊎◌, Bool, List, [], ◌∷◌, ◌++◌, length, map, decimal, codes, Result, Ok, Err}
 use Rattle.std.specs.List.{slice_split, AllZip}
 use Rattle.std.specs.Str.{IsUtf8}
-use Rattle.std.specs.Borrow.{Bor}
 use Rattle.rf2_values.specs.declared.sctid.Class.{Class}
 use Rattle.rf2_values.specs.declared.sctid.Class.TheVariants as class
 use Rattle.rf2_values.specs.declared.row.Kind.{Kind}
@@ -15,10 +14,6 @@ use Rattle.rf2_values.specs.Text.{IsText}
 use Rattle.rf2_rows.specs.declared.fault.RowFault.{RowFault}
 use Rattle.rf2_rows.specs.declared.fault.RowFault.TheVariants as rowfault
 use Rattle.rf2_values.specs.Row.{Version, IsOfClass, IsConcept, IsComponent, IsIdOf, SpellsId, Spells, kind_of, flag, line_of}
-
--- what references point to
-abbrev pub texts : List (Bor (List ℕ)) → List (List ℕ)
-texts columns = map (λ column. column.now) columns
 
 -- the texts between the TABs
 abbrev pub columns_of : List ℕ → List (List ℕ)
@@ -138,9 +133,3 @@ IsFaultOf kind text f =
 abbrev pub IsLineFaultThat : (LineFault → Type 0) → RowFault → Type 0
 IsLineFaultThat P rowfault.OutOfMemory = Unit {0}
 IsLineFaultThat P (rowfault.Line f) = P f
-
--- what reading a line gives, where memory lasts
-abbrev pub IsLineReading : Kind → List ℕ → Result Version RowFault → Type 0
-IsLineReading kind text (Ok v) = (kind_of v ≡ kind) × Spells v text
-IsLineReading kind text (Err rowfault.OutOfMemory) = Unit {0}
-IsLineReading kind text (Err (rowfault.Line f)) = IsFaultOf kind text f

@@ -78,7 +78,7 @@ impl<T: Drop> From<AllocFailed<T>> for FileFault {
 
 impl RowFault {
     ghost use Rattle.std.specs.Prelude.{◌≡◌};
-    ghost use Rattle.rf2_rows.specs.Fault.{at_line_of};
+    ghost use Rattle.rf2_rows.specs.Private.{at_line_of};
 
     /// The fault of a file whose line it is.
     pub(crate) fn at_line(self, line: usize) -> FileFault

@@ -6,7 +6,8 @@ ghost use Rattle.rf2_rows.specs.declared.fault.LineFault.{LineFault};
 ghost use Rattle.rf2_rows.specs.declared.fault.RowFault.TheVariants as rowfault;
 ghost use Rattle.rf2_values.specs.Time.{IsTime};
 ghost use Rattle.rf2_values.specs.Row.{Version, IsVersion, Spells, IsBody, kind_of_body, body_columns, IsConcept, IsIdOf, SpellsId, SpellsColumns, kind_of, flag as flag_text, line_of};
-ghost use Rattle.rf2_rows.specs.Line.{IsLineFaultThat, FirstFault, columns_in, common_layout, own_layout, texts, IsFaultOfColumns, IsFaultOf, IsLineReading};
+ghost use Rattle.rf2_rows.specs.Line.{IsLineFaultThat, FirstFault, columns_in, common_layout, own_layout, IsFaultOfColumns, IsFaultOf};
+ghost use Rattle.rf2_rows.specs.Private.{texts, IsLineReading};
 
 use crate::columns::{
     active, component_reference, concept_reference, cut, effective_time, group, identifier,
@@ -28,7 +29,7 @@ struct Common {
     id: u128,
     time: EffectiveTime,
     active: bool,
-    module: Sctid,
+    module_id: Sctid,
 }
 
 /// The columns that every kind has, from their texts.
@@ -44,14 +45,14 @@ fn read_common(
         (λ c. IsIdOf kind c.id × SpellsId kind c.id id.now
         × IsTime c.time × (time.now ≡ decimal c.time)
         × (flag.now ≡ flag_text c.active)
-        × IsConcept c.module × (module_id.now ≡ decimal c.module))
+        × IsConcept c.module_id × (module_id.now ≡ decimal c.module_id))
         (FirstFault (columns_in (common_layout kind)) (id.now ∷ time.now ∷ flag.now ∷ module_id.now ∷ [])) }
 {
     Ok(Common {
         id: identifier(kind, id)?,
         time: effective_time(time)?,
         active: active(flag)?,
-        module: concept_reference(module_id)?,
+        module_id: concept_reference(module_id)?,
     })
 }
 
@@ -168,15 +169,21 @@ fn read_columns(alloc: Global, kind: Kind, columns: &[&[u8]]) -> Result<Row, Row
         (λ v. (kind_of v ≡ kind) × IsVersion v × SpellsColumns v (texts columns.now))
         (IsLineFaultThat (IsFaultOfColumns kind (texts columns.now))) }
 {
-    let [id, time, flag, module, own @ ..] = columns else {
+    let [id, time, flag, module_id, own @ ..] = columns else {
         return Err(RowFault::Line(LineFault::Columns));
     };
     if own.len() != own_count(kind) {
         return Err(RowFault::Line(LineFault::Columns));
     }
-    let common = read_common(kind, id, time, flag, module)?;
+    let common = read_common(kind, id, time, flag, module_id)?;
     let body = read_own(alloc, kind, own)?;
-    Ok(Row::new(common.id, common.time, common.active, common.module, body))
+    Ok(Row::new(
+        common.id,
+        common.time,
+        common.active,
+        common.module_id,
+        body,
+    ))
 }
 
 /// The row that a line spells.

@@ -81,7 +81,7 @@ fn canonical_line(alloc: Global, row: &Row) -> Result<Vec<u8>, AllocError>
     put_id(&mut line, row.kind(), row.id)?;
     put_number(&mut line, u64::from(row.time.value()))?;
     put_flag(&mut line, row.active)?;
-    put_number(&mut line, row.module.value())?;
+    put_number(&mut line, row.module_id.value())?;
     put_own(&mut line, &row.body)?;
     Ok(line)
 }

@@ -21,7 +21,9 @@ kind_place kind.Association = 3
 
 -- by kind, then by id, then by time
 abbrev pub key_cmp : Key → Key → Ordering
-key_cmp a b = ordering_then (nat_cmp (kind_place a.kind) (kind_place b.kind)) (ordering_then (nat_cmp a.id b.id) (nat_cmp a.time b.time))
+key_cmp a b =
+    ordering_then (nat_cmp (kind_place a.kind) (kind_place b.kind))
+    (ordering_then (nat_cmp a.id b.id) (nat_cmp a.time b.time))
 
 -- which is one order of all keys
 pub keys_total : IsTotalOrder key_cmp

@@ -2,7 +2,8 @@ use Rattle.std.proofs.Common.{◌≡◌, List, ℕ, length, sym, ap, ◌∙◌, 
 use Rattle.std.specs.Borrow.{Bor}
 use Rattle.std.proofs.lemmas.List.Splits.{join_with_byte-slice_split}
 use Rattle.rf2_values.specs.Row.{line_of}
-use Rattle.rf2_rows.specs.Line.{texts, columns_of}
+use Rattle.rf2_rows.specs.Line.{columns_of}
+use Rattle.rf2_rows.specs.Private.{texts}
 use Rattle.rf2_rows.proofs.Faults.{line_reading}
 use Rattle.rf2_rows.proofs.line.read_line.Goals as goal
 
