@@ -12,6 +12,8 @@ mod limits;
 #[cfg(test)]
 mod openings;
 #[cfg(test)]
+mod queries;
+#[cfg(test)]
 mod refusals;
 #[cfg(test)]
 mod stops;
