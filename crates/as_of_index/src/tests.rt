@@ -220,9 +220,9 @@ fn lists_are_added_and_put_together(rt: HostRuntime) -> Result<(), Fail> {
     assert_eq!(rt; index.lists(), 2);
     let places = index.list(0);
     assert_eq!(rt; places.len() + index.list(1).len(), rows.len());
-    let first = Posted::new(&lists[0][0], 0);
-    assert_eq!(rt; places[0], first);
-    assert_eq!(rt; places[1].at, first.bytes);
+    let first = Posted::new(lists[0].first().ok_or("no row")?, 0);
+    assert_eq!(rt; places.first().copied(), Some(first));
+    assert_eq!(rt; places.get(1).map(|p| p.at), Some(first.bytes));
 
     let again = Listed::new(vec![in alloc; first]?);
     assert!(rt; !index.may_add(&again));
