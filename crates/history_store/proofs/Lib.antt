@@ -4,6 +4,7 @@ pub mod Sorted
 pub mod Counted
 pub mod Held
 pub mod Places
+pub mod Taken
 pub mod NewSegment
 pub mod Refusing
 pub mod Apart

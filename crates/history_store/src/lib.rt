@@ -9,6 +9,7 @@ mod known;
 pub mod laws;
 mod loading;
 mod placing;
+mod posting;
 mod preparing;
 mod reading;
 mod refusal;

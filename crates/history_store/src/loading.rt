@@ -95,21 +95,3 @@ pub(crate) fn load<D: Disk, S: RowSink>(
         shown,
     })
 }
-
-/// Takes nothing.
-#[derive(Drop)]
-pub(crate) struct Nothing;
-
-impl RowSink for Nothing {
-    ghost has_taken = { λ s segments rows. Unit {0} };
-
-    fn take(&mut self, row: &StampedRow, at: Posted) -> Result<(), AllocError> {
-        let _row = row;
-        let _at = at;
-        Ok(())
-    }
-
-    fn end_segment(&mut self) -> Result<(), AllocError> {
-        Ok(())
-    }
-}

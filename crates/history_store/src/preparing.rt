@@ -8,8 +8,8 @@ ghost use Rattle.history_store.specs.Stored.{last_import, last_epoch};
 ghost use Rattle.history_store.specs.Shelf.{shelf_of};
 ghost use Rattle.history_store.specs.Prepared.{IsNotSpent, IsPlacedAt, IsPrepared, IsUnprepared};
 
-use crate::loading::Nothing;
 use crate::placing::place_all;
+use crate::posting::Posting;
 use crate::refusal::Refusal;
 use as_of_index::Listed;
 use blocks::Extent;
@@ -19,13 +19,15 @@ use rf2_values::Row;
 use segment::{encode, encoded_len};
 use std::alloc::{AllocError, Global};
 
-/// A segment of new rows, its places, and the directory that lists it.
+/// A segment of new rows, its places, what is posted of its rows, and the directory that lists it.
 #[derive(Drop)]
 pub(crate) struct Prepared {
     pub(crate) directory: Directory,
     pub(crate) entry: Entry,
     pub(crate) places: Listed,
     pub(crate) shown: Shown,
+    pub(crate) terms: term_prefix::Sealed,
+    pub(crate) edges: associations::Sealed,
     pub(crate) bytes: Vec<u8>,
 }
 
@@ -95,8 +97,9 @@ pub(crate) fn prepare(
     let list = stamp(alloc, fresh, directory.imports() + 1)?;
     let entry = place(directory, &list)?;
     let bytes = encode(alloc, &list)?;
-    let mut sink = Nothing;
-    let (places, shown) = place_all(alloc, &list, &mut sink)?;
+    let mut posting = Posting::new(alloc);
+    let (places, shown) = place_all(alloc, &list, &mut posting)?;
+    let Posting { terms, edges, .. } = posting;
     let mut next = repeated(alloc, directory)?;
     next.add(entry);
     Ok(Prepared {
@@ -104,6 +107,8 @@ pub(crate) fn prepare(
         entry,
         places: Listed::new(places),
         shown,
+        terms: terms.seal(),
+        edges: edges.seal(),
         bytes,
     })
 }

@@ -5,22 +5,25 @@ ghost use Rattle.disk_model.specs.Disk.{EachImage, IsImage, LeavesOnly};
 
 use crate::counting::row_count;
 use crate::known::fresh_rows;
-use crate::loading::{Loaded, Nothing, load};
+use crate::loading::{Loaded, load};
+use crate::posting::Posting;
 use crate::preparing::{Prepared, is_spent, prepare, repeated};
 use crate::reading::DiskRows;
 use crate::refusal::Refusal;
 use history_model::Shown;
 use crate::starting::{Room, Started, room_for, start};
 use as_of_index::{Index, ReadFault};
+use associations::{Links, children, replacements};
 use blocks::{BlockCache, Slot};
 use directory::Directory;
 use disk_model::Disk;
 use history_model::Receipt;
 use import_check::{Fresh, ImportFault, KnownFault, Release};
-use rf2_rows::{EffectiveTime, Kind, Row};
+use rf2_rows::{EffectiveTime, Kind, Row, Sctid};
 use std::alloc::Global;
 use std::marker::Model;
 use store_image::{add_segment, publish_listing};
+use term_prefix::{Terms, find};
 
 /// The release history of a terminology, on a disk.
 #[derive(Drop)]
@@ -32,6 +35,9 @@ pub struct Store<D: Disk> {
     directory: Directory,
     /// Where the rows of each segment lie, in the directory's order.
     index: Index,
+    /// What is posted of the rows of each segment.
+    terms: Terms,
+    links: Links,
     /// The rows of each segment, which only clauses read.
     shown: Vec<Shown>,
     needs_reopen: bool,
@@ -41,6 +47,8 @@ impl<D: Disk> Model for Store<D> {
     ghost use Rattle.history_model.specs.Lists.{listed};
     ghost use Rattle.history_store.specs.Shelf.{shelf_of};
     ghost use Rattle.history_store.specs.Stored.{Stored, IsHeld};
+    ghost use Rattle.term_prefix.specs.Pushed.{ArePosted};
+    ghost use Rattle.associations.specs.Laws.{EachPosted};
 
     ghost Value = { Stored D };
 
@@ -51,12 +59,12 @@ impl<D: Disk> Model for Store<D> {
       needs_reopen = s.needs_reopen;
     } };
 
-    ghost invariant = { λ s. IsHeld (D.is_honest s.disk) (D.moments s.disk).state s.cache s.slot s.directory s.index s.shown.items s.needs_reopen };
+    ghost invariant = { λ s. IsHeld (D.is_honest s.disk) (D.moments s.disk).state s.cache s.slot s.directory s.index s.shown.items s.needs_reopen × ArePosted s.shown.items s.terms × EachPosted s.shown.items s.links };
 }
 
 impl<D: Disk> Store<D> {
     ghost use Rattle.history_model.specs.History.{rows_at, full};
-    ghost use Rattle.history_model.specs.Queries.{lookup, versions, page};
+    ghost use Rattle.history_model.specs.Queries.{lookup, versions, page, terms, children, replacements};
     ghost use Rattle.directory.specs.Listings.{Listing};
     ghost use Rattle.import_check.specs.Fresh.{IsAcceptedAs, IsRead};
     ghost use Rattle.import_check.specs.Fresh.{IsApart};
@@ -83,6 +91,8 @@ impl<D: Disk> Store<D> {
                 slot,
                 directory,
                 index,
+                terms,
+                links,
                 cache,
             }) => Ok(Store {
                 alloc,
@@ -91,6 +101,8 @@ impl<D: Disk> Store<D> {
                 slot,
                 directory,
                 index,
+                terms,
+                links,
                 shown: Vec::new(alloc),
                 needs_reopen: false,
             }),
@@ -111,24 +123,36 @@ impl<D: Disk> Store<D> {
         ensures failures { CountsOpening result (D.failures disk) (D.failures (device_of result)) }
     {
         let mut disk = disk;
-        let mut sink = Nothing;
+        let mut posting = Posting::new(alloc);
         let Loaded {
             slot,
             directory,
             places,
             shown,
-        } = match load(alloc, &mut disk, &mut sink) {
+        } = match load(alloc, &mut disk, &mut posting) {
             Ok(loaded) => loaded,
             Err(fault) => return Err((Refusal::from(fault), disk)),
         };
-        match room_for(alloc, places) {
-            Ok(Room { index, cache }) => Ok(Store {
+        let Posting {
+            sealed_terms,
+            sealed_edges,
+            ..
+        } = posting;
+        match room_for(alloc, places, sealed_terms, sealed_edges) {
+            Ok(Room {
+                index,
+                terms,
+                links,
+                cache,
+            }) => Ok(Store {
                 alloc,
                 disk,
                 cache,
                 slot,
                 directory,
                 index,
+                terms,
+                links,
                 shown,
                 needs_reopen: false,
             }),
@@ -251,6 +275,8 @@ impl<D: Disk> Store<D> {
             entry,
             places,
             shown,
+            terms,
+            edges,
             bytes,
         } = prepared;
         self.shown.reserve(1)?;
@@ -261,6 +287,8 @@ impl<D: Disk> Store<D> {
                 self.slot = slot;
                 self.directory = directory;
                 self.index.add(places);
+                self.terms.add(terms);
+                self.links.add(edges);
                 let Ok(()) = self.shown.push(shown) else {
                     unreachable!()
                 };
@@ -379,6 +407,119 @@ impl<D: Disk> Store<D> {
             damages: 0,
         };
         match self.index.page(&mut reader, kind, time, pin, after, limit) {
+            Ok(found) => Ok(found),
+            Err(fault) => {
+                if matches!(fault, ReadFault::DiskFault) {
+                    self.needs_reopen = true;
+                }
+                Err(Refusal::from(fault))
+            }
+        }
+    }
+
+    /// Active descriptions whose term begins with the prefix, whatever the case, ascending by id, at most `limit`.
+    pub fn terms(
+        &mut self,
+        prefix: &str,
+        time: EffectiveTime,
+        pin: u32,
+        limit: u32,
+    ) -> Result<Vec<Row>, Refusal>
+        requires { pin ≤ self.old.history.imports }
+        ensures found { D.is_honest self.old.disk → IfOk result (λ rows. rows.items ≡ terms prefix.now time limit (rows_at pin self.old.history.rows)) }
+        ensures undamaged { D.is_honest self.old.disk → IfErr result (λ e. e ≢ refusals.Damaged) }
+        ensures read { IsReadingOf result self.old self.new }
+        ensures closed { self.old.needs_reopen ≡ true → self.new ≡ self.old }
+        ensures moments { D.is_honest self.old.disk → D.moments self.new.disk ≡ D.moments self.old.disk }
+        ensures acknowledged { D.is_honest self.old.disk → self.new.needs_reopen ≡ false → IsAcknowledged D.moments self.new }
+        ensures honesty { D.is_honest self.old.disk ↔ D.is_honest self.new.disk }
+        ensures failures { Counts result (D.failures self.old.disk) (D.failures self.new.disk) }
+    {
+        if self.needs_reopen {
+            return Err(Refusal::ReopenNeeded);
+        }
+        let mut reader = DiskRows {
+            disk: &mut self.disk,
+            cache: &mut self.cache,
+            entries: self.directory.entries(),
+            shown: self.shown.as_slice(),
+            damages: 0,
+        };
+        match find(
+            self.alloc,
+            &self.terms,
+            &self.index,
+            &mut reader,
+            prefix,
+            time,
+            pin,
+            limit,
+        ) {
+            Ok(found) => Ok(found),
+            Err(fault) => {
+                if matches!(fault, ReadFault::DiskFault) {
+                    self.needs_reopen = true;
+                }
+                Err(Refusal::from(fault))
+            }
+        }
+    }
+
+    /// The sources of the active relationships of the type "is a" to a concept, ascending. Nothing is read.
+    pub fn children(
+        &mut self,
+        id: Sctid,
+        time: EffectiveTime,
+        pin: u32,
+    ) -> Result<Vec<u64>, Refusal>
+        requires { pin ≤ self.old.history.imports }
+        ensures found { IfOk result (λ ids. (self.old.needs_reopen ≡ false) × (ids.items ≡ children id time (rows_at pin self.old.history.rows))) }
+        ensures refused { IfErr result (λ e. ((e ≡ refusals.ReopenNeeded) × (self.old.needs_reopen ≡ true)) ⊎ ((e ≡ refusals.OutOfMemory) × (self.old.needs_reopen ≡ false))) }
+        ensures unchanged { self.new ≡ self.old }
+    {
+        if self.needs_reopen {
+            return Err(Refusal::ReopenNeeded);
+        }
+        let found = children(self.alloc, &self.links, &self.index, id, time, pin)?;
+        Ok(found)
+    }
+
+    /// The active associations of a component, one step, ascending by refset, target and member.
+    pub fn replacements(
+        &mut self,
+        id: Sctid,
+        time: EffectiveTime,
+        pin: u32,
+    ) -> Result<Vec<Row>, Refusal>
+        requires { pin ≤ self.old.history.imports }
+        ensures found { D.is_honest self.old.disk → IfOk result (λ rows. rows.items ≡ replacements id time (rows_at pin self.old.history.rows)) }
+        ensures undamaged { D.is_honest self.old.disk → IfErr result (λ e. e ≢ refusals.Damaged) }
+        ensures read { IsReadingOf result self.old self.new }
+        ensures closed { self.old.needs_reopen ≡ true → self.new ≡ self.old }
+        ensures moments { D.is_honest self.old.disk → D.moments self.new.disk ≡ D.moments self.old.disk }
+        ensures acknowledged { D.is_honest self.old.disk → self.new.needs_reopen ≡ false → IsAcknowledged D.moments self.new }
+        ensures honesty { D.is_honest self.old.disk ↔ D.is_honest self.new.disk }
+        ensures failures { Counts result (D.failures self.old.disk) (D.failures self.new.disk) }
+    {
+        if self.needs_reopen {
+            return Err(Refusal::ReopenNeeded);
+        }
+        let mut reader = DiskRows {
+            disk: &mut self.disk,
+            cache: &mut self.cache,
+            entries: self.directory.entries(),
+            shown: self.shown.as_slice(),
+            damages: 0,
+        };
+        match replacements(
+            self.alloc,
+            &self.links,
+            &self.index,
+            &mut reader,
+            id,
+            time,
+            pin,
+        ) {
             Ok(found) => Ok(found),
             Err(fault) => {
                 if matches!(fault, ReadFault::DiskFault) {

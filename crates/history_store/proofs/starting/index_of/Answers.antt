@@ -5,7 +5,7 @@ use Rattle.segment.specs.declared.place.Posted.{Posted}
 use Rattle.as_of_index.specs.Places.{ArePlaces}
 use Rattle.as_of_index.proofs.Current.{map-push}
 use Rattle.history_store.proofs.Places.{places_before, last_ascends}
-use Rattle.history_store.proofs.starting.room_for.Goals as goal
+use Rattle.history_store.proofs.starting.index_of.Goals as goal
 
 pub new-requires-in-loop-list : goal.new-requires-in-loop-list
 new-requires-in-loop-list c =

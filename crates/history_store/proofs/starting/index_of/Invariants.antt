@@ -1,7 +1,7 @@
 use Rattle.std.proofs.Common.{◌≡◌, ◌++◌, List, map}
 use Rattle.std.specs.Prelude.{vec_items}
 use Rattle.std.specs.Vec.Iter.{into_iter_items}
-use Rattle.history_store.proofs.starting.room_for.Given as goal
+use Rattle.history_store.proofs.starting.index_of.Given as goal
 
 -- the lists so far are listed, and the others are to come
 abbrev pub invariant-loop-list : goal.invariant-loop-list
