@@ -10,5 +10,7 @@ pub mod Paging
 pub mod Later
 pub mod Storing
 pub mod First
+pub mod Keyed
+pub mod Apart
 pub mod Current
 pub mod Pushing

@@ -7,7 +7,7 @@ ghost use Rattle.history_model.specs.declared.stamped.StampedRow.{StampedRow};
 ghost use Rattle.history_model.specs.History.{rows_at};
 ghost use Rattle.history_model.specs.Lists.{listed};
 ghost use Rattle.history_model.specs.Queries.{lookup, versions, page};
-ghost use Rattle.as_of_index.specs.Places.{place_cmp, ArePlaces, Lists};
+ghost use Rattle.as_of_index.specs.Places.{max_lists, ArePlaces, Lists};
 ghost use Rattle.fault_counts.specs.Counting.{Counts};
 ghost use Rattle.as_of_index.specs.Reader.{CountsDiskFault, CountsDamage};
 ghost use Rattle.as_of_index.specs.Current.{is_same_place, IsCurrentAt};
@@ -18,11 +18,14 @@ use crate::cursors::{cursors_at, latest_on, next_id};
 use crate::listed::Listed;
 use crate::reader::{ReadFault, RowReader};
 use crate::search::Start;
-use crate::several::{latest, next_version};
+use crate::several::{is_apart, latest, next_version};
 use rf2_values::{EffectiveTime, Kind, Row};
 use segment::Posted;
 use std::alloc::{AllocError, Global};
 use std::marker::Model;
+
+/// How many lists an index has room for.
+pub const MAX_LISTS: usize = 128;
 
 /// The places of several segments' rows, no key of which is listed twice.
 #[derive(Drop)]
@@ -34,13 +37,13 @@ pub struct Index {
 impl Model for Index {
     ghost use Rattle.std.specs.Prelude.{List, vec_capacity, ◌≤◌};
     ghost use Rattle.segment.specs.declared.place.Posted.{Posted};
-    ghost use Rattle.as_of_index.specs.Places.{ArePlaces};
+    ghost use Rattle.as_of_index.specs.Places.{ArePlaces, max_lists};
 
     ghost Value = { List (List Posted) };
 
     ghost view = { λ a. a.lists.items };
 
-    ghost invariant = { λ a. record { places : ArePlaces a.lists.items; room : 128 ≤ vec_capacity a.lists } };
+    ghost invariant = { λ a. record { places : ArePlaces a.lists.items; room : max_lists ≤ vec_capacity a.lists } };
 }
 
 fn is_same_place(n: usize, p: &Posted, m: usize, q: &Posted) -> bool
@@ -72,13 +75,21 @@ impl Index {
     pub fn new(alloc: Global) -> Result<Index, AllocError>
         ensures { IfOk result (λ index. index ≡ []) }
     {
-        let lists = Vec::with_capacity(alloc, 128)?;
+        let lists = Vec::with_capacity(alloc, MAX_LISTS)?;
         Ok(Index { lists, alloc })
+    }
+
+    /// Whether a list may be added: there is room, and none of its keys is listed already.
+    pub fn may_add(&self, list: &Listed) -> bool
+        ensures { IsTrue result
+            ↔ ((length self.now < max_lists) × ArePlaces (self.now ++ list.now ∷ [])) }
+    {
+        self.lists.len() < MAX_LISTS && is_apart(self.lists.as_slice(), list)
     }
 
     /// Adds a list as the last. It takes no memory.
     pub fn add(&mut self, list: Listed)
-        requires room { length self.old < 128 }
+        requires room { length self.old < max_lists }
         requires places { ArePlaces (self.old ++ list ∷ []) }
         ensures { self.new ≡ self.old ++ list ∷ [] }
     {
@@ -87,7 +98,7 @@ impl Index {
         };
     }
 
-    /// Puts a list in the place of two, at the first's.
+    /// Puts a list in the place of two, at the first's. It takes no memory.
     pub fn replace_two(&mut self, i: usize, j: usize, list: Listed)
         requires places { i < j }
         requires within { j < length self.old }
@@ -98,6 +109,7 @@ impl Index {
         let _removed = self.lists.remove(j);
     }
 
+    /// How many lists there are.
     pub fn lists(&self) -> usize
         ensures count { result ≡ length self.now }
         ensures places { ArePlaces self.now }
@@ -105,6 +117,7 @@ impl Index {
         self.lists.len()
     }
 
+    /// The places of a list, in key order.
     pub fn list(&self, i: usize) -> &[Posted]
         requires { i < length self.now }
         ensures { slice_get self.now i ≡ Some result.now }
@@ -112,7 +125,8 @@ impl Index {
         self.lists[i].places()
     }
 
-    /// Where the component's row at the date stands, of the rows that the pin shows.
+    /// Where the component's row at the date stands, of the rows that the pin shows, and the number of its list.
+    /// It makes one bisection a list, and reads no row.
     pub fn picked(
         &self,
         kind: Kind,
@@ -121,12 +135,13 @@ impl Index {
         pin: u32,
     ) -> Option<(usize, Posted)>
         ensures places { ArePlaces self.now }
-        ensures found { (lists : List (List StampedRow)) → Lists self.now lists → IsPlaceOf lists (lookup kind id time (rows_at pin (listed lists))) result }
+        ensures found { (lists : List (List StampedRow)) → Lists self.now lists
+            → IsPlaceOf lists (lookup kind id time (rows_at pin (listed lists))) result }
     {
         latest(self.lists.as_slice(), kind, id, time, pin)
     }
 
-    /// Whether the version that stands at the place is the one at the date, of those that the pin shows.
+    /// Whether the version that stands at the place is the one at the date, of those that the pin shows. No row is read.
     pub fn is_current(&self, segment: usize, at: Posted, time: EffectiveTime, pin: u32) -> bool
         ensures { (lists : List (List StampedRow)) → Lists self.now lists
             → IsTrue result ↔ IsCurrentAt lists time pin segment at }
@@ -137,7 +152,7 @@ impl Index {
         }
     }
 
-    /// The component's row at the date, of the rows that the pin shows.
+    /// The component's row at the date, of the rows that the pin shows. One row is read at most.
     pub fn pick<R: RowReader>(
         &self,
         reader: &mut R,
@@ -146,12 +161,16 @@ impl Index {
         time: EffectiveTime,
         pin: u32,
     ) -> Result<Option<Row>, ReadFault>
-        ensures found { R.is_honest reader.old → Lists self.now (R.lists reader.old) → IfOk result (λ found. found ≡ lookup kind id time (rows_at pin (listed (R.lists reader.old)))) }
-        ensures undamaged { R.is_honest reader.old → Lists self.now (R.lists reader.old) → IfErr result (λ e. e ≢ readfault.Damaged) }
+        ensures found { R.is_honest reader.old → Lists self.now (R.lists reader.old)
+            → IfOk result (λ found. found
+            ≡ lookup kind id time (rows_at pin (listed (R.lists reader.old)))) }
+        ensures undamaged { R.is_honest reader.old → Lists self.now (R.lists reader.old)
+            → IfErr result (λ e. e ≢ readfault.Damaged) }
         ensures lists { R.lists reader.new ≡ R.lists reader.old }
         ensures honesty { R.is_honest reader.old → R.is_honest reader.new }
         ensures stays { R.stays reader.old reader.new }
-        ensures disk_faults { Counts CountsDiskFault result (R.disk_faults reader.old) (R.disk_faults reader.new) }
+        ensures disk_faults { Counts CountsDiskFault result
+            (R.disk_faults reader.old) (R.disk_faults reader.new) }
         ensures damages { Counts CountsDamage result (R.damages reader.old) (R.damages reader.new) }
     {
         match self.picked(kind, id, time, pin) {
@@ -163,7 +182,7 @@ impl Index {
         }
     }
 
-    /// All versions of the component that the pin shows, ascending by time.
+    /// All versions of the component that the pin shows, ascending by time. It makes a bisection a list for each version.
     pub fn history<R: RowReader>(
         &self,
         reader: &mut R,
@@ -171,12 +190,16 @@ impl Index {
         id: u128,
         pin: u32,
     ) -> Result<Vec<Row>, ReadFault>
-        ensures found { R.is_honest reader.old → Lists self.now (R.lists reader.old) → IfOk result (λ rows. rows.items ≡ versions kind id (rows_at pin (listed (R.lists reader.old)))) }
-        ensures undamaged { R.is_honest reader.old → Lists self.now (R.lists reader.old) → IfErr result (λ e. e ≢ readfault.Damaged) }
+        ensures found { R.is_honest reader.old → Lists self.now (R.lists reader.old)
+            → IfOk result (λ rows. rows.items
+            ≡ versions kind id (rows_at pin (listed (R.lists reader.old)))) }
+        ensures undamaged { R.is_honest reader.old → Lists self.now (R.lists reader.old)
+            → IfErr result (λ e. e ≢ readfault.Damaged) }
         ensures lists { R.lists reader.new ≡ R.lists reader.old }
         ensures honesty { R.is_honest reader.old → R.is_honest reader.new }
         ensures stays { R.stays reader.old reader.new }
-        ensures disk_faults { Counts CountsDiskFault result (R.disk_faults reader.old) (R.disk_faults reader.new) }
+        ensures disk_faults { Counts CountsDiskFault result
+            (R.disk_faults reader.old) (R.disk_faults reader.new) }
         ensures damages { Counts CountsDamage result (R.damages reader.old) (R.damages reader.new) }
     {
         let mut rows = Vec::new(self.alloc);
@@ -192,7 +215,8 @@ impl Index {
         Ok(rows)
     }
 
-    /// The first rows of a kind at the date, ascending by id.
+    /// The first rows of a kind at the date with an id above `after`, ascending by id, of the rows that the pin shows.
+    /// It makes one bisection a list, and then goes on by a cursor a list.
     pub fn page<R: RowReader>(
         &self,
         reader: &mut R,
@@ -202,12 +226,16 @@ impl Index {
         after: Option<u128>,
         limit: u32,
     ) -> Result<Vec<Row>, ReadFault>
-        ensures found { R.is_honest reader.old → Lists self.now (R.lists reader.old) → IfOk result (λ rows. rows.items ≡ page kind time after limit (rows_at pin (listed (R.lists reader.old)))) }
-        ensures undamaged { R.is_honest reader.old → Lists self.now (R.lists reader.old) → IfErr result (λ e. e ≢ readfault.Damaged) }
+        ensures found { R.is_honest reader.old → Lists self.now (R.lists reader.old)
+            → IfOk result (λ rows. rows.items
+            ≡ page kind time after limit (rows_at pin (listed (R.lists reader.old)))) }
+        ensures undamaged { R.is_honest reader.old → Lists self.now (R.lists reader.old)
+            → IfErr result (λ e. e ≢ readfault.Damaged) }
         ensures lists { R.lists reader.new ≡ R.lists reader.old }
         ensures honesty { R.is_honest reader.old → R.is_honest reader.new }
         ensures stays { R.stays reader.old reader.new }
-        ensures disk_faults { Counts CountsDiskFault result (R.disk_faults reader.old) (R.disk_faults reader.new) }
+        ensures disk_faults { Counts CountsDiskFault result
+            (R.disk_faults reader.old) (R.disk_faults reader.new) }
         ensures damages { Counts CountsDamage result (R.damages reader.old) (R.damages reader.new) }
     {
         let lists = self.lists.as_slice();

@@ -1,9 +1,10 @@
 //! The places of one segment's rows.
 
-ghost use Rattle.std.specs.Prelude.{◌≡◌};
+ghost use Rattle.std.specs.Prelude.{◌≡◌, ◌↔◌, IsTrue};
 ghost use Rattle.history_model.specs.InOrder.{IsAscending};
 ghost use Rattle.as_of_index.specs.Places.{place_cmp};
 
+use crate::search::are_ascending;
 use segment::Posted;
 use std::marker::Model;
 
@@ -27,6 +28,14 @@ impl Model for Listed {
 }
 
 impl Listed {
+    /// Whether places may be listed: each key is above the one before it.
+    pub fn may_list(places: &[Posted]) -> bool
+        ensures { IsTrue result ↔ IsAscending place_cmp places.now }
+    {
+        are_ascending(places)
+    }
+
+    /// Places that ascend by their keys, as `may_list` tells.
     pub fn new(places: Vec<Posted>) -> Listed
         requires { IsAscending place_cmp places.items }
         ensures { result ≡ places.items }
@@ -34,6 +43,7 @@ impl Listed {
         Listed { places }
     }
 
+    /// The places, in key order.
     pub fn places(&self) -> &[Posted]
         ensures places { result.now ≡ self.now }
         ensures ascending { IsAscending place_cmp self.now }

@@ -1,9 +1,13 @@
 //! Searches in several lists of places, by a bisection in each.
 
+ghost use Rattle.std.specs.Prelude.{◌↔◌, IsTrue};
+ghost use Rattle.std.specs.List.{AllByRecursion};
+ghost use Rattle.history_model.specs.InOrder.{IsAscending};
+ghost use Rattle.as_of_index.specs.Places.{place_cmp, ShareNoKey};
 ghost use Rattle.as_of_index.specs.Search.{all_places, IsPick, IsNext, IsNextVersion};
 
 use crate::listed::Listed;
-use crate::search::{Start, is_of, later, latest_in, next_in, sooner};
+use crate::search::{Start, is_of, later, latest_in, next_in, share_no_key, sooner};
 use rf2_values::{EffectiveTime, Kind};
 use segment::Posted;
 
@@ -51,4 +55,19 @@ pub(crate) fn next_version(
         Some((segment, p)) if is_of(kind, id, &p) => Some((segment, p)),
         _ => None,
     }
+}
+
+/// Whether no key of the list is in one of the others.
+pub(crate) fn is_apart(lists: &[Listed], list: &Listed) -> bool
+    ensures apart { IsTrue result
+        ↔ AllByRecursion (λ places. ShareNoKey places list.now) lists.now }
+    ensures ascending { IsAscending place_cmp list.now }
+{
+    let places = list.places();
+    for own in lists {
+        if !share_no_key(own.places(), places) {
+            return false;
+        }
+    }
+    true
 }

@@ -1,11 +1,11 @@
 -- Lists of places that grow: what the tests' indexes are made by.
-use Rattle.std.proofs.Common.{◌≡◌, ℕ, zero, suc, ◌+◌, List, [], ◌∷◌, ◌++◌, take, refl, ap, ◌∙◌, arith}
+use Rattle.std.proofs.Common.{◌≡◌, ℕ, zero, suc, ◌+◌, List, [], ◌∷◌, ◌++◌, take, ap, ◌∙◌, arith}
 use Rattle.std.specs.Prelude.{Some, slice_get, All}
 use Rattle.std.specs.List.{AllByRecursion}
 use Rattle.std.specs.declared.cmp.Ordering.{Ordering}
 use Rattle.std.specs.declared.cmp.Ordering.TheVariants.{Less}
 use Rattle.std.proofs.lemmas.List.Elements.{recursion_from_All}
-use Rattle.history_model.specs.InOrder.{Has, IsAscending}
+use Rattle.history_model.specs.InOrder.{IsAscending}
 use Rattle.history_model.proofs.InOrder.{Has-all}
 use Rattle.segment.specs.declared.place.Posted.{Posted}
 use Rattle.as_of_index.specs.Places.{place_cmp, ShareNoKey, EachApart, ArePlaces}

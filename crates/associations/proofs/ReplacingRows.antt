@@ -3,7 +3,7 @@ use Rattle.std.proofs.Common.{◌≡◌, ℕ, Bool, true, List, [], map, refl, s
 use Rattle.std.specs.Prelude.{◌&&◌, ◌==◌}
 use Rattle.std.specs.List.{filter}
 use Rattle.std.specs.Ordering.{nat_cmp, ordering_then}
-use Rattle.std.specs.declared.cmp.Ordering.TheVariants.{Less, Equal}
+use Rattle.std.specs.declared.cmp.Ordering.TheVariants.{Equal}
 use Rattle.std.proofs.lemmas.Bool.Decides.{nat_tests}
 use Rattle.rf2_values.specs.declared.row.Kind.TheVariants as kinds
 use Rattle.rf2_values.specs.declared.row.Body.{Body}
@@ -13,7 +13,7 @@ use Rattle.rf2_values.specs.Row.{Version, kind_of, kind_of_body}
 use Rattle.rf2_values.specs.Key.{key_of}
 use Rattle.history_model.specs.declared.stamped.StampedRow.{StampedRow}
 use Rattle.history_model.specs.InOrder.{Has, IsAscending, in_order, joined}
-use Rattle.history_model.specs.Queries.{lookup, snapshot, is_replacement_of, refers_to, refset_of, target_of, replacement_cmp}
+use Rattle.history_model.specs.Queries.{lookup, snapshot, is_replacement_of, refers_to, replacement_cmp}
 use Rattle.history_model.proofs.InOrder.{same_ascending, Has-put_all_cases, Has-put_all_new, IsAscending-in_order}
 use Rattle.history_model.proofs.Filtered.{both, Has-filter, Has-filter_from, Has-map, Has-map_from}
 use Rattle.segment.specs.declared.place.Posted.{Posted}
@@ -24,7 +24,7 @@ use Rattle.as_of_index.specs.Chosen.{ranked_cmp, StandAtAll}
 use Rattle.as_of_index.specs.Current.{is_among, IsCurrentAt}
 use Rattle.as_of_index.specs.Postings.{numbered}
 use Rattle.as_of_index.proofs.Among.{among_from, among_has, looked_up}
-use Rattle.as_of_index.proofs.Current.{standing_row, one_row, shown, current_where, AllCurrent, rows_for, stand_for, IsRowAt, row_for, for_row, ascending_rows_for}
+use Rattle.as_of_index.proofs.Current.{standing_row, one_row, shown, current_where, AllCurrent, rows_for, stand_for, row_for, for_row, ascending_rows_for}
 use Rattle.associations.specs.declared.postings.Reference.{Reference}
 use Rattle.associations.specs.Edges.{Edges, references_in}
 use Rattle.associations.specs.Replacements.{PostsReferences, IsReferenceOf, reference_keys, replacements_among}

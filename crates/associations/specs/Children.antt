@@ -1,5 +1,5 @@
 -- What posted links say of rows, and the children that they say.
-use Rattle.std.specs.Prelude.{◌≡◌, ℕ, Bool, true, ◌&&◌, List, map}
+use Rattle.std.specs.Prelude.{◌≡◌, ℕ, true, ◌&&◌, List, map}
 use Rattle.std.specs.List.{filter}
 use Rattle.std.specs.Ordering.{nat_cmp}
 use Rattle.rf2_values.specs.declared.key.Key.{Key}

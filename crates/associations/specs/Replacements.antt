@@ -1,5 +1,5 @@
 -- What posted references say of rows, and the replacements that they say.
-use Rattle.std.specs.Prelude.{◌≡◌, ℕ, Bool, true, ◌&&◌, List, map}
+use Rattle.std.specs.Prelude.{◌≡◌, ℕ, true, ◌&&◌, List, map}
 use Rattle.std.specs.List.{filter}
 use Rattle.rf2_values.specs.declared.key.Key.{Key}
 use Rattle.rf2_values.specs.Row.{Version}

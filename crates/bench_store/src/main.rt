@@ -58,6 +58,26 @@ fn look_up(rt: &HostRuntime, path: &str, ids: &str) -> Option<u64> {
     Some(found)
 }
 
+/// Reads a page of a hundred concepts behind each concept of a file. How many rows that are.
+fn turn_pages(rt: &HostRuntime, path: &str, ids: &str) -> Option<u64> {
+    let mut store = opened(rt, path)?;
+    let ids = fs::read(rt, ids).ok()?;
+    let time = EffectiveTime::of(20_251_231)?;
+    let pin = store.imports();
+    let mut found: u64 = 0;
+    for line in ids.split(|byte| *byte == b'\n') {
+        if let Some(id) = Sctid::parse(line) {
+            if pin > store.imports() {
+                return None;
+            }
+            let after = Some(u128::from(id.value()));
+            let rows = store.page(Kind::Concept, time, pin, after, 100).ok()?;
+            found = found.saturating_add(rows.len() as u64);
+        }
+    }
+    Some(found)
+}
+
 /// Does what the words say, and prints how many rows it brought, found or holds. None where it can't be done.
 fn run(rt: &HostRuntime) -> Option<()> {
     let mut words = env::args(rt).ok()?.skip(1);
@@ -74,6 +94,7 @@ fn run(rt: &HostRuntime) -> Option<()> {
             words.next()?.as_str(),
         )?,
         "open" => opened(rt, path.as_str())?.row_count(),
+        "pages" => turn_pages(rt, path.as_str(), words.next()?.as_str())?,
         "lookups" => look_up(rt, path.as_str(), words.next()?.as_str())?,
         _ => return None,
     };

@@ -14,8 +14,11 @@ use std::alloc::Global;
 
 /// The rows of a release that aren't known.
 ///
-/// All files are read first, in the order handed over. Then the lines with one key have to hold one row, the known one if there is one. The lines are sorted once and
-/// gone through once, and what is known is asked once for each key.
+/// All files are read first, in the order handed over: the first line at fault refuses the release (`Row`). Then the lines
+/// with one key have to hold one row, the known one if there is one: the first line that doesn't refuses it (`Contradiction`).
+/// Memory may run out at any time, and a known row may be out of reach (`Known`). Nothing is changed by a refusal.
+///
+/// The lines are sorted once and gone through once, and what is known is asked once for each key, in ascending order.
 pub fn new_rows<K: Known>(
     alloc: Global,
     release: &Release,

@@ -1,10 +1,9 @@
 -- Each column's text may stand there or has a fault, each line spells a row or has a fault, and each file is a release file or has a fault.
 use Rattle.std.proofs.Common.{◌≡◌, ◌≢◌, ℕ, zero, suc, ◌+◌, ◌*◌, ◌/◌, ◌%◌, ◌<◌, ◌≤◌, ◌^◌, ◌⊎◌, Bool, true, false, List, [], ◌∷◌, length, get_or, Option, Some, None, refl, sym, ap, subst, ◌∙◌, arith, inl, inr, All}
-use Rattle.std.specs.Prelude.{decimal, cond, IsSome, is_some, slice_index}
-use Rattle.std.specs.List.{AllZip, list_all}
+use Rattle.std.specs.Prelude.{decimal, cond, is_some, slice_index}
+use Rattle.std.specs.List.{list_all}
 use Rattle.std.specs.Str.{IsUtf8, is_utf8, all_ascii_digits}
 use Rattle.std.specs.Str.Parse.{digits_value}
-use Rattle.std.specs.Char.{IsAsciiHexdigit}
 use Rattle.std.specs.Int.{from_be_bytes, w128}
 use Rattle.std.proofs.lemmas.Bool.{both_ways, cases_Bool, cases_eq, cases_lt}
 use Rattle.std.proofs.lemmas.Bool.Decides.{nat_tests}
@@ -24,8 +23,8 @@ use Rattle.rf2_values.specs.declared.row.Body.TheVariants as body
 use Rattle.rf2_values.specs.Sctid.{IsSctid, check_digits, class_of}
 use Rattle.rf2_values.specs.Time.{IsTime}
 use Rattle.rf2_values.specs.Text.{IsText}
-use Rattle.rf2_values.specs.Member.{IsMemberByte, SpellsMember}
-use Rattle.rf2_values.specs.Row.{Version, version, IsVersion, IsOfClass, IsConcept, IsComponent, IsIdOf, IsBody, Spells, SpellsColumns, SpellsId, kind_of, kind_of_body, id_text, later_columns, body_columns, canonical, flag, line_of}
+use Rattle.rf2_values.specs.Member.{IsMemberByte}
+use Rattle.rf2_values.specs.Row.{Version, version, IsVersion, IsOfClass, IsConcept, IsComponent, IsIdOf, IsBody, Spells, SpellsColumns, SpellsId, kind_of, kind_of_body, id_text, later_columns, body_columns, flag, line_of}
 use Rattle.rf2_values.proofs.Decimals.{decimal_is_plain}
 use Rattle.rf2_values.proofs.Lengths.{length-line}
 use Rattle.rf2_rows.specs.declared.fault.LineFault.{LineFault}

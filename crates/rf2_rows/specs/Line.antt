@@ -1,5 +1,5 @@
 -- What is wrong with a line.
-use Rattle.std.specs.Prelude.{◌≡◌, ◌≢◌, ℕ, ◌≤◌, ◌<◌, ◌^◌, ◌==◌, ◌⊎◌, Bool, List, [], ◌∷◌, ◌++◌, length, map, decimal, codes, Result, Ok, Err}
+use Rattle.std.specs.Prelude.{◌≡◌, ◌≢◌, ℕ, ◌≤◌, ◌<◌, ◌^◌, ◌==◌, ◌⊎◌, Bool, List, [], ◌∷◌, ◌++◌, length, map, decimal, codes}
 use Rattle.std.specs.List.{slice_split, AllZip}
 use Rattle.std.specs.Str.{IsUtf8}
 use Rattle.rf2_values.specs.declared.sctid.Class.{Class}
@@ -13,7 +13,7 @@ use Rattle.rf2_values.specs.Time.{IsTime}
 use Rattle.rf2_values.specs.Text.{IsText}
 use Rattle.rf2_rows.specs.declared.fault.RowFault.{RowFault}
 use Rattle.rf2_rows.specs.declared.fault.RowFault.TheVariants as rowfault
-use Rattle.rf2_values.specs.Row.{Version, IsOfClass, IsConcept, IsComponent, IsIdOf, SpellsId, Spells, kind_of, flag, line_of}
+use Rattle.rf2_values.specs.Row.{IsOfClass, IsConcept, IsComponent, IsIdOf, SpellsId, flag, line_of}
 
 -- the texts between the TABs
 abbrev pub columns_of : List ℕ → List (List ℕ)

@@ -1,7 +1,7 @@
 -- How long the texts of columns are once they are joined.
 use Rattle.std.proofs.Common.{◌≡◌, ℕ, ◌+◌, ◌≤◌, ◌<◌, ◌^◌, Bool, true, false, List, [], ◌∷◌, length, length-append, refl, ap, ◌⊎◌, inl, inr, arith}
 use Rattle.std.specs.Prelude.{decimal}
-use Rattle.std.proofs.lemmas.Fmt.{length-decimal-le, length-decimal-le_wide}
+use Rattle.std.proofs.lemmas.Fmt.{length-decimal-le}
 use Rattle.uuid.proofs.TextLemmas.{by_index_length}
 use Rattle.rf2_values.specs.declared.row.Kind.{Kind}
 use Rattle.rf2_values.specs.declared.row.Kind.TheVariants as kind

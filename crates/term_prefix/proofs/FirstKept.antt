@@ -1,7 +1,6 @@
 -- The first by id that are kept.
-use Rattle.std.proofs.Common.{◌≡◌, ◌⊎◌, ℕ, zero, suc, ◌+◌, ◌<◌, ◌≤◌, Bool, true, false, List, [], ◌∷◌, ◌++◌, length, get_or, take, drop, map, refl, sym, ap, subst, inl, inr, ◌∙◌, arith, append-nil, append_assoc, take_all}
-use Rattle.std.specs.Prelude.{◌==◌, ◌-◌, nat_lt, nat_le, Option, Some, None, Ok, Err, slice_get}
-use Rattle.std.specs.List.{AllByRecursion, filter}
+use Rattle.std.proofs.Common.{◌≡◌, ℕ, zero, suc, ◌+◌, ◌<◌, ◌≤◌, Bool, true, false, List, [], ◌∷◌, ◌++◌, length, get_or, take, map, refl, sym, ap, subst, inl, inr, ◌∙◌, arith, append_assoc}
+use Rattle.std.specs.Prelude.{◌==◌, ◌-◌, nat_lt, nat_le, Some, Ok, Err, slice_get}
 use Rattle.std.specs.Ordering.{nat_cmp}
 use Rattle.std.specs.Cmp.{IsTotalOrder, nat_cmp_total, ranked, on_total, tied_itself}
 use Rattle.std.specs.declared.cmp.Ordering.{Ordering}
@@ -15,7 +14,7 @@ use Rattle.history_model.proofs.InOrder.{Has-all, all_from_has, Has-append_left,
 use Rattle.as_of_index.specs.declared.chosen.Chosen.{Chosen}
 use Rattle.as_of_index.specs.Chosen.{chosen_cmp}
 use Rattle.as_of_index.specs.Current.{IsCurrentAt}
-use Rattle.term_prefix.specs.Keeping.{IsTaken, IsBeyond, AreKept, SaysTaken, SaysWanted}
+use Rattle.term_prefix.specs.Keeping.{IsTaken, AreKept, SaysTaken, SaysWanted}
 use Rattle.as_of_index.proofs.Ordered.{IsAscending-take}
 use Rattle.as_of_index.specs.Search.{SplitsAt}
 use Rattle.as_of_index.proofs.Paging.{less_from}

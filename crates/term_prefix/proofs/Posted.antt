@@ -1,5 +1,5 @@
 -- Terms that were pushed, each with its own place, stand for rows of their lists, and none is left out.
-use Rattle.std.proofs.Common.{◌≡◌, ℕ, Bool, true, false, List, [], ◌∷◌, refl, sym, ap, subst, inl, inr, take}
+use Rattle.std.proofs.Common.{◌≡◌, ℕ, true, false, List, [], refl, sym, ap, subst, inl, inr, take}
 use Rattle.std.specs.Prelude.{if◌then◌else◌, slice_set}
 use Rattle.rf2_values.specs.declared.row.Body.{Body}
 use Rattle.rf2_values.specs.declared.row.Body.TheVariants as body

@@ -1,13 +1,12 @@
 -- The rows of the places that are kept are the terms that are asked for.
-use Rattle.std.proofs.Common.{◌≡◌, ◌⊎◌, ℕ, zero, suc, ◌+◌, ◌<◌, ◌≤◌, Bool, true, false, List, [], ◌∷◌, ◌++◌, length, get_or, take, drop, map, refl, sym, ap, subst, inl, inr, ◌∙◌, arith, append-nil, append_assoc}
-use Rattle.std.specs.Prelude.{◌&&◌, Some, nat_eq, chars, encode_utf8_all}
+use Rattle.std.proofs.Common.{◌≡◌, ◌⊎◌, ℕ, ◌+◌, ◌<◌, ◌≤◌, Bool, true, List, [], ◌∷◌, ◌++◌, length, get_or, take, map, refl, sym, ap, subst, inl, inr, ◌∙◌, arith, append-nil, append_assoc}
+use Rattle.std.specs.Prelude.{◌&&◌, nat_eq, chars, encode_utf8_all}
 use Rattle.caseless.specs.Caseless.{default_case_fold}
 use Rattle.std.specs.List.{filter, starts_with}
 use Rattle.std.specs.Ordering.{nat_cmp, ordering_then}
 use Rattle.std.specs.Cmp.{nat_cmp_total, ranked, tied_itself}
 use Rattle.std.specs.declared.cmp.Ordering.TheVariants.{Less, Equal}
 use Rattle.std.proofs.lemmas.List.{take_more, length-take}
-use Rattle.rf2_values.specs.declared.row.Kind.{Kind}
 use Rattle.rf2_values.specs.declared.row.Kind.TheVariants as kinds
 use Rattle.rf2_values.specs.declared.row.Body.{Body}
 use Rattle.rf2_values.specs.declared.row.Body.TheVariants as body
@@ -27,15 +26,14 @@ use Rattle.term_prefix.specs.declared.text.Term.{Term}
 use Rattle.segment.specs.Standing.{places_of, StandsAt}
 use Rattle.as_of_index.specs.Places.{ArePlaces}
 use Rattle.as_of_index.specs.Chosen.{chosen, chosen_cmp, StandAtAll}
-use Rattle.as_of_index.specs.Current.{is_among, IsCurrentAt}
+use Rattle.as_of_index.specs.Current.{is_among}
 use Rattle.as_of_index.specs.Postings.{numbered}
 use Rattle.term_prefix.specs.Terms.{TermAt, HasFolded, IsTermOf, PostsTerms, term_keys, terms_among}
 use Rattle.term_prefix.specs.Keeping.{begins, begun, AreKept}
 use Rattle.as_of_index.proofs.Paging.{less_from}
 use Rattle.as_of_index.proofs.Among.{among_from, among_has, looked_up}
 use Rattle.as_of_index.proofs.First.{same_first}
-use Rattle.term_prefix.proofs.FirstKept.{kept_same}
-use Rattle.as_of_index.proofs.Current.{standing_row, one_row, shown, shown_ascends, current_where, AllCurrent, rows_for, stand_for, length-rows_for, IsRowAt, row_for, for_row, ascending_rows_for}
+use Rattle.as_of_index.proofs.Current.{standing_row, one_row, shown, shown_ascends, current_where, AllCurrent, rows_for, stand_for, length-rows_for, row_for, for_row, ascending_rows_for}
 
 abbrev in_list : ℕ → List TermAt → List (ℕ × TermAt)
 in_list n ts = map (λ (t : TermAt). (n, t)) ts

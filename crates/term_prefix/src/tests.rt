@@ -255,9 +255,11 @@ fn as_many_lists_as_may_be(rt: HostRuntime) -> Result<(), Fail> {
     ids.truncate(100);
     assert!(rt; ids_found(alloc, &terms, &lists, "strass")? == ids);
 
-    let moved = lists.remove(127);
-    lists[3] = vec![in alloc; moved.into_iter().next().ok_or("no row")?]?;
-    let list = postings_of(alloc, &lists[3])?.seal();
+    let moved = lists.pop().ok_or("no list")?;
+    let list = postings_of(alloc, &moved)?.seal();
+    if let Some(place) = lists.get_mut(3) {
+        *place = moved;
+    }
     terms.replace_two(3, 127, list);
     assert_eq!(rt; terms.lists(), 127);
     let left = ids_found(alloc, &terms, &lists, "STRASS")?;

@@ -11,5 +11,5 @@ loop-list-preserved c =
     let places = c.list-item.result in
     let more = take_more a.lists.now c.loop-list.list-index places c.loop-list-test.true ∙ ap (λ (x : List Posted). take c.loop-list.list-index a.lists.now ++ x ∷ []) (sym c.list-item.is) in
     let added = passed_push a.start.now (take c.loop-list.list-index a.lists.now) c.loop-list.cursors.items places c.place.result c.loop-list.invariant
-        (rw c.places.ensures.places at c.place.ensures.within) (rw c.places.ensures.places at (c.place.ensures.split (rw c.places.ensures.places c.places.ensures.ascending))) in
+    (rw c.places.ensures.places at c.place.ensures.within) (rw c.places.ensures.places at (c.place.ensures.split (rw c.places.ensures.places c.places.ensures.ascending))) in
     rw (c.in_ok-push.ensures.items, more) added

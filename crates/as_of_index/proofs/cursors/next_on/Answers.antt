@@ -23,7 +23,7 @@ go_on-first-requires c =
     let a = c.args in
     let at = passed_at a.start.now a.lists.now c.loop-segment.cursors.items c.loop-segment.segment c.index-lists-segment.result c.index.result.now c.loop-segment.invariant.passed c.loop-segment-test.true in
     let own : get_or c.loop-segment.cursors.items c.loop-segment.segment c.index.result.now ≤ length c.index-lists-segment.result =
-        subst (λ (qs : List Posted). get_or c.loop-segment.cursors.items c.loop-segment.segment c.index.result.now ≤ length qs) (sym c.index-lists-segment.is) at.within in
+    subst (λ (qs : List Posted). get_or c.loop-segment.cursors.items c.loop-segment.segment c.index.result.now ≤ length qs) (sym c.index-lists-segment.is) at.within in
     rw c.places-places.ensures.places (subst (λ n. n ≤ length c.index-lists-segment.result) (sym c.index.ensures) own)
 
 pub index_mut-requires : goal.index_mut-requires

@@ -1,10 +1,8 @@
-use Rattle.std.proofs.Common.{◌≡◌, true, ℕ, List, [], ◌∷◌, ◌++◌, sym, ap, subst, ◌∙◌, take, take_all}
+use Rattle.std.proofs.Common.{ℕ, [], ◌∷◌, ◌++◌, sym, ap, subst, ◌∙◌, take, take_all}
 use Rattle.std.specs.Ordering.{nat_cmp}
 use Rattle.std.specs.Cmp.{nat_cmp_total}
-use Rattle.history_model.specs.InOrder.{put}
-use Rattle.as_of_index.specs.declared.chosen.Chosen.{Chosen}
 use Rattle.associations.specs.declared.postings.Link.{Link}
-use Rattle.associations.specs.Collecting.{ranked, TakesLinks}
+use Rattle.associations.specs.Collecting.{TakesLinks}
 use Rattle.associations.proofs.Numbering.{one_more}
 use Rattle.associations.proofs.Collected.{takes_nothing, takes_current, takes_other}
 use Rattle.associations.proofs.hierarchy.add_sources.Goals as goal

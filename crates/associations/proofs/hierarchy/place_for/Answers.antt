@@ -1,4 +1,3 @@
-use Rattle.std.proofs.Common.{rules}
 use Rattle.std.specs.Cmp.{nat_cmp_total}
 use Rattle.associations.proofs.Searched.{place_found}
 use Rattle.associations.proofs.hierarchy.place_for.Goals as goal

@@ -1,10 +1,10 @@
-use Rattle.std.proofs.Common.{ℕ, ap, sym, subst, take, take_all}
+use Rattle.std.proofs.Common.{ℕ, subst, take, take_all}
 use Rattle.std.specs.Ordering.{nat_cmp}
 use Rattle.std.specs.Cmp.{nat_cmp_total}
 use Rattle.as_of_index.specs.Postings.{numbered}
 use Rattle.associations.specs.declared.postings.Link.{Link}
 use Rattle.associations.specs.Edges.{Edges, links_in}
-use Rattle.associations.specs.Collecting.{ranked, AreSources}
+use Rattle.associations.specs.Collecting.{AreSources}
 use Rattle.associations.proofs.Numbering.{numbered-more}
 use Rattle.associations.proofs.Collected.{none_taken, more_taken}
 use Rattle.associations.proofs.hierarchy.sources.Goals as goal

@@ -1,4 +1,4 @@
-use Rattle.std.proofs.Common.{◌≡◌, take, take_all, subst, arith}
+use Rattle.std.proofs.Common.{take, take_all, subst, arith}
 use Rattle.std.specs.List.{AllByRecursion}
 use Rattle.as_of_index.specs.Places.{ShareNoKey}
 use Rattle.associations.proofs.Apart.{all_pushed, some_more, no_key_shared, places_more}

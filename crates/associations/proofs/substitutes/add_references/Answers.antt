@@ -1,8 +1,6 @@
-use Rattle.std.proofs.Common.{◌≡◌, true, ℕ, List, [], ◌∷◌, ◌++◌, sym, ap, subst, ◌∙◌, take, take_all}
+use Rattle.std.proofs.Common.{[], ◌∷◌, ◌++◌, sym, ap, subst, ◌∙◌, take, take_all}
 use Rattle.as_of_index.specs.Chosen.{ranked_cmp}
 use Rattle.associations.proofs.Ranked.{ranked_total}
-use Rattle.history_model.specs.InOrder.{put}
-use Rattle.as_of_index.specs.declared.chosen.Chosen.{Chosen}
 use Rattle.associations.specs.declared.postings.Reference.{Reference}
 use Rattle.associations.specs.Collecting.{ranked, TakesReferences}
 use Rattle.associations.proofs.Numbering.{one_more}

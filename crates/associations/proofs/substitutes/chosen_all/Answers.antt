@@ -1,4 +1,4 @@
-use Rattle.std.proofs.Common.{ℕ, ap, sym, subst, take, take_all}
+use Rattle.std.proofs.Common.{subst, take, take_all}
 use Rattle.as_of_index.specs.Chosen.{ranked_cmp}
 use Rattle.associations.proofs.Ranked.{ranked_total}
 use Rattle.as_of_index.specs.Postings.{numbered}

@@ -1,4 +1,4 @@
-use Rattle.std.proofs.Common.{◌+◌, ◌≤◌, ap, arith}
+use Rattle.std.proofs.Common.{ap, arith}
 use Rattle.rf2_values.proofs.Lengths.{texts_length, own_short, no_texts}
 use Rattle.rf2_values.proofs.length.texts_len.Goals as goal
 

@@ -1,4 +1,4 @@
-use Rattle.std.proofs.Common.{List, ◌++◌, ◌∷◌, [], take, subst, sym, rules}
+use Rattle.std.proofs.Common.{List, take, subst, sym}
 use Rattle.std.specs.List.{AllByRecursion}
 use Rattle.segment.specs.declared.place.Posted.{Posted}
 use Rattle.segment.proofs.SegmentLaws.{all_push}
