@@ -1,13 +1,12 @@
 -- Rows and their places.
-use Rattle.std.proofs.Common.{◌≡◌, ◌⊎◌, ℕ, ◌+◌, List, [], ◌∷◌, ◌++◌, length, refl, sym, ap, subst, inl, inr, ◌∙◌, arith, append_assoc}
-use Rattle.std.specs.Prelude.{Some}
+use Rattle.std.proofs.Common.{◌≡◌, ℕ, ◌+◌, List, [], ◌∷◌, ◌++◌, length, refl, sym, ap, subst, inl, inr, ◌∙◌, arith}
 use Rattle.std.proofs.lemmas.List.{length-append}
 use Rattle.rf2_values.specs.Key.{key_of}
 use Rattle.history_model.specs.declared.stamped.StampedRow.{StampedRow}
 use Rattle.history_model.specs.InOrder.{Has}
 use Rattle.segment.specs.declared.place.Posted.{Posted}
 use Rattle.segment.specs.Records.{record_of, segment_of, IsSegment, IsRecordAt}
-use Rattle.segment.specs.Places.{record_len, posted, with_places, IsPlaceIn, EachStandsAtItsByte}
+use Rattle.segment.specs.Standing.{record_len, posted, with_places, EachStandsAtItsByte}
 use Rattle.segment.proofs.Places.{each_at_its_place}
 use Rattle.segment.proofs.SegmentLaws.{segment_push, no_rows}
 
@@ -57,11 +56,11 @@ pub between : (at : ℕ) (rows : List StampedRow) (x : StampedRow × Posted) →
 between at [] x h = absurd h
 between at (r ∷ rows) x h = elim h [
   | inl e ↦ subst (λ (y : StampedRow × Posted). Between at (r ∷ rows) y) e (record {
-      before = [];
-      after = rows;
-      rows_are = refl;
-      at_is = (let a = at_byte r at in let none = ap length no_rows in omega arith);
-    })
+    before = [];
+    after = rows;
+    rows_are = refl;
+    at_is = (let a = at_byte r at in let none = ap length no_rows in omega arith);
+  })
   | inr t ↦
       let w = between (at + record_len r) rows x t in
       record {
@@ -79,9 +78,9 @@ record_there rows bytes s p is h =
     let there = each_at_its_place w.before w.after s bytes (subst (λ l. IsSegment l bytes) w.rows_are is) in
     let at_is : p.at ≡ length (segment_of w.before) = (let e = w.at_is in omega arith) in
     let next_is : length (segment_of (w.before ++ s ∷ [])) ≡ p.at + p.bytes = (
-      let e = ap length (segment_push w.before s) ∙ length-append (segment_of w.before) (record_of s) in
-      let l = b.bytes_are in
-      omega arith) in
+    let e = ap length (segment_push w.before s) ∙ length-append (segment_of w.before) (record_of s) in
+    let l = b.bytes_are in
+    omega arith) in
     subst (λ n. IsRecordAt bytes n s (p.at + p.bytes)) (sym at_is) (subst (λ n. IsRecordAt bytes (length (segment_of w.before)) s n) next_is there)
 
 pub each_stands_at_its_byte : EachStandsAtItsByte

@@ -1,6 +1,6 @@
 pub use Rattle.history_model.specs.InOrder
 pub use Rattle.history_model.specs.History
 pub mod Records
-pub mod Places
+pub mod Standing
 pub mod Reading
 pub mod Finding

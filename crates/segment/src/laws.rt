@@ -1,7 +1,7 @@
 //! Laws of the definitions, each the contract of a function that does nothing.
 
 ghost use Rattle.segment.specs.Records.{OneSegment, OneRecord, EachAtItsPlace, PiecesJoin};
-ghost use Rattle.segment.specs.Places.{EachStandsAtItsByte};
+ghost use Rattle.segment.specs.Standing.{EachStandsAtItsByte};
 
 /// Bytes spell at most one list of rows.
 pub fn one_segment()

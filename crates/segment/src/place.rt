@@ -1,7 +1,7 @@
 //! Where rows stand in their segments.
 
 ghost use Rattle.std.specs.Prelude.{◌≡◌};
-ghost use Rattle.segment.specs.Places.{posted};
+ghost use Rattle.segment.specs.Standing.{posted};
 
 use crate::encoding::record_len;
 use history_model::StampedRow;
@@ -21,7 +21,7 @@ pub struct Posted {
 
 impl Posted {
     /// The place of a row whose record begins at this byte of its segment.
-    #[tactic(auto, unfolding(crate::specs::Places::posted))]
+    #[tactic(auto, unfolding(crate::specs::Standing::posted))]
     pub fn new(stamped: &StampedRow, at: u32) -> Posted
         ensures { result ≡ posted stamped.now at }
     {

@@ -1,0 +1,13 @@
+pub mod Ordered
+pub mod Found
+pub mod Standing
+pub mod Following
+pub mod OnePlace
+pub mod Among
+pub mod Keeping
+pub mod Paging
+pub mod Later
+pub mod Storing
+pub mod First
+pub mod Current
+pub mod Pushing

@@ -1,0 +1,169 @@
+-- Rows and their places.
+use Rattle.std.proofs.Common.{◌≡◌, ℕ, suc, ◌+◌, ◌≤◌, true, List, [], ◌∷◌, map, refl, sym, ap, subst, inl, inr, ◌∙◌, arith}
+use Rattle.std.specs.Prelude.{◌&&◌, ◌==◌, Option, Some, None, slice_get}
+use Rattle.std.specs.List.{AllByRecursion}
+use Rattle.std.specs.declared.cmp.Ordering.TheVariants.{Less}
+use Rattle.std.proofs.lemmas.Bool.Decides.{nat_tests}
+use Rattle.rf2_values.specs.declared.row.Kind.{Kind}
+use Rattle.rf2_values.specs.declared.key.Key.{Key}
+use Rattle.rf2_values.specs.Row.{Version, kind_of}
+use Rattle.rf2_values.specs.Key.{kind_place, key_of, key_cmp}
+use Rattle.history_model.specs.declared.stamped.StampedRow.{StampedRow}
+use Rattle.history_model.specs.InOrder.{Has, IsAscending, joined}
+use Rattle.history_model.specs.History.{stamped_cmp, rows_at}
+use Rattle.history_model.specs.Lists.{listed, AreLists}
+use Rattle.history_model.specs.Lists.{ShareNoKey as RowsShareNoKey, EachApart as RowsApart}
+use Rattle.history_model.specs.Queries.{lookup}
+use Rattle.history_model.proofs.InOrder.{Has-all, all_from_has, Has-append_left, Has-append_right, Has-append_cases}
+use Rattle.history_model.proofs.Filtered.{Has-map, Has-map_from}
+use Rattle.history_model.proofs.Keys.{same_kind}
+use Rattle.history_model.proofs.Snapshots.{IsVersionOf, lookup_is, lookup_none, IsConsistent-from_ascending, IsAscending-rows_at, IsAscending-listed, Has-listed_cases, Has-listed_from, Has-rows_at_cases, Has-rows_at_from}
+use Rattle.segment.specs.Standing.{record_len}
+use Rattle.segment.specs.declared.place.Posted.{Posted}
+use Rattle.segment.specs.Standing.{posted, with_places, places_of, StandsAt}
+use Rattle.as_of_index.specs.Places.{place_cmp, ShareNoKey, EachApart, ArePlaces}
+use Rattle.segment.proofs.Posting.{Says, says_posted, says, placed, row_there}
+use Rattle.as_of_index.specs.Search.{in_segment, all_places, is_candidate, IsPick, IsPlaceOf}
+use Rattle.as_of_index.proofs.Found.{Picks, candidate, candidate_test}
+
+-- ---- the rows' lists are lists
+
+ascending_rows : (at : ℕ) (rows : List StampedRow) → IsAscending place_cmp (map (λ (x : StampedRow × Posted). x.1) (with_places at rows)) → IsAscending stamped_cmp rows
+ascending_rows at [] up = tt
+ascending_rows at (r ∷ rows) up = (
+  all_from_has (λ t. stamped_cmp r t ≡ Less) rows (λ t h.
+      let w = placed (at + record_len r) rows t h in
+      let less = Has-all (λ q. place_cmp (posted r at) q ≡ Less) (map (λ (x : StampedRow × Posted). x.1) (with_places (at + record_len r) rows)) w.0 up.0 (Has-map_from (λ (x : StampedRow × Posted). x.1) (with_places (at + record_len r) rows) (t, w.0) w.1) in
+      subst (λ k. key_cmp k (key_of t.row) ≡ Less) (says_posted r at).key_is (subst (λ k. key_cmp (posted r at).key k ≡ Less) (says (at + record_len r) rows (t, w.0) w.1).key_is less)),
+  ascending_rows (at + record_len r) rows up.1,
+)
+
+place_there : (rows : List StampedRow) (s : StampedRow) → Has rows s → (p : Posted) × Has (places_of rows) p × Says p s
+place_there rows s h =
+    let w = placed 0 rows s h in
+    (w.0, Has-map_from (λ (x : StampedRow × Posted). x.1) (with_places 0 rows) (s, w.0) w.1, says 0 rows (s, w.0) w.1)
+
+rows_apart : (rows others : List StampedRow) → ShareNoKey (places_of rows) (places_of others) → RowsShareNoKey rows others
+rows_apart rows others apart = λ s t h k e.
+    let a = place_there rows s h in
+    let b = place_there others t k in
+    apart a.0 b.0 a.1 b.1 (a.2.key_is ∙ e ∙ sym b.2.key_is)
+
+ascending_lists : (lists : List (List StampedRow)) → AllByRecursion (λ places. IsAscending place_cmp places) (map places_of lists) → AllByRecursion (λ rows. IsAscending stamped_cmp rows) lists
+ascending_lists [] a = tt
+ascending_lists (rows ∷ lists) a = (ascending_rows 0 rows a.0, ascending_lists lists a.1)
+
+apart_others : (rows : List StampedRow) (lists : List (List StampedRow)) → AllByRecursion (λ others. ShareNoKey (places_of rows) others) (map places_of lists) → AllByRecursion (λ others. RowsShareNoKey rows others) lists
+apart_others rows [] a = tt
+apart_others rows (others ∷ lists) a = (rows_apart rows others a.0, apart_others rows lists a.1)
+
+apart_lists : (lists : List (List StampedRow)) → EachApart (map places_of lists) → RowsApart lists
+apart_lists [] a = tt
+apart_lists (rows ∷ lists) a = (apart_others rows lists a.0, apart_lists lists a.1)
+
+pub are_lists : (lists : List (List StampedRow)) → ArePlaces (map places_of lists) → AreLists lists
+are_lists lists a = record { ascending = ascending_lists lists a.ascending; apart = apart_lists lists a.apart }
+
+-- ---- a place of the index and its row
+
+-- the row stands at the place, in one of these lists, the first of which has the number k
+pub record StandsFrom (k : ℕ) (lists : List (List StampedRow)) (n : ℕ) (p : Posted) (s : StampedRow) : Type 0 where
+  pub i : ℕ
+  pub number_is : n ≡ k + i
+  pub rows : List StampedRow
+  pub list_is : slice_get lists i ≡ Some rows
+  pub there : Has (with_places 0 rows) (s, p)
+
+pub row_of_place : (k : ℕ) (lists : List (List StampedRow)) (x : ℕ × Posted) → Has (all_places k (map places_of lists)) x → (s : StampedRow) × StandsFrom k lists x.0 x.1 s × Has (joined lists) s
+row_of_place k [] x h = absurd h
+row_of_place k (rows ∷ lists) x h = elim (Has-append_cases (in_segment k (places_of rows)) (all_places (k + 1) (map places_of lists)) x h) [
+  | inl l ↦
+      let m = Has-map (λ (p : Posted). (k, p)) (places_of rows) x l in
+      let w = Has-map (λ (y : StampedRow × Posted). y.1) (with_places 0 rows) m.0 m.1 in
+      let number : x.0 ≡ k + 0 = (let e = ap (λ (y : ℕ × Posted). y.0) m.2 in omega arith) in
+      let place : w.0.1 ≡ x.1 = w.2 ∙ ap (λ (y : ℕ × Posted). y.1) m.2 in
+      (w.0.0, record { i = 0; number_is = number; rows = rows; list_is = refl; there = subst (λ q. Has (with_places 0 rows) (w.0.0, q)) place w.1 }, Has-append_left rows (joined lists) w.0.0 (row_there 0 rows w.0 w.1))
+  | inr r ↦
+      let w = row_of_place (k + 1) lists x r in
+      let number : x.0 ≡ k + suc w.1.i = (let e = w.1.number_is in omega arith) in
+      (w.0, record { i = suc w.1.i; number_is = number; rows = w.1.rows; list_is = w.1.list_is; there = w.1.there }, Has-append_right rows (joined lists) w.0 w.2)
+]
+
+pub place_of_row : (k : ℕ) (lists : List (List StampedRow)) (s : StampedRow) → Has (joined lists) s → (x : ℕ × Posted) × Has (all_places k (map places_of lists)) x × Says x.1 s
+place_of_row k [] s h = absurd h
+place_of_row k (rows ∷ lists) s h = elim (Has-append_cases rows (joined lists) s h) [
+  | inl l ↦
+      let w = place_there rows s l in
+      ((k, w.0), Has-append_left (in_segment k (places_of rows)) (all_places (k + 1) (map places_of lists)) (k, w.0) (Has-map_from (λ (p : Posted). (k, p)) (places_of rows) w.0 w.1), w.2)
+  | inr r ↦
+      let w = place_of_row (k + 1) lists s r in
+      (w.0, Has-append_right (in_segment k (places_of rows)) (all_places (k + 1) (map places_of lists)) w.0 w.1, w.2)
+]
+
+pub stands_at : (lists : List (List StampedRow)) (n : ℕ) (p : Posted) (s : StampedRow) → StandsFrom 0 lists n p s → StandsAt lists n p s
+stands_at lists n p s w = record { rows = w.rows; list_is = subst (λ j. slice_get lists j ≡ Some w.rows) (let e = w.number_is in omega arith) w.list_is; there = w.there }
+
+pub says_at : (k : ℕ) (lists : List (List StampedRow)) (n : ℕ) (p : Posted) (s : StampedRow) → StandsFrom k lists n p s → Says p s
+says_at k lists n p s w = says 0 w.rows (s, p) w.there
+
+-- ---- what the latest candidate says of a lookup
+
+number_test : (k l i j : ℕ) → k ≡ l → i ≡ j → (k == l && i == j) ≡ true
+number_test k l i j e f = grind (arith, nat_tests, e, f)
+
+kind_from : (k l i j : ℕ) → (k == l && i == j) ≡ true → k ≡ l
+kind_from k l i j e = grind (arith, nat_tests, e)
+
+id_from : (k l i j : ℕ) → (k == l && i == j) ≡ true → i ≡ j
+id_from k l i j e = grind (arith, nat_tests, e)
+
+module _ (kind : Kind) (id date pin : ℕ) (lists : List (List StampedRow)) (are : AreLists lists) where
+  abbrev shown : List Version
+  shown = rows_at pin (listed lists)
+
+  -- a version that is shown has a candidate
+  record HasCandidate (c : Version) : Type 0 where
+    x : ℕ × Posted
+    there : Has (all_places 0 (map places_of lists)) x
+    passes : is_candidate kind id date pin x.1 ≡ true
+    time_is : x.1.key.time ≡ c.time
+
+  candidate_of : (c : Version) → Has shown c → IsVersionOf kind id c → c.time ≤ date → HasCandidate c
+  candidate_of c h v early =
+      let w = Has-rows_at_cases pin (listed lists) c h in
+      let q = place_of_row 0 lists w.stamped_row (Has-listed_cases lists w.stamped_row w.known) in
+      let key_is : q.0.1.key ≡ key_of c = q.2.key_is ∙ ap key_of w.same in
+      let kinds : kind_place q.0.1.key.kind ≡ kind_place kind = ap (λ (k : Key). kind_place k.kind) key_is ∙ ap kind_place v.kind_is in
+      let ids : q.0.1.key.id ≡ id = ap (λ (k : Key). k.id) key_is ∙ v.id_is in
+      let times : q.0.1.key.time ≡ c.time = ap (λ (k : Key). k.time) key_is in
+      let numbers = q.2.import_is in
+      let w_early = w.early in
+      record {
+        x = q.0;
+        there = q.1;
+        passes = candidate_test kind id date pin q.0.1 (number_test _ _ _ _ kinds ids) (omega arith) (omega arith);
+        time_is = times;
+      }
+
+  pub lookup_from_pick : (best : Option (ℕ × Posted)) → Picks kind id date pin (all_places 0 (map places_of lists)) best → IsPlaceOf lists (lookup kind id date shown) best
+  unfolding IsPick
+  lookup_from_pick None none = lookup_none kind id date shown (λ c h v early. let k = candidate_of c h v early in none k.x k.there k.passes)
+  lookup_from_pick (Some b) l =
+      let w = row_of_place 0 lists b l.there in
+      let m = says_at 0 lists b.0 b.1 w.0 w.1 in
+      let k = candidate kind id date pin b.1 l.passes in
+      let key_is = m.key_is in
+      let kinds : kind_of w.0.row ≡ kind = same_kind (kind_of w.0.row) kind (ap (λ (x : Key). kind_place x.kind) (sym key_is) ∙ kind_from _ _ _ _ k.of) in
+      let ids : w.0.row.id ≡ id = ap (λ (x : Key). x.id) (sym key_is) ∙ id_from _ _ _ _ k.of in
+      let times : b.1.key.time ≡ w.0.row.time = ap (λ (x : Key). x.time) key_is in
+      let numbers = m.import_is in
+      let shown_is = k.shown in
+      let early = k.early in (
+        w.0,
+        stands_at lists b.0 b.1 w.0 w.1,
+        lookup_is kind id date shown w.0.row (IsConsistent-from_ascending shown (IsAscending-rows_at pin (listed lists) (IsAscending-listed lists)))
+            (Has-rows_at_from pin (listed lists) w.0 (Has-listed_from lists w.0 are w.2) (omega arith))
+            (record { kind_is = kinds; id_is = ids })
+            (omega arith)
+            (λ c h v early. let q = candidate_of c h v early in let le = l.latest q.x q.there q.passes in let e = q.time_is in omega arith),
+      )

@@ -1,0 +1,38 @@
+use Rattle.std.proofs.Common.{◌++◌, [], ◌∷◌, sym, ap, subst, ◌∙◌, take, map, rules}
+use Rattle.history_model.specs.declared.stamped.StampedRow.{StampedRow}
+use Rattle.segment.specs.Standing.{StandsAt}
+use Rattle.as_of_index.proofs.Current.{stand_at, stand_end, map-push}
+use Rattle.as_of_index.proofs.chosen.read_all.Goals as goal
+
+pub loop-k-preserved : goal.loop-k-preserved
+loop-k-preserved g c =
+    let a = c.args in
+    let so_far = c.loop-k.invariant in
+    let found = c.in_ok-found in
+    record {
+      honesty = λ h. found.ensures.honesty (so_far.honesty h);
+      lists = found.ensures.lists ∙ so_far.lists;
+      stays = g.met.R.RowReader.stays_on a.reader.now _ _ so_far.stays found.ensures.stays;
+      disk_faults = found.ensures.disk_faults ∙ so_far.disk_faults;
+      damages = found.ensures.damages ∙ so_far.damages;
+      rows = λ honest rows stand.
+          let w = stand_at (g.R.RowReader.lists a.reader.now) a.places.now rows c.loop-k.k-index c.k-item.result stand c.loop-k-test.true c.k-item.is in
+          let stands = subst (λ ls. StandsAt ls c.k-item.result.segment c.k-item.result.at w.0) (sym so_far.lists) w.1 in
+          let same = found.ensures.found (so_far.honesty honest) w.0 stands in
+          c.in_ok-push.ensures.items
+          ∙ ap (λ xs. xs ++ found.found.row ∷ []) (so_far.rows honest rows stand)
+          ∙ ap (λ (s : StampedRow). map (λ (s : StampedRow). s.row) (take c.loop-k.k-index rows) ++ s.row ∷ []) same
+          ∙ sym (map-push (λ (s : StampedRow). s.row) (take c.loop-k.k-index rows) w.0)
+          ∙ ap (λ xs. map (λ (s : StampedRow). s.row) xs) (sym w.2);
+    }
+
+pub returns-in_err-found-clause-undamaged : goal.returns-in_err-found-clause-undamaged
+returns-in_err-found-clause-undamaged g c = λ honest rows stand.
+    let w = stand_at (g.R.RowReader.lists c.args.reader.now) c.args.places.now rows c.loop-k.k-index c.k-item.result stand c.loop-k-test.true c.k-item.is in
+    let stands = subst (λ ls. StandsAt ls c.k-item.result.segment c.k-item.result.at w.0) (sym c.loop-k.invariant.lists) w.1 in
+    let k = c.in_err-found.ensures.undamaged (c.loop-k.invariant.honesty honest) w.0 stands in
+    search rules
+
+pub returns-clause-found : goal.returns-clause-found
+returns-clause-found g c = λ honest rows stand.
+    c.loop-k.invariant.rows honest rows stand ∙ ap (λ xs. map (λ (s : StampedRow). s.row) xs) (stand_end (g.R.RowReader.lists c.args.reader.now) c.args.places.now rows c.loop-k.k-index stand c.loop-k-test.false)

@@ -1,0 +1,23 @@
+use Rattle.std.proofs.Common.{sym, ap, subst, ◌∙◌}
+use Rattle.rf2_values.specs.Key.{key_of}
+use Rattle.segment.specs.Standing.{StandsAt}
+use Rattle.as_of_index.proofs.OnePlace.{place_from_test, test_from_place, same_standing, same_answer, no_answer}
+use Rattle.as_of_index.proofs.index.Index.is_current.Goals as goal
+
+pub returns-in-Some : goal.returns-in-Some
+returns-in-Some c = λ lists listed_so.
+    let a = c.args in
+    let are = rw listed_so at c.in-Some.ensures.places in
+    let w = c.in-Some.ensures.found lists listed_so in (
+      λ h.
+          let e = place_from_test c.in-Some.n c.in-Some.p a.segment a.at (sym c.is_same_place.ensures ∙ h) in
+          (w.0, subst (λ n. StandsAt lists n a.at w.0) e.0 (subst (λ p. StandsAt lists c.in-Some.n p w.0) e.1 w.1), w.2),
+      λ k.
+          let e = same_standing lists are c.in-Some.n a.segment c.in-Some.p a.at w.0 k.0 w.1 k.1 (ap key_of (same_answer _ w.0.row k.0.row w.2 k.2)) in
+          c.is_same_place.ensures ∙ test_from_place c.in-Some.n c.in-Some.p a.segment a.at e.0 e.1,
+    )
+
+pub returns-in-None : goal.returns-in-None
+returns-in-None c = λ lists listed_so.
+    let w = c.in-None.ensures.found lists listed_so in
+    (λ h. absurd (cc), λ k. absurd (no_answer _ k.0.row w k.2))

@@ -1,0 +1,14 @@
+pub use Rattle.rf2_values.specs.Row
+pub use Rattle.rf2_values.specs.Key
+pub use Rattle.history_model.specs.InOrder
+pub use Rattle.history_model.specs.History
+pub use Rattle.history_model.specs.Lists
+pub use Rattle.history_model.specs.Queries
+pub use Rattle.segment.specs.Standing
+pub use Rattle.fault_counts.specs.Counting
+pub mod Places
+pub mod Reader
+pub mod Search
+pub mod Current
+pub mod Chosen
+pub mod Postings

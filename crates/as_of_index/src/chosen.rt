@@ -1,0 +1,45 @@
+//! Rows that are to be read, and the reading of them.
+
+ghost use Rattle.std.specs.Prelude.{◌≡◌, ◌≢◌, ◌↔◌, List, map, IfOk, IfErr};
+ghost use Rattle.history_model.specs.declared.stamped.StampedRow.{StampedRow};
+ghost use Rattle.as_of_index.specs.Chosen.{StandAtAll};
+ghost use Rattle.fault_counts.specs.Counting.{Counts};
+ghost use Rattle.as_of_index.specs.Reader.{CountsDiskFault, CountsDamage};
+ghost use Rattle.as_of_index.specs.declared.reader.ReadFault.TheVariants as readfault;
+
+use crate::reader::{ReadFault, RowReader};
+use rf2_values::Row;
+use segment::Posted;
+use std::alloc::Global;
+
+/// A row that is to be read: the number of its list, and where it stands.
+#[derive(Clone, Copy, Debug)]
+pub struct Chosen {
+    pub segment: usize,
+    pub at: Posted,
+    /// The refset and the target of an association; else 0.
+    pub refset: u64,
+    pub target: u64,
+}
+
+/// The rows at the places, in this order.
+pub fn read_all<R: RowReader>(
+    alloc: Global,
+    reader: &mut R,
+    places: &[Chosen],
+) -> Result<Vec<Row>, ReadFault>
+    ensures found { R.is_honest reader.old → (rows : List StampedRow) → StandAtAll (R.lists reader.old) places.now rows → IfOk result (λ found. found.items ≡ map (λ s. s.row) rows) }
+    ensures undamaged { R.is_honest reader.old → (rows : List StampedRow) → StandAtAll (R.lists reader.old) places.now rows → IfErr result (λ e. e ≢ readfault.Damaged) }
+    ensures lists { R.lists reader.new ≡ R.lists reader.old }
+    ensures honesty { R.is_honest reader.old → R.is_honest reader.new }
+    ensures stays { R.stays reader.old reader.new }
+    ensures disk_faults { Counts CountsDiskFault result (R.disk_faults reader.old) (R.disk_faults reader.new) }
+    ensures damages { Counts CountsDamage result (R.damages reader.old) (R.damages reader.new) }
+{
+    let mut rows = Vec::new(alloc);
+    for k in places {
+        let found = reader.row(alloc, k.segment, k.at)?;
+        rows.push(found.row)?;
+    }
+    Ok(rows)
+}

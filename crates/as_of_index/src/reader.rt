@@ -1,0 +1,73 @@
+//! Rows that are read at their places.
+
+ghost use Rattle.std.specs.Prelude.{◌≡◌, ◌≢◌, ℕ, List, ◌↔◌, IfOk, IfErr, ◌<◌};
+ghost use Rattle.history_model.specs.declared.stamped.StampedRow.{StampedRow};
+ghost use Rattle.segment.specs.Standing.{StandsAt};
+ghost use Rattle.fault_counts.specs.Counting.{Counts};
+ghost use Rattle.as_of_index.specs.Reader.{CountsDiskFault, CountsDamage};
+ghost use Rattle.as_of_index.specs.declared.reader.ReadFault.TheVariants as readfault;
+
+use history_model::StampedRow;
+use segment::Posted;
+use std::alloc::{AllocError, AllocFailed, Global};
+use thiserror::Error;
+
+/// Why a row could not be had.
+#[derive(Clone, Copy, Debug, PartialEq, Eq, Error)]
+pub enum ReadFault {
+    #[error("out of memory")]
+    OutOfMemory,
+    #[error("the disk failed")]
+    DiskFault,
+    #[error("the store is damaged")]
+    Damaged,
+}
+
+impl From<AllocError> for ReadFault {
+    ghost from_gives = { λ _ e. e ≡ readfault.OutOfMemory };
+
+    fn from(_e: AllocError) -> ReadFault {
+        ReadFault::OutOfMemory
+    }
+}
+
+impl<T: Drop> From<AllocFailed<T>> for ReadFault {
+    ghost from_gives = { λ _ e. e ≡ readfault.OutOfMemory };
+
+    fn from(_e: AllocFailed<T>) -> ReadFault {
+        ReadFault::OutOfMemory
+    }
+}
+
+/// Lists of rows, lent to be read at their places. A call leaves them as they are.
+pub trait RowReader {
+    /// The lists of rows.
+    ghost lists: { Self → List (List StampedRow) };
+
+    /// How often it answered `DiskFault`.
+    ghost disk_faults: { Self → ℕ };
+
+    /// How often it answered `Damaged`.
+    ghost damages: { Self → ℕ };
+
+    /// What it gives are the rows of its lists.
+    ghost is_honest: { Self → Type 0 };
+
+    /// What its calls leave as it is.
+    ghost stays: { Self → Self → Type 0 };
+
+    /// The row at a place of a list.
+    fn row(&mut self, alloc: Global, segment: usize, at: Posted) -> Result<StampedRow, ReadFault>
+        ensures found { is_honest self.old → (s : StampedRow) → StandsAt (lists self.old) segment at s → IfOk result (λ row. row ≡ s) }
+        // Where a row stands, its reader answers a fault of the device or of memory alone.
+        ensures undamaged { is_honest self.old → (s : StampedRow) → StandsAt (lists self.old) segment at s → IfErr result (λ e. e ≢ readfault.Damaged) }
+        ensures lists { lists self.new ≡ lists self.old }
+        ensures honesty { is_honest self.old → is_honest self.new }
+        ensures stays { stays self.old self.new }
+        ensures disk_faults { Counts CountsDiskFault result (disk_faults self.old) (disk_faults self.new) }
+        ensures damages { Counts CountsDamage result (damages self.old) (damages self.new) };
+
+    ghost stays_still: { (r : Self) → stays r r };
+
+    ghost stays_on: { (a b c : Self) → stays a b → stays b c → stays a c };
+}
