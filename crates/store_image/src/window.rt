@@ -1,11 +1,6 @@
 //! A segment's bytes, read through a buffer of fixed size.
 
-ghost use Rattle.std.specs.Prelude.{◌≡◌, ◌↔◌, ◌+◌, ◌-◌, ◌≤◌, length, IfOk, IfErr, OnOk, MatchResult};
-ghost use Rattle.disk_model.specs.Disk.{CountsFailure};
-ghost use Rattle.blocks.specs.Extents.{bytes_of};
-ghost use Rattle.segment.specs.Records.{record_of, IsStamped};
-ghost use Rattle.store_image.specs.Answers.{CountsFault};
-ghost use Rattle.store_image.specs.Reading.{bytes_in, HasRecord, HasNoRecord, IsNoRecord, Sees, IsFull};
+ghost use Rattle.std.specs.Prelude.{◌≡◌, ◌↔◌, ℕ, ◌+◌, ◌-◌, ◌^◌, ◌<◌, ◌≤◌, List, length, vec_len, IfOk, IfErr, OnOk, MatchResult};
 
 use crate::fault::ImageFault;
 use blocks::{BLOCK, Extent};
@@ -24,12 +19,19 @@ pub(crate) struct Window {
     /// The place in the segment of the first of the bytes.
     pub(crate) from: u32,
     len: u32,
-    ghost long: { length bytes.items ≡ 131072 },
+    ghost long: { vec_len bytes ≡ 131072 },
     ghost short: { len ≤ 131072 },
     ghost within: { from + len ≤ extent.bytes },
+    ghost fits: { from + len < 2 ^ 32 },
 }
 
 impl Window {
+    ghost use Rattle.disk_model.specs.Disk.{CountsFailure};
+    ghost use Rattle.blocks.specs.Extents.{bytes_of};
+    ghost use Rattle.segment.specs.Records.{record_of, IsStamped};
+    ghost use Rattle.store_image.specs.Answers.{CountsFault};
+    ghost use Rattle.store_image.specs.Reading.{bytes_in, HasRecord, HasNoRecord, IsNoRecord, Sees, IsFull};
+
     /// A window on a segment of no bytes.
     pub(crate) fn new(alloc: Global) -> Result<Window, AllocError> {
         Ok(Window {
@@ -113,12 +115,12 @@ impl Window {
         ensures failures { CountsFault result (D.failures disk.old) (D.failures disk.new) }
     {
         match self.row_in(alloc, at) {
-            Ok(found) => Ok(found),
+            Ok((row, next)) => Ok((row, next)),
             Err(SegmentFault::OutOfMemory) => Err(ImageFault::OutOfMemory),
             Err(SegmentFault::BadSegment) => {
                 self.fill(disk, at)?;
-                let found = self.row_in(alloc, at)?;
-                Ok(found)
+                let (row, next) = self.row_in(alloc, at)?;
+                Ok((row, next))
             }
         }
     }
