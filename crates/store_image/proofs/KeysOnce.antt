@@ -1,10 +1,10 @@
 -- Lists in which each key stands once.
-use Rattle.std.proofs.Common.{◌≡◌, ◌↔◌, inl, inr, ℕ, zero, suc, ◌+◌, ◌-◌, ◌<◌, ◌≤◌, ◌++◌, List, [], ◌∷◌, length, get_or, map, take, drop, true, false, refl, sym, ap, subst, ◌∙◌, arith, append_assoc, length-append}
-use Rattle.std.specs.Prelude.{sum_by}
+use Rattle.std.proofs.Common.{◌≡◌, ◌↔◌, inl, inr, ℕ, zero, suc, ◌+◌, ◌-◌, ◌<◌, ◌≤◌, ◌++◌, List, [], ◌∷◌, length, get_or, map, take, drop, true, false, refl, sym, ap, subst, ◌∙◌, arith, append_assoc, length-append, Vec, Global}
+use Rattle.std.specs.Prelude.{vec_items}
 use Rattle.std.specs.List.{AllByRecursion}
 use Rattle.std.specs.declared.cmp.Ordering.{Ordering}
 use Rattle.std.specs.declared.cmp.Ordering.TheVariants.{Less}
-use Rattle.std.proofs.lemmas.List.{append-nil, take-append-drop}
+use Rattle.std.proofs.lemmas.List.{append-nil, take-append-drop, drop_more, get_or-map, length-map}
 use Rattle.rf2_values.specs.declared.key.Key.{Key}
 use Rattle.rf2_values.specs.Key.{key_cmp}
 use Rattle.history_model.specs.InOrder.{Has, IsAscending}
@@ -83,7 +83,11 @@ moved front back later ks =
       λ once. let parts = once_out (front ++ back) ks later once in subst Once (sym whole) (once_in front ks (back ++ later) (subst All rest parts.0) (subst Once rest parts.1)),
     )
 
--- ---- what opening a list answers
+-- ---- what putting a list in answers
+
+pub no_keys : (places : List Posted) → length places ≡ 0 → keys_of places ≡ []
+no_keys [] none = refl
+no_keys (p ∷ places) none = absurd (omega (arith, none))
 
 pub opens_none : (lists : List (List Key)) (keys : List Key) → keys ≡ [] → Opens true lists lists keys
 opens_none lists keys none =
@@ -122,31 +126,23 @@ module _ (rests new : List Rest) (i : ℕ) (rest : Rest) (new_is : new ≡ take 
       (λ later. moved (map keys_in (take i rests)) (map keys_in (drop i rests)) later (keys_in rest))))
 
   pub open_still : AreOpen rests → IsAscending key_cmp (keys_in rest) → AllByRecursion (λ (r : Rest). key_cmp rest.first r.first ≡ Less) (take i rests) → AllByRecursion (λ (r : Rest). key_cmp r.first rest.first ≡ Less) (drop i rests) → AreOpen new
-  open_still open up above below =
+  open_still opened up above below =
       subst (λ (l : List Rest). AreOpen l) (sym new_is) (record {
-        firsts = ascending_in (take i rests) (drop i rests) (subst (λ (l : List Rest). IsAscending first_cmp l) (sym whole) open.firsts) above below;
-        each = all_in (λ (r : Rest). IsAscending key_cmp (keys_in r)) (take i rests) rest (drop i rests) (subst (λ (l : List Rest). AllByRecursion (λ (r : Rest). IsAscending key_cmp (keys_in r)) l) (sym whole) open.each) up;
+        firsts = ascending_in (take i rests) (drop i rests) (subst (λ (l : List Rest). IsAscending first_cmp l) (sym whole) opened.firsts) above below;
+        each = all_in (λ (r : Rest). IsAscending key_cmp (keys_in r)) (take i rests) rest (drop i rests) (subst (λ (l : List Rest). AllByRecursion (λ (r : Rest). IsAscending key_cmp (keys_in r)) l) (sym whole) opened.each) up;
       })
     where
       ascending_in : (f b : List Rest) → IsAscending first_cmp (f ++ b) → AllByRecursion (λ (r : Rest). key_cmp rest.first r.first ≡ Less) f → AllByRecursion (λ (r : Rest). key_cmp r.first rest.first ≡ Less) b → IsAscending first_cmp (f ++ rest ∷ b)
       ascending_in [] b up above below = (below, up)
       ascending_in (x ∷ f) b up above below = (all_in (λ y. first_cmp x y ≡ Less) f rest b up.0 above.0, ascending_in f b up.1 above.1 below)
 
-  pub more_left : keys_left new ≡ keys_left rests + length (keys_in rest)
-  more_left =
-      ap keys_left new_is ∙ sum_in (take i rests) (drop i rests) ∙ ap (λ l. keys_left l + length (keys_in rest)) whole
-    where
-      sum_in : (f b : List Rest) → keys_left (f ++ rest ∷ b) ≡ keys_left (f ++ b) + length (keys_in rest)
-      sum_in [] b = omega arith
-      sum_in (x ∷ f) b = let e = sum_in f b in omega (arith, e)
-
 -- ---- the place
 
-pub above_before : (rests : List Rest) (i : ℕ) (d : Rest) (key : Key) → IsAscending first_cmp rests → i < length rests → key_cmp key (get_or rests i d).first ≡ Less → AllByRecursion (λ (r : Rest). key_cmp key r.first ≡ Less) (take (suc i) rests)
-above_before [] i d key up lt less = absurd (omega (arith, lt))
-above_before (x ∷ rests) zero d key up lt less = (less, tt)
-above_before (x ∷ rests) (suc i) d key up lt less =
-    let rest = above_before rests i d key up.1 (omega (arith, lt)) less in
+above_to : (rests : List Rest) (i : ℕ) (d : Rest) (key : Key) → IsAscending first_cmp rests → i < length rests → key_cmp key (get_or rests i d).first ≡ Less → AllByRecursion (λ (r : Rest). key_cmp key r.first ≡ Less) (take (suc i) rests)
+above_to [] i d key up lt less = absurd (omega (arith, lt))
+above_to (x ∷ rests) zero d key up lt less = (less, tt)
+above_to (x ∷ rests) (suc i) d key up lt less =
+    let rest = above_to rests i d key up.1 (omega (arith, lt)) less in
     let here = get_or rests i d in
     (keys_total.trans key here.first x.first less (at_all (λ (y : Rest). first_cmp x y ≡ Less) rests i d (omega (arith, lt)) up.0), rest)
   where
@@ -154,6 +150,11 @@ above_before (x ∷ rests) (suc i) d key up lt less =
     at_all P [] i d lt all = absurd (omega (arith, lt))
     at_all P (y ∷ ys) zero d lt all = all.0
     at_all P (y ∷ ys) (suc i) d lt all = at_all P ys i d (omega (arith, lt)) all.1
+
+pub above_before : (rests : List Rest) (i : ℕ) (d : Rest) (key : Key) → IsAscending first_cmp rests → i < length rests → key_cmp key (get_or rests i d).first ≡ Less → AllByRecursion (λ (r : Rest). key_cmp key r.first ≡ Less) (take (i + 1) rests)
+above_before rests i d key up lt less =
+    let next : suc i ≡ i + 1 = omega arith in
+    subst (λ n. AllByRecursion (λ (r : Rest). key_cmp key r.first ≡ Less) (take n rests)) next (above_to rests i d key up lt less)
 
 pub below_after : (rests : List Rest) (i : ℕ) (d : Rest) (key : Key) → IsAscending first_cmp rests → i < length rests → key_cmp (get_or rests i d).first key ≡ Less → AllByRecursion (λ (r : Rest). key_cmp r.first key ≡ Less) (drop i rests)
 below_after [] i d key up lt less = absurd (omega (arith, lt))
@@ -173,11 +174,11 @@ above_it key first keys less up k h same = elim h [
     not_itself : (a b : Key) → key_cmp a b ≡ Less → b ≡ a → ⊥
     not_itself a b less same = not_both keys_total a a (subst (λ k. key_cmp a k ≡ Less) same less) (subst (λ k. key_cmp a k ≡ Less) same less)
 
-module _ (front : List Rest) (rest : Rest) (open : AreOpen (front ++ rest ∷ [])) where
+module _ (front : List Rest) (rest : Rest) (opened : AreOpen (front ++ rest ∷ [])) where
   pub front_open : AreOpen front
   front_open = record {
-    firsts = front_ascends front open.firsts;
-    each = all_left (λ (r : Rest). IsAscending key_cmp (keys_in r)) front (rest ∷ []) open.each;
+    firsts = front_ascends front opened.firsts;
+    each = all_left (λ (r : Rest). IsAscending key_cmp (keys_in r)) front (rest ∷ []) opened.each;
   }
     where
       front_ascends : (f : List Rest) → IsAscending first_cmp (f ++ rest ∷ []) → IsAscending first_cmp f
@@ -185,7 +186,7 @@ module _ (front : List Rest) (rest : Rest) (open : AreOpen (front ++ rest ∷ []
       front_ascends (x ∷ f) up = (all_left (λ y. first_cmp x y ≡ Less) f (rest ∷ []) up.0, front_ascends f up.1)
 
   pub rest_ascends : IsAscending key_cmp (keys_of rest.places.now)
-  rest_ascends = (all_mid (λ (r : Rest). IsAscending key_cmp (keys_in r)) front rest [] open.each).1
+  rest_ascends = (all_mid (λ (r : Rest). IsAscending key_cmp (keys_in r)) front rest [] opened.each).1
 
   all_above : (f : List Rest) → IsAscending first_cmp (f ++ rest ∷ []) → AllByRecursion (λ (r : Rest). key_cmp rest.first r.first ≡ Less) f
   all_above [] up = tt
@@ -210,7 +211,7 @@ module _ (front : List Rest) (rest : Rest) (open : AreOpen (front ++ rest ∷ []
             let longer = all_zip keys_in (AreDisjoint ks) (AreDisjoint (rest.first ∷ ks)) (λ (r : Rest). (key_cmp rest.first r.first ≡ Less) × IsAscending key_cmp (keys_in r)) front (λ r is apart. λ key h k. elim h [
               | inl e ↦ above_it rest.first r.first (keys_of r.places.now) is.0 is.1 key k e
               | inr t ↦ apart key t k
-            ]) (both front (all_above front open.firsts) front_open.each) (subst Short none parts.0) in
+            ]) (both front (all_above front opened.firsts) front_open.each) (subst Short none parts.0) in
             subst Once (sym lists) (once_in F (rest.first ∷ ks) [] (subst Long (sym none) longer) parts.1),
       )
     where
@@ -221,3 +222,58 @@ module _ (front : List Rest) (rest : Rest) (open : AreOpen (front ++ rest ∷ []
       both : (f : List Rest) → AllByRecursion (λ (r : Rest). key_cmp rest.first r.first ≡ Less) f → AllByRecursion (λ (r : Rest). IsAscending key_cmp (keys_in r)) f → AllByRecursion (λ (r : Rest). (key_cmp rest.first r.first ≡ Less) × IsAscending key_cmp (keys_in r)) f
       both [] a b = tt
       both (x ∷ f) a b = ((a.0, b.0), both f a.1 b.1)
+
+-- one round: the least key went, and the rest of its list was put in
+module _ (front all new : List Rest) (rest : Rest) (all_is : all ≡ front ++ rest ∷ []) (opened : AreOpen all) where
+  pub round_front : AreOpen front
+  round_front = front_open front rest (subst (λ (l : List Rest). AreOpen l) all_is opened)
+
+  pub round_ascends : IsAscending key_cmp (keys_of rest.places.now)
+  round_ascends = rest_ascends front rest (subst (λ (l : List Rest). AreOpen l) all_is opened)
+
+  goes : EachKeyOnce (map keys_in all) ↔ EachKeyOnce (map keys_in front ++ keys_of rest.places.now ∷ [])
+  goes =
+      subst (λ (l : List Rest). EachKeyOnce (map keys_in l) ↔ EachKeyOnce (map keys_in front ++ keys_of rest.places.now ∷ [])) (sym all_is)
+      (least_goes front rest (subst (λ (l : List Rest). AreOpen l) all_is opened))
+
+  pub round_tells : (lists : List (List Key)) → Opens true (map keys_in front) (map keys_in new) (keys_of rest.places.now) → (EachKeyOnce (map keys_in all) ↔ EachKeyOnce lists) → EachKeyOnce (map keys_in new) ↔ EachKeyOnce lists
+  round_tells lists opens tells =
+      let none : map keys_in new ++ [] ≡ map keys_in new = append-nil (map keys_in new) in
+      let Once = λ (l : List (List Key)). EachKeyOnce l in (
+        λ once. tells.0 (goes.1 ((opens []).0 (subst Once (sym none) once))),
+        λ once. subst Once none ((opens []).1 (goes.0 (tells.1 once))),
+      )
+
+  pub round_fails : (lists : List (List Key)) (after : List (List Key)) → Opens false (map keys_in front) after (keys_of rest.places.now) → (EachKeyOnce (map keys_in all) ↔ EachKeyOnce lists) → EachKeyOnce lists → ⊥
+  round_fails lists after opens tells once = opens [] (goes.0 (tells.1 once))
+
+-- ---- the lists one after the other
+
+module _ (lists : List (List Key)) (i : ℕ) (d : List Key) (rests new : List Rest) (lt : i < length lists) (tells : EachKeyOnce (map keys_in rests ++ drop i lists) ↔ EachKeyOnce lists) where
+  here : drop i lists ≡ get_or lists i d ∷ drop (i + 1) lists
+  here = drop_more lists i d lt
+
+  pub list_opens : Opens true (map keys_in rests) (map keys_in new) (get_or lists i d) → EachKeyOnce (map keys_in new ++ drop (i + 1) lists) ↔ EachKeyOnce lists
+  list_opens opens =
+      let Once = λ (l : List (List Key)). EachKeyOnce (map keys_in rests ++ l) in (
+        λ once. tells.0 (subst Once (sym here) ((opens (drop (i + 1) lists)).0 once)),
+        λ once. (opens (drop (i + 1) lists)).1 (subst Once here (tells.1 once)),
+      )
+
+  pub list_fails : (after : List (List Key)) → Opens false (map keys_in rests) after (get_or lists i d) → EachKeyOnce lists → ⊥
+  list_fails after opens once = opens (drop (i + 1) lists) (subst (λ (l : List (List Key)). EachKeyOnce (map keys_in rests ++ l)) here (tells.1 once))
+
+pub all_index : {X : Type 0} (P : X → Type 0) (xs : List X) (i : ℕ) (d : X) → i < length xs → AllByRecursion P xs → P (get_or xs i d)
+all_index P [] i d lt all = absurd (omega (arith, lt))
+all_index P (y ∷ ys) zero d lt all = all.0
+all_index P (y ∷ ys) (suc i) d lt all = all_index P ys i d (omega (arith, lt)) all.1
+
+-- the keys of one of the lists
+module _ (lists : List (Vec Posted Global)) (i : ℕ) (v : Vec Posted Global) (places : List Posted) (lt : i < length lists) (is : v ≡ get_or lists i v) (places_are : places ≡ v.items) where
+  pub as_many_lists : i < length (map keys_of (map vec_items lists))
+  as_many_lists = omega (arith, lt, length-map (map vec_items lists) keys_of, length-map lists (vec_items {X = Posted} {Z = Global}))
+
+  pub list_keys : get_or (map keys_of (map vec_items lists)) i [] ≡ keys_of places
+  list_keys =
+      get_or-map keys_of (map vec_items lists) i v.items [] (omega (arith, lt, length-map lists (vec_items {X = Posted} {Z = Global})))
+      ∙ ap keys_of (get_or-map vec_items lists i v v.items lt ∙ ap (λ (w : Vec Posted Global). w.items) (sym is) ∙ sym places_are)

@@ -27,7 +27,7 @@ pub(crate) fn are_apart(alloc: Global, lists: &[Vec<Posted>]) -> Result<bool, Al
 {
     let mut rests = Vec::with_capacity(alloc, lists.len())?;
     for list in lists {
-        if !open(&mut rests, list.as_slice())? {
+        if !put_in(&mut rests, list.as_slice())? {
             return Ok(false);
         }
     }
@@ -39,8 +39,8 @@ fn run_out(rests: &mut Vec<Rest<'_>>) -> Result<bool, AllocError>
     requires { AreOpen rests.old.items }
     ensures { IfOk result (λ apart. IsTrue apart ↔ EachKeyOnce (map keys_in rests.old.items)) }
 {
-    while let Some(Rest { places, .. }) = rests.pop() {
-        if !open(rests, places)? {
+    while let Some(rest) = rests.pop() {
+        if !put_in(rests, rest.places)? {
             return Ok(false);
         }
     }
@@ -48,10 +48,10 @@ fn run_out(rests: &mut Vec<Rest<'_>>) -> Result<bool, AllocError>
 }
 
 /// Puts a list among those that are gone over, the one with the least first key last. False where its first key is that of another one's.
-fn open<'a>(rests: &mut Vec<Rest<'a>>, list: &'a [Posted]) -> Result<bool, AllocError>
-    requires open { AreOpen rests.old.items }
+fn put_in<'a>(rests: &mut Vec<Rest<'a>>, list: &'a [Posted]) -> Result<bool, AllocError>
+    requires rests { AreOpen rests.old.items }
     requires ascending { IsAscending key_cmp (keys_of list.now) }
-    ensures open { IfOk result (λ apart. IsTrue apart → AreOpen rests.new.items) }
+    ensures rests { IfOk result (λ apart. IsTrue apart → AreOpen rests.new.items) }
     ensures lists { IfOk result
         (λ apart. Opens apart (map keys_in rests.old.items) (map keys_in rests.new.items) (keys_of list.now)) }
     ensures left { IfOk result

@@ -8,6 +8,6 @@ abbrev pub invariant-loop-list : goal.invariant-loop-list
 invariant-loop-list l =
     let lists = map keys_of (map vec_items l.lists) in
     record {
-      open : AreOpen l.rests.items;
+      opened : AreOpen l.rests.items;
       tells : EachKeyOnce (map keys_in l.rests.items ++ drop l.list-index lists) ↔ EachKeyOnce lists;
     }

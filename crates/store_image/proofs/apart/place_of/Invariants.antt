@@ -10,8 +10,8 @@ abbrev pub invariant-loop-low : goal.invariant-loop-low
 invariant-loop-low l = record {
   order : l.low ≤ l.high;
   most : l.high ≤ length l.rests;
-  above : AllByRecursion (λ (r : Rest). key_cmp l.key r.first ≡ Less) (take l.low l.rests);
-  below : AllByRecursion (λ (r : Rest). key_cmp r.first l.key ≡ Less) (drop l.high l.rests);
+  above : AllByRecursion (λ (r : Rest). key_cmp l.fn.key r.first ≡ Less) (take l.low l.rests);
+  below : AllByRecursion (λ (r : Rest). key_cmp r.first l.fn.key ≡ Less) (drop l.high l.rests);
 }
 
 abbrev pub decreases-loop-low : goal.decreases-loop-low

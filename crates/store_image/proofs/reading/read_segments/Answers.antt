@@ -1,0 +1,75 @@
+use Rattle.std.specs.Prelude.{vec_items, map}
+use Rattle.std.specs.List.{AllByRecursion}
+use Rattle.std.proofs.Common.{◌≡◌, ◌≤◌, ◌++◌, ℕ, List, [], ◌∷◌, length, get_or, take, refl, sym, ap, subst, ◌∙◌, arith, take_all, Vec, Global}
+use Rattle.std.proofs.lemmas.Result.{err_from_is_err_and}
+use Rattle.disk_model.specs.Disk.{Moments}
+use Rattle.directory.specs.declared.entry.Entry.{Entry}
+use Rattle.history_model.specs.declared.stamped.StampedRow.{StampedRow}
+use Rattle.history_model.specs.InOrder.{IsAscending}
+use Rattle.rf2_values.specs.Key.{key_cmp}
+use Rattle.segment.specs.declared.place.Posted.{Posted}
+use Rattle.segment.specs.Standing.{places_of, with_places}
+use Rattle.store_image.specs.Stands.{HoldsAll}
+use Rattle.store_image.specs.Says.{AreSegments, pieces_of}
+use Rattle.store_image.specs.Reading.{IsAt, IsNotReadAt}
+use Rattle.store_image.specs.Keys.{keys_of, EachKeyOnce}
+use Rattle.store_image.proofs.Segments.{not_read_at, not_apart, map-push, more_segments, more_numbered, more_held, more_segments_taken}
+use Rattle.store_image.proofs.KeyLists.{ascending_keys, lists_from_once, once_from_lists}
+use Rattle.store_image.proofs.reading.read_segments.Goals as goal
+
+-- what an entry is read from where there is none
+none : Entry
+none = record { first = 0; bytes = 0; rows = 0 }
+
+-- the bytes are those from before
+same_now : (old new : Moments) → new ≡ old → new.state.now ≡ old.state.now
+same_now old new same = ap (λ (m : Moments). m.state.now) same
+
+pub returns-in_err-rows-clause-exact : goal.returns-in_err-rows-clause-exact
+unfolding none
+returns-in_err-rows-clause-exact g c honest =
+    let p = err_from_is_err_and c.from_residual-in_err-rows.result c.from_residual-in_err-rows.ensures.1 in
+    let inv = c.loop-entry.invariant in
+    let entries = c.args.entries.now in
+    let i = c.loop-entry.entry-index in
+    let e = c.in_err-rows.field-0.0 in
+    let why = subst (IsNotReadAt e c.args.imports (get_or entries i none)) (same_now _ _ (inv.moments honest)) (c.in_err-rows.ensures.exact (inv.honesty.0 honest)) in
+    rw (p.1, p.2) (not_read_at e c.args.imports _ entries i none c.loop-entry-test.true why)
+
+pub loop-entry-preserved : goal.loop-entry-preserved
+unfolding none
+loop-entry-preserved g c =
+    let inv = c.loop-entry.invariant in
+    let read = c.in_ok-rows.ensures in
+    let entries = c.args.entries.now in
+    let i = c.loop-entry.entry-index in
+    let lists = c.loop-entry.shown.items in
+    let rows = c.in_ok-rows.rows.shown in
+    let more : List (List StampedRow) = c.push-in-loop-entry.new.self.items in
+    let more_is : more ≡ lists ++ rows ∷ [] = c.in_ok-push-2.ensures.items in
+    let lt = c.loop-entry-test.true in
+    record {
+      segments = more_segments entries i none lists more rows lt more_is inv.segments read.found;
+      numbered = more_numbered entries i none lists more rows lt more_is c.args.imports inv.numbered read.numbered;
+      places = ap (map vec_items) c.in_ok-push.ensures.items
+          ∙ map-push vec_items c.loop-entry.places.items c.in_ok-rows.rows.places
+          ∙ ap (λ (l : List (List Posted)). l ++ c.in_ok-rows.rows.places.items ∷ []) inv.places
+          ∙ ap (λ (p : List Posted). map places_of lists ++ p ∷ []) read.places
+          ∙ sym (map-push places_of lists rows)
+          ∙ sym (ap (map places_of) more_is);
+      held = λ honest.
+          let there = subst (λ (f : List ℕ). IsAt f (get_or entries i none) rows) (same_now _ _ (inv.moments honest)) (read.exact (inv.honesty.0 honest)) in
+          more_held entries i none lists more rows lt more_is _ inv.segments (inv.held honest) there;
+      taken = λ segments taken.
+          let before = segments ++ map (with_places 0) lists in
+          subst (λ (l : List (List (StampedRow × Posted))). g.S.RowSink.has_taken c.read_segment.new.sink l []) (more_segments_taken entries i none lists more rows lt more_is segments) (read.taken before (inv.taken segments taken));
+      moments = λ honest. read.moments (inv.honesty.0 honest) ∙ inv.moments honest;
+      honesty = (λ h. read.honesty.0 (inv.honesty.0 h), λ h. inv.honesty.1 (read.honesty.1 h));
+      failures = read.failures ∙ inv.failures;
+    }
+
+pub are_apart-requires : goal.are_apart-requires
+are_apart-requires g c =
+    let inv = c.loop-entry.invariant in
+    let lists = c.loop-entry.shown.items in
+    subst (λ (l : List (Vec Posted Global)). AllByRecursion (IsAscending key_cmp) (map keys_of (map vec_items l))) (sym c.as_slice.ensures.value) (ascending_keys (map vec_items c.loop-entry.places.items) lists inv.places (take c.loop-entry.entry-index c.args.entries.now) inv.segments)
