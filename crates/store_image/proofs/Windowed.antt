@@ -61,11 +61,13 @@ pub record_in : (m at : ℕ) (bytes window : List ℕ) (s : StampedRow) → wind
 record_in m at bytes window s sees full has =
     let L = length (record_of s) in
     let place : at + (at - at) ≡ at = omega arith in
-    let same : take L (drop (at + (at - at)) bytes) ≡ record_of s = ap (λ i. take L (drop i bytes)) place ∙ has.1 in
-    (has.0, ap (λ w. take L (drop (at - at) w)) sees ∙ elim full [
-      | inl all ↦ ap (λ w. take L (drop (at - at) w)) (take_all m (drop at bytes) all) ∙ ap (take L) (drop-drop (at - at) at bytes) ∙ same
-      | inr far ↦ part_within m at (at - at) L bytes (omega (arith, far, record_most s has.0)) ∙ same
-    ])
+    let same : take L (drop (at + (at - at)) bytes) ≡ record_of s = ap (λ i. take L (drop i bytes)) place ∙ has.1 in (
+      has.0,
+      ap (λ w. take L (drop (at - at) w)) sees ∙ elim full [
+        | inl all ↦ ap (λ w. take L (drop (at - at) w)) (take_all m (drop at bytes) all) ∙ ap (take L) (drop-drop (at - at) at bytes) ∙ same
+        | inr far ↦ part_within m at (at - at) L bytes (omega (arith, far, record_most s has.0)) ∙ same
+      ],
+    )
 
 -- a record ends where its bytes do
 pub record_ends : (m at next : ℕ) (bytes : List ℕ) (s : StampedRow) → IsRecordAt (take m bytes) at s next → next ≤ m
@@ -91,7 +93,7 @@ pub front_of : (len n : ℕ) (front rest : List ℕ) → len ≤ n → length fr
 front_of len n front rest le long = sym (take-take len n (front ++ rest) le) ∙ ap (take len) (take_at front rest n long)
 
 module _ (first bytes at place count len : ℕ) (file old into : List ℕ) (place_is : place ≡ 4096 * first + at) (below : at ≤ bytes) (count_is : count ≡ min 131072 (length file - place)) (len_is : len ≡ min (bytes - at) count)
-  (into_is : into ≡ take count (drop place file) ++ drop count old) where
+    (into_is : into ≡ take count (drop place file) ++ drop count old) where
   left : drop at (take bytes (drop (4096 * first) file)) ≡ take (bytes - at) (drop place file)
   left =
       let split : bytes ≡ at + (bytes - at) = omega (arith, below) in

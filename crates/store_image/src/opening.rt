@@ -61,8 +61,13 @@ pub fn load<D: Disk, S: RowSink>(
     let mut content = [0; 4096];
     let current = read_current(disk, &mut content)?;
     let directory = Directory::decode(alloc, &content)?;
-    let Segments { places, shown } =
-        read_segments(alloc, disk, directory.entries(), directory.imports(), sink)?;
+    let Segments { places, shown } = read_segments(
+        alloc,
+        disk,
+        directory.entries(),
+        directory.imports(),
+        sink,
+    )?;
     Ok(Loaded {
         slot: current.slot,
         directory,

@@ -73,3 +73,37 @@ are_apart-requires g c =
     let inv = c.loop-entry.invariant in
     let lists = c.loop-entry.shown.items in
     subst (λ (l : List (Vec Posted Global)). AllByRecursion (IsAscending key_cmp) (map keys_of (map vec_items l))) (sym c.as_slice.ensures.value) (ascending_keys (map vec_items c.loop-entry.places.items) lists inv.places (take c.loop-entry.entry-index c.args.entries.now) inv.segments)
+
+pub returns-then-not-branch-clause-exact : goal.returns-then-not-branch-clause-exact
+unfolding none
+returns-then-not-branch-clause-exact g c honest =
+    let inv = c.loop-entry.invariant in
+    let entries = c.args.entries.now in
+    let i = c.loop-entry.entry-index in
+    let lists = c.loop-entry.shown.items in
+    let ended = c.loop-entry-test.false in
+    let whole : take i entries ≡ entries = take_all i entries (omega (arith, ended)) in
+    let are = subst (λ (l : List Entry). AreSegments l lists) whole inv.segments in
+    let now : List ℕ = (g.D.Disk.moments c.args.disk.now).state.now in
+    let held = subst (λ (l : List Entry). HoldsAll (pieces_of l lists) now) whole (inv.held honest) in
+    not_apart c.args.imports now entries lists are held (λ apart.
+    let once = once_from_lists (map vec_items c.loop-entry.places.items) lists inv.places apart in
+    let yes = c.in_ok-are_apart.ensures.1 (subst (λ (l : List (Vec Posted Global)). EachKeyOnce (map keys_of (map vec_items l))) (sym c.as_slice.ensures.value) once) in
+    let no = c.if-not-branch.true in
+    absurd cc)
+
+pub returns-clause-read : goal.returns-clause-read
+returns-clause-read g c =
+    let inv = c.loop-entry.invariant in
+    let entries = c.args.entries.now in
+    let i = c.loop-entry.entry-index in
+    let lists = c.loop-entry.shown.items in
+    let ended = c.loop-entry-test.false in
+    let whole : take i entries ≡ entries = take_all i entries (omega (arith, ended)) in
+    let are = subst (λ (l : List Entry). AreSegments l lists) whole inv.segments in
+    let once = subst (λ (l : List (Vec Posted Global)). EachKeyOnce (map keys_of (map vec_items l))) c.as_slice.ensures.value (c.in_ok-are_apart.ensures.0 c.if-not-branch.false) in
+    record {
+      segments = are;
+      apart = lists_from_once (map vec_items c.loop-entry.places.items) lists inv.places entries are once;
+      numbered = inv.numbered;
+    }
