@@ -63,7 +63,7 @@ returns-clause-exact g c honest =
     let still = c.in_ok-sync.ensures.honesty.0 honest in
     let then_still = c.in_ok-current.ensures.honesty.0 still in
     let d = c.in_ok-directory.directory in
-    let lists = c.in_ok-places.shown.items in
+    let lists = c.in_ok-places.field-0.shown.items in
     let synced : List ℕ = (g.D.Disk.moments c.sync.new.self).state.now in
     let later : List ℕ = (g.D.Disk.moments c.read_current.new.disk).state.now in
     let same : later ≡ synced = ap (λ (m : Moments). m.state.now) (c.in_ok-current.ensures.moments still) in
@@ -75,7 +75,7 @@ returns-clause-exact g c honest =
 pub returns-clause-kept : goal.returns-clause-kept
 returns-clause-kept g c =
     let d = c.in_ok-directory.directory in
-    let lists = c.in_ok-places.shown.items in
+    let lists = c.in_ok-places.field-0.shown.items in
     read_is_kept d lists c.in_ok-directory.ensures.found.is (of_listing (λ n l. AreRead n l lists) c.imports.result c.entries.result.now d c.imports.ensures c.entries.ensures.entries c.in_ok-places.ensures.read)
 
 pub returns-clause-on_disk : goal.returns-clause-on_disk
@@ -83,7 +83,7 @@ returns-clause-on_disk g c honest =
     let still = c.in_ok-sync.ensures.honesty.0 honest in
     let then_still = c.in_ok-current.ensures.honesty.0 still in
     let d = c.in_ok-directory.directory in
-    let lists = c.in_ok-places.shown.items in
+    let lists = c.in_ok-places.field-0.shown.items in
     let synced : List ℕ = (g.D.Disk.moments c.sync.new.self).state.now in
     let later : List ℕ = (g.D.Disk.moments c.read_current.new.disk).state.now in
     let same : later ≡ synced = ap (λ (m : Moments). m.state.now) (c.in_ok-current.ensures.moments still) in
