@@ -22,7 +22,7 @@ fn one_concept_is_found_from_its_day_on(rt: HostRuntime) -> Result<(), Fail> {
     let row = "138875005|20200131|1|CORE|PRIM";
     let mut store = new_store(rt.alloc())?;
     let release = one_file(rt.alloc(), Kind::Concept, &[row])?;
-    let receipt = store.import(rt.alloc(), &release)?;
+    let receipt = store.import(&release)?;
     assert_eq!(rt;
         receipt,
         Receipt {
@@ -44,7 +44,7 @@ fn one_concept_is_found_from_its_day_on(rt: HostRuntime) -> Result<(), Fail> {
         assert!(rt; got.as_slice() == *want, "at {date}");
     }
     // The same file again brings nothing new.
-    let receipt = store.import(rt.alloc(), &release)?;
+    let receipt = store.import(&release)?;
     assert_eq!(rt;
         receipt,
         Receipt {
@@ -89,7 +89,7 @@ fn a_retired_concept_is_shown_inactive(rt: HostRuntime) -> Result<(), Fail> {
     ];
     for (name, want) in &receipts {
         let release = sample(rt.alloc(), *name)?.ok_or("a sample")?;
-        assert_eq!(rt; store.import(rt.alloc(), &release)?, *want, "{name}");
+        assert_eq!(rt; store.import(&release)?, *want, "{name}");
     }
     assert_eq!(rt; store.row_count(), 12);
     let cases = [

@@ -94,7 +94,7 @@ pub fn root_release(alloc: Global) -> Result<Release, AllocError> {
 /// The disk of a store after that release.
 pub fn root_disk(alloc: Global) -> Result<MemDisk, Refusal> {
     let mut store = new_store(alloc)?;
-    store.import(alloc, &root_release(alloc)?)?;
+    store.import(&root_release(alloc)?)?;
     Ok(store.close())
 }
 
@@ -109,7 +109,7 @@ pub fn line_at(
     let mut line = Vec::new(alloc);
     let pin = store.imports();
     if let Some(date) = EffectiveTime::of(date) {
-        if let Some(row) = store.lookup(alloc, kind, id, date, pin)? {
+        if let Some(row) = store.lookup(kind, id, date, pin)? {
             write_row(alloc, &row, &mut line)?;
         }
     }

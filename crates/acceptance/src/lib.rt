@@ -4,11 +4,15 @@
 #[cfg(test)]
 mod answers;
 #[cfg(test)]
+mod both_ways;
+#[cfg(test)]
 mod fixtures;
 #[cfg(test)]
 mod limits;
 #[cfg(test)]
 mod openings;
+#[cfg(test)]
+mod queries;
 #[cfg(test)]
 mod refusals;
 #[cfg(test)]

@@ -18,12 +18,12 @@ fn a_directory_lists_128_segments(rt: HostRuntime) -> Result<(), Fail> {
     let mut store = new_store(rt.alloc())?;
     for year in 1_901..2_029 {
         let release = of_year(rt.alloc(), year)?;
-        assert_eq!(rt; store.import(rt.alloc(), &release)?.new, 1);
+        assert_eq!(rt; store.import(&release)?.new, 1);
     }
     assert_eq!(rt; store.segments(), 128);
     let further = of_year(rt.alloc(), 2_029)?;
     assert_eq!(rt;
-        store.import(rt.alloc(), &further),
+        store.import(&further),
         Err(Refusal::TooManySegments)
     );
     assert_eq!(rt; Refusal::TooManySegments.code(), 6);
@@ -31,7 +31,7 @@ fn a_directory_lists_128_segments(rt: HostRuntime) -> Result<(), Fail> {
     // A release of repeated rows needs no segment.
     let repeated = of_year(rt.alloc(), 1_950)?;
     assert_eq!(rt;
-        store.import(rt.alloc(), &repeated)?,
+        store.import(&repeated)?,
         Receipt {
             number: 129,
             new: 0,

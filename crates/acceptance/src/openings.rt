@@ -45,7 +45,7 @@ fn a_store_is_opened_as_it_was_closed(rt: HostRuntime) -> Result<(), Fail> {
     let mut store = new_store(rt.alloc())?;
     for name in &["r1", "r2", "r3"] {
         let release = sample(rt.alloc(), *name)?.ok_or("a sample")?;
-        store.import(rt.alloc(), &release)?;
+        store.import(&release)?;
         let mut again = opened(rt.alloc(), store.close())?;
         assert!(rt; !again.needs_reopen());
         store = again;
@@ -87,7 +87,7 @@ fn disks_that_are_no_store_or_damaged(rt: HostRuntime) -> Result<(), Fail> {
     let mut store = new_store(rt.alloc())?;
     for name in &["r1", "r2"] {
         let release = sample(rt.alloc(), *name)?.ok_or("a sample")?;
-        store.import(rt.alloc(), &release)?;
+        store.import(&release)?;
     }
     let disk = store.close();
     // The newer slot has an entry of no bytes, though the older one is good.
@@ -108,7 +108,7 @@ fn the_last_epoch_is_opened_and_takes_no_import(rt: HostRuntime) -> Result<(), F
     assert_eq!(rt; store.imports(), 1);
     let release = root_release(rt.alloc())?;
     assert_eq!(rt;
-        store.import(rt.alloc(), &release),
+        store.import(&release),
         Err(Refusal::CountSpent)
     );
     assert_eq!(rt; Refusal::CountSpent.code(), 13);

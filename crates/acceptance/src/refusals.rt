@@ -77,13 +77,13 @@ fn faulty_lines_are_named(rt: HostRuntime) -> Result<(), Fail> {
     let mut store = new_store(rt.alloc())?;
     for (kind, lines, want) in &cases {
         let release = one_file(rt.alloc(), *kind, *lines)?;
-        assert_eq!(rt; store.import(rt.alloc(), &release), Err(*want));
+        assert_eq!(rt; store.import(&release), Err(*want));
         assert_eq!(rt; store.imports(), 0);
         assert_eq!(rt; store.row_count(), 0);
     }
     // The calendar isn't consulted.
     let release = one_file(rt.alloc(), Kind::Concept, &["1000004|20230230|1|CORE|PRIM"])?;
-    assert_eq!(rt; store.import(rt.alloc(), &release)?.new, 1);
+    assert_eq!(rt; store.import(&release)?.new, 1);
     Ok(())
 }
 
@@ -95,27 +95,27 @@ fn a_row_that_says_otherwise_is_refused(rt: HostRuntime) -> Result<(), Fail> {
         Kind::Concept,
         &["138875005|20200131|1|CORE|PRIM"],
     )?;
-    store.import(rt.alloc(), &first)?;
+    store.import(&first)?;
     let other = one_file(
         rt.alloc(),
         Kind::Concept,
         &["138875005|20200131|1|2000001|PRIM"],
     )?;
     let want = Refusal::Contradiction { file: 1, line: 2 };
-    assert_eq!(rt; store.import(rt.alloc(), &other), Err(want));
+    assert_eq!(rt; store.import(&other), Err(want));
     assert_eq!(rt; want.code(), 32);
     assert_eq!(rt; store.imports(), 1);
     assert_eq!(rt; store.row_count(), 1);
     // A relationship that is repeated with another group.
     let mut store = new_store(rt.alloc())?;
     let release = sample(rt.alloc(), "r1")?.ok_or("a sample")?;
-    store.import(rt.alloc(), &release)?;
+    store.import(&release)?;
     let other = one_file(
         rt.alloc(),
         Kind::Relationship,
         &["1000027|20200131|1|CORE|1000004|138875005|1|116680003|INF|MOD"],
     )?;
-    assert_eq!(rt; store.import(rt.alloc(), &other), Err(want));
+    assert_eq!(rt; store.import(&other), Err(want));
     Ok(())
 }
 
@@ -147,7 +147,7 @@ fn files_that_are_cut_short(rt: HostRuntime) -> Result<(), Fail> {
         let mut store = new_store(rt.alloc())?;
         let release = cut_concepts(rt.alloc(), *less, b"")?.ok_or("a sample")?;
         let got = store
-            .import(rt.alloc(), &release)
+            .import(&release)
             .map(|receipt| receipt.new);
         assert_eq!(rt; got, *want, "{less} bytes less");
     }
@@ -164,13 +164,13 @@ fn files_of_the_column_names_alone(rt: HostRuntime) -> Result<(), Fail> {
         text.push_str(&names)?;
         text.push_str(*end)?;
         let release = of_bytes(rt.alloc(), Kind::Concept, text.as_bytes())?;
-        let receipt = store.import(rt.alloc(), &release)?;
+        let receipt = store.import(&release)?;
         assert_eq!(rt; (receipt.new, receipt.repeated), (0, 0));
     }
     assert_eq!(rt; store.imports(), 4);
     let nothing = of_bytes(rt.alloc(), Kind::Concept, b"")?;
     assert_eq!(rt;
-        store.import(rt.alloc(), &nothing),
+        store.import(&nothing),
         Err(at(1, LineFault::Header))
     );
     Ok(())

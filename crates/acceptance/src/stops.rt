@@ -43,7 +43,7 @@ fn an_import_after_a_stop_is_stopped_too(rt: HostRuntime) -> Result<(), Fail> {
     let torn = disk.image(made - 3, Choice::Filled(165))?;
     let mut store = opened(rt.alloc(), MemDisk::from_bytes(rt.alloc(), torn))?;
     assert_eq!(rt; store.imports(), 0);
-    store.import(rt.alloc(), &root_release(rt.alloc())?)?;
+    store.import(&root_release(rt.alloc())?)?;
     let disk = store.close();
     assert_eq!(rt;
         imports_after(rt.alloc(), &disk, 3, Choice::Filled(165))?,
@@ -63,15 +63,15 @@ fn a_failed_import_closes_the_store(rt: HostRuntime) -> Result<(), Fail> {
     disk.set_break(3, 0);
     let mut store = opened(rt.alloc(), disk)?;
     let release = root_release(rt.alloc())?;
-    assert_eq!(rt; store.import(rt.alloc(), &release), Err(Refusal::DiskFault));
+    assert_eq!(rt; store.import(&release), Err(Refusal::DiskFault));
     assert!(rt; store.needs_reopen());
     assert_eq!(rt; (store.imports(), store.row_count()), (0, 0));
     assert_eq!(rt;
-        store.import(rt.alloc(), &release),
+        store.import(&release),
         Err(Refusal::ReopenNeeded)
     );
     let day = EffectiveTime::of(20_200_131).ok_or("a date")?;
-    let found = store.lookup(rt.alloc(), Kind::Concept, 138_875_005, day, 0);
+    let found = store.lookup(Kind::Concept, 138_875_005, day, 0);
     assert_eq!(rt; found.err(), Some(Refusal::ReopenNeeded));
     assert_eq!(rt;
         (Refusal::DiskFault.code(), Refusal::ReopenNeeded.code()),
@@ -84,7 +84,7 @@ fn a_failed_import_closes_the_store(rt: HostRuntime) -> Result<(), Fail> {
         assert_eq!(rt; store.imports(), 0);
     }
     let mut store = opened(rt.alloc(), disk)?;
-    assert_eq!(rt; store.import(rt.alloc(), &release)?.number, 1);
+    assert_eq!(rt; store.import(&release)?.number, 1);
     Ok(())
 }
 
@@ -96,7 +96,7 @@ fn a_failed_import_may_still_be_there(rt: HostRuntime) -> Result<(), Fail> {
         disk.set_break(7, part);
         let mut store = opened(rt.alloc(), disk)?;
         let release = root_release(rt.alloc())?;
-        assert_eq!(rt; store.import(rt.alloc(), &release), Err(Refusal::DiskFault));
+        assert_eq!(rt; store.import(&release), Err(Refusal::DiskFault));
         assert_eq!(rt; store.imports(), 0);
         assert_eq!(rt; opened(rt.alloc(), store.close())?.imports(), imports);
     }

@@ -1,10 +1,18 @@
 -- A row is found by the key of its place.
-use Rattle.std.proofs.Common.{◌≡◌, ℕ, zero, suc, ◌<◌, true, List, [], ◌∷◌, length, get_or, map, sym, ap, subst, ◌∙◌, arith, Vec, Global}
+use Rattle.std.proofs.Common.{◌≡◌, ℕ, zero, suc, ◌<◌, true, false, List, [], ◌∷◌, length, get_or, take, drop, map, refl, sym, ap, subst, ◌∙◌, arith, Vec, Global}
 use Rattle.std.specs.Prelude.{Some, slice_get, vec_items}
-use Rattle.std.specs.List.{find}
+use Rattle.std.specs.List.{AllByRecursion, find}
+use Rattle.std.specs.Ordering.{is_lt}
+use Rattle.std.specs.Cmp.{tied_itself}
+use Rattle.std.specs.declared.cmp.Ordering.TheVariants.{Equal}
 use Rattle.rf2_values.specs.declared.key.Key.{Key}
-use Rattle.rf2_values.specs.Key.{key_of}
+use Rattle.rf2_values.specs.Key.{key_of, key_cmp, keys_total}
+use Rattle.history_model.specs.History.{stamped_cmp}
+use Rattle.history_model.proofs.InOrder.{Has-all}
+use Rattle.as_of_index.specs.Search.{is_under}
+use Rattle.as_of_index.proofs.Keyed.{has_got}
 use Rattle.history_model.specs.declared.stamped.StampedRow.{StampedRow}
+use Rattle.history_model.specs.InOrder.{IsAscending}
 use Rattle.history_model.specs.Lists.{AreLists}
 use Rattle.history_model.proofs.Filtered.{find_only}
 use Rattle.history_model.proofs.Snapshots.{listed_once}
@@ -26,6 +34,31 @@ pub kept_within : (lists : List (Vec StampedRow Global)) (i : ℕ) (rows : List 
 kept_within [] i rows e = absurd (cc)
 kept_within (x ∷ xs) zero rows e = omega arith
 kept_within (x ∷ xs) (suc i) rows e = let lt = kept_within xs i rows e in omega arith
+
+pub kept_up : (lists : List (Vec StampedRow Global)) (i : ℕ) (at : Posted) (s : StampedRow) (v : Vec StampedRow Global) → AreLists (kept lists) → StandsAt (kept lists) i at s → IsAscending stamped_cmp (get_or lists i v).items
+kept_up lists i at s v are w =
+    subst (λ (rows : List StampedRow). IsAscending stamped_cmp rows) (kept_at lists i v w.rows w.list_is)
+    (Has-all (λ (rows : List StampedRow). IsAscending stamped_cmp rows) (kept lists) w.rows are.ascending (has_got (kept lists) i w.rows (sym w.list_is)))
+
+-- ---- the rows below a key are passed over
+
+not_there : (key : Key) (s : StampedRow) → is_under (λ (t : StampedRow). key_of t.row) key s ≡ true → is_row_at key s ≡ false
+not_there key s under =
+    elim (is_row_at key s) as (λ b. is_row_at key s ≡ b → b ≡ false) [
+      | true ↦ λ e. absurd (
+          let same = key_from_test (key_of s.row) key e in
+          let tie : key_cmp (key_of s.row) key ≡ Equal = subst (λ (k : Key). key_cmp (key_of s.row) k ≡ Equal) same (tied_itself keys_total (key_of s.row)) in
+          let both = sym under ∙ ap is_lt tie in
+          cc)
+      | false ↦ λ e. refl
+    ] refl
+
+pub find_drop : (key : Key) (rows : List StampedRow) (i : ℕ) → AllByRecursion (λ s. is_under (λ (t : StampedRow). key_of t.row) key s ≡ true) (take i rows) → find (is_row_at key) (drop i rows) ≡ find (is_row_at key) rows
+find_drop key rows zero below = refl
+find_drop key [] (suc i) below = refl
+find_drop key (r ∷ rows) (suc i) below =
+    let none = not_there key r below.0 in
+    rw none (find_drop key rows i below.1)
 
 pub kept_row : (lists : List (Vec StampedRow Global)) (i : ℕ) (at : Posted) (s : StampedRow) (v : Vec StampedRow Global) → AreLists (kept lists) → StandsAt (kept lists) i at s → find (is_row_at at.key) (get_or lists i v).items ≡ Some s
 kept_row lists i at s v are w =

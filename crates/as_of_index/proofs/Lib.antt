@@ -2,6 +2,7 @@ pub mod Ordered
 pub mod Found
 pub mod Standing
 pub mod Following
+pub mod Walking
 pub mod OnePlace
 pub mod Among
 pub mod Keeping
@@ -9,5 +10,7 @@ pub mod Paging
 pub mod Later
 pub mod Storing
 pub mod First
+pub mod Keyed
+pub mod Apart
 pub mod Current
 pub mod Pushing

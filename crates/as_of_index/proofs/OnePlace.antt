@@ -11,7 +11,8 @@ use Rattle.history_model.specs.declared.stamped.StampedRow.{StampedRow}
 use Rattle.history_model.specs.InOrder.{Has}
 use Rattle.history_model.proofs.InOrder.{Has-all, Has-append_left, Has-append_right, Has-append_cases, tie_is_same}
 use Rattle.history_model.proofs.Filtered.{Has-map, Has-map_from}
-use Rattle.history_model.proofs.Keys.{same_kind, keys_total}
+use Rattle.history_model.proofs.Keys.{same_kind}
+use Rattle.rf2_values.specs.Key.{keys_total}
 use Rattle.segment.specs.declared.place.Posted.{Posted}
 use Rattle.segment.specs.Standing.{with_places, places_of, StandsAt}
 use Rattle.segment.proofs.Posting.{says}

@@ -11,7 +11,7 @@ use Rattle.std.proofs.lemmas.Bool.Decides.{nat_tests}
 use Rattle.rf2_values.specs.Key.{kind_place}
 use Rattle.history_model.specs.InOrder.{Has, IsAscending}
 use Rattle.history_model.proofs.InOrder.{Has-all}
-use Rattle.history_model.proofs.Keys.{keys_total}
+use Rattle.rf2_values.specs.Key.{keys_total}
 use Rattle.history_model.proofs.Snapshots.{first_half}
 use Rattle.segment.specs.declared.place.Posted.{Posted}
 use Rattle.as_of_index.specs.declared.search.Start.{Start}

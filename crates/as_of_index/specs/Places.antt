@@ -9,6 +9,10 @@ use Rattle.history_model.specs.Lists.{AreLists}
 use Rattle.segment.specs.declared.place.Posted.{Posted}
 use Rattle.segment.specs.Standing.{places_of}
 
+-- how many lists an index has room for
+abbrev pub max_lists : ℕ
+max_lists = 128
+
 -- the index lists the places of these lists' rows: as many lists, and each row of each with its own place
 abbrev pub Lists : List (List Posted) → List (List StampedRow) → Type 0
 Lists index lists = index ≡ map places_of lists

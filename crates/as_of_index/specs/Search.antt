@@ -1,9 +1,11 @@
--- What is searched for among places in the order of their keys.
-use Rattle.std.specs.Prelude.{◌≡◌, ℕ, ◌+◌, ◌≤◌, Bool, true, false, ◌&&◌, ◌||◌, ◌==◌, not, List, [], ◌∷◌, ◌++◌, nat_le, nat_lt, map, take, drop, Option, Some, None}
+-- What is searched for among places in the order of their keys: words of the private searches. Public clauses cite `IsPlaceOf` alone.
+use Rattle.std.specs.Prelude.{◌≡◌, ℕ, ◌+◌, ◌≤◌, Bool, true, false, ◌&&◌, ◌||◌, ◌==◌, not, List, [], ◌∷◌, ◌++◌, nat_le, nat_lt, length, map, take, drop, Option, Some, None}
 use Rattle.std.specs.List.{AllByRecursion}
+use Rattle.std.specs.Ordering.{is_lt}
 use Rattle.std.specs.declared.cmp.Ordering.TheVariants.{Less, Equal, Greater}
 use Rattle.rf2_values.specs.declared.row.Kind.{Kind}
-use Rattle.rf2_values.specs.Key.{kind_place}
+use Rattle.rf2_values.specs.declared.key.Key.{Key}
+use Rattle.rf2_values.specs.Key.{kind_place, key_cmp}
 use Rattle.rf2_values.specs.Row.{Version}
 use Rattle.history_model.specs.declared.stamped.StampedRow.{StampedRow}
 use Rattle.history_model.specs.InOrder.{Has}
@@ -35,10 +37,26 @@ is_before (start.AfterVersion kind id time) p = nat_lt (kind_place p.key.kind) (
 is_before (start.Later kind id after) p = nat_lt (kind_place p.key.kind) (kind_place kind) || (kind_place p.key.kind == kind_place kind && (nat_lt p.key.id id || (p.key.id == id && not (is_above after p.key.time))))
 is_before (start.Components kind after) p = nat_lt (kind_place p.key.kind) (kind_place kind) || (kind_place p.key.kind == kind_place kind && not (is_above after p.key.id))
 
+-- what has a key below another
+abbrev pub is_under : {X : Type 0} → (X → Key) → Key → X → Bool
+is_under key k x = is_lt (key_cmp (key x) k)
+
 -- those before the place pass, and those from it on don't
 pub record SplitsAt {X : Type 0} (p : X → Bool) (places : List X) (i : ℕ) : Type 0 where
   pub before : AllByRecursion (λ x. p x ≡ true) (take i places)
   pub rest : AllByRecursion (λ x. p x ≡ false) (drop i places)
+
+-- all that stands before a place of a list is passed over
+pub record IsPassed (start : Start) (places : List Posted) (cursor : ℕ) : Type 0 where
+  pub within : cursor ≤ length places
+  pub before : AllByRecursion (λ p. is_before start p ≡ true) (take cursor places)
+
+-- one cursor a list
+abbrev pub ArePassed : Start → List (List Posted) → List ℕ → Type 0
+ArePassed start [] [] = Unit {0}
+ArePassed start [] (cursor ∷ cursors) = ⊥
+ArePassed start (places ∷ lists) [] = ⊥
+ArePassed start (places ∷ lists) (cursor ∷ cursors) = IsPassed start places cursor × ArePassed start lists cursors
 
 -- going back over the versions of a component: at one that the pin shows it stops, and where there are no more
 abbrev pub stops : Kind → ℕ → ℕ → Posted → Bool

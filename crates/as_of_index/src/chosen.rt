@@ -28,12 +28,17 @@ pub fn read_all<R: RowReader>(
     reader: &mut R,
     places: &[Chosen],
 ) -> Result<Vec<Row>, ReadFault>
-    ensures found { R.is_honest reader.old → (rows : List StampedRow) → StandAtAll (R.lists reader.old) places.now rows → IfOk result (λ found. found.items ≡ map (λ s. s.row) rows) }
-    ensures undamaged { R.is_honest reader.old → (rows : List StampedRow) → StandAtAll (R.lists reader.old) places.now rows → IfErr result (λ e. e ≢ readfault.Damaged) }
+    ensures found { R.is_honest reader.old → (rows : List StampedRow)
+        → StandAtAll (R.lists reader.old) places.now rows
+        → IfOk result (λ found. found.items ≡ map (λ s. s.row) rows) }
+    ensures undamaged { R.is_honest reader.old → (rows : List StampedRow)
+        → StandAtAll (R.lists reader.old) places.now rows
+        → IfErr result (λ e. e ≢ readfault.Damaged) }
     ensures lists { R.lists reader.new ≡ R.lists reader.old }
     ensures honesty { R.is_honest reader.old → R.is_honest reader.new }
     ensures stays { R.stays reader.old reader.new }
-    ensures disk_faults { Counts CountsDiskFault result (R.disk_faults reader.old) (R.disk_faults reader.new) }
+    ensures disk_faults { Counts CountsDiskFault result
+        (R.disk_faults reader.old) (R.disk_faults reader.new) }
     ensures damages { Counts CountsDamage result (R.damages reader.old) (R.damages reader.new) }
 {
     let mut rows = Vec::new(alloc);

@@ -7,38 +7,25 @@ ghost use Rattle.history_model.specs.declared.stamped.StampedRow.{StampedRow};
 ghost use Rattle.history_model.specs.History.{rows_at};
 ghost use Rattle.history_model.specs.Lists.{listed};
 ghost use Rattle.history_model.specs.Queries.{lookup, versions, page};
-ghost use Rattle.as_of_index.specs.Places.{place_cmp, ArePlaces, Lists};
+ghost use Rattle.as_of_index.specs.Places.{max_lists, ArePlaces, Lists};
 ghost use Rattle.fault_counts.specs.Counting.{Counts};
 ghost use Rattle.as_of_index.specs.Reader.{CountsDiskFault, CountsDamage};
 ghost use Rattle.as_of_index.specs.Current.{is_same_place, IsCurrentAt};
 ghost use Rattle.as_of_index.specs.Search.{all_places, IsPick, IsPlaceOf, IsNext, IsNextId, IsNextVersion};
 ghost use Rattle.as_of_index.specs.declared.reader.ReadFault.TheVariants as readfault;
 
+use crate::cursors::{cursors_at, latest_on, next_id};
+use crate::listed::Listed;
 use crate::reader::{ReadFault, RowReader};
-use crate::search::{Start, is_of, later, latest_in, next_in, sooner};
+use crate::search::Start;
+use crate::several::{is_apart, latest, next_version};
 use rf2_values::{EffectiveTime, Kind, Row};
 use segment::Posted;
 use std::alloc::{AllocError, Global};
 use std::marker::Model;
 
-/// The places of a segment's rows, in strictly ascending key order.
-#[derive(Drop)]
-pub struct Listed {
-    places: Vec<Posted>,
-}
-
-impl Model for Listed {
-    ghost use Rattle.std.specs.Prelude.{List};
-    ghost use Rattle.history_model.specs.InOrder.{IsAscending};
-    ghost use Rattle.segment.specs.declared.place.Posted.{Posted};
-    ghost use Rattle.as_of_index.specs.Places.{place_cmp};
-
-    ghost Value = { List Posted };
-
-    ghost view = { λ a. a.places.items };
-
-    ghost invariant = { λ a. IsAscending place_cmp a.places.items };
-}
+/// How many lists an index has room for.
+pub const MAX_LISTS: usize = 128;
 
 /// The places of several segments' rows, no key of which is listed twice.
 #[derive(Drop)]
@@ -50,29 +37,13 @@ pub struct Index {
 impl Model for Index {
     ghost use Rattle.std.specs.Prelude.{List, vec_capacity, ◌≤◌};
     ghost use Rattle.segment.specs.declared.place.Posted.{Posted};
-    ghost use Rattle.as_of_index.specs.Places.{ArePlaces};
+    ghost use Rattle.as_of_index.specs.Places.{ArePlaces, max_lists};
 
     ghost Value = { List (List Posted) };
 
     ghost view = { λ a. a.lists.items };
 
-    ghost invariant = { λ a. record { places : ArePlaces a.lists.items; room : 128 ≤ vec_capacity a.lists } };
-}
-
-impl Listed {
-    pub fn new(places: Vec<Posted>) -> Listed
-        requires { IsAscending place_cmp places.items }
-        ensures { result ≡ places.items }
-    {
-        Listed { places }
-    }
-
-    pub fn places(&self) -> &[Posted]
-        ensures places { result.now ≡ self.now }
-        ensures ascending { IsAscending place_cmp self.now }
-    {
-        self.places.as_slice()
-    }
+    ghost invariant = { λ a. record { places : ArePlaces a.lists.items; room : max_lists ≤ vec_capacity a.lists } };
 }
 
 fn is_same_place(n: usize, p: &Posted, m: usize, q: &Posted) -> bool
@@ -85,63 +56,6 @@ fn is_same_place(n: usize, p: &Posted, m: usize, q: &Posted) -> bool
         && p.import == q.import
         && p.at == q.at
         && p.bytes == q.bytes
-}
-
-/// The latest version of the component up to the date that the pin shows, and the number of its list.
-fn latest(
-    lists: &[Listed],
-    kind: Kind,
-    id: u128,
-    time: EffectiveTime,
-    pin: u32,
-) -> Option<(usize, Posted)>
-    ensures { IsPick kind id time pin (λ x. x.1) (all_places 0 lists.now) result }
-{
-    let mut best = None;
-    for (segment, list) in lists.iter().enumerate() {
-        let found = latest_in(list.places(), kind, id, time, pin);
-        best = later(best, segment, found);
-    }
-    best
-}
-
-/// The first place of all lists that isn't passed over, and the number of its list.
-fn next(lists: &[Listed], start: &Start) -> Option<(usize, Posted)>
-    ensures { IsNext start.now (λ x. x.1) (all_places 0 lists.now) result }
-{
-    let mut best = None;
-    for (segment, list) in lists.iter().enumerate() {
-        let found = next_in(list.places(), *start);
-        best = sooner(best, segment, found);
-    }
-    best
-}
-
-/// The least id of a kind above `after`, if that is given.
-fn next_id(lists: &[Listed], kind: Kind, after: Option<u128>) -> Option<u128>
-    ensures { IsNextId kind after (all_places 0 lists.now) result }
-{
-    let start = Start::Components { kind, after };
-    match next(lists, &start) {
-        Some((_, first)) if is_of(kind, first.key.id, &first) => Some(first.key.id),
-        _ => None,
-    }
-}
-
-/// The first version of a component after a time, if that is given.
-fn next_version(
-    lists: &[Listed],
-    kind: Kind,
-    id: u128,
-    after: Option<EffectiveTime>,
-) -> Option<(usize, Posted)>
-    ensures { IsNextVersion kind id after (all_places 0 lists.now) result }
-{
-    let start = Start::Later { kind, id, after };
-    match next(lists, &start) {
-        Some((segment, p)) if is_of(kind, id, &p) => Some((segment, p)),
-        _ => None,
-    }
 }
 
 fn time_of(p: &Posted) -> EffectiveTime
@@ -161,13 +75,21 @@ impl Index {
     pub fn new(alloc: Global) -> Result<Index, AllocError>
         ensures { IfOk result (λ index. index ≡ []) }
     {
-        let lists = Vec::with_capacity(alloc, 128)?;
+        let lists = Vec::with_capacity(alloc, MAX_LISTS)?;
         Ok(Index { lists, alloc })
+    }
+
+    /// Whether a list may be added: there is room, and none of its keys is listed already.
+    pub fn may_add(&self, list: &Listed) -> bool
+        ensures { IsTrue result
+            ↔ ((length self.now < max_lists) × ArePlaces (self.now ++ list.now ∷ [])) }
+    {
+        self.lists.len() < MAX_LISTS && is_apart(self.lists.as_slice(), list)
     }
 
     /// Adds a list as the last. It takes no memory.
     pub fn add(&mut self, list: Listed)
-        requires room { length self.old < 128 }
+        requires room { length self.old < max_lists }
         requires places { ArePlaces (self.old ++ list ∷ []) }
         ensures { self.new ≡ self.old ++ list ∷ [] }
     {
@@ -176,7 +98,7 @@ impl Index {
         };
     }
 
-    /// Puts a list in the place of two, at the first's.
+    /// Puts a list in the place of two, at the first's. It takes no memory.
     pub fn replace_two(&mut self, i: usize, j: usize, list: Listed)
         requires places { i < j }
         requires within { j < length self.old }
@@ -187,6 +109,7 @@ impl Index {
         let _removed = self.lists.remove(j);
     }
 
+    /// How many lists there are.
     pub fn lists(&self) -> usize
         ensures count { result ≡ length self.now }
         ensures places { ArePlaces self.now }
@@ -194,6 +117,7 @@ impl Index {
         self.lists.len()
     }
 
+    /// The places of a list, in key order.
     pub fn list(&self, i: usize) -> &[Posted]
         requires { i < length self.now }
         ensures { slice_get self.now i ≡ Some result.now }
@@ -201,7 +125,8 @@ impl Index {
         self.lists[i].places()
     }
 
-    /// Where the component's row at the date stands, of the rows that the pin shows.
+    /// Where the component's row at the date stands, of the rows that the pin shows, and the number of its list.
+    /// It makes one bisection a list, and reads no row.
     pub fn picked(
         &self,
         kind: Kind,
@@ -210,12 +135,13 @@ impl Index {
         pin: u32,
     ) -> Option<(usize, Posted)>
         ensures places { ArePlaces self.now }
-        ensures found { (lists : List (List StampedRow)) → Lists self.now lists → IsPlaceOf lists (lookup kind id time (rows_at pin (listed lists))) result }
+        ensures found { (lists : List (List StampedRow)) → Lists self.now lists
+            → IsPlaceOf lists (lookup kind id time (rows_at pin (listed lists))) result }
     {
         latest(self.lists.as_slice(), kind, id, time, pin)
     }
 
-    /// Whether the version that stands at the place is the one at the date, of those that the pin shows.
+    /// Whether the version that stands at the place is the one at the date, of those that the pin shows. No row is read.
     pub fn is_current(&self, segment: usize, at: Posted, time: EffectiveTime, pin: u32) -> bool
         ensures { (lists : List (List StampedRow)) → Lists self.now lists
             → IsTrue result ↔ IsCurrentAt lists time pin segment at }
@@ -226,7 +152,7 @@ impl Index {
         }
     }
 
-    /// The component's row at the date, of the rows that the pin shows.
+    /// The component's row at the date, of the rows that the pin shows. One row is read at most.
     pub fn pick<R: RowReader>(
         &self,
         reader: &mut R,
@@ -235,12 +161,16 @@ impl Index {
         time: EffectiveTime,
         pin: u32,
     ) -> Result<Option<Row>, ReadFault>
-        ensures found { R.is_honest reader.old → Lists self.now (R.lists reader.old) → IfOk result (λ found. found ≡ lookup kind id time (rows_at pin (listed (R.lists reader.old)))) }
-        ensures undamaged { R.is_honest reader.old → Lists self.now (R.lists reader.old) → IfErr result (λ e. e ≢ readfault.Damaged) }
+        ensures found { R.is_honest reader.old → Lists self.now (R.lists reader.old)
+            → IfOk result (λ found. found
+            ≡ lookup kind id time (rows_at pin (listed (R.lists reader.old)))) }
+        ensures undamaged { R.is_honest reader.old → Lists self.now (R.lists reader.old)
+            → IfErr result (λ e. e ≢ readfault.Damaged) }
         ensures lists { R.lists reader.new ≡ R.lists reader.old }
         ensures honesty { R.is_honest reader.old → R.is_honest reader.new }
         ensures stays { R.stays reader.old reader.new }
-        ensures disk_faults { Counts CountsDiskFault result (R.disk_faults reader.old) (R.disk_faults reader.new) }
+        ensures disk_faults { Counts CountsDiskFault result
+            (R.disk_faults reader.old) (R.disk_faults reader.new) }
         ensures damages { Counts CountsDamage result (R.damages reader.old) (R.damages reader.new) }
     {
         match self.picked(kind, id, time, pin) {
@@ -252,7 +182,7 @@ impl Index {
         }
     }
 
-    /// All versions of the component that the pin shows, ascending by time.
+    /// All versions of the component that the pin shows, ascending by time. It makes a bisection a list for each version.
     pub fn history<R: RowReader>(
         &self,
         reader: &mut R,
@@ -260,12 +190,16 @@ impl Index {
         id: u128,
         pin: u32,
     ) -> Result<Vec<Row>, ReadFault>
-        ensures found { R.is_honest reader.old → Lists self.now (R.lists reader.old) → IfOk result (λ rows. rows.items ≡ versions kind id (rows_at pin (listed (R.lists reader.old)))) }
-        ensures undamaged { R.is_honest reader.old → Lists self.now (R.lists reader.old) → IfErr result (λ e. e ≢ readfault.Damaged) }
+        ensures found { R.is_honest reader.old → Lists self.now (R.lists reader.old)
+            → IfOk result (λ rows. rows.items
+            ≡ versions kind id (rows_at pin (listed (R.lists reader.old)))) }
+        ensures undamaged { R.is_honest reader.old → Lists self.now (R.lists reader.old)
+            → IfErr result (λ e. e ≢ readfault.Damaged) }
         ensures lists { R.lists reader.new ≡ R.lists reader.old }
         ensures honesty { R.is_honest reader.old → R.is_honest reader.new }
         ensures stays { R.stays reader.old reader.new }
-        ensures disk_faults { Counts CountsDiskFault result (R.disk_faults reader.old) (R.disk_faults reader.new) }
+        ensures disk_faults { Counts CountsDiskFault result
+            (R.disk_faults reader.old) (R.disk_faults reader.new) }
         ensures damages { Counts CountsDamage result (R.damages reader.old) (R.damages reader.new) }
     {
         let mut rows = Vec::new(self.alloc);
@@ -281,7 +215,8 @@ impl Index {
         Ok(rows)
     }
 
-    /// The first rows of a kind at the date, ascending by id.
+    /// The first rows of a kind at the date with an id above `after`, ascending by id, of the rows that the pin shows.
+    /// It makes one bisection a list, and then goes on by a cursor a list.
     pub fn page<R: RowReader>(
         &self,
         reader: &mut R,
@@ -291,20 +226,26 @@ impl Index {
         after: Option<u128>,
         limit: u32,
     ) -> Result<Vec<Row>, ReadFault>
-        ensures found { R.is_honest reader.old → Lists self.now (R.lists reader.old) → IfOk result (λ rows. rows.items ≡ page kind time after limit (rows_at pin (listed (R.lists reader.old)))) }
-        ensures undamaged { R.is_honest reader.old → Lists self.now (R.lists reader.old) → IfErr result (λ e. e ≢ readfault.Damaged) }
+        ensures found { R.is_honest reader.old → Lists self.now (R.lists reader.old)
+            → IfOk result (λ rows. rows.items
+            ≡ page kind time after limit (rows_at pin (listed (R.lists reader.old)))) }
+        ensures undamaged { R.is_honest reader.old → Lists self.now (R.lists reader.old)
+            → IfErr result (λ e. e ≢ readfault.Damaged) }
         ensures lists { R.lists reader.new ≡ R.lists reader.old }
         ensures honesty { R.is_honest reader.old → R.is_honest reader.new }
         ensures stays { R.stays reader.old reader.new }
-        ensures disk_faults { Counts CountsDiskFault result (R.disk_faults reader.old) (R.disk_faults reader.new) }
+        ensures disk_faults { Counts CountsDiskFault result
+            (R.disk_faults reader.old) (R.disk_faults reader.new) }
         ensures damages { Counts CountsDamage result (R.damages reader.old) (R.damages reader.new) }
     {
+        let lists = self.lists.as_slice();
         let mut rows = Vec::new(self.alloc);
         let mut last = after;
+        let mut cursors = cursors_at(self.alloc, lists, &Start::Components { kind, after })?;
         while rows.len() < limit as usize {
-            match next_id(self.lists.as_slice(), kind, last) {
+            match next_id(lists, &mut cursors, kind, last) {
                 Some(id) => {
-                    if let Some((segment, at)) = self.picked(kind, id, time, pin) {
+                    if let Some((segment, at)) = latest_on(lists, &cursors, kind, id, time, pin) {
                         let found = reader.row(self.alloc, segment, at)?;
                         rows.push(found.row)?;
                     }

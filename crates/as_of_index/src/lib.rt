@@ -2,14 +2,22 @@
 #![tactic(auto)]
 
 mod chosen;
+mod cursors;
 mod index;
 mod kept;
 pub mod laws;
+mod listed;
+#[cfg(test)]
+mod making;
 mod reader;
 mod search;
+mod several;
+#[cfg(test)]
+mod tests;
 
 pub use chosen::{Chosen, read_all};
-pub use index::{Index, Listed};
+pub use index::{Index, MAX_LISTS};
 pub use kept::KeptRows;
+pub use listed::Listed;
 pub use reader::{ReadFault, RowReader};
 pub use segment::Posted;

@@ -58,13 +58,16 @@ pub trait RowReader {
 
     /// The row at a place of a list.
     fn row(&mut self, alloc: Global, segment: usize, at: Posted) -> Result<StampedRow, ReadFault>
-        ensures found { is_honest self.old → (s : StampedRow) → StandsAt (lists self.old) segment at s → IfOk result (λ row. row ≡ s) }
+        ensures found { is_honest self.old → (s : StampedRow)
+            → StandsAt (lists self.old) segment at s → IfOk result (λ row. row ≡ s) }
         // Where a row stands, its reader answers a fault of the device or of memory alone.
-        ensures undamaged { is_honest self.old → (s : StampedRow) → StandsAt (lists self.old) segment at s → IfErr result (λ e. e ≢ readfault.Damaged) }
+        ensures undamaged { is_honest self.old → (s : StampedRow)
+            → StandsAt (lists self.old) segment at s → IfErr result (λ e. e ≢ readfault.Damaged) }
         ensures lists { lists self.new ≡ lists self.old }
         ensures honesty { is_honest self.old → is_honest self.new }
         ensures stays { stays self.old self.new }
-        ensures disk_faults { Counts CountsDiskFault result (disk_faults self.old) (disk_faults self.new) }
+        ensures disk_faults { Counts CountsDiskFault result
+            (disk_faults self.old) (disk_faults self.new) }
         ensures damages { Counts CountsDamage result (damages self.old) (damages self.new) };
 
     ghost stays_still: { (r : Self) → stays r r };

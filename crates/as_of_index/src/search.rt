@@ -1,15 +1,18 @@
 //! Searches in one list of places, by bisection.
 
-ghost use Rattle.std.specs.Prelude.{◌≡◌, ◌≤◌, ◌↔◌, length, IsTrue, find, reverse, take, drop, true, slice_get};
+ghost use Rattle.std.specs.Prelude.{◌≡◌, ◌≤◌, ◌++◌, ◌∷◌, [], ℕ, ◌↔◌, length, IsTrue, find, reverse, take, drop, true, slice_get};
+ghost use Rattle.std.specs.List.{AllByRecursion};
 ghost use Rattle.std.specs.Option.{option_copied};
-ghost use Rattle.rf2_values.specs.Key.{kind_place};
-ghost use Rattle.history_model.specs.InOrder.{IsAscending};
+ghost use Rattle.std.specs.declared.cmp.Ordering.TheVariants.{Equal};
+ghost use Rattle.rf2_values.specs.Key.{kind_place, key_cmp};
+ghost use Rattle.history_model.specs.InOrder.{Has, IsAscending};
 ghost use Rattle.history_model.specs.Queries.{is_above};
-ghost use Rattle.as_of_index.specs.Places.{place_cmp};
-ghost use Rattle.as_of_index.specs.Search.{is_of, is_before, SplitsAt, stops, IsPick, later_of, IsNext, sooner_of};
+ghost use Rattle.as_of_index.specs.Places.{place_cmp, ShareNoKey};
+ghost use Rattle.as_of_index.specs.Search.{is_under, is_of, is_before, SplitsAt, stops, IsPick, later_of, IsNext, sooner_of};
+ghost use Rattle.as_of_index.specs.declared.search.Start.TheVariants as starts;
 ghost use Rattle.segment.specs.declared.place.Posted.{Posted};
 
-use rf2_values::{EffectiveTime, Kind};
+use rf2_values::{EffectiveTime, Key, Kind};
 use segment::Posted;
 use std::cmp::Ordering;
 
@@ -89,6 +92,24 @@ pub(crate) fn place(list: &[Posted], start: Start) -> usize
     list.partition_point(|p| is_before(start, p))
 }
 
+/// The first place from `from` on that isn't passed over.
+pub(crate) fn go_on(list: &[Posted], from: usize, start: &Start) -> usize
+    requires { from ≤ length list.now }
+    ensures within { result ≤ length list.now }
+    ensures split { IsAscending place_cmp list.now
+        → AllByRecursion (λ p. is_before start.now p ≡ true) (take from list.now)
+        → SplitsAt (is_before start.now) list.now result }
+{
+    let mut place = from;
+    while let Some(p) = place_at(list, place) {
+        if !is_before(*start, &p) {
+            return place;
+        }
+        place += 1;
+    }
+    place
+}
+
 fn stops(kind: Kind, id: u128, pin: u32, p: &Posted) -> bool
     ensures { result ≡ stops kind id pin p.now }
 {
@@ -99,6 +120,25 @@ fn last_stop(list: &[Posted], kind: Kind, id: u128, pin: u32) -> Option<&Posted>
     ensures { option_copied result ≡ find (stops kind id pin) (reverse list.now) }
 {
     list.iter().rev().find(|p| stops(kind, id, pin, p))
+}
+
+/// The last version of the component before a place that the pin shows.
+pub(crate) fn latest_before(
+    list: &[Posted],
+    end: usize,
+    kind: Kind,
+    id: u128,
+    pin: u32,
+) -> Option<Posted>
+    requires { end ≤ length list.now }
+    ensures { (date : ℕ) → IsAscending place_cmp list.now
+        → SplitsAt (is_before (starts.AfterVersion kind id date)) list.now end
+        → IsPick kind id date pin (λ p. p) list.now result }
+{
+    match last_stop(&list[..end], kind, id, pin) {
+        Some(p) if is_of(kind, id, p) => Some(*p),
+        _ => None,
+    }
 }
 
 /// The latest version of the component in the list, up to the date, that the pin shows.
@@ -112,10 +152,7 @@ pub(crate) fn latest_in(
     ensures { IsAscending place_cmp list.now → IsPick kind id time pin (λ p. p) list.now result }
 {
     let end = place(list, Start::AfterVersion { kind, id, time });
-    match last_stop(&list[..end], kind, id, pin) {
-        Some(p) if is_of(kind, id, p) => Some(*p),
-        _ => None,
-    }
+    latest_before(list, end, kind, id, pin)
 }
 
 pub(crate) fn later(
@@ -138,7 +175,7 @@ pub(crate) fn later(
     }
 }
 
-fn place_at(list: &[Posted], i: usize) -> Option<Posted>
+pub(crate) fn place_at(list: &[Posted], i: usize) -> Option<Posted>
     ensures { result ≡ slice_get list.now i }
 {
     list.get(i).copied()
@@ -173,4 +210,77 @@ pub(crate) fn sooner(
             Ordering::Equal | Ordering::Greater => Some(b),
         },
     }
+}
+
+fn is_under(p: &Posted, key: &Key) -> bool
+    ensures { result ≡ is_under (λ p. p.key) key.now p.now }
+{
+    match p.key.compare(key) {
+        Ordering::Less => true,
+        Ordering::Equal => false,
+        Ordering::Greater => false,
+    }
+}
+
+/// The first place whose key isn't below a key.
+fn place_of_key(list: &[Posted], key: Key) -> usize
+    ensures { IsAscending place_cmp list.now
+        → SplitsAt (is_under (λ p. p.key) key) list.now result }
+{
+    list.partition_point(|p| is_under(p, &key))
+}
+
+fn is_key(p: &Posted, key: &Key) -> bool
+    ensures { IsTrue result ↔ (key_cmp p.now.key key.now ≡ Equal) }
+{
+    match p.key.compare(key) {
+        Ordering::Equal => true,
+        Ordering::Less | Ordering::Greater => false,
+    }
+}
+
+fn has_key(list: &[Posted], key: Key) -> bool
+    requires { IsAscending place_cmp list.now }
+    ensures { IsTrue result ↔ ((p : Posted) × Has list.now p × (p.key ≡ key)) }
+{
+    match place_at(list, place_of_key(list, key)) {
+        Some(p) => is_key(&p, &key),
+        None => false,
+    }
+}
+
+/// Whether no key is in both lists.
+pub(crate) fn share_no_key(list: &[Posted], other: &[Posted]) -> bool
+    requires { IsAscending place_cmp other.now }
+    ensures { IsTrue result ↔ ShareNoKey list.now other.now }
+{
+    for p in list {
+        if has_key(other, p.key) {
+            return false;
+        }
+    }
+    true
+}
+
+/// Whether the last of some places in key order is below a place.
+fn comes_after(list: &[Posted], p: &Posted) -> bool
+    requires { IsAscending place_cmp list.now }
+    ensures { IsTrue result ↔ IsAscending place_cmp (list.now ++ p.now ∷ []) }
+{
+    match list {
+        [] => true,
+        [.., last] => is_under(last, &p.key),
+    }
+}
+
+/// Whether the keys of the places strictly ascend.
+pub(crate) fn are_ascending(list: &[Posted]) -> bool
+    ensures { IsTrue result ↔ IsAscending place_cmp list.now }
+{
+    for (i, p) in list.iter().enumerate() {
+        if !comes_after(&list[..i], p) {
+            return false;
+        }
+    }
+    true
 }

@@ -2,7 +2,7 @@
 use Rattle.std.proofs.Common.{◌≡◌, lit<, lit≤, ◌⊎◌, inl, inr, ℕ, ◌+◌, ◌-◌, ◌/◌, ◌<◌, ◌≤◌, max, min, Bool, true, false, cond, ◌&&◌, ◌||◌, not, nat_lt, nat_le, List, [], ◌∷◌, Option, Some, None, zero, suc, refl, sym, ap, subst, ◌∙◌, arith}
 use Rattle.std.proofs.lemmas.Bool.Decides.{nat_tests}
 use Rattle.std.specs.List.{AllByRecursion, find, list_any, range_with_len}
-use Rattle.blocks.specs.Extents.{block_count}
+use Rattle.blocks.specs.Extents.{block_count, block_limit}
 use Rattle.blocks.specs.declared.extent.Extent.{Extent}
 use Rattle.directory.specs.Places.{Covers, CoversByte, SharesNoBlock, SharesNoByte, AreBeside, end_block, taken}
 use Rattle.directory.specs.Fit.{meets, is_free, fit_below, fit, IsFree, IsFit, FitIsLeast, NoFitIsFull, FitIsApart}
@@ -193,11 +193,11 @@ false_from_no : (b : Bool) → (b ≡ true → ⊥) → b ≡ false
 false_from_no true never = absurd (never refl)
 false_from_no false never = refl
 
-pub is_free_from : (blocks : ℕ) (extents : List Extent) (first : ℕ) → IsFree blocks extents first → is_free 4194304 blocks extents first ≡ true
-is_free_from blocks extents first free = free_at 4194304 blocks extents first free.end (none_met first blocks extents free.apart)
+pub is_free_from : (blocks : ℕ) (extents : List Extent) (first : ℕ) → IsFree blocks extents first → is_free block_limit blocks extents first ≡ true
+is_free_from blocks extents first free = free_at block_limit blocks extents first free.end (none_met first blocks extents free.apart)
 
-pub free_from_test : (blocks : ℕ) (extents : List Extent) (first : ℕ) → 4 ≤ first → is_free 4194304 blocks extents first ≡ true → IsFree blocks extents first
-free_from_test blocks extents first start free = record { start = start; end = fits_from_free 4194304 blocks extents first free; apart = all_shared_none first blocks extents (none_met_from_free 4194304 blocks extents first free) }
+pub free_from_test : (blocks : ℕ) (extents : List Extent) (first : ℕ) → 4 ≤ first → is_free block_limit blocks extents first ≡ true → IsFree blocks extents first
+free_from_test blocks extents first start free = record { start = start; end = fits_from_free block_limit blocks extents first free; apart = all_shared_none first blocks extents (none_met_from_free block_limit blocks extents first free) }
 
 -- no blocks are free everywhere
 none_shared_by_none : (first : ℕ) (extents : List Extent) → AllByRecursion (SharesNoBlock first 0) extents
@@ -208,22 +208,22 @@ four_for_none : (blocks : ℕ) (extents : List Extent) → blocks ≡ 0 → IsFr
 four_for_none blocks extents none = subst (λ (n : ℕ). IsFree n extents 4) (sym none) (record { start = lit≤ tt; end = lit≤ tt; apart = none_shared_by_none 4 extents })
 
 -- a place that is free lies in the range that the fit goes through, but for no blocks at the last one
-pub in_range_or_none : (blocks first : ℕ) → first + blocks ≤ 4194304 → (first < 4 + (4194304 - 4)) ⊎ (blocks ≡ 0)
-in_range_or_none blocks first h = elim (true_or_false (nat_lt first 4194304)) [ inl pass ↦ inl (below_from first 4194304 pass) | inr fail ↦ inr (omega (arith, h, not_below_from first 4194304 fail)) ]
+pub in_range_or_none : (blocks first : ℕ) → first + blocks ≤ block_limit → (first < 4 + (block_limit - 4)) ⊎ (blocks ≡ 0)
+in_range_or_none blocks first h = elim (true_or_false (nat_lt first block_limit)) [ inl pass ↦ inl (below_from first block_limit pass) | inr fail ↦ inr (omega (arith, h, not_below_from first block_limit fail)) ]
 
-first_from_least : (blocks : ℕ) (extents : List Extent) (first : ℕ) → IsFit blocks extents first → IsFirst (is_free 4194304 blocks extents) 4 (4194304 - 4) first
+first_from_least : (blocks : ℕ) (extents : List Extent) (first : ℕ) → IsFit blocks extents first → IsFirst (is_free block_limit blocks extents) 4 (block_limit - 4) first
 first_from_least blocks extents first is = record {
   low = is.free.start;
   high = elim (in_range_or_none blocks first is.free.end) [ inl high ↦ high | inr none ↦ omega (arith, is.least 4 (four_for_none blocks extents none)) ];
   passes = is_free_from blocks extents first is.free;
-  before = λ y low below. false_from_no (is_free 4194304 blocks extents y) (λ free. absurd (omega (arith, below, is.least y (free_from_test blocks extents y low free))));
+  before = λ y low below. false_from_no (is_free block_limit blocks extents y) (λ free. absurd (omega (arith, below, is.least y (free_from_test blocks extents y low free))));
 }
 
-least_from_first : (blocks : ℕ) (extents : List Extent) (first : ℕ) → IsFirst (is_free 4194304 blocks extents) 4 (4194304 - 4) first → IsFit blocks extents first
+least_from_first : (blocks : ℕ) (extents : List Extent) (first : ℕ) → IsFirst (is_free block_limit blocks extents) 4 (block_limit - 4) first → IsFit blocks extents first
 least_from_first blocks extents first is = record {
   free = free_from_test blocks extents first is.low is.passes;
   least = λ other free. elim (true_or_false (nat_lt other first)) [
-    | inl pass ↦ absurd (not_both (is_free 4194304 blocks extents other) (is_free_from blocks extents other free) (is.before other free.start (below_from other first pass)))
+    | inl pass ↦ absurd (not_both (is_free block_limit blocks extents other) (is_free_from blocks extents other free) (is.before other free.start (below_from other first pass)))
     | inr fail ↦ not_below_from other first fail
   ];
 }
@@ -231,8 +231,8 @@ least_from_first blocks extents first is = record {
 pub fit_is_least : FitIsLeast
 unfolding fit
 fit_is_least blocks live reserved first = (
-  (λ e. least_from_first blocks (taken live reserved) first (first_from_fit 4194304 blocks (taken live reserved) first e)),
-  (λ is. fit_below_some 4194304 blocks (taken live reserved) first (first_from_least blocks (taken live reserved) first is)),
+  (λ e. least_from_first blocks (taken live reserved) first (first_from_fit block_limit blocks (taken live reserved) first e)),
+  (λ is. fit_below_some block_limit blocks (taken live reserved) first (first_from_least blocks (taken live reserved) first is)),
 )
 
 pub no_fit_is_full : NoFitIsFull
@@ -240,10 +240,10 @@ unfolding fit
 no_fit_is_full blocks live reserved =
     let extents = taken live reserved in (
       (λ e first free. elim (in_range_or_none blocks first free.end) [
-        | inl high ↦ not_both (is_free 4194304 blocks extents first) (is_free_from blocks extents first free) (none_from_fit 4194304 blocks extents e first free.start high)
-        | inr none ↦ not_both (is_free 4194304 blocks extents 4) (is_free_from blocks extents 4 (four_for_none blocks extents none)) (none_from_fit 4194304 blocks extents e 4 (lit≤ tt) (lit< tt))
+        | inl high ↦ not_both (is_free block_limit blocks extents first) (is_free_from blocks extents first free) (none_from_fit block_limit blocks extents e first free.start high)
+        | inr none ↦ not_both (is_free block_limit blocks extents 4) (is_free_from blocks extents 4 (four_for_none blocks extents none)) (none_from_fit block_limit blocks extents e 4 (lit≤ tt) (lit< tt))
       ]),
-      (λ never. fit_below_none 4194304 blocks extents (λ y low high. false_from_no (is_free 4194304 blocks extents y) (λ free. never y (free_from_test blocks extents y low free)))),
+      (λ never. fit_below_none block_limit blocks extents (λ y low high. false_from_no (is_free block_limit blocks extents y) (λ free. never y (free_from_test blocks extents y low free)))),
     )
 
 -- an extent that shares no block shares no byte

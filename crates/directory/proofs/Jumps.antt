@@ -2,6 +2,7 @@
 use Rattle.std.proofs.Common.{◌≡◌, ℕ, ◌+◌, ◌^◌, ◌<◌, ◌≤◌, Bool, true, false, cond, ◌&&◌, not, nat_lt, nat_le, List, [], ◌∷◌, Option, Some, None, refl, sym, ap, ◌∙◌, lit<, lit≤, inl, inr, arith}
 use Rattle.std.proofs.lemmas.Bool.Decides.{nat_tests}
 use Rattle.std.specs.List.{find, list_any}
+use Rattle.blocks.specs.Extents.{block_limit}
 use Rattle.blocks.specs.declared.extent.Extent.{Extent}
 use Rattle.directory.specs.declared.entry.Entry.{Entry}
 use Rattle.directory.specs.Places.{end_block, taken}
@@ -45,24 +46,24 @@ past_limit limit blocks extents first past = ap (λ b. b && not (list_any (meets
   not_at_most : (a b : ℕ) → b < a → nat_le a b ≡ false
   not_at_most a b h = grind (arith, nat_tests)
 
-pub fit_found : (blocks : ℕ) (live : List Entry) (reserved : Option Extent) (first : ℕ) → IsTried blocks (taken live reserved) first → find (meets first blocks) (taken live reserved) ≡ None → first + blocks ≤ 4194304 → fit blocks live reserved ≡ Some first
+pub fit_found : (blocks : ℕ) (live : List Entry) (reserved : Option Extent) (first : ℕ) → IsTried blocks (taken live reserved) first → find (meets first blocks) (taken live reserved) ≡ None → first + blocks ≤ block_limit → fit blocks live reserved ≡ Some first
 unfolding fit
 fit_found blocks live reserved first tried none low =
     let extents = taken live reserved in
-    fit_below_some 4194304 blocks extents first (record {
+    fit_below_some block_limit blocks extents first (record {
       low = tried.start;
       high = elim (in_range_or_none blocks first low) [ inl high ↦ high | inr nothing ↦ omega (arith, tried.stays_for_none nothing) ];
-      passes = free_at 4194304 blocks extents first low (none_where_not_found (meets first blocks) extents none);
-      before = λ place from below. not_free 4194304 blocks extents place (tried.passed place from below);
+      passes = free_at block_limit blocks extents first low (none_where_not_found (meets first blocks) extents none);
+      before = λ place from below. not_free block_limit blocks extents place (tried.passed place from below);
     })
 
-pub fit_missing : (blocks : ℕ) (live : List Entry) (reserved : Option Extent) (first : ℕ) → IsTried blocks (taken live reserved) first → 4194304 < first + blocks → fit blocks live reserved ≡ None
+pub fit_missing : (blocks : ℕ) (live : List Entry) (reserved : Option Extent) (first : ℕ) → IsTried blocks (taken live reserved) first → block_limit < first + blocks → fit blocks live reserved ≡ None
 unfolding fit
 fit_missing blocks live reserved first tried past =
     let extents = taken live reserved in
-    fit_below_none 4194304 blocks extents (λ place from below. elim (true_or_false (nat_lt place first)) [
-      | inl pass ↦ not_free 4194304 blocks extents place (tried.passed place from (below_from place first pass))
-      | inr fail ↦ past_limit 4194304 blocks extents place (omega (arith, past, not_below_from place first fail))
+    fit_below_none block_limit blocks extents (λ place from below. elim (true_or_false (nat_lt place first)) [
+      | inl pass ↦ not_free block_limit blocks extents place (tried.passed place from (below_from place first pass))
+      | inr fail ↦ past_limit block_limit blocks extents place (omega (arith, past, not_below_from place first fail))
     ])
 
 -- how many of the extents end behind a place: each round of the search leaves fewer

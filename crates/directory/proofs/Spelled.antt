@@ -5,10 +5,10 @@ use Rattle.std.specs.Int.{w32, w64, to_be_bytes, from_be_bytes}
 use Rattle.std.proofs.lemmas.List.{take-append-drop}
 use Rattle.std.proofs.Math.Seq.{take-append_seam}
 use Rattle.std.proofs.lemmas.Nat.{from_be_bytes-to_be_bytes_4, from_be_bytes-to_be_bytes_8}
-use Rattle.blocks.specs.Extents.{block_count}
+use Rattle.blocks.specs.Extents.{block_count, block_limit}
 use Rattle.directory.specs.declared.entry.Entry.{Entry}
 use Rattle.directory.specs.Places.{extent_of}
-use Rattle.directory.specs.Listings.{Listing, IsListing, IsEntry}
+use Rattle.directory.specs.Listings.{Listing, IsListing, IsEntry, most_entries}
 use Rattle.directory.specs.Content.{Lists, OneListing, WrittenIsListed, listing_bytes, header_bytes, entry_bytes, mark}
 use Rattle.directory.specs.Tables.{IsTable}
 
@@ -52,7 +52,7 @@ unfolding header_bytes mark
 header_fields epoch imports count rest = refl
 
 pub first_fits : (x : Entry) → IsEntry x → x.first < 2 ^ 32
-first_fits x is = let first = x.first in let blocks = block_count (extent_of x) in let end : first + blocks ≤ 4194304 = is.end_is in omega (arith, end)
+first_fits x is = let first = x.first in let blocks = block_count (extent_of x) in let end : first + blocks ≤ block_limit = is.end_is in omega (arith, end)
 
 pub entry_length : (x : Entry) → length (entry_bytes x) ≡ 16
 unfolding entry_bytes
@@ -175,7 +175,7 @@ after_mark block one two read epoch imports count rest e f fits epoch_fits is =
     (peel mark mark two _ refl (sym f ∙ (after_epoch block one read epoch imports count rest e fits epoch_fits is).1)).1
 
 pub after_numbers : (two three four : List ℕ) (read_imports read_count imports count : ℕ) (rest : List ℕ) → two ≡ to_be_bytes w32 read_imports ++ three → three ≡ to_be_bytes w32 read_count ++ four
-    → two ≡ to_be_bytes w32 imports ++ (to_be_bytes w32 count ++ (replicate 8 0 ++ rest)) → read_count < 2 ^ 32 → count ≤ 128 → (read_count ≡ count) × (four ≡ replicate 8 0 ++ rest)
+    → two ≡ to_be_bytes w32 imports ++ (to_be_bytes w32 count ++ (replicate 8 0 ++ rest)) → read_count < 2 ^ 32 → count ≤ most_entries → (read_count ≡ count) × (four ≡ replicate 8 0 ++ rest)
 after_numbers two three four read_imports read_count imports count rest e f is fits few =
     let one = (peel (to_be_bytes w32 read_imports) (to_be_bytes w32 imports) three _ refl (sym e ∙ is)).1 in
     peel_4 read_count count four _ fits (omega (arith, few)) (sym f ∙ one)
@@ -188,7 +188,7 @@ header_from_parts block one two three four rest epoch imports count e f g h i =
 
 -- what is read of a block, and what a block lists
 
-pub listed : (block rest : List ℕ) (epoch imports count : ℕ) (entries : List Entry) → block ≡ header_bytes epoch imports count ++ rest → IsTable rest count entries → 1 ≤ epoch → epoch < 2 ^ 64 → imports < 2 ^ 32 → count ≤ 128
+pub listed : (block rest : List ℕ) (epoch imports count : ℕ) (entries : List Entry) → block ≡ header_bytes epoch imports count ++ rest → IsTable rest count entries → 1 ≤ epoch → epoch < 2 ^ 64 → imports < 2 ^ 32 → count ≤ most_entries
     → Lists block (record { epoch = epoch; imports = imports; entries = entries })
 listed block rest epoch imports count entries e table at_least epoch_fits imports_fit few =
     let d : Listing = record { epoch = epoch; imports = imports; entries = entries } in
@@ -202,7 +202,7 @@ listed block rest epoch imports count entries e table at_least epoch_fits import
 pub block_is : (block : List ℕ) (d : Listing) → Lists block d → block ≡ header_bytes d.epoch d.imports (length d.entries) ++ (flat_map entry_bytes d.entries ++ drop (length (listing_bytes d)) block)
 block_is block d lists = whole block d lists ∙ listing_is d (drop (length (listing_bytes d)) block)
 
-pub table_of : (block rest : List ℕ) (epoch imports count : ℕ) (d : Listing) → block ≡ header_bytes epoch imports count ++ rest → epoch < 2 ^ 64 → imports < 2 ^ 32 → count ≤ 128 → Lists block d → IsTable rest count d.entries
+pub table_of : (block rest : List ℕ) (epoch imports count : ℕ) (d : Listing) → block ≡ header_bytes epoch imports count ++ rest → epoch < 2 ^ 64 → imports < 2 ^ 32 → count ≤ most_entries → Lists block d → IsTable rest count d.entries
 table_of block rest epoch imports count d e epoch_fits imports_fit few lists =
     let same = one_header epoch imports count d.epoch d.imports (length d.entries) rest (flat_map entry_bytes d.entries ++ drop (length (listing_bytes d)) block) epoch_fits lists.is.epoch_fits imports_fit lists.is.imports
     (omega (arith, few)) (omega (arith, lists.is.count)) (sym e ∙ block_is block d lists) in

@@ -1,7 +1,7 @@
 -- Where a segment of so many blocks finds room.
-use Rattle.std.specs.Prelude.{◌≡◌, ◌↔◌, ℕ, ◌+◌, ◌-◌, ◌≤◌, ◌<◌, max, min, Bool, ◌&&◌, not, nat_lt, nat_le, List, Option, Some, None}
+use Rattle.std.specs.Prelude.{◌≡◌, ◌↔◌, ℕ, ◌+◌, ◌-◌, ◌≤◌, max, min, Bool, ◌&&◌, not, nat_lt, nat_le, List, Option, Some, None}
 use Rattle.std.specs.List.{AllByRecursion, find, list_any, range_with_len}
-use Rattle.blocks.specs.Extents.{block_count}
+use Rattle.blocks.specs.Extents.{block_count, block_limit}
 use Rattle.blocks.specs.declared.extent.Extent.{Extent}
 use Rattle.directory.specs.declared.entry.Entry.{Entry}
 use Rattle.directory.specs.Places.{SharesNoBlock, SharesNoByte, AreBeside, end_block, taken}
@@ -18,14 +18,14 @@ is_free limit blocks extents first = nat_le (first + blocks) limit && not (list_
 unfoldable pub fit_below : ℕ → ℕ → List Extent → Option ℕ
 fit_below limit blocks extents = find (is_free limit blocks extents) (range_with_len 4 (limit - 4))
 
--- the same on a disk of 4,194,304 blocks
+-- the same below the block above which no extent ends
 unfoldable pub fit : ℕ → List Entry → Option Extent → Option ℕ
-fit blocks live reserved = fit_below 4194304 blocks (taken live reserved)
+fit blocks live reserved = fit_below block_limit blocks (taken live reserved)
 
 -- the so many blocks from first on lie behind the slots, below the last block, and share none with an extent that is taken
 pub record IsFree (blocks : ℕ) (extents : List Extent) (first : ℕ) : Type 0 where
   pub start : 4 ≤ first
-  pub end : first + blocks ≤ 4194304
+  pub end : first + blocks ≤ block_limit
   pub apart : AllByRecursion (SharesNoBlock first blocks) extents
 
 -- the least place where so many blocks are free

@@ -1,6 +1,6 @@
 ghost use Rattle.std.specs.Prelude.{◌≡◌, ℕ, ◌+◌, ◌*◌, ◌≤◌, ◌<◌, ◌^◌, ◌++◌, List, length, vec_capacity, IfOk, IfSome, IfNone, IsErrOf};
 ghost use Rattle.std.specs.Int.{w32, w64, to_be_bytes};
-ghost use Rattle.directory.specs.Listings.{IsEntry};
+ghost use Rattle.directory.specs.Listings.{IsEntry, most_entries};
 ghost use Rattle.directory.specs.Content.{entry_bytes, header_bytes};
 ghost use Rattle.directory.specs.Tables.{IsTable};
 
@@ -52,8 +52,10 @@ pub(crate) fn split_header(block: &[u8]) -> Option<(Header, &[u8])>
     ensures epoch { IfSome result (λ r. 1 ≤ r.0.epoch) }
     ensures epoch_fits { IfSome result (λ r. r.0.epoch < 2 ^ 64) }
     ensures imports_fit { IfSome result (λ r. r.0.imports < 2 ^ 32) }
-    ensures count { IfSome result (λ r. r.0.count ≤ 128) }
-    ensures only { IfNone result ((epoch imports count : ℕ) (rest : List ℕ) → 1 ≤ epoch → epoch < 2 ^ 64 → count ≤ 128 → block.now ≡ header_bytes epoch imports count ++ rest → ⊥) }
+    ensures count { IfSome result (λ r. r.0.count ≤ most_entries) }
+    ensures only { IfNone result ((epoch imports count : ℕ) (rest : List ℕ)
+        → 1 ≤ epoch → epoch < 2 ^ 64 → count ≤ most_entries
+        → block.now ≡ header_bytes epoch imports count ++ rest → ⊥) }
 {
     let (epoch, rest) = split_u64(block);
     let rest = rest.strip_prefix(&MARK)?;
@@ -97,10 +99,10 @@ pub(crate) fn read_entries(
     bytes: &[u8],
     count: usize,
 ) -> Result<Vec<Entry>, DirectoryFault>
-    requires few { count ≤ 128 }
+    requires few { count ≤ most_entries }
     requires there { 16 * count ≤ length bytes.now }
     ensures found { IfOk result (λ entries. IsTable bytes.now count entries.items) }
-    ensures room { IfOk result (λ entries. 128 ≤ vec_capacity entries) }
+    ensures room { IfOk result (λ entries. most_entries ≤ vec_capacity entries) }
     ensures only { IsErrOf result DirectoryFault.BadDirectory → (entries : List Entry) → IsTable bytes.now count entries → ⊥ }
 {
     let mut entries = Vec::with_capacity(alloc, MOST_ENTRIES)?;

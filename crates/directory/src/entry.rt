@@ -5,12 +5,14 @@ use blocks::{BLOCK_LIMIT, Extent};
 /// The first block that a segment may lie in: the four before it hold the two slots.
 pub(crate) const DATA_START: u32 = 4;
 
-/// A segment: where it lies, and how many rows it holds.
+/// A segment: where it lies on the disk, and how many rows it holds.
 #[derive(Clone, Copy, Debug, PartialEq, Eq)]
 pub struct Entry {
-    /// Its first block.
+    /// The number of its first block of 4,096 bytes, counted from 0 at the head of the disk.
     pub first: u32,
+    /// How many bytes it has, from the start of its first block on, without a gap.
     pub bytes: u32,
+    /// How many rows these bytes spell, each with the number of the import that stamped it.
     pub rows: u32,
 }
 

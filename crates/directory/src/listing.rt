@@ -10,23 +10,24 @@ use thiserror::Error;
 /// A directory lists no more entries than this.
 pub const MOST_ENTRIES: usize = 128;
 
-/// The epoch, the number of imports and where the segments lie. It always is what a content block may list, and has room for the most entries.
+/// The epoch, the number of imports and where the segments lie. It always is what a content block may
+/// list, and has room for the most entries, so that none of its changes takes memory.
 #[derive(Drop)]
 pub struct Directory {
-    pub epoch: u64,
-    pub imports: u32,
+    epoch: u64,
+    imports: u32,
     entries: Vec<Entry>,
 }
 
 impl Model for Directory {
     ghost use Rattle.std.specs.Prelude.{vec_capacity, ◌≤◌};
-    ghost use Rattle.directory.specs.Listings.{Listing, IsListing};
+    ghost use Rattle.directory.specs.Listings.{Listing, IsListing, most_entries};
 
     ghost Value = { Listing };
 
     ghost view = { λ d. record { epoch = d.epoch; imports = d.imports; entries = d.entries.items } };
 
-    ghost invariant = { λ d. record { is : IsListing (record { epoch = d.epoch; imports = d.imports; entries = d.entries.items }); room : 128 ≤ vec_capacity d.entries } };
+    ghost invariant = { λ d. record { is : IsListing (record { epoch = d.epoch; imports = d.imports; entries = d.entries.items }); room : most_entries ≤ vec_capacity d.entries } };
 }
 
 /// Why a content block gives no directory.
@@ -50,7 +51,7 @@ impl From<AllocError> for DirectoryFault {
 }
 
 impl Directory {
-    ghost use Rattle.directory.specs.Listings.{Listing, IsListing, with_entry, with_two_replaced};
+    ghost use Rattle.directory.specs.Listings.{Listing, IsListing, with_entry, with_two_replaced, with_two_back};
     ghost use Rattle.directory.specs.Content.{Lists, listing_bytes};
     ghost use Rattle.directory.specs.declared.listing.DirectoryFault.TheVariants as faults;
 
@@ -106,19 +107,21 @@ impl Directory {
         write_entries(self.entries.as_slice(), &mut block[32..]);
     }
 
+    /// The number of its publication: 1 for a new store, and one more for each that follows.
     pub fn epoch(&self) -> u64
         ensures { result ≡ self.now.epoch }
     {
         self.epoch
     }
 
-    /// The number of imports.
+    /// The number of imports that were accepted.
     pub fn imports(&self) -> u32
         ensures { result ≡ self.now.imports }
     {
         self.imports
     }
 
+    /// Its segments, in the order in which they were added.
     pub fn entries(&self) -> &[Entry]
         ensures entries { result.now ≡ self.now.entries }
         ensures listing { IsListing self.now }
@@ -145,7 +148,7 @@ impl Directory {
         };
     }
 
-    /// Puts the entry at place `i`, and closes up place `j`.
+    /// Puts the entry at place `i`, and closes up place `j`. The epoch stays.
     pub fn replace_two(&mut self, i: usize, j: usize, entry: Entry)
         requires places { i < j }
         requires within { j < length self.old.entries }
@@ -154,5 +157,20 @@ impl Directory {
     {
         self.entries[i] = entry;
         let _ = self.entries.remove(j);
+    }
+
+    /// Takes a replacement back, as after a publication that failed: the epoch from before, and the two
+    /// entries at their places again. `first` stood at place `i`, and `second` at place `j`.
+    pub fn put_back(&mut self, epoch: u64, i: usize, j: usize, first: Entry, second: Entry)
+        requires places { i < j }
+        requires within { j ≤ length self.old.entries }
+        requires listing { IsListing (with_two_back self.old epoch i j first second) }
+        ensures { self.new ≡ with_two_back self.old epoch i j first second }
+    {
+        self.epoch = epoch;
+        self.entries[i] = first;
+        let Ok(()) = self.entries.insert(j, second) else {
+            unreachable!()
+        };
     }
 }

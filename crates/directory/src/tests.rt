@@ -125,6 +125,10 @@ fn entries_go_last_and_close_up(rt: HostRuntime) -> Result<(), Fail> {
             bytes: 8238
         }
     );
+    directory.advance(0);
+    directory.put_back(1, 0, 1, FIRST, SECOND);
+    assert_eq!(rt; directory.epoch(), 1);
+    assert_eq!(rt; directory.entries(), [FIRST, SECOND].as_slice());
     Ok(())
 }
 

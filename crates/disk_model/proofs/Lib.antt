@@ -1,3 +1,4 @@
+pub mod Calls
 pub mod Chosen
 pub mod Entries
 pub mod Filled

@@ -10,3 +10,4 @@ pub mod Put
 pub mod Record
 pub mod Replay
 pub mod Replayed
+pub use Rattle.fault_counts.specs.Counting

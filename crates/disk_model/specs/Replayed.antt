@@ -1,6 +1,6 @@
--- What a read gives is an image, after each call.
+-- A proof, which the law of the disk in memory cites: what a read gives is an image, after each call.
 use Rattle.std.proofs.lemmas.Bool.Decides.{nat_tests}
-use Rattle.std.proofs.Common.{◌≡◌, inl, inr, Bool, ℕ, ◌+◌, ◌≤◌, min, List, [], ◌∷◌, ◌++◌, length, take, if◌then◌else◌, ltb, true, false, refl, sym, ◌∙◌, ap, subst, arith, length-take}
+use Rattle.std.proofs.Common.{◌≡◌, inl, inr, Bool, ℕ, ◌+◌, ◌≤◌, min, List, [], ◌∷◌, length, take, if◌then◌else◌, ltb, true, false, refl, sym, ◌∙◌, subst, arith, length-take}
 use Rattle.std.proofs.lemmas.List.{get_or-take, take_all}
 use Rattle.std.proofs.lemmas.List.Elements.{All-head, All-tail}
 use Rattle.disk_model.specs.Disk.{DiskState, IsImage, IsOutside, Moments, followed_by, settled, after_write, after_cut, reading}
@@ -100,27 +100,3 @@ replayed_image m (change ∷ changes) now = replayed_image (followed_by m (after
 
 pub memory_image : (bytes : List ℕ) (changes : List Change) → IsImage (replayed (made bytes) changes).state (replayed (made bytes) changes).state.now
 memory_image bytes changes = replayed_image (made bytes) changes (settled_image bytes)
-
-pub replayed-push : (m : Moments) (changes : List Change) (change : Change) → replayed m (changes ++ change ∷ []) ≡ followed_by (replayed m changes) (after_change (replayed m changes).state change)
-replayed-push m [] change = refl
-replayed-push m (first ∷ changes) change = replayed-push (followed_by m (after_change m.state first)) changes change
-
--- what a read gives after one call more
-pub now-push : (m : Moments) (log new : List Change) (change : Change) → new ≡ log ++ change ∷ [] → (replayed m new).state.now ≡ (after_change (replayed m log).state change).now
-now-push m log new change is = ap (λ (l : List Change). (replayed m l).state.now) is ∙ ap (λ (k : Moments). k.state.now) (replayed-push m log change)
-
-pub replayed-more : (m : Moments) (log new : List Change) (change : Change) → new ≡ log ++ change ∷ [] → replayed m new ≡ followed_by (replayed m log) (after_change (replayed m log).state change)
-replayed-more m log new change is = ap (λ (l : List Change). replayed m l) is ∙ replayed-push m log change
-
-pub now-after_write : (s : DiskState) (at : ℕ) (bytes : List ℕ) → (after_write s at bytes).now ≡ written s.now at bytes
-unfolding after_write
-now-after_write s at [] = refl
-now-after_write s at (byte ∷ bytes) = refl
-
-pub now-settled : (s : DiskState) → (settled s.now).now ≡ s.now
-unfolding settled
-now-settled s = refl
-
-pub now-made : (bytes : List ℕ) → (made bytes).state.now ≡ bytes
-unfolding settled
-now-made bytes = refl

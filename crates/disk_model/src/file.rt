@@ -1,8 +1,9 @@
 ghost use Rattle.std.specs.Prelude.{◌≡◌, ◌≤◌, [], length, IfOk, IsErr, MatchResult};
-ghost use Rattle.disk_model.specs.Disk.{CountsFailure};
+ghost use Rattle.fault_counts.specs.Counting.{CountsEach};
 ghost use Rattle.disk_model.specs.Change.{made};
 
 use crate::{Disk, DiskFault};
+use fault_counts::raised;
 use std::fs::{File, OpenOptions};
 use std::io::{self, ErrorKind};
 use std::os::unix::fs::FileExt;
@@ -84,13 +85,13 @@ fn read_all(file: &File, at: u64, into: &mut [u8]) -> io::Result<usize>
 
 /// Counts a failure.
 fn answer<T: Drop>(outcome: io::Result<T>, failures: &mut u64) -> Result<T, DiskFault>
-    ensures failures { CountsFailure result failures.old failures.new }
+    ensures failures { CountsEach result failures.old failures.new }
     ensures value { MatchResult outcome (λ x. result ≡ Ok x) (λ _. IsErr result) }
 {
     match outcome {
         Ok(value) => Ok(value),
         Err(_) => {
-            *failures = failures.saturating_add(1);
+            *failures = raised(*failures);
             Err(DiskFault)
         }
     }

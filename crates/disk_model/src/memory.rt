@@ -1,5 +1,6 @@
 ghost use Rattle.std.specs.Prelude.{◌≡◌, ℕ, ◌+◌, ◌-◌, ◌≤◌, ◌++◌, [], ◌∷◌, Some, length, take, drop, min, ◌↔◌, IsTrue, IsOk, IfOk, IsErr, OnOk, OnErr, Contains};
-ghost use Rattle.disk_model.specs.Disk.{IsImage, CountsFailure, Fails, followed_by, settled, after_write, after_cut};
+ghost use Rattle.disk_model.specs.Disk.{IsImage, Fails, followed_by, settled, after_write, after_cut};
+ghost use Rattle.fault_counts.specs.Counting.{CountsEach};
 ghost use Rattle.disk_model.specs.Change.{made, replayed};
 ghost use Rattle.disk_model.specs.Choice.{IsChosen};
 ghost use Rattle.disk_model.specs.Contents.{shown};
@@ -11,9 +12,12 @@ mod contents;
 mod faults;
 mod record;
 mod replay;
+#[cfg(test)]
+mod tests;
 
 use crate::{Choice, Disk, DiskFault, MAX_END};
 use contents::Contents;
+use fault_counts::raised;
 use faults::{Fate, Faults};
 use record::Record;
 use replay::Replay;
@@ -208,7 +212,7 @@ impl MemDisk {
         ensures kept { SameRecord self.old self.new }
         ensures faults { faults_of self.new ≡ faults_of self.old }
         ensures room { KeepsRoom self.old self.new }
-        ensures failures { CountsFailure result (failure_count self.old) (failure_count self.new) }
+        ensures failures { CountsEach result (failure_count self.old) (failure_count self.new) }
     {
         match (noted, fate) {
             (Ok(()), Fate::Passes) => Ok(()),
@@ -222,9 +226,9 @@ impl MemDisk {
         ensures kept { SameRecord self.old self.new }
         ensures faults { faults_of self.new ≡ faults_of self.old }
         ensures room { KeepsRoom self.old self.new }
-        ensures failures { CountsFailure result (failure_count self.old) (failure_count self.new) }
+        ensures failures { CountsEach result (failure_count self.old) (failure_count self.new) }
     {
-        self.failures = self.failures.saturating_add(1);
+        self.failures = raised(self.failures);
         Err(DiskFault)
     }
 }
@@ -246,7 +250,7 @@ impl Disk for MemDisk {
         ensures value { IfOk result (λ n. n ≡ length (memory_moments self.old).state.now) }
         ensures moments { memory_moments self.new ≡ memory_moments self.old }
         ensures kept { SameRecord self.old self.new }
-        ensures failures { CountsFailure result (failure_count self.old) (failure_count self.new) }
+        ensures failures { CountsEach result (failure_count self.old) (failure_count self.new) }
         ensures passes { IsOk result ↔ IsTrue (passes_read (faults_of self.old)) }
         ensures faults { faults_of self.new ≡ after_read_call (faults_of self.old) }
         ensures room { KeepsRoom self.old self.new }
@@ -263,7 +267,7 @@ impl Disk for MemDisk {
         ensures bytes { IfOk result (λ n. into.new ≡ take n (drop at (memory_moments self.old).state.now) ++ drop n into.old) }
         ensures moments { memory_moments self.new ≡ memory_moments self.old }
         ensures kept { SameRecord self.old self.new }
-        ensures failures { CountsFailure result (failure_count self.old) (failure_count self.new) }
+        ensures failures { CountsEach result (failure_count self.old) (failure_count self.new) }
         ensures passes { IsOk result ↔ IsTrue (passes_read (faults_of self.old)) }
         ensures faults { faults_of self.new ≡ after_read_call (faults_of self.old) }
         ensures room { KeepsRoom self.old self.new }
@@ -282,7 +286,7 @@ impl Disk for MemDisk {
         requires { at + length bytes.now ≤ MAX_END }
         ensures made { OnOk result (memory_moments self.new ≡ followed_by (memory_moments self.old) (after_write (memory_moments self.old).state at bytes.now)) }
         ensures failed { OnErr result (Fails (memory_moments self.old) (after_write (memory_moments self.old).state at bytes.now) (memory_moments self.new)) }
-        ensures failures { CountsFailure result (failure_count self.old) (failure_count self.new) }
+        ensures failures { CountsEach result (failure_count self.old) (failure_count self.new) }
         ensures passes { IsOk result → fate_of (faults_of self.old) ≡ Passes }
         ensures faults { faults_of self.new ≡ after_change_call (faults_of self.old) }
         ensures succeeds { HasRoomFor self.old (at + length bytes.now) 1 (length bytes.now) → fate_of (faults_of self.old) ≡ Passes → IsOk result }
@@ -299,7 +303,7 @@ impl Disk for MemDisk {
     fn cut(&mut self, len: u64) -> Result<(), DiskFault>
         ensures made { OnOk result (memory_moments self.new ≡ followed_by (memory_moments self.old) (after_cut (memory_moments self.old).state len)) }
         ensures failed { OnErr result (Fails (memory_moments self.old) (after_cut (memory_moments self.old).state len) (memory_moments self.new)) }
-        ensures failures { CountsFailure result (failure_count self.old) (failure_count self.new) }
+        ensures failures { CountsEach result (failure_count self.old) (failure_count self.new) }
         ensures passes { IsOk result → fate_of (faults_of self.old) ≡ Passes }
         ensures faults { faults_of self.new ≡ after_change_call (faults_of self.old) }
         ensures succeeds { HasRoomFor self.old 0 1 0 → fate_of (faults_of self.old) ≡ Passes → IsOk result }
@@ -316,7 +320,7 @@ impl Disk for MemDisk {
     fn sync(&mut self) -> Result<(), DiskFault>
         ensures made { OnOk result (memory_moments self.new ≡ followed_by (memory_moments self.old) (settled (memory_moments self.old).state.now)) }
         ensures failed { OnErr result (memory_moments self.new ≡ memory_moments self.old) }
-        ensures failures { CountsFailure result (failure_count self.old) (failure_count self.new) }
+        ensures failures { CountsEach result (failure_count self.old) (failure_count self.new) }
         ensures passes { IsOk result → fate_of (faults_of self.old) ≡ Passes }
         ensures faults { faults_of self.new ≡ after_change_call (faults_of self.old) }
         ensures succeeds { HasRoomFor self.old 0 1 0 → fate_of (faults_of self.old) ≡ Passes → IsOk result }

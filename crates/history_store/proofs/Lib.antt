@@ -1,6 +1,13 @@
+pub mod Found
+pub mod KnownRows
 pub mod Sorted
-pub mod NewSegment
+pub mod Counted
 pub mod Held
+pub mod Places
+pub mod NewSegment
+pub mod Refusing
+pub mod Apart
 pub mod FreshRows
 pub mod Imported
+pub mod Shortness
 pub mod Reopened

@@ -1,6 +1,7 @@
 -- What the calls of a store answer.
-use Rattle.std.specs.Prelude.{◌≡◌, ◌≢◌, ◌⊎◌, ℕ, ◌≤◌, true, false, List, [], length, None, Result, Ok, Err}
-use Rattle.disk_model.specs.Disk.{Moments, HasRisen}
+use Rattle.std.specs.Prelude.{◌≡◌, ◌≢◌, ◌⊎◌, ℕ, ◌+◌, ◌<◌, ◌≤◌, true, false, List, [], length, None, Result, Ok, Err}
+use Rattle.fault_counts.specs.Counting.{HasRisen}
+use Rattle.disk_model.specs.Disk.{Moments}
 use Rattle.blocks.specs.declared.slots.Slot.TheVariants.{A, B}
 use Rattle.blocks.specs.Slots.{IsOpen, IsClosed}
 use Rattle.rf2_values.specs.Row.{Version}
@@ -11,6 +12,9 @@ use Rattle.history_model.specs.History.{History, Accepts, after_release, Receipt
 use Rattle.history_model.specs.Lists.{new_rows}
 use Rattle.import_check.specs.declared.release.Release.{Release}
 use Rattle.import_check.specs.Release.{IsReleaseOf, IsFaultOfRelease, HasContradiction}
+use Rattle.import_check.specs.declared.fault.ImportFault.{ImportFault}
+use Rattle.import_check.specs.Fresh.{IsRead, IsRefusal}
+use Rattle.history_store.specs.Refusals.{refusal_of}
 use Rattle.store_image.specs.Images.{StandsFor, StandsForHistory, IsStore}
 use Rattle.history_store.specs.declared.refusal.Refusal.{Refusal}
 use Rattle.history_store.specs.declared.refusal.Refusal.TheVariants as refusals
@@ -25,7 +29,7 @@ device_of (Err e) = e.1
 
 -- the count of the device's failures: risen where it failed, and else as before
 abbrev pub CountsRefusal : Refusal → ℕ → ℕ → Type 0
-CountsRefusal refusals.DiskFault old new = HasRisen old new × (old ≤ new)
+CountsRefusal refusals.DiskFault old new = HasRisen old new
 CountsRefusal _ old new = new ≡ old
 
 abbrev pub CountsOpening : {D : Type 0} → Result (Stored D) (Refusal × D) → ℕ → ℕ → Type 0
@@ -105,10 +109,14 @@ pub record IsWelcome (h : History) (shelf : Shelf) (release : Release) : Type 0 
   pub next : Shelf
   pub shelf_is : IsShelfAfter (new_rows h rows) shelf next
 
--- Why a release isn't taken at a history and a shelf. The device is written to only for one that would be taken.
+-- where the device may fail: known rows are read once each file is a release file, and it is written to only for a release that would be taken
+abbrev pub IsAtDevice : History → Shelf → Release → Type 0
+IsAtDevice h shelf release = (IsNotSpent h.imports shelf.epoch × IsRead release) ⊎ IsWelcome h shelf release
+
+-- why a release isn't taken at a history and a shelf, on an honest device
 abbrev pub IsNotTaken : Refusal → History → Shelf → Release → Type 0
 IsNotTaken refusals.OutOfMemory h shelf release = IsNotSpent h.imports shelf.epoch
-IsNotTaken refusals.DiskFault h shelf release = IsWelcome h shelf release
+IsNotTaken refusals.DiskFault h shelf release = IsAtDevice h shelf release
 IsNotTaken refusals.CountSpent h shelf release = (h.imports ≡ last_import) ⊎ (shelf.epoch ≡ last_epoch)
 IsNotTaken (refusals.Line file line fault) h shelf release = IsNotSpent h.imports shelf.epoch × IsFaultOfRelease release file line fault
 IsNotTaken (refusals.Contradiction file line) h shelf release = IsNotSpent h.imports shelf.epoch × (key : Key) × HasContradiction (full h) release file line key
@@ -153,3 +161,46 @@ IsBeforeOrAfter h release c = StandsForHistory h c ⊎ StandsWith h release c
 abbrev pub IsStep : {D : Type 0} → Result (Unit {0}) Refusal → Stored D → Stored D → History → Shelf → Type 0
 IsStep (Ok done) old new after next = (new.history ≡ after) × (new.shelf ≡ next) × (new.needs_reopen ≡ false)
 IsStep (Err e) old new after next = ((e ≡ refusals.OutOfMemory) ⊎ (e ≡ refusals.DiskFault)) × IsRefused e old new
+
+-- why a call that only reads is refused
+abbrev pub IsReadRefusal : {D : Type 0} → Refusal → Stored D → Type 0
+IsReadRefusal refusals.OutOfMemory s = s.needs_reopen ≡ false
+IsReadRefusal refusals.DiskFault s = s.needs_reopen ≡ false
+IsReadRefusal refusals.Damaged s = s.needs_reopen ≡ false
+IsReadRefusal refusals.ReopenNeeded s = s.needs_reopen ≡ true
+IsReadRefusal _ s = ⊥
+
+-- history and shelf stay, and the store stays open
+pub record IsStill {D : Type 0} (old new : Stored D) : Type 0 where
+  pub history : new.history ≡ old.history
+  pub shelf : new.shelf ≡ old.shelf
+  pub open_before : old.needs_reopen ≡ false
+  pub open_still : new.needs_reopen ≡ false
+
+-- a call that only reads leaves the store as it was, but that a failure of the device closes it
+abbrev pub IsReadingOf : {T D : Type 0} → Result T Refusal → Stored D → Stored D → Type 0
+IsReadingOf (Ok x) old new = IsStill old new
+IsReadingOf (Err e) old new = IsReadRefusal e old × IsRefused e old new
+
+-- why the new rows of a release are not had: a fault of the files on every disk, a contradiction and no damage on an honest one
+abbrev pub IsNotFresh : Type 0 → Refusal → List Version → Release → Type 0
+IsNotFresh honest e known release = (fault : ImportFault) × (e ≡ refusal_of fault) × IsRefusal honest known release fault
+
+-- Why an import is refused, on every disk: what the counts, the files and the directory say. Whether a row contradicts the known ones is said on an honest disk alone.
+abbrev pub IsRefusalAtAll : {D : Type 0} → Refusal → Stored D → Release → Type 0
+IsRefusalAtAll refusals.OutOfMemory s release = (s.needs_reopen ≡ false) × IsNotSpent s.history.imports s.shelf.epoch
+IsRefusalAtAll refusals.DiskFault s release = (s.needs_reopen ≡ false) × IsNotSpent s.history.imports s.shelf.epoch × IsRead release
+IsRefusalAtAll refusals.ReopenNeeded s release = s.needs_reopen ≡ true
+IsRefusalAtAll refusals.NotEmpty s release = ⊥
+IsRefusalAtAll refusals.Full s release = (s.needs_reopen ≡ false) × IsNotSpent s.history.imports s.shelf.epoch × IsRead release × (length s.shelf.entries < 128)
+IsRefusalAtAll refusals.TooManySegments s release = (s.needs_reopen ≡ false) × IsNotSpent s.history.imports s.shelf.epoch × IsRead release × (length s.shelf.entries ≡ 128)
+IsRefusalAtAll refusals.NotAStore s release = ⊥
+IsRefusalAtAll refusals.Damaged s release = (s.needs_reopen ≡ false) × IsNotSpent s.history.imports s.shelf.epoch × IsRead release
+IsRefusalAtAll refusals.CountSpent s release = (s.needs_reopen ≡ false) × ((s.history.imports ≡ last_import) ⊎ (s.shelf.epoch ≡ last_epoch))
+IsRefusalAtAll (refusals.Line file line fault) s release = (s.needs_reopen ≡ false) × IsNotSpent s.history.imports s.shelf.epoch × IsFaultOfRelease release file line fault
+IsRefusalAtAll (refusals.Contradiction file line) s release = (s.needs_reopen ≡ false) × IsNotSpent s.history.imports s.shelf.epoch × IsRead release
+
+-- what an import answers on every disk, and the store after it: with one import more, or as it was; a failure of the device alone closes it
+abbrev pub IsImportAtAll : {D : Type 0} → Result Receipt Refusal → Stored D → Stored D → Release → Type 0
+IsImportAtAll (Ok receipt) old new release = (new.history.imports ≡ old.history.imports + 1) × (receipt.number ≡ new.history.imports) × (old.needs_reopen ≡ false) × (new.needs_reopen ≡ false)
+IsImportAtAll (Err e) old new release = IsRefusalAtAll e old release × IsRefused e old new

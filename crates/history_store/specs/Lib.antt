@@ -1,3 +1,4 @@
+pub mod Reading
 pub mod Shelf
 pub mod Stored
 pub mod Prepared
@@ -7,3 +8,6 @@ pub mod Laws
 pub use Rattle.store_image.specs.Images
 pub use Rattle.history_model.specs.History
 pub use Rattle.directory.specs.Fit
+pub use Rattle.blocks.specs.Cache
+pub use Rattle.as_of_index.specs.Places
+pub use Rattle.import_check.specs.Known

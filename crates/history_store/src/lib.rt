@@ -1,12 +1,18 @@
 //! A store of the release history of a terminology, on a disk.
 //!
-//! All rows stand in memory, in key order. On the disk each import that brought rows has a segment of them, and a directory lists the segments.
+//! No row stands in memory. On the disk each import that brought rows has a segment of them, and a directory lists the segments; in memory an index lists the place of
+//! each row. Rows are read where they are listed, through a cache of blocks.
 #![tactic(auto)]
 
+mod counting;
+mod known;
 pub mod laws;
+mod loading;
+mod placing;
 mod preparing;
+mod reading;
 mod refusal;
-mod rows;
+mod starting;
 mod store;
 
 pub use history_model::Receipt;

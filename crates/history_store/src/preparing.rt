@@ -8,20 +8,24 @@ ghost use Rattle.history_store.specs.Stored.{last_import, last_epoch};
 ghost use Rattle.history_store.specs.Shelf.{shelf_of};
 ghost use Rattle.history_store.specs.Prepared.{IsNotSpent, IsPlacedAt, IsPrepared, IsUnprepared};
 
+use crate::loading::Nothing;
+use crate::placing::place_all;
 use crate::refusal::Refusal;
+use as_of_index::Listed;
 use blocks::Extent;
 use directory::{Directory, Entry, MOST_ENTRIES, first_fit};
-use history_model::StampedRow;
+use history_model::{Shown, StampedRow};
 use rf2_values::Row;
 use segment::{encode, encoded_len};
 use std::alloc::{AllocError, Global};
 
-/// A segment of new rows, and the directory that lists it.
+/// A segment of new rows, its places, and the directory that lists it.
 #[derive(Drop)]
 pub(crate) struct Prepared {
     pub(crate) directory: Directory,
     pub(crate) entry: Entry,
-    pub(crate) list: Vec<StampedRow>,
+    pub(crate) places: Listed,
+    pub(crate) shown: Shown,
     pub(crate) bytes: Vec<u8>,
 }
 
@@ -76,7 +80,7 @@ fn place(directory: &Directory, rows: &[StampedRow]) -> Result<Entry, Refusal>
     })
 }
 
-/// The segment of new rows, and the directory with it.
+/// The segment of new rows, its places, and the directory with it.
 pub(crate) fn prepare(
     alloc: Global,
     directory: &Directory,
@@ -91,12 +95,15 @@ pub(crate) fn prepare(
     let list = stamp(alloc, fresh, directory.imports() + 1)?;
     let entry = place(directory, &list)?;
     let bytes = encode(alloc, &list)?;
+    let mut sink = Nothing;
+    let (places, shown) = place_all(alloc, &list, &mut sink)?;
     let mut next = repeated(alloc, directory)?;
     next.add(entry);
     Ok(Prepared {
         directory: next,
         entry,
-        list,
+        places: Listed::new(places),
+        shown,
         bytes,
     })
 }

@@ -1,33 +1,44 @@
 //! The store: its calls.
 
-ghost use Rattle.std.specs.Prelude.{◌≡◌, ◌⊎◌, ◌↔◌, ◌+◌, ◌≤◌, ℕ, List, length, IfOk, IfErr, OnOk, OnErr, true, false};
+ghost use Rattle.std.specs.Prelude.{◌≡◌, ◌≢◌, ◌⊎◌, ◌↔◌, ◌+◌, ◌≤◌, ℕ, List, length, IfOk, IfErr, OnOk, OnErr, true, false};
 ghost use Rattle.disk_model.specs.Disk.{EachImage, IsImage, LeavesOnly};
 
+use crate::counting::row_count;
+use crate::known::fresh_rows;
+use crate::loading::{Loaded, Nothing, load};
 use crate::preparing::{Prepared, is_spent, prepare, repeated};
+use crate::reading::DiskRows;
 use crate::refusal::Refusal;
-use crate::rows::{add, in_order};
-use blocks::Slot;
+use history_model::Shown;
+use crate::starting::{Room, Started, room_for, start};
+use as_of_index::{Index, ReadFault};
+use blocks::{BlockCache, Slot};
 use directory::Directory;
 use disk_model::Disk;
-use history_model::{Receipt, StampedRow, listing};
-use import_check::{KnownRows, Release, new_rows};
+use history_model::Receipt;
+use import_check::{Fresh, ImportFault, KnownFault, Release};
 use rf2_rows::{EffectiveTime, Kind, Row};
 use std::alloc::Global;
 use std::marker::Model;
-use store_image::{Loaded, Made, add_segment, load, make, publish_listing};
+use store_image::{add_segment, publish_listing};
 
 /// The release history of a terminology, on a disk.
 #[derive(Drop)]
 pub struct Store<D: Disk> {
+    alloc: Global,
     disk: D,
+    cache: BlockCache,
     slot: Slot,
     directory: Directory,
-    /// In the order of their keys.
-    rows: Vec<StampedRow>,
+    /// Where the rows of each segment lie, in the directory's order.
+    index: Index,
+    /// The rows of each segment, which only clauses read.
+    shown: Vec<Shown>,
     needs_reopen: bool,
 }
 
 impl<D: Disk> Model for Store<D> {
+    ghost use Rattle.history_model.specs.Lists.{listed};
     ghost use Rattle.history_store.specs.Shelf.{shelf_of};
     ghost use Rattle.history_store.specs.Stored.{Stored, IsHeld};
 
@@ -35,28 +46,31 @@ impl<D: Disk> Model for Store<D> {
 
     ghost view = { λ s. record {
       disk = s.disk;
-      history = record { imports = s.directory.imports; rows = s.rows.items };
+      history = record { imports = s.directory.imports; rows = listed s.shown.items };
       shelf = shelf_of s.directory;
       needs_reopen = s.needs_reopen;
     } };
 
-    ghost invariant = { λ s. IsHeld (D.is_honest s.disk) (D.moments s.disk).state s.slot s.directory s.rows.items s.needs_reopen };
+    ghost invariant = { λ s. IsHeld (D.is_honest s.disk) (D.moments s.disk).state s.cache s.slot s.directory s.index s.shown.items s.needs_reopen };
 }
 
 impl<D: Disk> Store<D> {
-    ghost use Rattle.history_model.specs.History.{rows_at};
-    ghost use Rattle.history_model.specs.Queries.{lookup};
+    ghost use Rattle.history_model.specs.History.{rows_at, full};
+    ghost use Rattle.history_model.specs.Queries.{lookup, versions, page};
     ghost use Rattle.directory.specs.Listings.{Listing};
+    ghost use Rattle.import_check.specs.Fresh.{IsAcceptedAs, IsRead};
+    ghost use Rattle.import_check.specs.Fresh.{IsApart};
     ghost use Rattle.store_image.specs.Images.{StandsFor, StandsForHistory};
     ghost use Rattle.history_store.specs.Shelf.{shelf_of};
     ghost use Rattle.history_store.specs.Stored.{Stored, IsAcknowledged, with_rows};
     ghost use Rattle.history_store.specs.Prepared.{IsNotSpent, IsPreparedFor};
-    ghost use Rattle.history_store.specs.Answers.{device_of, Counts, CountsOpening, IsMakingOf, IsOpeningOf, IsImportOf, IsBeforeOrAfter, IsStep, HandsBack, KeepsMoments};
+    ghost use Rattle.history_store.specs.Answers.{Counts, IsStep, device_of, CountsOpening, IsMakingOf, IsOpeningOf, IsReadingOf, IsStill, IsRefused, IsNotFresh, IsImportOf, IsImportAtAll, IsBeforeOrAfter, HandsBack, KeepsMoments};
     ghost use Rattle.history_store.specs.declared.refusal.Refusal.TheVariants as refusals;
 
-    /// Makes a store on an empty disk.
+    /// Makes a store on an empty disk. The length of the disk is looked at first, then all memory is taken, then the disk is written.
     pub fn create(alloc: Global, disk: D) -> Result<Store<D>, (Refusal, D)>
         ensures made { D.is_honest disk → IsMakingOf result (D.moments disk).state.now }
+        // Refused for any other reason than the device, it leaves whatever a stop may leave as it was.
         ensures refused { D.is_honest disk → HandsBack D.moments result disk }
         // Whatever a stop leaves from now on stands for the empty history.
         ensures acknowledged { D.is_honest disk → IfOk result (IsAcknowledged D.moments) }
@@ -64,45 +78,134 @@ impl<D: Disk> Store<D> {
         ensures failures { CountsOpening result (D.failures disk) (D.failures (device_of result)) }
     {
         let mut disk = disk;
-        match make(alloc, &mut disk) {
-            Ok(Made { slot, directory }) => Ok(Store {
-                disk,
+        match start(alloc, &mut disk) {
+            Ok(Started {
                 slot,
                 directory,
-                rows: Vec::new(alloc),
+                index,
+                cache,
+            }) => Ok(Store {
+                alloc,
+                disk,
+                cache,
+                slot,
+                directory,
+                index,
+                shown: Vec::new(alloc),
                 needs_reopen: false,
             }),
-            Err(fault) => Err((Refusal::from(fault), disk)),
+            Err(refusal) => Err((refusal, disk)),
         }
     }
 
-    /// Opens the store that a disk stands for.
+    /// Opens the store that a disk stands for. The disk is read, after one sync, and is given back with every refusal.
     pub fn open(alloc: Global, disk: D) -> Result<Store<D>, (Refusal, D)>
         ensures exact { D.is_honest disk → IsOpeningOf result (D.moments disk).state.now }
         // A stop at any moment leaves what it might have left before.
         ensures any_moment { D.is_honest disk → LeavesOnly (D.moments disk) (D.moments (device_of result)) (IsImage (D.moments disk).state) }
+        // Whatever it answers, a read gives what it gave before.
+        ensures read { D.is_honest disk
+            → (D.moments (device_of result)).state.now ≡ (D.moments disk).state.now }
         ensures acknowledged { D.is_honest disk → IfOk result (IsAcknowledged D.moments) }
         ensures honesty { D.is_honest disk ↔ D.is_honest (device_of result) }
         ensures failures { CountsOpening result (D.failures disk) (D.failures (device_of result)) }
     {
         let mut disk = disk;
+        let mut sink = Nothing;
         let Loaded {
             slot,
             directory,
-            lists,
-        } = match load(alloc, &mut disk) {
+            places,
+            shown,
+        } = match load(alloc, &mut disk, &mut sink) {
             Ok(loaded) => loaded,
             Err(fault) => return Err((Refusal::from(fault), disk)),
         };
-        match in_order(alloc, lists) {
-            Ok(rows) => Ok(Store {
+        match room_for(alloc, places) {
+            Ok(Room { index, cache }) => Ok(Store {
+                alloc,
                 disk,
+                cache,
                 slot,
                 directory,
-                rows,
+                index,
+                shown,
                 needs_reopen: false,
             }),
             Err(error) => Err((Refusal::from(error), disk)),
+        }
+    }
+
+    /// The component's row at the date, as the first `pin` imports show it.
+    pub fn lookup(
+        &mut self,
+        kind: Kind,
+        id: u128,
+        time: EffectiveTime,
+        pin: u32,
+    ) -> Result<Option<Row>, Refusal>
+        requires { pin ≤ self.old.history.imports }
+        ensures found { D.is_honest self.old.disk → IfOk result (λ row. row ≡ lookup kind id time (rows_at pin self.old.history.rows)) }
+        ensures undamaged { D.is_honest self.old.disk → IfErr result (λ e. e ≢ refusals.Damaged) }
+        ensures read { IsReadingOf result self.old self.new }
+        // A store that has to be opened again leaves everything as it is.
+        ensures closed { self.old.needs_reopen ≡ true → self.new ≡ self.old }
+        ensures moments { D.is_honest self.old.disk → D.moments self.new.disk ≡ D.moments self.old.disk }
+        ensures acknowledged { D.is_honest self.old.disk → self.new.needs_reopen ≡ false → IsAcknowledged D.moments self.new }
+        ensures honesty { D.is_honest self.old.disk ↔ D.is_honest self.new.disk }
+        ensures failures { Counts result (D.failures self.old.disk) (D.failures self.new.disk) }
+    {
+        if self.needs_reopen {
+            return Err(Refusal::ReopenNeeded);
+        }
+        let mut reader = DiskRows {
+            disk: &mut self.disk,
+            cache: &mut self.cache,
+            entries: self.directory.entries(),
+            shown: self.shown.as_slice(),
+            damages: 0,
+        };
+        match self.index.pick(&mut reader, kind, id, time, pin) {
+            Ok(row) => Ok(row),
+            Err(fault) => {
+                if matches!(fault, ReadFault::DiskFault) {
+                    self.needs_reopen = true;
+                }
+                Err(Refusal::from(fault))
+            }
+        }
+    }
+
+    /// The rows of a release that aren't known.
+    fn fresh_rows(&mut self, release: &Release) -> Result<Fresh, Refusal>
+        requires still { self.old.needs_reopen ≡ false }
+        ensures accepted { D.is_honest self.old.disk → IfOk result (IsAcceptedAs (full self.old.history) release.now) }
+        // The new rows go with what is known on every disk.
+        ensures apart { IfOk result (λ fresh. IsApart (full self.old.history) fresh.rows.items) }
+        ensures is_read { IfOk result (λ fresh. IsRead release.now) }
+        ensures refused { IfErr result (λ e. IsNotFresh (D.is_honest self.old.disk) e (full self.old.history) release.now) }
+        ensures still { IfOk result (λ fresh. IsStill self.old self.new) }
+        ensures closed { IfErr result (λ e. IsRefused e self.old self.new) }
+        ensures moments { D.is_honest self.old.disk → D.moments self.new.disk ≡ D.moments self.old.disk }
+        ensures honesty { D.is_honest self.old.disk ↔ D.is_honest self.new.disk }
+        ensures failures { Counts result (D.failures self.old.disk) (D.failures self.new.disk) }
+    {
+        let pin = self.directory.imports();
+        let mut reader = DiskRows {
+            disk: &mut self.disk,
+            cache: &mut self.cache,
+            entries: self.directory.entries(),
+            shown: self.shown.as_slice(),
+            damages: 0,
+        };
+        match fresh_rows(self.alloc, release, &self.index, &mut reader, pin) {
+            Ok(fresh) => Ok(fresh),
+            Err(fault) => {
+                if matches!(fault, ImportFault::Known(KnownFault::DiskFault)) {
+                    self.needs_reopen = true;
+                }
+                Err(Refusal::from(fault))
+            }
         }
     }
 
@@ -112,14 +215,15 @@ impl<D: Disk> Store<D> {
         requires room { IsNotSpent self.old.history.imports self.old.shelf.epoch }
         requires next { next ≡ record { epoch = self.old.shelf.epoch + 1; imports = self.old.history.imports + 1; entries = self.old.shelf.entries } }
         ensures step { IsStep result self.old self.new (record { imports = self.old.history.imports + 1; rows = self.old.history.rows }) (record { epoch = self.old.shelf.epoch + 1; entries = self.old.shelf.entries; merge = self.old.shelf.merge }) }
-        ensures refused { D.is_honest self.old.disk → KeepsMoments D.moments result self.old self.new }
         ensures any_moment { D.is_honest self.old.disk → LeavesOnly (D.moments self.old.disk) (D.moments self.new.disk) (λ c. StandsForHistory self.old.history c ⊎ StandsForHistory (record { imports = self.old.history.imports + 1; rows = self.old.history.rows }) c) }
+        ensures refused { D.is_honest self.old.disk → KeepsMoments D.moments result self.old self.new }
         ensures acknowledged { D.is_honest self.old.disk → self.new.needs_reopen ≡ false → IsAcknowledged D.moments self.new }
         ensures honesty { D.is_honest self.old.disk ↔ D.is_honest self.new.disk }
         ensures failures { Counts result (D.failures self.old.disk) (D.failures self.new.disk) }
     {
         match publish_listing(&mut self.disk, self.slot, &next) {
             Ok(slot) => {
+                self.cache.forget(slot.extent());
                 self.slot = slot;
                 self.directory = next;
                 Ok(())
@@ -135,9 +239,9 @@ impl<D: Disk> Store<D> {
     fn extend(&mut self, prepared: Prepared) -> Result<(), Refusal>
         requires still { self.old.needs_reopen ≡ false }
         requires prepared { IsPreparedFor self.old prepared }
-        ensures step { IsStep result self.old self.new (with_rows self.old.history prepared.list.items) (shelf_of prepared.directory) }
+        ensures step { IsStep result self.old self.new (with_rows self.old.history prepared.shown) (shelf_of prepared.directory) }
+        ensures any_moment { D.is_honest self.old.disk → LeavesOnly (D.moments self.old.disk) (D.moments self.new.disk) (λ c. StandsForHistory self.old.history c ⊎ StandsForHistory (with_rows self.old.history prepared.shown) c) }
         ensures refused { D.is_honest self.old.disk → KeepsMoments D.moments result self.old self.new }
-        ensures any_moment { D.is_honest self.old.disk → LeavesOnly (D.moments self.old.disk) (D.moments self.new.disk) (λ c. StandsForHistory self.old.history c ⊎ StandsForHistory (with_rows self.old.history prepared.list.items) c) }
         ensures acknowledged { D.is_honest self.old.disk → self.new.needs_reopen ≡ false → IsAcknowledged D.moments self.new }
         ensures honesty { D.is_honest self.old.disk ↔ D.is_honest self.new.disk }
         ensures failures { Counts result (D.failures self.old.disk) (D.failures self.new.disk) }
@@ -145,15 +249,21 @@ impl<D: Disk> Store<D> {
         let Prepared {
             directory,
             entry,
-            list,
+            places,
+            shown,
             bytes,
         } = prepared;
-        self.rows.reserve(list.len())?;
+        self.shown.reserve(1)?;
         match add_segment(&mut self.disk, self.slot, &directory, entry, &bytes) {
             Ok(slot) => {
+                self.cache.forget(entry.extent());
+                self.cache.forget(slot.extent());
                 self.slot = slot;
                 self.directory = directory;
-                add(&mut self.rows, list);
+                self.index.add(places);
+                let Ok(()) = self.shown.push(shown) else {
+                    unreachable!()
+                };
                 Ok(())
             }
             Err(fault) => {
@@ -164,15 +274,18 @@ impl<D: Disk> Store<D> {
     }
 
     /// Adds a release: all of its rows, or nothing. All memory is taken before the first write.
-    pub fn import(&mut self, alloc: Global, release: &Release) -> Result<Receipt, Refusal>
-        ensures answer { IsImportOf result self.old self.new release.now }
-        // A store that has to be opened again stays as it is, its disk too.
-        ensures closed { self.old.needs_reopen ≡ true → self.new ≡ self.old }
-        ensures refused { D.is_honest self.old.disk → KeepsMoments D.moments result self.old self.new }
+    pub fn import(&mut self, release: &Release) -> Result<Receipt, Refusal>
+        ensures answer { D.is_honest self.old.disk → IsImportOf result self.old self.new release.now }
+        // What holds on every disk.
+        ensures kept { IsImportAtAll result self.old self.new release.now }
         // A stop at any moment leaves the history from before, or that with the release.
         ensures any_moment { D.is_honest self.old.disk → self.old.needs_reopen ≡ false → LeavesOnly (D.moments self.old.disk) (D.moments self.new.disk) (IsBeforeOrAfter self.old.history release.now) }
         // After Ok each stop leaves the new one.
         ensures acknowledged { D.is_honest self.old.disk → self.new.needs_reopen ≡ false → IsAcknowledged D.moments self.new }
+        // Refused for any other reason than the device, it leaves whatever a stop may leave as it was.
+        ensures refused { D.is_honest self.old.disk → KeepsMoments D.moments result self.old self.new }
+        // A store that has to be opened again leaves everything as it is.
+        ensures closed { self.old.needs_reopen ≡ true → self.new ≡ self.old }
         ensures honesty { D.is_honest self.old.disk ↔ D.is_honest self.new.disk }
         ensures failures { Counts result (D.failures self.old.disk) (D.failures self.new.disk) }
     {
@@ -182,42 +295,97 @@ impl<D: Disk> Store<D> {
         if is_spent(&self.directory) {
             return Err(Refusal::CountSpent);
         }
-        let fresh = new_rows(alloc, release, &mut KnownRows { rows: &self.rows })?;
+        let fresh = self.fresh_rows(release)?;
         let receipt = Receipt {
             number: self.directory.imports() + 1,
             new: fresh.rows.len() as u64,
             repeated: fresh.repeated,
         };
         if fresh.rows.is_empty() {
-            let next = repeated(alloc, &self.directory)?;
+            let next = repeated(self.alloc, &self.directory)?;
             self.repeat(next)?;
         } else {
-            let prepared = prepare(alloc, &self.directory, fresh.rows)?;
+            let prepared = prepare(self.alloc, &self.directory, fresh.rows)?;
             self.extend(prepared)?;
         }
         Ok(receipt)
     }
 
-    /// The component's row at the date, as the first `pin` imports show it.
-    pub fn lookup(
+    /// All versions of the component that the first `pin` imports brought, ascending by time.
+    pub fn history(
         &mut self,
-        alloc: Global,
         kind: Kind,
         id: u128,
-        time: EffectiveTime,
         pin: u32,
-    ) -> Result<Option<Row>, Refusal>
+    ) -> Result<Vec<Row>, Refusal>
         requires { pin ≤ self.old.history.imports }
-        ensures found { IfOk result (λ row. (self.old.needs_reopen ≡ false) × (row ≡ lookup kind id time (rows_at pin self.old.history.rows))) }
-        ensures refused { IfErr result (λ e. ((e ≡ refusals.ReopenNeeded) × (self.old.needs_reopen ≡ true)) ⊎ ((e ≡ refusals.OutOfMemory) × (self.old.needs_reopen ≡ false))) }
-        ensures unchanged { self.new ≡ self.old }
+        ensures found { D.is_honest self.old.disk → IfOk result (λ rows. rows.items ≡ versions kind id (rows_at pin self.old.history.rows)) }
+        ensures undamaged { D.is_honest self.old.disk → IfErr result (λ e. e ≢ refusals.Damaged) }
+        ensures read { IsReadingOf result self.old self.new }
+        ensures closed { self.old.needs_reopen ≡ true → self.new ≡ self.old }
+        ensures moments { D.is_honest self.old.disk → D.moments self.new.disk ≡ D.moments self.old.disk }
+        ensures acknowledged { D.is_honest self.old.disk → self.new.needs_reopen ≡ false → IsAcknowledged D.moments self.new }
+        ensures honesty { D.is_honest self.old.disk ↔ D.is_honest self.new.disk }
+        ensures failures { Counts result (D.failures self.old.disk) (D.failures self.new.disk) }
     {
         if self.needs_reopen {
             return Err(Refusal::ReopenNeeded);
         }
-        match listing::lookup(&self.rows, kind, id, time, pin) {
-            Some(row) => Ok(Some(row.try_clone(alloc)?)),
-            None => Ok(None),
+        let mut reader = DiskRows {
+            disk: &mut self.disk,
+            cache: &mut self.cache,
+            entries: self.directory.entries(),
+            shown: self.shown.as_slice(),
+            damages: 0,
+        };
+        match self.index.history(&mut reader, kind, id, pin) {
+            Ok(found) => Ok(found),
+            Err(fault) => {
+                if matches!(fault, ReadFault::DiskFault) {
+                    self.needs_reopen = true;
+                }
+                Err(Refusal::from(fault))
+            }
+        }
+    }
+
+    /// The first rows of a kind at the date, at most `limit`, ascending by id from above `after` on.
+    pub fn page(
+        &mut self,
+        kind: Kind,
+        time: EffectiveTime,
+        pin: u32,
+        after: Option<u128>,
+        limit: u32,
+    ) -> Result<Vec<Row>, Refusal>
+        requires { pin ≤ self.old.history.imports }
+        ensures found { D.is_honest self.old.disk → IfOk result (λ rows. rows.items ≡ page kind time after limit (rows_at pin self.old.history.rows)) }
+        ensures undamaged { D.is_honest self.old.disk → IfErr result (λ e. e ≢ refusals.Damaged) }
+        ensures read { IsReadingOf result self.old self.new }
+        ensures closed { self.old.needs_reopen ≡ true → self.new ≡ self.old }
+        ensures moments { D.is_honest self.old.disk → D.moments self.new.disk ≡ D.moments self.old.disk }
+        ensures acknowledged { D.is_honest self.old.disk → self.new.needs_reopen ≡ false → IsAcknowledged D.moments self.new }
+        ensures honesty { D.is_honest self.old.disk ↔ D.is_honest self.new.disk }
+        ensures failures { Counts result (D.failures self.old.disk) (D.failures self.new.disk) }
+    {
+        if self.needs_reopen {
+            return Err(Refusal::ReopenNeeded);
+        }
+        let mut reader = DiskRows {
+            disk: &mut self.disk,
+            cache: &mut self.cache,
+            entries: self.directory.entries(),
+            shown: self.shown.as_slice(),
+            damages: 0,
+        };
+        match self.index.page(&mut reader, kind, time, pin, after, limit) {
+            Ok(found) => Ok(found),
+            Err(fault) => {
+                if matches!(fault, ReadFault::DiskFault) {
+                    self.needs_reopen = true;
+                }
+                Err(Refusal::from(fault))
+            }
         }
     }
 
@@ -239,7 +407,7 @@ impl<D: Disk> Store<D> {
     pub fn row_count(&self) -> u64
         ensures { result ≡ length self.now.history.rows }
     {
-        self.rows.len() as u64
+        row_count(self.directory.entries())
     }
 
     /// Whether the device failed in a call, so that the store has to be opened again.

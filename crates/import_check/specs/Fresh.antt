@@ -1,19 +1,16 @@
 -- What a release brings, and what refuses it.
-use Rattle.std.specs.Prelude.{◌≡◌, ◌≢◌, ◌⊎◌, ℕ, ◌+◌, List, ◌++◌, length, ⊤}
-use Rattle.rf2_values.specs.declared.key.Key.{Key}
+use Rattle.std.specs.Prelude.{◌≡◌, ◌≢◌, ℕ, ◌+◌, List, ◌++◌, length, ⊤}
 use Rattle.rf2_values.specs.Row.{Version}
 use Rattle.rf2_values.specs.Key.{key_of}
-use Rattle.rf2_rows.specs.declared.fault.LineFault.{LineFault}
 use Rattle.history_model.specs.InOrder.{Has, IsAscending}
 use Rattle.history_model.specs.History.{row_cmp, IsConsistent}
 use Rattle.import_check.specs.declared.release.Release.{Release}
-use Rattle.import_check.specs.declared.release.PlacedLine.{PlacedLine}
 use Rattle.import_check.specs.declared.fresh.Fresh.{Fresh}
 use Rattle.import_check.specs.declared.fault.ImportFault.{ImportFault}
 use Rattle.import_check.specs.declared.fault.ImportFault.TheVariants as importfault
 use Rattle.import_check.specs.declared.fault.KnownFault.TheVariants as knownfault
 use Rattle.import_check.specs.Known.{IsUnknown, CountsDiskFault, CountsDamage}
-use Rattle.import_check.specs.Release.{SpellFiles, IsReleaseOf, IsFaultOfRelease, IsFirstContradiction, HasContradiction}
+use Rattle.import_check.specs.Release.{SpellFiles, IsReleaseOf, IsFaultOfRelease, HasContradiction}
 
 -- the rows that are not known, each once and in key order, and how many of the others there are
 pub record IsFresh (known rows fresh : List Version) (repeated : ℕ) : Type 0 where
@@ -44,55 +41,13 @@ pub record IsAcceptedAs (known : List Version) (release : Release) (fresh : Fres
   pub rows_are : IsReleaseOf release rows
   pub taken : IsTaken known rows fresh
 
--- a fault of a row is that of the release, and all files are read before any other refusal
-abbrev pub IsReadBefore : Release → ImportFault → Type 0
-IsReadBefore release importfault.OutOfMemory = ⊤
-IsReadBefore release (importfault.Known fault) = IsRead release
-IsReadBefore release (importfault.Row file line fault) = IsFaultOfRelease release file line fault
-IsReadBefore release (importfault.Contradiction file line key) = IsRead release
-
--- that memory ran out, or that a known row could not be had, says nothing of the release
-abbrev pub IsNoRefusal : ImportFault → Type 0
-IsNoRefusal importfault.OutOfMemory = ⊤
-IsNoRefusal (importfault.Known fault) = ⊤
-IsNoRefusal (importfault.Row file line fault) = ⊥
-IsNoRefusal (importfault.Contradiction file line key) = ⊥
-
--- a known row isn't refused as damaged
-abbrev pub IsUndamaged : ImportFault → Type 0
-IsUndamaged importfault.OutOfMemory = ⊤
-IsUndamaged (importfault.Known fault) = fault ≢ knownfault.Damaged
-IsUndamaged (importfault.Row file line fault) = ⊤
-IsUndamaged (importfault.Contradiction file line key) = ⊤
-
--- no row has a fault
-abbrev pub IsNoRowFault : ImportFault → Type 0
-IsNoRowFault importfault.OutOfMemory = ⊤
-IsNoRowFault (importfault.Known fault) = ⊤
-IsNoRowFault (importfault.Row file line fault) = ⊥
-IsNoRowFault (importfault.Contradiction file line key) = ⊤
-
--- a contradiction is the first one of these lines
-abbrev pub IsContradictionOf : List Version → List PlacedLine → ImportFault → Type 0
-IsContradictionOf known lines importfault.OutOfMemory = ⊤
-IsContradictionOf known lines (importfault.Known fault) = ⊤
-IsContradictionOf known lines (importfault.Row file line fault) = ⊤
-IsContradictionOf known lines (importfault.Contradiction file line key) = IsFirstContradiction known lines file line key
-
--- a contradiction is the first one of the release
-abbrev pub IsContradictionIn : List Version → Release → ImportFault → Type 0
-IsContradictionIn known release importfault.OutOfMemory = ⊤
-IsContradictionIn known release (importfault.Known fault) = ⊤
-IsContradictionIn known release (importfault.Row file line fault) = ⊤
-IsContradictionIn known release (importfault.Contradiction file line key) = HasContradiction known release file line key
-
--- this fault of a row, where memory lasts
-abbrev pub IsFaultAt : ℕ → ℕ → LineFault → ImportFault → Type 0
-IsFaultAt file line fault e = (e ≡ importfault.OutOfMemory) ⊎ (e ≡ importfault.Row file line fault)
-
--- this contradiction, where memory lasts and known rows can be had
-abbrev pub IsContradictionAt : ℕ → ℕ → Key → ImportFault → Type 0
-IsContradictionAt file line key e = IsNoRefusal e ⊎ (e ≡ importfault.Contradiction file line key)
+-- Why a release is refused: a row has a fault, which is that of the release; or each file is a release file, and a known
+-- row can't be had or a line contradicts. That memory ran out says nothing.
+abbrev pub IsRefusal : (honest : Type 0) → List Version → Release → ImportFault → Type 0
+IsRefusal honest known release importfault.OutOfMemory = ⊤
+IsRefusal honest known release (importfault.Known fault) = IsRead release × (honest → fault ≢ knownfault.Damaged)
+IsRefusal honest known release (importfault.Row file line fault) = IsFaultOfRelease release file line fault
+IsRefusal honest known release (importfault.Contradiction file line key) = IsRead release × (honest → HasContradiction known release file line key)
 
 -- the count of answers `DiskFault` of what is known goes up with that answer, and else stays
 abbrev pub CountsAnyDiskFault : ImportFault → ℕ → ℕ → Type 0

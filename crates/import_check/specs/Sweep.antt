@@ -1,5 +1,5 @@
--- What a pass over lines in key order has found so far.
-use Rattle.std.specs.Prelude.{◌≡◌, ◌≢◌, ℕ, ◌-◌, ◌≤◌, ◌<◌, ◌⊎◌, false, List, [], ◌∷◌, ◌++◌, length, slice_get, Option, Some, None, MatchOption, IfSome, Result, Err, IsOkAnd}
+-- What a pass over lines in key order has found so far. No clause of a public function cites these words.
+use Rattle.std.specs.Prelude.{◌≡◌, ◌≢◌, ℕ, ◌-◌, ◌≤◌, ◌<◌, ◌⊎◌, false, List, [], ◌∷◌, ◌++◌, length, slice_get, Option, Some, None, MatchOption, IfSome, Result, Err, IsOkAnd, ⊤}
 use Rattle.std.specs.List.{AllByRecursion}
 use Rattle.std.specs.Ordering.{nat_cmp, ordering_then, is_gt}
 use Rattle.std.specs.declared.cmp.Ordering.{Ordering}
@@ -14,6 +14,8 @@ use Rattle.import_check.specs.declared.sweep.Sweep.{Sweep}
 use Rattle.import_check.specs.declared.fresh.Fresh.{Fresh}
 use Rattle.import_check.specs.declared.fault.ImportFault.{ImportFault}
 use Rattle.import_check.specs.declared.fault.ImportFault.TheVariants as importfault
+use Rattle.import_check.specs.declared.fault.KnownFault.TheVariants as knownfault
+use Rattle.import_check.specs.Release.{IsFirstContradiction}
 use Rattle.import_check.specs.Known.{IsUnknown}
 use Rattle.import_check.specs.Fresh.{IsApart}
 
@@ -140,3 +142,17 @@ pub record IsOwn (known : List Version) (rest : List PlacedLine) (s : Sweep) : T
 abbrev pub KeepsApart : List Version → PlacedLine → Sweep → Sweep → Type 0
 KeepsApart known line old new =
     (rest : List PlacedLine) → IsRising rank_cmp (line ∷ rest) → IsOwn known (line ∷ rest) old → IsOwn known rest new
+
+-- why lines are taken no further: memory ran out, or a known row can't be had
+abbrev pub IsCutShort : (honest : Type 0) → ImportFault → Type 0
+IsCutShort honest importfault.OutOfMemory = ⊤
+IsCutShort honest (importfault.Known fault) = honest → fault ≢ knownfault.Damaged
+IsCutShort honest (importfault.Row file line fault) = ⊥
+IsCutShort honest (importfault.Contradiction file line key) = ⊥
+
+-- why lines give no new rows: so, or one is the first that contradicts
+abbrev pub IsRefusalOf : (honest : Type 0) → List Version → List PlacedLine → ImportFault → Type 0
+IsRefusalOf honest known lines importfault.OutOfMemory = ⊤
+IsRefusalOf honest known lines (importfault.Known fault) = honest → fault ≢ knownfault.Damaged
+IsRefusalOf honest known lines (importfault.Row file line fault) = ⊥
+IsRefusalOf honest known lines (importfault.Contradiction file line key) = honest → IsFirstContradiction known lines file line key

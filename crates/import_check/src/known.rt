@@ -3,7 +3,6 @@
 ghost use Rattle.std.specs.Prelude.{◌≡◌, ◌≢◌, ℕ, List, IfOk, IfErr, MatchResult, None, map};
 ghost use Rattle.import_check.specs.declared.fault.KnownFault.TheVariants as knownfault;
 ghost use Rattle.rf2_values.specs.Row.{Version};
-ghost use Rattle.rf2_values.specs.Key.{key_of, key_cmp};
 ghost use Rattle.history_model.specs.InOrder.{IsAscending};
 ghost use Rattle.history_model.specs.History.{IsConsistent, row_cmp, stamped_cmp};
 ghost use Rattle.history_model.proofs.Filtered.{IsAscending-map};
@@ -12,11 +11,10 @@ ghost use Rattle.fault_counts.specs.Counting.{Counts};
 ghost use Rattle.import_check.specs.Known.{IsRowAt, IsUnknown, CountsDiskFault, CountsDamage};
 
 use crate::fault::KnownFault;
-use crate::order::compare_keys;
+use crate::search::place_near;
 use history_model::StampedRow;
 use rf2_values::{Key, Row};
 use std::alloc::Global;
-use std::cmp::Ordering;
 
 /// The rows that are known before a release, lent to be looked up. A call leaves them as they are.
 pub trait Known {
@@ -64,17 +62,20 @@ pub trait Known {
     ghost stays_on: { (a b c : Self) → stays a b → stays b c → stays a c };
 }
 
-/// Rows that stand in memory, in key order.
+/// Rows that stand in memory, in key order. Keys that are asked for in ascending order are each looked for from where the last one stood.
 #[derive(Drop)]
 pub struct KnownRows<'a> {
     pub rows: &'a [StampedRow],
+    /// Where the last key stood, or would have stood.
+    near: usize,
 }
 
-/// How the key of a row stands to a key.
-fn compare_to(known: &StampedRow, key: Key) -> Ordering
-    ensures { result ≡ key_cmp (key_of known.now.row) key }
-{
-    compare_keys(known.row.key(), key)
+impl<'a> KnownRows<'a> {
+    pub fn new(rows: &'a [StampedRow]) -> KnownRows<'a>
+        ensures { result.rows ≡ rows.entry }
+    {
+        KnownRows { rows, near: 0 }
+    }
 }
 
 impl Known for KnownRows<'_> {
@@ -100,13 +101,15 @@ impl Known for KnownRows<'_> {
     ghost consistent = { λ known up. IsConsistent-from_ascending (map (λ s. s.row) known.rows.now) (IsAscending-map (λ s. s.row) row_cmp known.rows.now up) };
 
     fn row(&mut self, alloc: Global, key: &Key) -> Result<Option<Row>, KnownFault> {
-        let key = *key;
-        match self.rows.binary_search_by(|known| compare_to(known, key)) {
-            Ok(index) => {
-                let found = &self.rows[index];
-                Ok(Some(found.row.try_clone(alloc)?))
+        match place_near(self.rows, self.near, *key) {
+            Ok(place) => {
+                self.near = place;
+                Ok(Some(self.rows[place].row.try_clone(alloc)?))
             }
-            Err(_) => Ok(None),
+            Err(place) => {
+                self.near = place;
+                Ok(None)
+            }
         }
     }
 }

@@ -6,9 +6,9 @@ ghost use Rattle.rf2_values.specs.Row.{Version};
 ghost use Rattle.rf2_values.specs.Key.{key_of};
 ghost use Rattle.import_check.specs.declared.release.PlacedLine.{PlacedLine};
 ghost use Rattle.fault_counts.specs.Counting.{Counts};
-ghost use Rattle.import_check.specs.Fresh.{IsTaken, IsApart, IsNoRefusal, IsUndamaged, IsNoRowFault, IsContradictionOf, CountsAnyDiskFault, CountsAnyDamage};
+ghost use Rattle.import_check.specs.Fresh.{IsTaken, IsApart, CountsAnyDiskFault, CountsAnyDamage};
 ghost use Rattle.import_check.specs.Release.{rows_of};
-ghost use Rattle.import_check.specs.Sweep.{StandsBy, IsEarlierOf, IsVerdict, standing_of, IsSwept, TakesLine, IsOutcome, KeepsApart, IsRising, place_cmp, rank_cmp};
+ghost use Rattle.import_check.specs.Sweep.{StandsBy, IsEarlierOf, IsVerdict, standing_of, IsSwept, TakesLine, IsOutcome, KeepsApart, IsCutShort, IsRefusalOf, IsRising, place_cmp, rank_cmp};
 
 use crate::fault::ImportFault;
 use crate::fresh::Fresh;
@@ -144,11 +144,10 @@ impl Sweep {
             → OnOk result (KeepsApart (K.rows known.old) line self.old self.new) }
         ensures soundness { K.is_sound known.old → K.is_sound known.new }
         ensures few { OnOk result (length self.new.fresh.items ≤ length self.old.fresh.items + 1) }
-        ensures fault { IfErr result IsNoRefusal }
+        ensures cut_short { IfErr result (IsCutShort (K.is_honest known.old)) }
         ensures rows { K.rows known.new ≡ K.rows known.old }
         ensures honesty { K.is_honest known.old → K.is_honest known.new }
         ensures stays { K.stays known.old known.new }
-        ensures undamaged { K.is_honest known.old → IfErr result IsUndamaged }
         ensures disk_faults { Counts CountsAnyDiskFault result
             (K.disk_faults known.old) (K.disk_faults known.new) }
         ensures damages { Counts CountsAnyDamage result
@@ -207,12 +206,11 @@ fn take_all<K: Known>(
     ensures apart { K.is_sound known.old → IsRising rank_cmp lines.items
         → IfOk result (λ sweep. IsApart (K.rows known.old) sweep.fresh.items) }
     ensures few { IfOk result (λ sweep. length sweep.fresh.items ≤ length lines.items) }
-    ensures fault { IfErr result IsNoRefusal }
+    ensures cut_short { IfErr result (IsCutShort (K.is_honest known.old)) }
     ensures rows { K.rows known.new ≡ K.rows known.old }
     ensures honesty { K.is_honest known.old → K.is_honest known.new }
     ensures soundness { K.is_sound known.old → K.is_sound known.new }
     ensures stays { K.stays known.old known.new }
-    ensures undamaged { K.is_honest known.old → IfErr result IsUndamaged }
     ensures disk_faults { Counts CountsAnyDiskFault result
         (K.disk_faults known.old) (K.disk_faults known.new) }
     ensures damages { Counts CountsAnyDamage result
@@ -232,18 +230,16 @@ pub(crate) fn unite<K: Known>(
     known: &mut K,
 ) -> Result<Fresh, ImportFault>
     requires { IsAscending place_cmp lines.items }
-    ensures no_row { IfErr result IsNoRowFault }
-    ensures taken { K.is_honest known.old
-        → IfOk result (IsTaken (K.rows known.old) (rows_of lines.items)) }
+    ensures taken { IfOk result (λ fresh.
+        K.is_honest known.old → IsTaken (K.rows known.old) (rows_of lines.items) fresh) }
     ensures apart { K.is_sound known.old
         → IfOk result (λ fresh. IsApart (K.rows known.old) fresh.rows.items) }
-    ensures contradiction { K.is_honest known.old
-        → IfErr result (IsContradictionOf (K.rows known.old) lines.items) }
+    ensures refused { IfErr result
+        (IsRefusalOf (K.is_honest known.old) (K.rows known.old) lines.items) }
     ensures rows { K.rows known.new ≡ K.rows known.old }
     ensures honesty { K.is_honest known.old → K.is_honest known.new }
     ensures soundness { K.is_sound known.old → K.is_sound known.new }
     ensures stays { K.stays known.old known.new }
-    ensures undamaged { K.is_honest known.old → IfErr result IsUndamaged }
     ensures disk_faults { Counts CountsAnyDiskFault result
         (K.disk_faults known.old) (K.disk_faults known.new) }
     ensures damages { Counts CountsAnyDamage result

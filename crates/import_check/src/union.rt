@@ -1,13 +1,8 @@
 //! The rows of a release united with those that are known.
 
-ghost use Rattle.std.specs.Prelude.{◌≡◌, ◌↔◌, ◌++◌, ◌⊎◌, ℕ, List, IfOk, IfErr, MatchResult};
-ghost use Rattle.rf2_values.specs.declared.key.Key.{Key};
-ghost use Rattle.rf2_values.specs.Row.{Version};
-ghost use Rattle.rf2_rows.specs.declared.fault.LineFault.{LineFault};
-ghost use Rattle.history_model.specs.History.{IsConsistent};
-ghost use Rattle.import_check.specs.Release.{IsReleaseOf, IsFaultOfRelease, HasContradiction};
+ghost use Rattle.std.specs.Prelude.{◌≡◌, IfOk, IfErr};
 ghost use Rattle.fault_counts.specs.Counting.{Counts};
-ghost use Rattle.import_check.specs.Fresh.{IsFresh, IsApart, IsRead, IsReadBefore, IsAcceptedAs, IsNoRefusal, IsUndamaged, IsContradictionIn, IsFaultAt, IsContradictionAt, CountsAnyDiskFault, CountsAnyDamage};
+ghost use Rattle.import_check.specs.Fresh.{IsApart, IsRead, IsAcceptedAs, IsRefusal, CountsAnyDiskFault, CountsAnyDamage};
 
 use crate::fault::ImportFault;
 use crate::fresh::Fresh;
@@ -19,48 +14,32 @@ use std::alloc::Global;
 
 /// The rows of a release that aren't known.
 ///
-/// All files are read first, in the order handed over. Then the lines with one key have to hold one row, the known one if there is one. The lines are sorted once and
-/// gone through once, and what is known is asked once for each key.
+/// All files are read first, in the order handed over: the first line at fault refuses the release (`Row`). Then the lines
+/// with one key have to hold one row, the known one if there is one: the first line that doesn't refuses it (`Contradiction`).
+/// Memory may run out at any time, and a known row may be out of reach (`Known`). Nothing is changed by a refusal.
+///
+/// The lines are sorted once and gone through once, and what is known is asked once for each key, in ascending order.
 pub fn new_rows<K: Known>(
     alloc: Global,
     release: &Release,
     known: &mut K,
 ) -> Result<Fresh, ImportFault>
-    // The files are read before what is known is asked, and a row's fault is that of the first faulty file.
-    ensures read { MatchResult result (λ _. IsRead release.now) (IsReadBefore release.now) }
-    // A release with a fault is refused with it, unless memory runs out.
-    ensures fault { (file line : ℕ) (fault : LineFault)
-        → IsFaultOfRelease release.now file line fault
-        → MatchResult result (λ _. ⊥) (IsFaultAt file line fault) }
-
     // What is accepted is a release that is consistent with what is known.
-    ensures accepted { K.is_honest known.old
-        → IfOk result (IsAcceptedAs (K.rows known.old) release.now) }
+    ensures accepted { IfOk result (λ fresh. IsRead release.now
+        × (K.is_honest known.old → IsAcceptedAs (K.rows known.old) release.now fresh)) }
     // The new rows ascend and none of their keys is known, whatever row is given for a known key.
     ensures apart { K.is_sound known.old
         → IfOk result (λ fresh. IsApart (K.rows known.old) fresh.rows.items) }
-    // Such a release is accepted, unless memory runs out or a known row can't be had.
-    ensures only { K.is_honest known.old → (rows : List Version)
-        → IsReleaseOf release.now rows → IsConsistent (K.rows known.old ++ rows)
-        → MatchResult result
-        (λ fresh. IsFresh (K.rows known.old) rows fresh.rows.items fresh.repeated)
-        IsNoRefusal }
-
-    // The line that is named is the first that contradicts what is known or an earlier line.
-    ensures contradiction { K.is_honest known.old
-        → IfErr result (IsContradictionIn (K.rows known.old) release.now) }
-    // Such a release is refused with it, unless memory runs out or a known row can't be had.
-    ensures first { K.is_honest known.old → (file line : ℕ) (key : Key)
-        → HasContradiction (K.rows known.old) release.now file line key
-        → MatchResult result (λ _. ⊥) (IsContradictionAt file line key) }
+    // All files are read before what is known is asked. The line that is named is the first that is at fault,
+    // or else the first that contradicts.
+    ensures refused { IfErr result
+        (IsRefusal (K.is_honest known.old) (K.rows known.old) release.now) }
 
     // What is known stays as it is.
     ensures rows { K.rows known.new ≡ K.rows known.old }
     ensures honesty { K.is_honest known.old → K.is_honest known.new }
     ensures soundness { K.is_sound known.old → K.is_sound known.new }
     ensures stays { K.stays known.old known.new }
-    // Known rows that can be trusted are never refused as damaged.
-    ensures undamaged { K.is_honest known.old → IfErr result IsUndamaged }
     // An answer of what is known is passed on only where that one's count of it has risen.
     ensures disk_faults { Counts CountsAnyDiskFault result
         (K.disk_faults known.old) (K.disk_faults known.new) }

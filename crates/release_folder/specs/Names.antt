@@ -1,5 +1,8 @@
 -- Which files of a folder are release files, by their names.
-use Rattle.std.specs.Prelude.{◌⊎◌, ◌≤◌, ◌-◌, ℕ, List, length, codes, string_bytes}
+use Rattle.std.specs.Prelude.{◌≡◌, ◌⊎◌, ◌≤◌, ◌-◌, ℕ, Bool, List, ◌++◌, length, codes, string_bytes}
+use Rattle.std.specs.List.Sorted.{IsSortedBy}
+use Rattle.std.specs.Ordering.{is_lt}
+use Rattle.std.specs.String.{string_cmp}
 use Rattle.memchr.specs.Find.{OccursAt}
 use Rattle.bstr.specs.Text.{Contains}
 use Rattle.import_check.specs.declared.release.ReleaseFile.{ReleaseFile}
@@ -19,6 +22,19 @@ pub record IsTaken (kind : Kind) (name : List ℕ) : Type 0 where
   pub holds : Contains name (codes "Delta") ⊎ Contains name (codes "Full")
   pub ends : (length (codes ".txt") ≤ length name) × OccursAt name (codes ".txt") (length name - length (codes ".txt"))
 
--- a file whose name says that it is one to take, of its kind
-abbrev pub IsTakenFile : ReleaseFile → Type 0
-IsTakenFile file = IsTaken file.kind (string_bytes file.name)
+-- a file whose name says that it is one to take, of its kind, and of no more bytes than a count of 32 bits can say
+pub record IsTakenFile (file : ReleaseFile) : Type 0 where
+  pub named : IsTaken file.kind (string_bytes file.name)
+  pub small : length file.bytes.items ≤ 4294967295
+
+-- a name comes before another, byte by byte
+abbrev pub has_lesser_name : ReleaseFile → ReleaseFile → Bool
+has_lesser_name a b = is_lt (string_cmp a.name b.name)
+
+-- the files of one part and then those of another, each in the order of names
+pub record AreInOrder (files : List ReleaseFile) : Type 0 where
+  pub first : List ReleaseFile
+  pub second : List ReleaseFile
+  pub files_are : files ≡ first ++ second
+  pub first_sorted : IsSortedBy has_lesser_name first
+  pub second_sorted : IsSortedBy has_lesser_name second

@@ -1,7 +1,8 @@
 //! Reading a folder.
 
-ghost use Rattle.std.specs.Prelude.{◌≢◌, [], All, IfOk, OnOk};
-ghost use Rattle.release_folder.specs.Names.{IsTakenFile};
+ghost use Rattle.std.specs.Prelude.{◌≢◌, ◌≤◌, [], length, All, IfOk, OnOk};
+ghost use Rattle.std.specs.List.Sorted.{IsPermutation, IsSortedBy};
+ghost use Rattle.release_folder.specs.Names.{IsTakenFile, AreInOrder, has_lesser_name};
 
 use crate::fault::FolderFault;
 use crate::names::kind_to_take;
@@ -13,8 +14,11 @@ use std::io::{ErrorKind, Read};
 /// The most bytes that a release file has.
 const LARGEST: u64 = 4_294_967_295;
 
-/// The folders of a release in which files are looked for, in this order.
-const PARTS: [&str; 2] = ["Terminology", "Refset/Content"];
+/// The folder of a release that holds its concepts, descriptions and relationships.
+const TERMINOLOGY: &str = "Terminology";
+
+/// The folder of a release that holds its association reference sets.
+const CONTENT: &str = "Refset/Content";
 
 /// The release in the folder `name` below `dir`: the files of the folders Terminology and then Refset/Content, the names
 /// of each in byte order, as far as their names are those of concept, description, relationship or association files of a Delta or a Full release.
@@ -24,23 +28,48 @@ pub fn read_folder<R: Files<File = File> + AllocGlobal + Clone + Drop>(
     dir: &str,
     name: &str,
 ) -> Result<Release, FolderFault>
-    // Each file has a name to take, and there is one. What a folder holds no clause can say.
+    // Each file has a name to take and isn't too large, and there is one. What a folder holds no clause can say.
     ensures taken { IfOk result (λ release. All IsTakenFile release.files.items) }
     ensures some { IfOk result (λ release. release.files.items ≢ []) }
+    // Those of Terminology stand before those of Refset/Content, each part in the byte order of names.
+    ensures in_order { IfOk result (λ release. AreInOrder release.files.items) }
 {
     let root = format!(in alloc; "{dir}/{name}")?;
     if !fs::metadata(rt, root.as_str())?.is_dir() {
         return Err(FolderFault::NoFolder);
     }
-    let mut files = Vec::new(alloc);
-    for part in &PARTS {
-        let folder = format!(in alloc; "{root}/{part}")?;
-        add_files(rt, alloc, &folder, &mut files)?;
-    }
+    let mut files = files_of(rt, alloc, &root, TERMINOLOGY)?;
+    let mut content = files_of(rt, alloc, &root, CONTENT)?;
+    files.append(&mut content)?;
     if files.is_empty() {
         return Err(FolderFault::NoFolder);
     }
     Ok(Release { files })
+}
+
+/// The release files of one folder of a release, in the byte order of their names.
+fn files_of<R: Files<File = File> + AllocGlobal + Clone + Drop>(
+    rt: &R,
+    alloc: Global,
+    root: &str,
+    part: &str,
+) -> Result<Vec<ReleaseFile>, FolderFault>
+    ensures taken { IfOk result (λ files. All IsTakenFile files.items) }
+    ensures sorted { IfOk result (λ files. IsSortedBy has_lesser_name files.items) }
+{
+    let folder = format!(in alloc; "{root}/{part}")?;
+    let mut files = Vec::new(alloc);
+    add_files(rt, alloc, &folder, &mut files)?;
+    sort_by_name(&mut files);
+    Ok(files)
+}
+
+/// Sorts files by their names, byte by byte.
+fn sort_by_name(files: &mut Vec<ReleaseFile>)
+    ensures permutation { IsPermutation files.old.items files.new.items }
+    ensures sorted { IsSortedBy has_lesser_name files.new.items }
+{
+    files.sort_unstable_by(|a, b| a.name.cmp(&b.name));
 }
 
 /// Adds the release files of one folder. An absent folder has none.
@@ -62,7 +91,7 @@ fn add_files<R: Files<File = File> + AllocGlobal + Clone + Drop>(
     Ok(())
 }
 
-/// The names in a folder, in byte order. An absent folder has none.
+/// The names in a folder. An absent folder has none.
 fn names_in<R: Files<File = File> + AllocGlobal + Clone + Drop>(
     rt: &R,
     alloc: Global,
@@ -78,7 +107,6 @@ fn names_in<R: Files<File = File> + AllocGlobal + Clone + Drop>(
         let entry = entry?;
         names.push(String::from_str(alloc, entry.file_name())?)?;
     }
-    names.sort_unstable();
     Ok(names)
 }
 
@@ -87,14 +115,16 @@ fn whole_file<R: Files<File = File>>(
     rt: &R,
     alloc: Global,
     path: &str,
-) -> Result<Vec<u8>, FolderFault> {
+) -> Result<Vec<u8>, FolderFault>
+    ensures { IfOk result (λ bytes. length bytes.items ≤ LARGEST) }
+{
     let file = fs::open(rt, path)?;
     if file.metadata()?.len() > LARGEST {
         return Err(FolderFault::NoFolder);
     }
     let mut bytes = Vec::new(alloc);
-    let count = file.take(LARGEST + 1).read_to_end(&mut bytes)?;
-    if count as u64 > LARGEST {
+    file.take(LARGEST + 1).read_to_end(&mut bytes)?;
+    if bytes.len() as u64 > LARGEST {
         return Err(FolderFault::NoFolder);
     }
     Ok(bytes)

@@ -77,3 +77,28 @@ fn what_is_no_release_is_no_folder(rt: HostRuntime) -> Result<(), Fail> {
     }
     Ok(())
 }
+
+#[test]
+fn files_of_one_kind_come_in_the_byte_order_of_their_names(rt: HostRuntime) -> Result<(), Fail> {
+    // Written in another order than the bytes have: capitals before small letters, and a name before one that goes on.
+    let written = [
+        (b"3".as_slice(), "sct2_Concept_Full_de_20200131.txt"),
+        (b"1".as_slice(), "sct2_Concept_Delta_INT_20200131.txt"),
+        (b"2".as_slice(), "sct2_Concept_Full_INT_20200131.txt"),
+    ];
+    fs::create_dir_all(&rt, "releases/two/Terminology")?;
+    for (bytes, name) in &written {
+        let path = format!(in rt.alloc(); "releases/two/Terminology/{name}")?;
+        fs::write(&rt, path.as_str(), *bytes)?;
+    }
+    let read = match read_folder(&rt, rt.alloc(), "releases", "two") {
+        Ok(read) => read,
+        Err(fault) => return Err(Fail::from(fault)),
+    };
+    assert_eq!(rt; read.files.len(), 3);
+    for (file, want) in read.files.iter().zip([b"1", b"2", b"3"]) {
+        assert_eq!(rt; file.kind, Kind::Concept);
+        assert_eq!(rt; file.bytes.as_slice(), want.as_slice());
+    }
+    Ok(())
+}

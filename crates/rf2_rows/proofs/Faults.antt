@@ -9,7 +9,8 @@ use Rattle.rf2_rows.specs.declared.fault.LineFault.{LineFault}
 use Rattle.rf2_rows.specs.declared.fault.RowFault.{RowFault}
 use Rattle.rf2_rows.specs.declared.fault.RowFault.TheVariants as rowfault
 use Rattle.rf2_values.specs.Row.{Version, version, IsVersion, IsIdOf, IsBody, IsConcept, SpellsId, SpellsColumns, kind_of, kind_of_body, line_of, id_text, later_columns, body_columns, flag}
-use Rattle.rf2_rows.specs.Line.{Column, MayStand, HasFault, AllStand, FirstFault, texts, columns as columns_of_kind, columns_in, common_layout, own_layout, columns_of, IsFaultOfColumns, IsLineFaultThat, IsLineReading}
+use Rattle.rf2_rows.specs.Line.{Column, MayStand, HasFault, AllStand, FirstFault, columns as columns_of_kind, columns_in, common_layout, own_layout, columns_of, IsFaultOfColumns, IsLineFaultThat}
+use Rattle.rf2_rows.specs.Private.{texts, IsLineReading}
 use Rattle.rf2_values.specs.Time.{IsTime}
 use Rattle.rf2_values.specs.declared.row.Body.{Body}
 use Rattle.rf2_values.specs.declared.row.Kind.TheVariants as kind
@@ -82,7 +83,7 @@ line_reading kind text parts (Err (rowfault.Line f)) short utf8 whole cut h = in
 
 -- ---- a row from its columns
 
-id_length : (kind : Kind) (n : ℕ) (text : List ℕ) → SpellsId kind n text → length (id_text kind n) ≡ length text
+pub id_length : (kind : Kind) (n : ℕ) (text : List ℕ) → SpellsId kind n text → length (id_text kind n) ≡ length text
 id_length kind.Concept n text s = sym (ap length s)
 id_length kind.Description n text s = sym (ap length s)
 id_length kind.Relationship n text s = sym (ap length s)
@@ -100,7 +101,7 @@ row_of_columns kind columns id time active m body le is_id spells_id is_time spe
     record {
       id = subst (λ (k : Kind). IsIdOf k id) (sym same) is_id;
       time = is_time;
-      «module» = is_module;
+      module_id = is_module;
       body = is_body;
       short = omega (arith, length-line (text_at columns 0) (later_columns v), length-line (id_text (kind_of_body body) id) (later_columns v));
     }

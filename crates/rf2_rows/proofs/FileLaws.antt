@@ -24,7 +24,7 @@ use Rattle.rf2_rows.specs.File.{InLines, mark, without_mark, lines_in, SpellsEac
 use Rattle.rf2_rows.proofs.Splits.{IsFree}
 use Rattle.rf2_rows.proofs.Clean.{decimal_is_free, all_clean, line_no_lf}
 use Rattle.rf2_rows.proofs.RowLaws.{columns_stand, spells_one_row, spelled_has_no_fault}
-use Rattle.rf2_rows.proofs.Lines.{IsLineText, NoCr, free_at, lines_are}
+use Rattle.rf2_rows.proofs.Lines.{IsPlainLine, NoCr, free_at, lines_are}
 use Rattle.std.specs.Int.{IsInRange}
 
 -- ---- lines that spell rows are lines
@@ -61,15 +61,15 @@ own_last t (body.Description d) h = let high = h.4.sctid.high in decimal_plain d
 own_last t (body.Relationship r) h = let high = h.5.sctid.high in decimal_plain r.modifier (omega arith)
 own_last t (body.Association a) h = let high = h.2.sctid.high in decimal_plain a.target (omega arith)
 
-spelled_is_line : (v : Version) (text : List ℕ) → Spells v text → IsLineText text
+spelled_is_line : (v : Version) (text : List ℕ) → Spells v text → IsPlainLine text
 spelled_is_line v text s =
     let texts = s.columns.0 in
     let stand = columns_stand v texts s.is_row s.columns.1 in
-    let last : LastPlain texts = subst (λ (ts : List (List ℕ)). LastPlain ts) (sym s.columns.1.2) (own_last (decimal v.module) v.body s.is_row.body) in
+    let last : LastPlain texts = subst (λ (ts : List (List ℕ)). LastPlain ts) (sym s.columns.1.2) (own_last (decimal v.module_id) v.body s.is_row.body) in
     let ends = line_ends texts last in
-    subst IsLineText (sym s.columns.2) (record { some = ends.0; no_lf = line_no_lf texts (all_clean (columns (kind_of v)) texts stand); no_cr = ends.1 })
+    subst IsPlainLine (sym s.columns.2) (record { some = ends.0; no_lf = line_no_lf texts (all_clean (columns (kind_of v)) texts stand); no_cr = ends.1 })
 
-all_lines : (kind : Kind) (rows : List Version) (texts : List (List ℕ)) → SpellsEach kind rows texts → AllByRecursion IsLineText texts
+all_lines : (kind : Kind) (rows : List Version) (texts : List (List ℕ)) → SpellsEach kind rows texts → AllByRecursion IsPlainLine texts
 all_lines kind [] [] h = tt
 all_lines kind [] (t ∷ ts) h = absurd h
 all_lines kind (v ∷ vs) [] h = absurd h
@@ -97,7 +97,7 @@ ascii_by_test (x ∷ xs) e =
     All-cons (λ b. b < 128) x xs (ltb-true x 128 (and_parts (ltb x 128) (not (eqb x 10)) parts.0).0) (ascii_by_test xs parts.1)
 
 record IsHeader (kind : Kind) : Type 0 where
-  is_line : IsLineText (header kind)
+  is_line : IsPlainLine (header kind)
   utf8 : IsUtf8 (header kind)
   short : length (header kind) ≤ 65535
   no_mark : (more : List ℕ) → starts_with nat_eq (header kind ++ more) mark ≡ false

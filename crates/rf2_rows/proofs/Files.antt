@@ -8,8 +8,9 @@ use Rattle.rf2_values.specs.declared.row.Kind.{Kind}
 use Rattle.rf2_rows.specs.declared.fault.RowFault.{RowFault}
 use Rattle.rf2_rows.specs.declared.fault.RowFault.TheVariants as rowfault
 use Rattle.rf2_values.specs.Row.{Version, Spells, kind_of}
-use Rattle.rf2_rows.specs.Line.{header, IsLineReading}
-use Rattle.rf2_rows.specs.Fault.{at_line_of}
+use Rattle.rf2_rows.specs.Line.{header}
+use Rattle.rf2_rows.specs.Private.{IsLineReading}
+use Rattle.rf2_rows.specs.Private.{at_line_of}
 use Rattle.rf2_rows.specs.File.{InLines, mark, without_mark, lines_in, SpellsEach, IsReleaseFile, IsFaultOfRows, IsFaultThat}
 use Rattle.rf2_rows.proofs.Lines.{in_lines}
 

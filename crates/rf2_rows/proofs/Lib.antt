@@ -1,4 +1,5 @@
 pub mod Clean
+pub mod Decided
 pub mod Faults
 pub mod FileLaws
 pub mod Files

@@ -1,6 +1,6 @@
 -- The lines of bytes, as bstr cuts them, and bytes that are lines with their ends.
 use Rattle.std.proofs.Common.{◌≡◌, ◌≢◌, ℕ, zero, suc, ◌+◌, ◌-◌, ◌<◌, ◌≤◌, ◌⊎◌, false, eqb, ltb, ◌&&◌, List, [], ◌∷◌, ◌++◌, length, length-append, get_or, take, refl, sym, ap, subst, ◌∙◌, arith, inl, inr, append_assoc}
-use Rattle.std.specs.Prelude.{map}
+use Rattle.std.specs.Prelude.{map, ◌↔◌}
 use Rattle.std.specs.List.{AllByRecursion}
 use Rattle.std.proofs.lemmas.Bool.{cases_Bool, cases_eq, cond-true, cond-false, eq-eqb, eqb-true, ltb-true, ne_eqb, lt-ltb, and_from, and_parts, and_right, false≢true}
 use Rattle.std.proofs.lemmas.List.{append-nil, take_at, get_or_at, take_all, take_more, get_or_append_left}
@@ -8,6 +8,7 @@ use Rattle.std.proofs.lemmas.List.Elements.{All-cons, All-append}
 use Rattle.bstr.specs.Text.{lines_of, no_cr, without_terminator}
 use Rattle.bstr.proofs.lemmas.LineLemmas.{lines-nil, lines-append, lines-one}
 use Rattle.rf2_rows.specs.File.{IsLineEnd, InLines, lines_in}
+use Rattle.rf2_rows.specs.Laws.{IsLineText}
 use Rattle.rf2_rows.proofs.Splits.{IsFree}
 
 -- the last byte is no CR
@@ -119,20 +120,20 @@ in_lines bs = in_lines_from (length bs) bs (omega arith)
 
 -- ---- lines with ends are the lines
 
--- a text that can be a line: some bytes, no LF, no CR at the end
-pub record IsLineText (t : List ℕ) : Type 0 where
+-- a text that can be a line, with LF ruled out by a test
+pub record IsPlainLine (t : List ℕ) : Type 0 where
   pub some : 0 < length t
   pub no_lf : IsFree 10 t
   pub no_cr : NoCr t
 
-lines_with_end : (t end rest : List ℕ) → IsLineText t → IsLineEnd end → lines_in (t ++ (end ++ rest)) ≡ t ∷ lines_in rest
+lines_with_end : (t end rest : List ℕ) → IsPlainLine t → IsLineEnd end → lines_in (t ++ (end ++ rest)) ≡ t ∷ lines_in rest
 lines_with_end t end rest is (inl e) =
     ap (λ (x : List ℕ). lines_in (t ++ (x ++ rest))) e ∙ ap (λ (ls : List (List ℕ)). map without_terminator ls) (lines_ended t rest is.no_lf) ∙ ap (λ (x : List ℕ). x ∷ lines_in rest) (feed_off t ∙ no_return t is.no_cr)
 lines_with_end t end rest is (inr e) =
     let free : IsFree 10 (t ++ 13 ∷ []) = All-append (λ x. eqb x 10 ≡ false) t (13 ∷ []) is.no_lf (All-cons (λ x. eqb x 10 ≡ false) 13 [] refl (λ k x l. absurd (omega arith))) in
     ap (λ (x : List ℕ). lines_in (t ++ (x ++ rest))) e ∙ ap lines_in (sym (append_assoc t (13 ∷ []) (10 ∷ rest))) ∙ ap (λ (ls : List (List ℕ)). map without_terminator ls) (lines_ended (t ++ 13 ∷ []) rest free) ∙ ap (λ (x : List ℕ). x ∷ lines_in rest) (feed_off (t ++ 13 ∷ []) ∙ return_off t)
 
-pub lines_are : (ts : List (List ℕ)) (bytes : List ℕ) → AllByRecursion IsLineText ts → InLines ts bytes → lines_in bytes ≡ ts
+pub lines_are : (ts : List (List ℕ)) (bytes : List ℕ) → AllByRecursion IsPlainLine ts → InLines ts bytes → lines_in bytes ≡ ts
 lines_are [] bytes all h = ap lines_in h ∙ ap (λ (ls : List (List ℕ)). map without_terminator ls) lines-nil
 lines_are (t ∷ []) bytes all (inl e) = ap lines_in e ∙ ap (λ (ls : List (List ℕ)). map without_terminator ls) (lines_unended t all.0.some all.0.no_lf) ∙ ap (λ (x : List ℕ). x ∷ []) (no_feed t all.0.no_lf)
 lines_are (t ∷ []) bytes all (inr h) =
@@ -140,3 +141,13 @@ lines_are (t ∷ []) bytes all (inr h) =
     ap lines_in (h.2 ∙ rest) ∙ lines_with_end t h.0 [] all.0 h.1 ∙ ap (λ (ls : List (List ℕ)). t ∷ map without_terminator ls) lines-nil
 lines_are (t ∷ u ∷ us) bytes all h =
     ap lines_in h.3 ∙ lines_with_end t h.0 h.1 all.0 h.2 ∙ ap (λ (ls : List (List ℕ)). t ∷ ls) (lines_are (u ∷ us) h.1 all.1 h.4)
+
+plain_line : (t : List ℕ) → IsLineText t → IsPlainLine t
+plain_line t h = record { some = h.some; no_lf = λ k d l. ne_eqb _ 10 (h.no_lf k d l); no_cr = h.no_cr }
+
+plain_lines : (ts : List (List ℕ)) → AllByRecursion IsLineText ts → AllByRecursion IsPlainLine ts
+plain_lines [] h = tt
+plain_lines (t ∷ ts) h = (plain_line t h.0, plain_lines ts h.1)
+
+pub lines_are_found : (ts : List (List ℕ)) (bytes : List ℕ) → AllByRecursion IsLineText ts → (InLines ts bytes ↔ (lines_in bytes ≡ ts))
+lines_are_found ts bytes all = (λ h. lines_are ts bytes (plain_lines ts all) h, λ e. subst (λ (ls : List (List ℕ)). InLines ls bytes) e (in_lines bytes))

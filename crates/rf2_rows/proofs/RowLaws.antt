@@ -50,7 +50,7 @@ own_stand (body.Association a) h = ((a.refset, h.0, refl), ((a.referenced, h.1, 
 pub columns_stand : (v : Version) (texts : List (List ℕ)) → IsVersion v → SpellsColumns v texts → AllStand (columns (kind_of v)) texts
 columns_stand v texts h s =
     subst (λ (ts : List (List ℕ)). AllStand (columns (kind_of v)) ts) (sym s.2)
-    ((v.id, h.id, s.1), ((v.time, h.time, refl), ((v.active, refl), ((v.module, h.module, refl), own_stand v.body h.body))))
+    ((v.id, h.id, s.1), ((v.time, h.time, refl), ((v.active, refl), ((v.module_id, h.module_id, refl), own_stand v.body h.body))))
 
 columns_len : (cs : List Column) (ts : List (List ℕ)) → AllStand cs ts → length ts ≡ length cs
 columns_len [] [] h = refl
@@ -161,10 +161,10 @@ same_bodies a b ha hb k e = absurd cc
 time_below : (t : ℕ) → IsTime t → t < 2 ^ 64
 time_below t h = let to = h.year_to in omega arith
 
-same_versions : (v w : Version) → v.id ≡ w.id → v.time ≡ w.time → v.active ≡ w.active → v.module ≡ w.module → v.body ≡ w.body → v ≡ w
+same_versions : (v w : Version) → v.id ≡ w.id → v.time ≡ w.time → v.active ≡ w.active → v.module_id ≡ w.module_id → v.body ≡ w.body → v ≡ w
 same_versions v w id time active modul body =
-    let P : ℕ → ℕ → Bool → ℕ → Body → Type 0 = λ i t a m b. v ≡ record { id = i; time = t; active = a; «module» = m; body = b } in
-    subst (λ i. P i w.time w.active w.module w.body) id (subst (λ t. P v.id t w.active w.module w.body) time (subst (λ a. P v.id v.time a w.module w.body) active (subst (λ m. P v.id v.time v.active m w.body) modul (subst (λ b. P v.id v.time v.active v.module b) body refl))))
+    let P : ℕ → ℕ → Bool → ℕ → Body → Type 0 = λ i t a m b. v ≡ record { id = i; time = t; active = a; module_id = m; body = b } in
+    subst (λ i. P i w.time w.active w.module_id w.body) id (subst (λ t. P v.id t w.active w.module_id w.body) time (subst (λ a. P v.id v.time a w.module_id w.body) active (subst (λ m. P v.id v.time v.active m w.body) modul (subst (λ b. P v.id v.time v.active v.module_id b) body refl))))
 
 pub spells_one_row : (v w : Version) (text : List ℕ) → kind_of v ≡ kind_of w → Spells v text → Spells w text → v ≡ w
 spells_one_row v w text k s t =
@@ -179,9 +179,9 @@ spells_one_row v w text k s t =
     (subst (λ (x : Kind). SpellsId x w.id s.columns.1.0) (sym k) (subst (λ (x : List ℕ). SpellsId (kind_of w) w.id x) (sym id_text_same) t.columns.1.1)) in
     let time = same_decimals v.time w.time (time_below v.time s.is_row.time) (time_below w.time t.is_row.time) _ _ later in
     let active = same_flags v.active w.active _ _ time.1 in
-    let low = s.is_row.module.sctid.high in
-    let high = t.is_row.module.sctid.high in
-    let modul = same_decimals v.module w.module (omega arith) (omega arith) (body_columns v.body) (body_columns w.body) active.1 in
+    let low = s.is_row.module_id.sctid.high in
+    let high = t.is_row.module_id.sctid.high in
+    let modul = same_decimals v.module_id w.module_id (omega arith) (omega arith) (body_columns v.body) (body_columns w.body) active.1 in
     let bodies = same_bodies v.body w.body s.is_row.body t.is_row.body k modul.1 in
     same_versions v w id time.0 active.0 modul.0 bodies
 

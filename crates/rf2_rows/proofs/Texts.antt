@@ -1,7 +1,7 @@
 -- The texts that references point to, one by one.
 use Rattle.std.proofs.Common.{◌≡◌, ℕ, zero, suc, List, [], ◌∷◌, length, get_or, refl, sym, ap, ◌∙◌, arith}
 use Rattle.std.specs.Borrow.{Bor}
-use Rattle.rf2_rows.specs.Line.{texts}
+use Rattle.rf2_rows.specs.Private.{texts}
 
 -- the text at a place
 abbrev pub text_at : List (Bor (List ℕ)) → ℕ → List ℕ

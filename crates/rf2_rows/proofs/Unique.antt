@@ -13,7 +13,8 @@ use Rattle.rf2_rows.specs.declared.fault.RowFault.{RowFault}
 use Rattle.rf2_rows.specs.declared.fault.RowFault.TheVariants as rowfault
 use Rattle.rf2_rows.specs.declared.fault.FileFault.{FileFault}
 use Rattle.rf2_rows.specs.declared.fault.FileFault.TheVariants as filefault
-use Rattle.rf2_rows.specs.Line.{Column, Identifier, Time, Active, ConceptReference, ComponentReference, Number, Text, HasClassFault, HasIdFault, HasFault, FirstFault, columns, columns_of, IsFaultOfColumns, IsFaultOf, IsLineReading}
+use Rattle.rf2_rows.specs.Line.{Column, Identifier, Time, Active, ConceptReference, ComponentReference, Number, Text, HasClassFault, HasIdFault, HasFault, FirstFault, columns, columns_of, IsFaultOfColumns, IsFaultOf}
+use Rattle.rf2_rows.specs.Private.{IsLineReading}
 use Rattle.rf2_rows.specs.File.{SpellsEach, IsFirstLineFault, IsFaultOfRows, IsFaultOfLines, IsFaultOfFile, IsFaultThat, IsReleaseFile, lines_in, without_mark}
 use Rattle.rf2_rows.proofs.RowLaws.{no_fault, spelled_has_no_fault, spells_one_row}
 use Rattle.rf2_rows.proofs.FileLaws.{no_first_line_fault, release_file_has_no_fault}

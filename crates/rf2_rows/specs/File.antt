@@ -19,7 +19,9 @@ IsLineEnd end = (end ≡ 10 ∷ []) ⊎ (end ≡ 13 ∷ 10 ∷ [])
 abbrev pub InLines : List (List ℕ) → List ℕ → Type 0
 InLines [] bytes = bytes ≡ []
 InLines (t ∷ []) bytes = (bytes ≡ t) ⊎ ((end : List ℕ) × IsLineEnd end × (bytes ≡ t ++ end))
-InLines (t ∷ u ∷ us) bytes = (end : List ℕ) × (rest : List ℕ) × IsLineEnd end × (bytes ≡ t ++ (end ++ rest)) × InLines (u ∷ us) rest
+InLines (t ∷ u ∷ us) bytes =
+    (end : List ℕ) × (rest : List ℕ) × IsLineEnd end × (bytes ≡ t ++ (end ++ rest))
+    × InLines (u ∷ us) rest
 
 -- the byte order mark
 abbrev pub mark : List ℕ
@@ -53,18 +55,23 @@ lines_in bytes = map without_terminator (lines_of bytes)
 abbrev pub IsFirstLineFault : Kind → List ℕ → LineFault → Type 0
 IsFirstLineFault kind text f =
     ((65535 < length text) × (f ≡ fault.LineLength))
-    ⊎ ((length text ≤ 65535) × ((¬ (IsUtf8 text) × (f ≡ fault.NotUtf8)) ⊎ (IsUtf8 text × (text ≢ header kind) × (f ≡ fault.Header))))
+    ⊎ ((length text ≤ 65535)
+    × ((¬ (IsUtf8 text) × (f ≡ fault.NotUtf8))
+    ⊎ (IsUtf8 text × (text ≢ header kind) × (f ≡ fault.Header))))
 
 -- Of the lines from line 2 on, line n is the first that has a fault, and f is its fault: those before it spell rows.
 abbrev pub IsFaultOfRows : Kind → List (List ℕ) → ℕ → LineFault → Type 0
 IsFaultOfRows kind lines n f =
     (rows : List Version) × (before : List (List ℕ)) × (text : List ℕ) × (after : List (List ℕ))
-    × (lines ≡ before ++ text ∷ after) × SpellsEach kind rows before × IsFaultOf kind text f × (n ≡ length before + 2)
+    × (lines ≡ before ++ text ∷ after) × SpellsEach kind rows before × IsFaultOf kind text f
+    × (n ≡ length before + 2)
 
 -- Line n, counted from 1, is the first that has a fault, and f is its fault. No line at all is a first line that isn't the header.
 abbrev pub IsFaultOfLines : Kind → List (List ℕ) → ℕ → LineFault → Type 0
 IsFaultOfLines kind [] n f = (n ≡ 1) × (f ≡ fault.Header)
-IsFaultOfLines kind (first ∷ others) n f = ((n ≡ 1) × IsFirstLineFault kind first f) ⊎ ((first ≡ header kind) × IsFaultOfRows kind others n f)
+IsFaultOfLines kind (first ∷ others) n f =
+    ((n ≡ 1) × IsFirstLineFault kind first f)
+    ⊎ ((first ≡ header kind) × IsFaultOfRows kind others n f)
 
 abbrev pub IsFaultOfFile : Kind → List ℕ → ℕ → LineFault → Type 0
 IsFaultOfFile kind bytes n f = IsFaultOfLines kind (lines_in (without_mark bytes)) n f

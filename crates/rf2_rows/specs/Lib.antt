@@ -1,4 +1,3 @@
-pub use Rattle.rf2_values.specs.Number
 pub use Rattle.rf2_values.specs.Sctid
 pub use Rattle.rf2_values.specs.Time
 pub use Rattle.rf2_values.specs.Text
@@ -7,4 +6,5 @@ pub use Rattle.rf2_values.specs.Row
 pub use Rattle.rf2_values.specs.Key
 pub mod Line
 pub mod File
-pub mod Fault
+pub mod Laws
+pub mod Private

@@ -1,8 +1,7 @@
 -- What is wrong with a line.
-use Rattle.std.specs.Prelude.{◌≡◌, ◌≢◌, ℕ, ◌≤◌, ◌<◌, ◌^◌, ◌==◌, ◌⊎◌, Bool, List, [], ◌∷◌, ◌++◌, length, map, decimal, codes, Result, Ok, Err}
+use Rattle.std.specs.Prelude.{◌≡◌, ◌≢◌, ℕ, ◌≤◌, ◌<◌, ◌^◌, ◌==◌, ◌⊎◌, Bool, List, [], ◌∷◌, ◌++◌, length, map, decimal, codes}
 use Rattle.std.specs.List.{slice_split, AllZip}
 use Rattle.std.specs.Str.{IsUtf8}
-use Rattle.std.specs.Borrow.{Bor}
 use Rattle.rf2_values.specs.declared.sctid.Class.{Class}
 use Rattle.rf2_values.specs.declared.sctid.Class.TheVariants as class
 use Rattle.rf2_values.specs.declared.row.Kind.{Kind}
@@ -14,11 +13,7 @@ use Rattle.rf2_values.specs.Time.{IsTime}
 use Rattle.rf2_values.specs.Text.{IsText}
 use Rattle.rf2_rows.specs.declared.fault.RowFault.{RowFault}
 use Rattle.rf2_rows.specs.declared.fault.RowFault.TheVariants as rowfault
-use Rattle.rf2_values.specs.Row.{Version, IsOfClass, IsConcept, IsComponent, IsIdOf, SpellsId, Spells, kind_of, flag, line_of}
-
--- what references point to
-abbrev pub texts : List (Bor (List ℕ)) → List (List ℕ)
-texts columns = map (λ column. column.now) columns
+use Rattle.rf2_values.specs.Row.{IsOfClass, IsConcept, IsComponent, IsIdOf, SpellsId, flag, line_of}
 
 -- the texts between the TABs
 abbrev pub columns_of : List ℕ → List (List ℕ)
@@ -94,7 +89,8 @@ MayStand Text text = IsText text
 -- the fault of a text that is no SCTID of the class
 abbrev pub HasClassFault : Class → List ℕ → LineFault → Type 0
 HasClassFault c text f =
-    (¬ (SpellsSome IsSctid text) × (f ≡ fault.Id)) ⊎ (SpellsSome IsSctid text × ¬ (SpellsSome (IsOfClass c) text) × (f ≡ fault.Partition))
+    (¬ (SpellsSome IsSctid text) × (f ≡ fault.Id))
+    ⊎ (SpellsSome IsSctid text × ¬ (SpellsSome (IsOfClass c) text) × (f ≡ fault.Partition))
 
 -- the fault of a text that is no identifier of the kind
 abbrev pub HasIdFault : Kind → List ℕ → LineFault → Type 0
@@ -126,21 +122,18 @@ FirstFault (c ∷ cs) (t ∷ ts) f = HasFault c t f ⊎ (MayStand c t × FirstFa
 -- the first fault of columns
 abbrev pub IsFaultOfColumns : Kind → List (List ℕ) → LineFault → Type 0
 IsFaultOfColumns kind texts f =
-    ((length texts ≢ length (columns kind)) × (f ≡ fault.Columns)) ⊎ ((length texts ≡ length (columns kind)) × FirstFault (columns kind) texts f)
+    ((length texts ≢ length (columns kind)) × (f ≡ fault.Columns))
+    ⊎ ((length texts ≡ length (columns kind)) × FirstFault (columns kind) texts f)
 
 -- the first fault of a line
 abbrev pub IsFaultOf : Kind → List ℕ → LineFault → Type 0
 IsFaultOf kind text f =
     ((65535 < length text) × (f ≡ fault.LineLength))
-    ⊎ ((length text ≤ 65535) × ((¬ (IsUtf8 text) × (f ≡ fault.NotUtf8)) ⊎ (IsUtf8 text × IsFaultOfColumns kind (columns_of text) f)))
+    ⊎ ((length text ≤ 65535)
+    × ((¬ (IsUtf8 text) × (f ≡ fault.NotUtf8))
+    ⊎ (IsUtf8 text × IsFaultOfColumns kind (columns_of text) f)))
 
 -- a fault that reading gives is the one meant, where memory lasts
 abbrev pub IsLineFaultThat : (LineFault → Type 0) → RowFault → Type 0
 IsLineFaultThat P rowfault.OutOfMemory = Unit {0}
 IsLineFaultThat P (rowfault.Line f) = P f
-
--- what reading a line gives, where memory lasts
-abbrev pub IsLineReading : Kind → List ℕ → Result Version RowFault → Type 0
-IsLineReading kind text (Ok v) = (kind_of v ≡ kind) × Spells v text
-IsLineReading kind text (Err rowfault.OutOfMemory) = Unit {0}
-IsLineReading kind text (Err (rowfault.Line f)) = IsFaultOf kind text f

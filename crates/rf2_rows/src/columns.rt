@@ -1,34 +1,34 @@
 //! The columns of a line, each with its fault.
 
-ghost use Rattle.std.specs.Prelude.{◌≡◌, ◌<◌, ◌^◌, IfOk, MatchResult, decimal};
+ghost use Rattle.std.specs.Prelude.{◌≡◌, ◌<◌, ◌^◌, OnOk, MatchResult, decimal};
 ghost use Rattle.rf2_values.specs.declared.row.Kind.TheVariants as kind;
 ghost use Rattle.rf2_values.specs.Time.{IsTime};
 ghost use Rattle.rf2_values.specs.Text.{IsText};
 ghost use Rattle.rf2_values.specs.Row.{IsOfClass, IsConcept, IsComponent, IsIdOf, SpellsId, flag};
-ghost use Rattle.rf2_rows.specs.Line.{Identifier, Time, Active, ConceptReference, ComponentReference, Number, Text as ColumnText, IsLineFaultThat, HasClassFault, HasFault, columns_of, texts};
+ghost use Rattle.rf2_rows.specs.Line.{Identifier, Time, Active, ConceptReference, ComponentReference, Number, Text as ColumnText, IsLineFaultThat, HasClassFault, HasFault, columns_of};
+ghost use Rattle.rf2_rows.specs.Private.{texts};
 
 use crate::fault::{LineFault, RowFault};
 use bstr::ByteSlice;
 use rf2_values::{Class, EffectiveTime, Kind, Member, Sctid, Text, number};
 use std::alloc::{AllocError, Global};
 
-/// How many columns the kind with the most of them has.
-const MOST_COLUMNS: usize = 10;
-
-/// The texts between the TABs.
-pub fn cut(alloc: Global, text: &[u8]) -> Result<Vec<&[u8]>, AllocError>
-    ensures { IfOk result (λ columns. texts columns.items ≡ columns_of text.now) }
+/// Puts the texts between the TABs into the vector, in place of what it held.
+pub fn put_columns<'a>(columns: &mut Vec<&'a [u8]>, text: &'a [u8]) -> Result<(), AllocError>
+    ensures { OnOk result (texts columns.new.items ≡ columns_of text.now) }
 {
-    let mut columns = Vec::with_capacity(alloc, MOST_COLUMNS)?;
+    columns.clear();
     for column in text.split_str(b"\t") {
         columns.push(column)?;
     }
-    Ok(columns)
+    Ok(())
 }
 
 /// An SCTID of a class.
 fn sctid_of(text: &[u8], class: Class) -> Result<Sctid, LineFault>
-    ensures { MatchResult result (λ n. IsOfClass class n × (text.now ≡ decimal n)) (HasClassFault class text.now) }
+    ensures { MatchResult result
+        (λ n. IsOfClass class n × (text.now ≡ decimal n))
+        (HasClassFault class text.now) }
 {
     let Some(id) = Sctid::parse(text) else {
         return Err(LineFault::Id);
@@ -42,7 +42,9 @@ fn sctid_of(text: &[u8], class: Class) -> Result<Sctid, LineFault>
 
 /// The id of a member of a reference set.
 fn member_id(text: &[u8]) -> Result<u128, LineFault>
-    ensures { MatchResult result (λ n. IsIdOf kind.Association n × SpellsId kind.Association n text.now) (HasFault (Identifier kind.Association) text.now) }
+    ensures { MatchResult result
+        (λ n. IsIdOf kind.Association n × SpellsId kind.Association n text.now)
+        (HasFault (Identifier kind.Association) text.now) }
 {
     match Member::parse(text) {
         Some(member) => Ok(member.value()),
@@ -52,7 +54,9 @@ fn member_id(text: &[u8]) -> Result<u128, LineFault>
 
 /// A row's own identifier.
 pub fn identifier(kind: Kind, text: &[u8]) -> Result<u128, LineFault>
-    ensures { MatchResult result (λ n. IsIdOf kind n × SpellsId kind n text.now) (HasFault (Identifier kind) text.now) }
+    ensures { MatchResult result
+        (λ n. IsIdOf kind n × SpellsId kind n text.now)
+        (HasFault (Identifier kind) text.now) }
 {
     match kind {
         Kind::Concept => Ok(u128::from(sctid_of(text, Class::Concept)?.value())),
@@ -82,7 +86,9 @@ pub fn active(text: &[u8]) -> Result<bool, LineFault>
 
 /// The identifier of a concept.
 pub fn concept_reference(text: &[u8]) -> Result<Sctid, LineFault>
-    ensures { MatchResult result (λ n. IsConcept n × (text.now ≡ decimal n)) (HasFault ConceptReference text.now) }
+    ensures { MatchResult result
+        (λ n. IsConcept n × (text.now ≡ decimal n))
+        (HasFault ConceptReference text.now) }
 {
     match Sctid::parse(text) {
         Some(id) if id.class() == Some(Class::Concept) => Ok(id),
@@ -92,7 +98,9 @@ pub fn concept_reference(text: &[u8]) -> Result<Sctid, LineFault>
 
 /// The identifier of a concept, a description or a relationship.
 pub fn component_reference(text: &[u8]) -> Result<Sctid, LineFault>
-    ensures { MatchResult result (λ n. IsComponent n × (text.now ≡ decimal n)) (HasFault ComponentReference text.now) }
+    ensures { MatchResult result
+        (λ n. IsComponent n × (text.now ≡ decimal n))
+        (HasFault ComponentReference text.now) }
 {
     match Sctid::parse(text) {
         Some(id) if id.class().is_some() => Ok(id),
@@ -102,7 +110,9 @@ pub fn component_reference(text: &[u8]) -> Result<Sctid, LineFault>
 
 /// A number of 32 bits, without leading zeros.
 pub fn group(text: &[u8]) -> Result<u32, LineFault>
-    ensures { MatchResult result (λ n. (n < 2 ^ 32) × (text.now ≡ decimal n)) (HasFault Number text.now) }
+    ensures { MatchResult result
+        (λ n. (n < 2 ^ 32) × (text.now ≡ decimal n))
+        (HasFault Number text.now) }
 {
     match number::parse(text) {
         Some(value) => match u32::try_from(value) {
@@ -115,7 +125,9 @@ pub fn group(text: &[u8]) -> Result<u32, LineFault>
 
 /// A text that isn't empty.
 pub fn some_text(alloc: Global, text: &[u8]) -> Result<Text, RowFault>
-    ensures { MatchResult result (λ t. IsText t × (t ≡ text.now)) (IsLineFaultThat (HasFault ColumnText text.now)) }
+    ensures { MatchResult result
+        (λ t. IsText t × (t ≡ text.now))
+        (IsLineFaultThat (HasFault ColumnText text.now)) }
 {
     match Text::of(alloc, text)? {
         Some(text) => Ok(text),

@@ -7,35 +7,46 @@ ghost use Rattle.rf2_rows.specs.declared.fault.FileFault.TheVariants as filefaul
 use std::alloc::{AllocError, AllocFailed};
 use thiserror::Error;
 
-/// What is wrong with a line: the first fault, in this order.
+/// What is wrong with a line: its first fault. Length, UTF-8, the header (of the first line) and the number of columns come first,
+/// in this order; then the columns from the left, each with the fault of its own.
 #[derive(Clone, Copy, Debug, PartialEq, Eq, Error)]
 pub enum LineFault {
+    /// Counted without its line end.
     #[error("the line is over 65,535 bytes")]
     LineLength,
     #[error("the line isn't UTF-8")]
     NotUtf8,
+    /// Only of a file's first line, or of a file without any.
     #[error("the first line isn't the column names")]
     Header,
     #[error("another number of columns")]
     Columns,
+    /// No SCTID: other characters, a leading zero, too few or too many digits, or another check digit than Verhoeff's.
     #[error("the id isn't an SCTID")]
     Id,
+    /// An SCTID whose partition is not that of the file's kind.
     #[error("the id is of another kind")]
     Partition,
+    /// Not eight digits of a year from 1000, a month up to 12 and a day up to 31.
     #[error("the effective time isn't a date")]
     Time,
     #[error("the flag is neither 0 nor 1")]
     Active,
+    /// No SCTID, or one of a partition that may not stand in the column.
     #[error("a reference isn't an SCTID that may stand there")]
     Reference,
+    /// In the column `relationshipGroup`.
     #[error("the number isn't one of 32 bits")]
     Number,
+    /// In the column `id` of a reference set file.
     #[error("the member id isn't a UUID of 36 bytes")]
     MemberId,
+    /// In the columns `languageCode` and `term`; also a text with an LF, which only a line handed over by itself can hold.
     #[error("the text is empty")]
     EmptyText,
 }
 
+/// Why a line gave no row: memory ran out, or the line is faulty.
 #[derive(Clone, Copy, Debug, PartialEq, Eq, Error)]
 pub enum RowFault {
     #[error("out of memory")]
@@ -60,12 +71,17 @@ impl From<AllocError> for RowFault {
     }
 }
 
+/// Why a file gave no rows: memory ran out, or a line is faulty.
 #[derive(Clone, Copy, Debug, PartialEq, Eq, Error)]
 pub enum FileFault {
     #[error("out of memory")]
     OutOfMemory,
     #[error("line {line}: {fault}")]
-    Row { line: usize, fault: LineFault },
+    Row {
+        /// The first faulty line, counted from 1. Line 1 holds the column names.
+        line: usize,
+        fault: LineFault,
+    },
 }
 
 impl<T: Drop> From<AllocFailed<T>> for FileFault {
@@ -78,7 +94,7 @@ impl<T: Drop> From<AllocFailed<T>> for FileFault {
 
 impl RowFault {
     ghost use Rattle.std.specs.Prelude.{◌≡◌};
-    ghost use Rattle.rf2_rows.specs.Fault.{at_line_of};
+    ghost use Rattle.rf2_rows.specs.Private.{at_line_of};
 
     /// The fault of a file whose line it is.
     pub(crate) fn at_line(self, line: usize) -> FileFault

@@ -28,7 +28,19 @@ const RELATIONSHIP_HEADER: &[u8] =
 const ASSOCIATION_HEADER: &[u8] =
     b"id\teffectiveTime\tactive\tmoduleId\trefsetId\treferencedComponentId\ttargetComponentId";
 
-/// The bytes after a mark.
+/// The first line of a file of the kind, without its line end: the column names, joined by TAB.
+pub fn column_names(kind: Kind) -> &'static [u8]
+    ensures { result.now ≡ header kind }
+{
+    match kind {
+        Kind::Concept => CONCEPT_HEADER,
+        Kind::Description => DESCRIPTION_HEADER,
+        Kind::Relationship => RELATIONSHIP_HEADER,
+        Kind::Association => ASSOCIATION_HEADER,
+    }
+}
+
+/// The bytes after a byte order mark, where one leads. A second one stays.
 fn without_mark(bytes: &[u8]) -> &[u8]
     ensures { result.now ≡ bytes_without_mark bytes.now }
 {
@@ -48,13 +60,7 @@ fn first_line_fault(kind: Kind, text: &[u8]) -> Option<LineFault>
     if !text.is_utf8() {
         return Some(LineFault::NotUtf8);
     }
-    let wanted = match kind {
-        Kind::Concept => CONCEPT_HEADER,
-        Kind::Description => DESCRIPTION_HEADER,
-        Kind::Relationship => RELATIONSHIP_HEADER,
-        Kind::Association => ASSOCIATION_HEADER,
-    };
-    if text == wanted {
+    if text == column_names(kind) {
         None
     } else {
         Some(LineFault::Header)
@@ -63,11 +69,14 @@ fn first_line_fault(kind: Kind, text: &[u8]) -> Option<LineFault>
 
 /// The rows of the lines after the first.
 fn read_rows(alloc: Global, kind: Kind, lines: Lines<'_>) -> Result<Vec<Row>, FileFault>
-    ensures { MatchResult result (λ rows. SpellsEach kind rows.items lines.entry) (IsFaultThat (IsFaultOfRows kind lines.entry)) }
+    ensures { MatchResult result
+        (λ rows. SpellsEach kind rows.items lines.entry)
+        (IsFaultThat (IsFaultOfRows kind lines.entry)) }
 {
     let mut rows = Vec::new(alloc);
+    let mut room = Vec::new(alloc);
     for line in lines {
-        match read_line(alloc, kind, line) {
+        match read_line(alloc, &mut room, kind, line) {
             Ok(row) => rows.push(row)?,
             Err(fault) => return Err(fault.at_line(rows.len() + 2)),
         }
@@ -93,16 +102,19 @@ fn read(alloc: Global, kind: Kind, bytes: &[u8]) -> Result<Vec<Row>, FileFault>
     read_rows(alloc, kind, lines)
 }
 
-/// The rows of a release file.
+/// The rows of a release file of a kind, whole: an optional byte order mark, the column names, and one row a line. Lines end in CR LF
+/// or LF, which the last one may lack.
 pub fn read_file(alloc: Global, kind: Kind, bytes: &[u8]) -> Result<Vec<Row>, FileFault>
     // What is read is spelled so.
     ensures found { IfOk result (λ rows. IsReleaseFile kind rows.items bytes.now) }
     // What is spelled so is read, unless memory runs out.
-    ensures only { (rows : List Version) → IsReleaseFile kind rows bytes.now → MatchResult result (λ v. v.items ≡ rows) (λ e. e ≡ filefault.OutOfMemory) }
+    ensures only { (rows : List Version) → IsReleaseFile kind rows bytes.now
+        → MatchResult result (λ v. v.items ≡ rows) (λ e. e ≡ filefault.OutOfMemory) }
     // Which line is faulty, and how.
     ensures fault { IfErr result (IsFaultThat (IsFaultOfFile kind bytes.now)) }
     // A file with that fault is refused so, unless memory runs out.
-    ensures refused { (n : ℕ) (f : LineFault) → IsFaultOfFile kind bytes.now n f → MatchResult result (λ v. ⊥) (λ e. (e ≡ filefault.OutOfMemory) ⊎ (e ≡ filefault.Row n f)) }
+    ensures refused { (n : ℕ) (f : LineFault) → IsFaultOfFile kind bytes.now n f
+        → MatchResult result (λ v. ⊥) (λ e. (e ≡ filefault.OutOfMemory) ⊎ (e ≡ filefault.Row n f)) }
 {
     read(alloc, kind, bytes)
 }

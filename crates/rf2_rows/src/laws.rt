@@ -1,33 +1,58 @@
-//! Laws of the definitions.
+//! Laws of the definitions. The functions do nothing: each has its law for a contract.
 
-ghost use Rattle.std.specs.Prelude.{◌≡◌, List, ℕ};
-ghost use Rattle.rf2_values.specs.declared.row.Kind.{Kind};
-ghost use Rattle.rf2_values.specs.Row.{Version, IsVersion, Spells, canonical, kind_of};
-ghost use Rattle.rf2_rows.specs.File.{IsReleaseFile, IsFaultOfFile};
-ghost use Rattle.rf2_rows.specs.Line.{IsFaultOf};
-ghost use Rattle.rf2_rows.specs.declared.fault.LineFault.{LineFault};
+ghost use Rattle.rf2_rows.specs.Laws.{SpellsOneRow, CanonicalSpells, OneFaultOfLine, RowHasNoFault, RowOrFault, OneList, OneFaultOfFile, ReleaseFileHasNoFault, FileOrFault, BytesAreTheirLines, LinesAreFound};
 
 /// A text spells at most one row of a kind.
 pub fn spells_one_row()
-    ensures { (v w : Version) (text : List ℕ) → kind_of v ≡ kind_of w → Spells v text → Spells w text → v ≡ w }
+    ensures { SpellsOneRow }
 {}
 
 /// The canonical spelling of a row spells it.
 pub fn canonical_spells()
-    ensures { (v : Version) → IsVersion v → Spells v (canonical v) }
+    ensures { CanonicalSpells }
 {}
 
 /// A line has at most one fault.
 pub fn one_fault_of_line()
-    ensures { (kind : Kind) (text : List ℕ) (f g : LineFault) → IsFaultOf kind text f → IsFaultOf kind text g → f ≡ g }
+    ensures { OneFaultOfLine }
 {}
 
-/// A file has at most one first faulty line, with one fault.
-pub fn one_fault_of_file()
-    ensures { (kind : Kind) (bytes : List ℕ) (m n : ℕ) (f g : LineFault) → IsFaultOfFile kind bytes m f → IsFaultOfFile kind bytes n g → (m ≡ n) × (f ≡ g) }
+/// A line that spells a row has no fault.
+pub fn row_has_no_fault()
+    ensures { RowHasNoFault }
+{}
+
+/// Each line spells a row of the kind or has a fault.
+pub fn row_or_fault()
+    ensures { RowOrFault }
 {}
 
 /// The bytes of a file are those of at most one list of rows.
 pub fn one_list()
-    ensures { (kind : Kind) (rows others : List Version) (bytes : List ℕ) → IsReleaseFile kind rows bytes → IsReleaseFile kind others bytes → rows ≡ others }
+    ensures { OneList }
+{}
+
+/// A file has at most one first faulty line, with one fault.
+pub fn one_fault_of_file()
+    ensures { OneFaultOfFile }
+{}
+
+/// A release file has no fault.
+pub fn release_file_has_no_fault()
+    ensures { ReleaseFileHasNoFault }
+{}
+
+/// Each file is a release file of the kind or has a fault.
+pub fn file_or_fault()
+    ensures { FileOrFault }
+{}
+
+/// Any bytes are their lines in order, each with a line end, which the last one may lack.
+pub fn bytes_are_their_lines()
+    ensures { BytesAreTheirLines }
+{}
+
+/// Bytes have these lines exactly where they are these texts, each with a line end.
+pub fn lines_are_found()
+    ensures { LinesAreFound }
 {}

@@ -1,16 +1,17 @@
 //! Release files of SNOMED CT: their rows, lines and faults.
+//!
+//! The files are those of the SNOMED CT Release File Specifications (RF2): text in UTF-8, one row a line, columns parted by TAB.
 #![tactic(auto)]
 
 mod columns;
 mod fault;
 mod file;
-mod laws;
+pub mod laws;
 mod line;
 mod write;
 
 pub use fault::{FileFault, LineFault, RowFault};
-pub use file::read_file;
-pub use laws::{canonical_spells, one_fault_of_file, one_fault_of_line, one_list, spells_one_row};
+pub use file::{column_names, read_file};
 pub use line::parse_line;
 pub use rf2_values::{
     Association, Body, Class, Concept, Description, EffectiveTime, Key, Kind, Member, Relationship,

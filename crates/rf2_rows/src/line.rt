@@ -6,10 +6,11 @@ ghost use Rattle.rf2_rows.specs.declared.fault.LineFault.{LineFault};
 ghost use Rattle.rf2_rows.specs.declared.fault.RowFault.TheVariants as rowfault;
 ghost use Rattle.rf2_values.specs.Time.{IsTime};
 ghost use Rattle.rf2_values.specs.Row.{Version, IsVersion, Spells, IsBody, kind_of_body, body_columns, IsConcept, IsIdOf, SpellsId, SpellsColumns, kind_of, flag as flag_text, line_of};
-ghost use Rattle.rf2_rows.specs.Line.{IsLineFaultThat, FirstFault, columns_in, common_layout, own_layout, texts, IsFaultOfColumns, IsFaultOf, IsLineReading};
+ghost use Rattle.rf2_rows.specs.Line.{IsLineFaultThat, FirstFault, columns_in, common_layout, own_layout, IsFaultOfColumns, IsFaultOf};
+ghost use Rattle.rf2_rows.specs.Private.{texts, IsLineReading};
 
 use crate::columns::{
-    active, component_reference, concept_reference, cut, effective_time, group, identifier,
+    active, component_reference, concept_reference, effective_time, group, identifier, put_columns,
     some_text,
 };
 use crate::fault::{LineFault, RowFault};
@@ -19,7 +20,7 @@ use rf2_values::{
 };
 use std::alloc::Global;
 
-/// The most bytes that a line has.
+/// The most bytes that a line has, without its line end.
 pub(crate) const LINE_LIMIT: usize = 65_535;
 
 /// The columns that every kind has.
@@ -28,7 +29,7 @@ struct Common {
     id: u128,
     time: EffectiveTime,
     active: bool,
-    module: Sctid,
+    module_id: Sctid,
 }
 
 /// The columns that every kind has, from their texts.
@@ -44,14 +45,15 @@ fn read_common(
         (λ c. IsIdOf kind c.id × SpellsId kind c.id id.now
         × IsTime c.time × (time.now ≡ decimal c.time)
         × (flag.now ≡ flag_text c.active)
-        × IsConcept c.module × (module_id.now ≡ decimal c.module))
-        (FirstFault (columns_in (common_layout kind)) (id.now ∷ time.now ∷ flag.now ∷ module_id.now ∷ [])) }
+        × IsConcept c.module_id × (module_id.now ≡ decimal c.module_id))
+        (FirstFault (columns_in (common_layout kind))
+        (id.now ∷ time.now ∷ flag.now ∷ module_id.now ∷ [])) }
 {
     Ok(Common {
         id: identifier(kind, id)?,
         time: effective_time(time)?,
         active: active(flag)?,
-        module: concept_reference(module_id)?,
+        module_id: concept_reference(module_id)?,
     })
 }
 
@@ -79,7 +81,8 @@ fn read_description(
 ) -> Result<Body, RowFault>
     ensures { MatchResult result
         (λ b. (kind_of_body b ≡ kind.Description) × IsBody b
-        × (concept.now ∷ language_code.now ∷ type_id.now ∷ term.now ∷ case_significance.now ∷ [] ≡ body_columns b))
+        × (concept.now ∷ language_code.now ∷ type_id.now ∷ term.now ∷ case_significance.now ∷ []
+        ≡ body_columns b))
         (IsLineFaultThat (FirstFault (columns_in (own_layout kind.Description))
         (concept.now ∷ language_code.now ∷ type_id.now ∷ term.now ∷ case_significance.now ∷ []))) }
 {
@@ -104,7 +107,8 @@ fn read_relationship(
 ) -> Result<Body, LineFault>
     ensures { MatchResult result
         (λ b. (kind_of_body b ≡ kind.Relationship) × IsBody b
-        × (source.now ∷ destination.now ∷ number.now ∷ type_id.now ∷ characteristic_type.now ∷ modifier.now ∷ [] ≡ body_columns b))
+        × (source.now ∷ destination.now ∷ number.now ∷ type_id.now ∷ characteristic_type.now ∷ modifier.now ∷ []
+        ≡ body_columns b))
         (FirstFault (columns_in (own_layout kind.Relationship))
         (source.now ∷ destination.now ∷ number.now ∷ type_id.now ∷ characteristic_type.now ∷ modifier.now ∷ [])) }
 {
@@ -122,8 +126,10 @@ fn read_relationship(
 #[tactic(auto, using(crate::proofs::Faults::fault_here, crate::proofs::Faults::fault_later, crate::proofs::Faults::fault_past_three))]
 fn read_association(refset: &[u8], referenced: &[u8], target: &[u8]) -> Result<Body, LineFault>
     ensures { MatchResult result
-        (λ b. (kind_of_body b ≡ kind.Association) × IsBody b × (refset.now ∷ referenced.now ∷ target.now ∷ [] ≡ body_columns b))
-        (FirstFault (columns_in (own_layout kind.Association)) (refset.now ∷ referenced.now ∷ target.now ∷ [])) }
+        (λ b. (kind_of_body b ≡ kind.Association) × IsBody b
+        × (refset.now ∷ referenced.now ∷ target.now ∷ [] ≡ body_columns b))
+        (FirstFault (columns_in (own_layout kind.Association))
+        (refset.now ∷ referenced.now ∷ target.now ∷ [])) }
 {
     Ok(Body::Association(Association {
         refset: concept_reference(refset)?,
@@ -168,19 +174,30 @@ fn read_columns(alloc: Global, kind: Kind, columns: &[&[u8]]) -> Result<Row, Row
         (λ v. (kind_of v ≡ kind) × IsVersion v × SpellsColumns v (texts columns.now))
         (IsLineFaultThat (IsFaultOfColumns kind (texts columns.now))) }
 {
-    let [id, time, flag, module, own @ ..] = columns else {
+    let [id, time, flag, module_id, own @ ..] = columns else {
         return Err(RowFault::Line(LineFault::Columns));
     };
     if own.len() != own_count(kind) {
         return Err(RowFault::Line(LineFault::Columns));
     }
-    let common = read_common(kind, id, time, flag, module)?;
+    let common = read_common(kind, id, time, flag, module_id)?;
     let body = read_own(alloc, kind, own)?;
-    Ok(Row::new(common.id, common.time, common.active, common.module, body))
+    Ok(Row::new(
+        common.id,
+        common.time,
+        common.active,
+        common.module_id,
+        body,
+    ))
 }
 
-/// The row that a line spells.
-pub(crate) fn read_line(alloc: Global, kind: Kind, text: &[u8]) -> Result<Row, RowFault>
+/// The row that a line spells. The vector is room for its columns, and what it holds doesn't matter.
+pub(crate) fn read_line<'a>(
+    alloc: Global,
+    room: &mut Vec<&'a [u8]>,
+    kind: Kind,
+    text: &'a [u8],
+) -> Result<Row, RowFault>
     ensures { IsLineReading kind text.now result }
 {
     if text.len() > LINE_LIMIT {
@@ -189,8 +206,8 @@ pub(crate) fn read_line(alloc: Global, kind: Kind, text: &[u8]) -> Result<Row, R
     if !text.is_utf8() {
         return Err(RowFault::Line(LineFault::NotUtf8));
     }
-    let columns = cut(alloc, text)?;
-    read_columns(alloc, kind, &columns)
+    put_columns(room, text)?;
+    read_columns(alloc, kind, room)
 }
 
 /// The row that a line of a file of the kind spells, without its line end.
@@ -198,11 +215,14 @@ pub fn parse_line(alloc: Global, kind: Kind, text: &[u8]) -> Result<Row, RowFaul
     // What is read is spelled so.
     ensures found { IfOk result (λ v. (kind_of v ≡ kind) × Spells v text.now) }
     // What is spelled so is read, unless memory runs out.
-    ensures only { (v : Version) → kind_of v ≡ kind → Spells v text.now → MatchResult result (λ w. w ≡ v) (λ e. e ≡ rowfault.OutOfMemory) }
+    ensures only { (v : Version) → kind_of v ≡ kind → Spells v text.now
+        → MatchResult result (λ w. w ≡ v) (λ e. e ≡ rowfault.OutOfMemory) }
     // How the line is faulty.
     ensures fault { IfErr result (IsLineFaultThat (IsFaultOf kind text.now)) }
     // A line with that fault is refused so, unless memory runs out.
-    ensures refused { (f : LineFault) → IsFaultOf kind text.now f → MatchResult result (λ v. ⊥) (λ e. (e ≡ rowfault.OutOfMemory) ⊎ (e ≡ rowfault.Line f)) }
+    ensures refused { (f : LineFault) → IsFaultOf kind text.now f
+        → MatchResult result (λ v. ⊥) (λ e. (e ≡ rowfault.OutOfMemory) ⊎ (e ≡ rowfault.Line f)) }
 {
-    read_line(alloc, kind, text)
+    let mut room = Vec::new(alloc);
+    read_line(alloc, &mut room, kind, text)
 }

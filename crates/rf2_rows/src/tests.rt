@@ -4,6 +4,9 @@ use std::test::*;
 
 const CONCEPTS: &[u8] = b"id|effectiveTime|active|moduleId|definitionStatusId";
 
+const DESCRIPTIONS: &[u8] =
+    b"id|effectiveTime|active|moduleId|conceptId|languageCode|typeId|term|caseSignificanceId";
+
 const ROOT: &[u8] = b"138875005|20200131|1|900000000000207008|900000000000074008";
 
 const GERMAN: &[u8] =
@@ -29,104 +32,6 @@ fn fault_of(alloc: Global, kind: Kind, text: &[u8]) -> Result<Option<LineFault>,
         Ok(_) => Ok(None),
         Err(RowFault::Line(fault)) => Ok(Some(fault)),
         Err(RowFault::OutOfMemory) => Err(AllocError),
-    }
-}
-
-#[test]
-fn identifiers(rt: HostRuntime) {
-    let known: [(&[u8], Option<Class>); 23] = [
-        (b"138875005", Some(Class::Concept)),
-        (b"116680003", Some(Class::Concept)),
-        (b"900000000000207008", Some(Class::Concept)),
-        (b"900000000000074008", Some(Class::Concept)),
-        (b"900000000000003001", Some(Class::Concept)),
-        (b"900000000000013009", Some(Class::Concept)),
-        (b"900000000000448009", Some(Class::Concept)),
-        (b"900000000000011006", Some(Class::Concept)),
-        (b"900000000000451002", Some(Class::Concept)),
-        (b"900000000000527005", Some(Class::Concept)),
-        (b"900000000000526001", Some(Class::Concept)),
-        (b"1000004", Some(Class::Concept)),
-        (b"2000001", Some(Class::Concept)),
-        (b"3000005", Some(Class::Concept)),
-        (b"1000015", Some(Class::Description)),
-        (b"2000017", Some(Class::Description)),
-        (b"1000027", Some(Class::Relationship)),
-        (b"2000029", Some(Class::Relationship)),
-        // The long form.
-        (b"11000003104", Some(Class::Concept)),
-        (b"11000003115", Some(Class::Description)),
-        (b"11000003127", Some(Class::Relationship)),
-        // Another partition, and the greatest number.
-        (b"11000003039", None),
-        (b"999999999999999006", Some(Class::Concept)),
-    ];
-    for (text, class) in &known {
-        let id = Sctid::parse(text);
-        assert!(rt; id.is_some(), "{text:?}");
-        assert_eq!(rt; id.and_then(|id| id.class()), *class, "{text:?}");
-        assert_eq!(rt; id.and_then(|id| Sctid::of(id.value())), id);
-    }
-    let wrong: [&[u8]; 9] = [
-        b"1000005",
-        b"01000004",
-        b"10003",
-        b"10000000000000000000",
-        b"",
-        b"+1000004",
-        b"1000004 ",
-        b"-1000004",
-        b"1000004\r",
-    ];
-    for text in &wrong {
-        assert_eq!(rt; Sctid::parse(text), None, "{text:?}");
-    }
-    assert_eq!(rt; Sctid::of(1_000_005), None);
-}
-
-#[test]
-fn times_and_members(rt: HostRuntime) {
-    let right: [&[u8]; 4] = [b"20200131", b"20230230", b"10000101", b"99991231"];
-    for text in &right {
-        let time = EffectiveTime::parse(text);
-        assert!(rt; time.is_some(), "{text:?}");
-        assert_eq!(rt; time.and_then(|time| EffectiveTime::of(time.value())), time);
-    }
-    let wrong: [&[u8]; 8] = [
-        b"20201301",
-        b"20200132",
-        b"20200100",
-        b"20200001",
-        b"09990131",
-        b"2020131",
-        b"+2020131",
-        b"020200131",
-    ];
-    for text in &wrong {
-        assert_eq!(rt; EffectiveTime::parse(text), None, "{text:?}");
-    }
-    let lower = Member::parse(b"0b6a0c2e-5d0f-4c53-9f6e-8d9d2a7b1c01");
-    assert_eq!(rt;
-        lower.map(|id| id.value()),
-        Some(0x0b6a0c2e_5d0f_4c53_9f6e_8d9d2a7b1c01)
-    );
-    assert_eq!(rt;
-        Member::parse(b"0B6A0C2E-5D0F-4C53-9F6E-8D9D2A7B1C01"),
-        lower
-    );
-    assert_eq!(rt;
-        lower,
-        Some(Member::of(0x0b6a0c2e_5d0f_4c53_9f6e_8d9d2a7b1c01))
-    );
-    let no_member: [&[u8]; 5] = [
-        b"0b6a0c2e-5d0f-4c53-9f6e-8d9d2a7b1c0",
-        b"0b6a0c2e5d0f4c539f6e8d9d2a7b1c01",
-        b"{0b6a0c2e-5d0f-4c53-9f6e-8d9d2a7b1c01}",
-        b"0b6a0c2e-5d0f-4c53-9f6e-8d9d2a7b1cg1",
-        b"0b6a0c2e5-d0f-4c53-9f6e-8d9d2a7b1c01",
-    ];
-    for text in &no_member {
-        assert_eq!(rt; Member::parse(text), None, "{text:?}");
     }
 }
 
@@ -350,14 +255,8 @@ fn concept_files(rt: HostRuntime) -> Result<(), Fail> {
 #[test]
 fn first_lines(rt: HostRuntime) -> Result<(), Fail> {
     let heads: [(Kind, &[u8]); 4] = [
-        (
-            Kind::Concept,
-            b"id|effectiveTime|active|moduleId|definitionStatusId",
-        ),
-        (
-            Kind::Description,
-            b"id|effectiveTime|active|moduleId|conceptId|languageCode|typeId|term|caseSignificanceId",
-        ),
+        (Kind::Concept, CONCEPTS),
+        (Kind::Description, DESCRIPTIONS),
         (
             Kind::Relationship,
             b"id|effectiveTime|active|moduleId|sourceId|destinationId|relationshipGroup|typeId|characteristicTypeId|modifierId",
@@ -369,6 +268,7 @@ fn first_lines(rt: HostRuntime) -> Result<(), Fail> {
     ];
     for (kind, head) in &heads {
         let file = tabbed(rt.alloc(), head)?;
+        assert_eq!(rt; column_names(*kind), file.as_slice());
         for (other, _) in &heads {
             let want = if other == kind {
                 (0, None)
@@ -455,10 +355,25 @@ fn long_lines(rt: HostRuntime) -> Result<(), Fail> {
             Err(RowFault::Line(LineFault::LineLength))
         )
     );
-    let mut file = tabbed(
-        rt.alloc(),
-        b"id|effectiveTime|active|moduleId|conceptId|languageCode|typeId|term|caseSignificanceId\n",
-    )?;
+    // The length is looked at before UTF-8, in the first line too.
+    let mut not_text = long_line(rt.alloc(), 65_449)?;
+    not_text.push(0xff)?;
+    assert!(rt;
+        matches!(
+            parse_line(rt.alloc(), Kind::Description, &not_text),
+            Err(RowFault::Line(LineFault::LineLength))
+        )
+    );
+    assert_eq!(rt;
+        long_first(rt.alloc(), b"\xff", 65_535)?,
+        (1, Some(LineFault::LineLength))
+    );
+    assert_eq!(rt;
+        long_first(rt.alloc(), b"\xff", 65_534)?,
+        (1, Some(LineFault::NotUtf8))
+    );
+    let mut file = tabbed(rt.alloc(), DESCRIPTIONS)?;
+    file.push(b'\n')?;
     file.extend_from_slice(&most)?;
     assert_eq!(rt; outcome(rt.alloc(), Kind::Description, &file)?, (1, None));
     file.push(b'\r')?;
@@ -484,7 +399,7 @@ fn is_copied(alloc: Global, row: &Row) -> Result<bool, AllocError> {
     let body = copy.body.try_clone(alloc)?;
     Ok(
         copy.is_same(row)
-            && Row::of(row.id, row.time, row.active, row.module, body).is_some_and(|made| made
+            && Row::of(row.id, row.time, row.active, row.module_id, body).is_some_and(|made| made
                 == copy),
     )
 }
@@ -517,121 +432,12 @@ fn read_and_written(rt: HostRuntime) -> Result<(), Fail> {
         assert_eq!(rt;
             row.key(),
             Key {
-                kind: *kind,
                 id: *id,
-                time: row.time
+                time: row.time,
+                kind: *kind
             }
         );
         assert!(rt; is_copied(rt.alloc(), &row)?, "{line:?}");
-    }
-    Ok(())
-}
-
-/// Whether these are the columns of a description: its other columns fit.
-fn fits(
-    alloc: Global,
-    concept: Sctid,
-    time: EffectiveTime,
-    term: &[u8],
-) -> Result<bool, AllocError> {
-    let (Some(language_code), Some(term)) = (Text::of(alloc, b"de")?, Text::of(alloc, term)?) else {
-        return Ok(false);
-    };
-    let body = Body::Description(Description {
-        concept,
-        language_code,
-        type_id: concept,
-        term,
-        case_significance: concept,
-    });
-    Ok(Row::of(1_000_015, time, true, concept, body).is_some())
-}
-
-#[test]
-fn rows_of_columns(rt: HostRuntime) -> Result<(), Fail> {
-    let time = EffectiveTime::of(20_200_131).ok_or("a time")?;
-    let concept = Sctid::of(138_875_005).ok_or("a concept")?;
-    let description = Sctid::of(1_000_015).ok_or("a description")?;
-    let terms: [(&[u8], bool); 5] = [
-        (b"a", true),
-        (b"", false),
-        (b"a\tb", false),
-        (b"a\nb", false),
-        (b"\xff", false),
-    ];
-    for (term, allowed) in &terms {
-        assert_eq!(rt;
-            fits(rt.alloc(), concept, time, term)?,
-            *allowed,
-            "{term:?}"
-        );
-    }
-    // The line has 62 bytes more than the term, and at most 65,535.
-    assert!(rt; fits(rt.alloc(), concept, time, &long(rt.alloc(), 65_473)?)?);
-    assert!(rt; !fits(rt.alloc(), concept, time, &long(rt.alloc(), 65_474)?)?);
-    let cases = [
-        (138_875_005, concept, concept, true),
-        (1_000_005, concept, concept, false),
-        (1_000_015, concept, concept, false),
-        (138_875_005, description, concept, false),
-        (138_875_005, concept, description, false),
-    ];
-    for (id, module_id, definition_status, allowed) in cases {
-        let row = Row::of(
-            id,
-            time,
-            true,
-            module_id,
-            Body::Concept(Concept { definition_status }),
-        );
-        assert_eq!(rt; row.is_some(), allowed, "{id}");
-    }
-    Ok(())
-}
-
-#[test]
-fn order_of_keys(rt: HostRuntime) -> Result<(), Fail> {
-    let (early, late) = (
-        EffectiveTime::of(20_200_131).ok_or("a time")?,
-        EffectiveTime::of(20_200_201).ok_or("a time")?,
-    );
-    let keys = [
-        Key {
-            kind: Kind::Concept,
-            id: 5,
-            time: late,
-        },
-        Key {
-            kind: Kind::Description,
-            id: 4,
-            time: late,
-        },
-        Key {
-            kind: Kind::Description,
-            id: 40,
-            time: early,
-        },
-        Key {
-            kind: Kind::Description,
-            id: 40,
-            time: late,
-        },
-        Key {
-            kind: Kind::Relationship,
-            id: 3,
-            time: early,
-        },
-        Key {
-            kind: Kind::Association,
-            id: 2,
-            time: early,
-        },
-    ];
-    for (i, a) in keys.iter().enumerate() {
-        for (j, b) in keys.iter().enumerate() {
-            assert_eq!(rt; a.compare(b), i.cmp(&j));
-            assert_eq!(rt; a < b, i < j);
-        }
     }
     Ok(())
 }

@@ -81,12 +81,12 @@ fn canonical_line(alloc: Global, row: &Row) -> Result<Vec<u8>, AllocError>
     put_id(&mut line, row.kind(), row.id)?;
     put_number(&mut line, u64::from(row.time.value()))?;
     put_flag(&mut line, row.active)?;
-    put_number(&mut line, row.module.value())?;
+    put_number(&mut line, row.module_id.value())?;
     put_own(&mut line, &row.body)?;
     Ok(line)
 }
 
-/// Appends the row's canonical spelling, without a line end.
+/// Appends the row's canonical spelling, without a line end: as it was read, but member ids in lower case.
 pub fn write_row(alloc: Global, row: &Row, out: &mut Vec<u8>) -> Result<(), AllocError>
     ensures ok { OnOk result (out.new.items ≡ out.old.items ++ canonical row.now) }
     ensures err { OnErr result (out.new.items ≡ out.old.items) }

@@ -1,6 +1,7 @@
 -- What names a row, and the order of those names.
 use Rattle.std.specs.Prelude.{ℕ}
 use Rattle.std.specs.Ordering.{nat_cmp, ordering_then}
+use Rattle.std.specs.Cmp.{IsTotalOrder, nat_cmp_total, on_total, then_total}
 use Rattle.std.specs.declared.cmp.Ordering.{Ordering}
 use Rattle.rf2_values.specs.declared.row.Kind.{Kind}
 use Rattle.rf2_values.specs.declared.row.Kind.TheVariants as kind
@@ -9,7 +10,7 @@ use Rattle.rf2_values.specs.Row.{Version, kind_of}
 
 -- a row is named by its kind, its id and its time
 abbrev pub key_of : Version → Key
-key_of v = record { kind = kind_of v; id = v.id; time = v.time }
+key_of v = record { id = v.id; time = v.time; kind = kind_of v }
 
 -- the kinds in their order
 abbrev pub kind_place : Kind → ℕ
@@ -20,4 +21,11 @@ kind_place kind.Association = 3
 
 -- by kind, then by id, then by time
 abbrev pub key_cmp : Key → Key → Ordering
-key_cmp a b = ordering_then (nat_cmp (kind_place a.kind) (kind_place b.kind)) (ordering_then (nat_cmp a.id b.id) (nat_cmp a.time b.time))
+key_cmp a b =
+    ordering_then (nat_cmp (kind_place a.kind) (kind_place b.kind))
+    (ordering_then (nat_cmp a.id b.id) (nat_cmp a.time b.time))
+
+-- which is one order of all keys
+pub keys_total : IsTotalOrder key_cmp
+keys_total = then_total (on_total (λ k. kind_place k.kind) nat_cmp_total)
+    (then_total (on_total (λ k. k.id) nat_cmp_total) (on_total (λ k. k.time) nat_cmp_total))

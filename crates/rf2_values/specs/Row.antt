@@ -1,5 +1,5 @@
 -- What a row is, and how a line spells it.
-use Rattle.std.specs.Prelude.{◌≡◌, ℕ, ◌≤◌, ◌<◌, ◌^◌, ◌+◌, Bool, true, false, List, [], ◌∷◌, length, Some, IsSome, decimal}
+use Rattle.std.specs.Prelude.{◌≡◌, ℕ, ◌≤◌, ◌<◌, ◌^◌, Bool, true, false, List, [], ◌∷◌, length, Some, IsSome, decimal}
 use Rattle.std.specs.List.{join_with_byte, flat_map}
 use Rattle.rf2_values.specs.declared.sctid.Class.{Class}
 use Rattle.rf2_values.specs.declared.sctid.Class.TheVariants as class
@@ -17,11 +17,12 @@ pub record Version : Type 0 where
   pub id : ℕ
   pub time : ℕ
   pub active : Bool
-  pub «module» : ℕ
+  pub module_id : ℕ
   pub body : Body
 
 abbrev pub version : ℕ → ℕ → Bool → ℕ → Body → Version
-version id time active module_id body = record { id = id; time = time; active = active; «module» = module_id; body = body }
+version id time active module_id body =
+    record { id = id; time = time; active = active; module_id = module_id; body = body }
 
 abbrev pub kind_of_body : Body → Kind
 kind_of_body (body.Concept c) = kind.Concept
@@ -54,8 +55,12 @@ IsIdOf kind.Association n = n < 2 ^ 128
 
 abbrev pub IsBody : Body → Type 0
 IsBody (body.Concept c) = IsConcept c.definition_status
-IsBody (body.Description d) = IsConcept d.concept × IsText d.language_code × IsConcept d.type_id × IsText d.term × IsConcept d.case_significance
-IsBody (body.Relationship r) = IsConcept r.source × IsConcept r.destination × (r.group < 2 ^ 32) × IsConcept r.type_id × IsConcept r.characteristic_type × IsConcept r.modifier
+IsBody (body.Description d) =
+    IsConcept d.concept × IsText d.language_code × IsConcept d.type_id × IsText d.term
+    × IsConcept d.case_significance
+IsBody (body.Relationship r) =
+    IsConcept r.source × IsConcept r.destination × (r.group < 2 ^ 32) × IsConcept r.type_id
+    × IsConcept r.characteristic_type × IsConcept r.modifier
 IsBody (body.Association a) = IsConcept a.refset × IsComponent a.referenced × IsComponent a.target
 
 -- ---- how a line spells a row
@@ -80,18 +85,19 @@ id_text kind.Association n = member_text n
 
 abbrev pub body_columns : Body → List (List ℕ)
 body_columns (body.Concept c) = decimal c.definition_status ∷ []
-body_columns (body.Description d) = decimal d.concept ∷ d.language_code ∷ decimal d.type_id ∷ d.term ∷ decimal d.case_significance ∷ []
-body_columns (body.Relationship r) = decimal r.source ∷ decimal r.destination ∷ decimal r.group ∷ decimal r.type_id ∷ decimal r.characteristic_type ∷ decimal r.modifier ∷ []
-body_columns (body.Association a) = decimal a.refset ∷ decimal a.referenced ∷ decimal a.target ∷ []
+body_columns (body.Description d) =
+    decimal d.concept ∷ d.language_code ∷ decimal d.type_id ∷ d.term
+    ∷ decimal d.case_significance ∷ []
+body_columns (body.Relationship r) =
+    decimal r.source ∷ decimal r.destination ∷ decimal r.group ∷ decimal r.type_id
+    ∷ decimal r.characteristic_type ∷ decimal r.modifier ∷ []
+body_columns (body.Association a) =
+    decimal a.refset ∷ decimal a.referenced ∷ decimal a.target ∷ []
 
 -- the columns after the identifier
 abbrev pub later_columns : Version → List (List ℕ)
-later_columns v = decimal v.time ∷ flag v.active ∷ decimal v.module ∷ body_columns v.body
-
--- how many bytes columns take, each with a TAB before it
-abbrev pub columns_len : List (List ℕ) → ℕ
-columns_len [] = 0
-columns_len (column ∷ columns) = length column + 1 + columns_len columns
+later_columns v =
+    decimal v.time ∷ flag v.active ∷ decimal v.module_id ∷ body_columns v.body
 
 -- the columns joined by TAB
 abbrev pub line_of : List (List ℕ) → List ℕ
@@ -109,7 +115,7 @@ canonical v = line_of (id_text (kind_of v) v.id ∷ later_columns v)
 pub record IsVersion (v : Version) : Type 0 where
   pub id : IsIdOf (kind_of v) v.id
   pub time : IsTime v.time
-  pub «module» : IsOfClass class.Concept v.module
+  pub module_id : IsOfClass class.Concept v.module_id
   pub body : IsBody v.body
   pub short : length (canonical v) ≤ 65535
 

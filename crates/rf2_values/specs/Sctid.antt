@@ -4,7 +4,7 @@ use Rattle.rf2_values.specs.declared.sctid.Class.{Class}
 use Rattle.rf2_values.specs.declared.sctid.Class.TheVariants.{Concept, Description, Relationship}
 use Rattle.std.specs.Int.Digits.{digits_of}
 
--- the multiplication of the dihedral group of ten elements
+-- Verhoeff's multiplication table: the dihedral group of ten elements
 abbrev pub products : List (List ℕ)
 products = (0 ∷ 1 ∷ 2 ∷ 3 ∷ 4 ∷ 5 ∷ 6 ∷ 7 ∷ 8 ∷ 9 ∷ [])
     ∷ (1 ∷ 2 ∷ 3 ∷ 4 ∷ 0 ∷ 6 ∷ 7 ∷ 8 ∷ 9 ∷ 5 ∷ [])
@@ -18,7 +18,7 @@ products = (0 ∷ 1 ∷ 2 ∷ 3 ∷ 4 ∷ 5 ∷ 6 ∷ 7 ∷ 8 ∷ 9 ∷ [])
     ∷ (9 ∷ 8 ∷ 7 ∷ 6 ∷ 5 ∷ 4 ∷ 3 ∷ 2 ∷ 1 ∷ 0 ∷ [])
     ∷ []
 
--- what becomes of a digit at each of eight places
+-- Verhoeff's permutations: what becomes of a digit at each of eight places
 abbrev pub turns : List (List ℕ)
 turns = (0 ∷ 1 ∷ 2 ∷ 3 ∷ 4 ∷ 5 ∷ 6 ∷ 7 ∷ 8 ∷ 9 ∷ [])
     ∷ (1 ∷ 5 ∷ 7 ∷ 6 ∷ 2 ∷ 8 ∷ 3 ∷ 0 ∷ 9 ∷ 4 ∷ [])
@@ -37,9 +37,10 @@ entry table row column = slice_index (slice_index_or table row []) column
 -- the check after digits that are taken from the right, at the places from i on
 unfoldable pub check_from : ℕ → ℕ → List ℕ → ℕ
 check_from i check [] = check
-check_from i check (digit ∷ digits) = check_from (i + 1) (entry products check (entry turns (i % 8) digit)) digits
+check_from i check (digit ∷ digits) =
+    check_from (i + 1) (entry products check (entry turns (i % 8) digit)) digits
 
--- the check of a whole number: 0 where its last digit is right
+-- Verhoeff's check of a whole number: 0 where its last digit is right
 abbrev pub check_digits : ℕ → ℕ
 check_digits n = check_from 0 0 (reverse (digits_of 10 n))
 

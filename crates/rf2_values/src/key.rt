@@ -1,26 +1,58 @@
 //! Keys: what names a row.
 
-ghost use Rattle.std.specs.Prelude.{◌≡◌};
-ghost use Rattle.rf2_values.specs.Key.{key_cmp};
+ghost use Rattle.std.specs.Prelude.{◌≡◌, refl};
+ghost use Rattle.std.proofs.Common.{rules};
+ghost use Rattle.std.specs.Cmp.{partial_order_from_agreeing_total};
+ghost use Rattle.std.specs.Cmp.Rules.{comparing};
+ghost use Rattle.std.specs.Ordering.{as_partial_cmp};
+ghost use Rattle.rf2_values.specs.Key.{key_cmp, keys_total};
 
 use crate::row::Kind;
 use crate::time::EffectiveTime;
 use std::cmp::Ordering;
 
 /// What names a row among all rows: its kind, its id and its effective time, compared in this order.
-#[derive(Clone, Copy, Debug, PartialEq, Eq, PartialOrd, Ord)]
+/// The fields stand in the order in which they take the least room.
+#[derive(Clone, Copy, Debug, PartialEq, Eq)]
 pub struct Key {
-    pub kind: Kind,
     /// An SCTID as a number, or a member id as one of 128 bits.
     pub id: u128,
     pub time: EffectiveTime,
+    pub kind: Kind,
 }
+
+const _: () = prove!(size_of::<Key>() == 32);
 
 impl Key {
     /// How the two keys stand in order, as `<` and `cmp` say.
     pub fn compare(&self, other: &Key) -> Ordering
         ensures { result ≡ key_cmp self.now other.now }
     {
-        self.cmp(other)
+        let ids = self.id.cmp(&other.id).then(self.time.cmp(&other.time));
+        self.kind.cmp(&other.kind).then(ids)
+    }
+}
+
+impl Ord for Key {
+    ghost cmp = { key_cmp };
+
+    ghost total = { keys_total };
+
+    ghost matches_partial_cmp = { Prim.search (comparing, rules) };
+
+    ghost matches_eq = { Prim.search (comparing, rules) };
+
+    fn cmp(&self, other: &Key) -> Ordering {
+        self.compare(other)
+    }
+}
+
+impl PartialOrd for Key {
+    ghost partial_cmp = { as_partial_cmp key_cmp };
+
+    ghost laws = { partial_order_from_agreeing_total key_cmp keys_total (λ _ _. refl) (Prim.search (comparing, rules)) };
+
+    fn partial_cmp(&self, other: &Key) -> Option<Ordering> {
+        Some(self.compare(other))
     }
 }

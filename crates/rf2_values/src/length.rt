@@ -1,7 +1,9 @@
 //! How long the line of a row is.
 
-ghost use Rattle.std.specs.Prelude.{◌≡◌, ◌+◌, ◌≤◌, ◌^◌, length, decimal};
-ghost use Rattle.rf2_values.specs.Row.{version, canonical, id_text, body_columns, columns_len};
+ghost use Rattle.std.specs.Prelude.{◌≡◌, ◌+◌, ◌≤◌, ◌^◌, ◌↔◌, IsTrue, length, decimal};
+ghost use Rattle.rf2_values.specs.Time.{IsTime};
+ghost use Rattle.rf2_values.specs.Private.{columns_len};
+ghost use Rattle.rf2_values.specs.Row.{version, canonical, id_text, body_columns, kind_of_body, IsIdOf, IsConcept, IsBody};
 
 use crate::row::{Body, Kind};
 use crate::sctid::Sctid;
@@ -69,7 +71,7 @@ fn body_len(body: &Body) -> u128
 }
 
 /// How many bytes the canonical spelling of a row with these columns has.
-pub fn line_len(id: u128, time: EffectiveTime, active: bool, module_id: Sctid, body: &Body) -> u128
+fn line_len(id: u128, time: EffectiveTime, active: bool, module_id: Sctid, body: &Body) -> u128
     ensures { result ≡ length (canonical (version id time active module_id body.now)) }
 {
     let flag_len = 2;
@@ -78,4 +80,27 @@ pub fn line_len(id: u128, time: EffectiveTime, active: bool, module_id: Sctid, b
         + flag_len
         + number_len(module_id.value())
         + body_len(body)
+}
+
+/// How many bytes the texts among the columns take, each with the TAB before it. Numbers take at most 126 more.
+fn texts_len(body: &Body) -> u128
+    requires { IsBody body.now }
+    ensures many { columns_len (body_columns body.now) ≤ result + 126 }
+    ensures short { result ≤ 2 ^ 65 }
+{
+    match body {
+        Body::Description(columns) => text_len(&columns.language_code) + text_len(&columns.term),
+        Body::Concept(_) | Body::Relationship(_) | Body::Association(_) => 0,
+    }
+}
+
+/// Whether the canonical spelling of a row with these columns fits a line. Mostly its texts tell, without counting digits.
+pub fn is_short(id: u128, time: EffectiveTime, active: bool, module_id: Sctid, body: &Body) -> bool
+    requires id { IsIdOf (kind_of_body body.now) id }
+    requires time { IsTime time }
+    requires module_id { IsConcept module_id }
+    requires body { IsBody body.now }
+    ensures { IsTrue result ↔ (length (canonical (version id time active module_id body.now)) ≤ 65535) }
+{
+    texts_len(body) <= 65_000 || line_len(id, time, active, module_id, body) <= 65_535
 }

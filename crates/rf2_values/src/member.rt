@@ -1,4 +1,4 @@
-//! Identifiers of members of reference sets.
+//! Identifiers of members of reference sets, as the column `id` of a reference set file has them.
 
 ghost use Rattle.std.specs.Prelude.{◌≡◌, ℕ, ◌<◌, ◌^◌, ◌++◌, ◌↔◌, Some, IfSome, IsTrue, OnOk, OnErr};
 ghost use Rattle.std.specs.List.{All};

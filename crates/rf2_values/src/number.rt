@@ -1,7 +1,7 @@
 //! Numbers in decimal digits.
 
 ghost use Rattle.std.specs.Prelude.{◌≡◌, ℕ, ◌<◌, ◌^◌, ◌↔◌, Some, IfSome, IsTrue, decimal};
-ghost use Rattle.rf2_values.specs.Number.{IsPlain};
+ghost use Rattle.rf2_values.specs.Private.{IsPlain};
 
 /// Whether the text has neither a plus sign nor a leading zero, and isn't empty.
 fn is_plain(text: &[u8]) -> bool

@@ -1,4 +1,7 @@
 //! Rows: one version of one component.
+//!
+//! The columns are those of the SNOMED CT Release File Specifications (RF2), in its sections "Concept File Specification",
+//! "Description File Specification", "Relationship File Specification" and "Association Reference Set".
 
 ghost use Rattle.std.specs.Prelude.{◌≡◌, ◌↔◌, IsTrue, IfOk, SomeIff};
 ghost use Rattle.rf2_values.specs.Row.{version, IsVersion, kind_of, kind_of_body};
@@ -12,47 +15,63 @@ use crate::{allowed, length};
 use std::alloc::{AllocError, Global};
 use std::marker::Model;
 
-/// What a release file lists.
+/// What a release file lists. The kinds stand in the order of keys.
 #[derive(Clone, Copy, Debug, PartialEq, Eq, PartialOrd, Ord)]
 pub enum Kind {
     Concept,
     Description,
     Relationship,
+    /// A member of an association reference set.
     Association,
 }
 
 /// The columns that only concepts have.
 #[derive(Clone, Copy, Debug, PartialEq, Eq)]
 pub struct Concept {
+    /// The column `definitionStatusId`: whether the concept is defined or primitive.
     pub definition_status: Sctid,
 }
 
 /// The columns that only descriptions have.
 #[derive(Debug, Drop, PartialEq, Eq)]
 pub struct Description {
+    /// The column `conceptId`: what is described.
     pub concept: Sctid,
+    /// The column `languageCode`, kept as it stands.
     pub language_code: Text,
+    /// The column `typeId`: whether it is a fully specified name or a synonym.
     pub type_id: Sctid,
+    /// The column `term`, kept as it stands.
     pub term: Text,
+    /// The column `caseSignificanceId`.
     pub case_significance: Sctid,
 }
 
 /// The columns that only relationships have.
 #[derive(Clone, Copy, Debug, PartialEq, Eq)]
 pub struct Relationship {
+    /// The column `sourceId`.
     pub source: Sctid,
+    /// The column `destinationId`.
     pub destination: Sctid,
+    /// The column `relationshipGroup`: 0 where the relationship stands alone.
     pub group: u32,
+    /// The column `typeId`: what the source has to do with the destination.
     pub type_id: Sctid,
+    /// The column `characteristicTypeId`: whether it is inferred, and how.
     pub characteristic_type: Sctid,
+    /// The column `modifierId`.
     pub modifier: Sctid,
 }
 
 /// The columns that only members of an association reference set have.
 #[derive(Clone, Copy, Debug, PartialEq, Eq)]
 pub struct Association {
+    /// The column `refsetId`: what the association means.
     pub refset: Sctid,
+    /// The column `referencedComponentId`: a concept, a description or a relationship.
     pub referenced: Sctid,
+    /// The column `targetComponentId`: a concept, a description or a relationship.
     pub target: Sctid,
 }
 
@@ -99,10 +118,15 @@ impl Body {
 /// One version of one component, as a line of a release file spells it.
 #[derive(Debug, Drop, PartialEq, Eq)]
 pub struct Row {
+    /// The column `id`: an SCTID as a number, or a member id (a UUID) as one of 128 bits.
     pub id: u128,
+    /// The column `effectiveTime`: the day from which this version holds.
     pub time: EffectiveTime,
+    /// The column `active`: false where the component is retired on that day.
     pub active: bool,
-    pub module: Sctid,
+    /// The column `moduleId`: the module that publishes the version.
+    pub module_id: Sctid,
+    /// The columns that only its kind has.
     pub body: Body,
 }
 
@@ -111,11 +135,11 @@ impl Model for Row {
 
     ghost Value = { Version };
 
-    ghost view = { λ r. version r.id r.time r.active r.module r.body };
+    ghost view = { λ r. version r.id r.time r.active r.module_id r.body };
 
-    ghost invariant = { λ r. IsVersion (version r.id r.time r.active r.module r.body) };
+    ghost invariant = { λ r. IsVersion (version r.id r.time r.active r.module_id r.body) };
 
-    ghost inverse = { λ v. record { id = v.id; time = v.time; active = v.active; «module» = v.module; body = v.body } };
+    ghost inverse = { λ v. record { id = v.id; time = v.time; active = v.active; module_id = v.module_id; body = v.body } };
 }
 
 impl Row {
@@ -127,12 +151,12 @@ impl Row {
         module_id: Sctid,
         body: Body,
     ) -> Option<Row>
-        ensures { SomeIff result (IsVersion (version id time active module_id body)) (version id time active module_id body) }
+        ensures { let row = version id time active module_id body in SomeIff result (IsVersion row) row }
     {
         let may_stand = allowed::is_id_of(body.kind(), id)
             && allowed::is_concept(module_id)
             && allowed::is_body(&body)
-            && length::line_len(id, time, active, module_id, &body) <= 65_535;
+            && length::is_short(id, time, active, module_id, &body);
         if may_stand {
             Some(Row::new(id, time, active, module_id, body))
         } else {
@@ -149,7 +173,7 @@ impl Row {
             id,
             time,
             active,
-            module: module_id,
+            module_id,
             body,
         }
     }
@@ -167,9 +191,9 @@ impl Row {
         ensures is_row { IsVersion self.now }
     {
         Key {
-            kind: self.kind(),
             id: self.id,
             time: self.time,
+            kind: self.kind(),
         }
     }
 
@@ -188,7 +212,7 @@ impl Row {
             self.id,
             self.time,
             self.active,
-            self.module,
+            self.module_id,
             self.body.try_clone(alloc)?,
         ))
     }

@@ -1,4 +1,7 @@
-//! SNOMED CT identifiers.
+//! SNOMED CT identifiers (SCTIDs), with the check digit of Verhoeff.
+//!
+//! The form is that of the SNOMED CT Release File Specifications, in its sections "SCTID Representation", "SCTID Constraints",
+//! "Check-digit" and "Partition Identifier".
 
 ghost use Rattle.std.specs.Prelude.{◌≡◌, ℕ, ◌<◌, ◌≤◌, Option, Some, IfSome, SomeIff, decimal};
 ghost use Rattle.rf2_values.specs.Sctid.{IsSctid, check_digits, class_of};
@@ -6,7 +9,7 @@ ghost use Rattle.rf2_values.specs.Sctid.{IsSctid, check_digits, class_of};
 use crate::number;
 use std::marker::Model;
 
-/// The multiplication of the dihedral group of ten elements.
+/// Verhoeff's multiplication table: the dihedral group of ten elements.
 const PRODUCTS: [[u8; 10]; 10] = [
     [0, 1, 2, 3, 4, 5, 6, 7, 8, 9],
     [1, 2, 3, 4, 0, 6, 7, 8, 9, 5],
@@ -20,7 +23,7 @@ const PRODUCTS: [[u8; 10]; 10] = [
     [9, 8, 7, 6, 5, 4, 3, 2, 1, 0],
 ];
 
-/// What becomes of a digit at each of eight places.
+/// Verhoeff's permutations: what becomes of a digit at each of eight places, counted from the right.
 const TURNS: [[u8; 10]; 8] = [
     [0, 1, 2, 3, 4, 5, 6, 7, 8, 9],
     [1, 5, 7, 6, 2, 8, 3, 0, 9, 4],
@@ -32,7 +35,7 @@ const TURNS: [[u8; 10]; 8] = [
     [7, 0, 4, 6, 9, 1, 3, 2, 5, 8],
 ];
 
-/// What an identifier identifies.
+/// What an identifier identifies, by its partition: the two digits before the check digit.
 #[derive(Clone, Copy, Debug, PartialEq, Eq)]
 pub enum Class {
     Concept,
@@ -40,7 +43,7 @@ pub enum Class {
     Relationship,
 }
 
-/// A SNOMED CT identifier.
+/// A SNOMED CT identifier: 6 to 18 decimal digits, the last of which is Verhoeff's check digit.
 #[derive(Clone, Copy, Debug, PartialEq, Eq, PartialOrd, Ord)]
 pub struct Sctid {
     value: u64,
@@ -56,7 +59,7 @@ impl Model for Sctid {
     ghost inverse = { λ n. record { value = n } };
 }
 
-/// The check of a number's digits: 0 where the last digit is right.
+/// Verhoeff's check of a number's digits: 0 where the last digit is right.
 fn check(number: u64) -> u8
     ensures { result ≡ check_digits number }
 {
@@ -73,7 +76,7 @@ fn check(number: u64) -> u8
 }
 
 impl Sctid {
-    /// The identifier with this number.
+    /// The identifier with this number, in any partition.
     pub fn of(value: u64) -> Option<Sctid>
         ensures { SomeIff result (IsSctid value) value }
     {
@@ -84,7 +87,7 @@ impl Sctid {
         }
     }
 
-    /// The identifier that the text spells.
+    /// The identifier that the text spells, without sign and leading zero.
     pub fn parse(text: &[u8]) -> Option<Sctid>
         ensures found { IfSome result (λ n. IsSctid n × (text.now ≡ decimal n)) }
         ensures only { (n : ℕ) → IsSctid n → text.now ≡ decimal n → result ≡ Some n }
@@ -92,7 +95,7 @@ impl Sctid {
         Sctid::of(number::parse(text)?)
     }
 
-    /// What it identifies, where its partition says so.
+    /// What it identifies, where its partition is one of 00, 01, 02 (short form) and 10, 11, 12 (long form, with a namespace).
     pub fn class(self) -> Option<Class>
         ensures { result ≡ class_of self }
     {

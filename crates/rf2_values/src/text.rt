@@ -27,16 +27,14 @@ impl Model for Text {
 fn is_text(bytes: &[u8]) -> bool
     ensures { IsTrue result ↔ IsText bytes.now }
 {
-    !bytes.is_empty()
-        && bytes.is_utf8()
-        && bytes.iter().all(|b| *b != b'\t')
-        && bytes.iter().all(|b| *b != b'\n')
+    !bytes.is_empty() && bytes.is_utf8() && bytes.iter().all(|b| *b != b'\t' && *b != b'\n')
 }
 
 impl Text {
     /// The text of these bytes.
     pub fn of(alloc: Global, bytes: &[u8]) -> Result<Option<Text>, AllocError>
-        ensures { IfOk result (λ found. MatchOption found (IsText bytes.now → ⊥) (λ t. (t ≡ bytes.now) × IsText t)) }
+        ensures { IfOk result
+            (λ found. MatchOption found (IsText bytes.now → ⊥) (λ t. (t ≡ bytes.now) × IsText t)) }
     {
         if !is_text(bytes) {
             return Ok(None);

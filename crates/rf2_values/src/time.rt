@@ -6,7 +6,7 @@ ghost use Rattle.rf2_values.specs.Time.{IsTime};
 use crate::number;
 use std::marker::Model;
 
-/// A day, as the number that its eight digits spell. The calendar isn't consulted.
+/// The column `effectiveTime`: a day, as the number that its eight digits (year, month, day) spell. Each month may have 31 days.
 #[derive(Clone, Copy, Debug, PartialEq, Eq, PartialOrd, Ord)]
 pub struct EffectiveTime {
     value: u32,
@@ -35,7 +35,7 @@ impl EffectiveTime {
         }
     }
 
-    /// The day that the text spells.
+    /// The day that the text spells, in eight digits.
     pub fn parse(text: &[u8]) -> Option<EffectiveTime>
         ensures found { IfSome result (λ t. IsTime t × (text.now ≡ decimal t)) }
         ensures only { (t : ℕ) → IsTime t → text.now ≡ decimal t → result ≡ Some t }

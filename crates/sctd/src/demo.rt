@@ -21,11 +21,11 @@ pub fn demo(alloc: Global) -> Result<Vec<u8>, Refusal> {
     };
     if let Some(mut release) = sample(alloc, "r1")? {
         release.files.truncate(1);
-        store.import(alloc, &release)?;
+        store.import(&release)?;
     }
     let pin = store.imports();
     let found = match EffectiveTime::of(DAY) {
-        Some(day) => store.lookup(alloc, Kind::Concept, ROOT, day, pin)?,
+        Some(day) => store.lookup(Kind::Concept, ROOT, day, pin)?,
         None => None,
     };
     Ok(reply(alloc, &found)?)

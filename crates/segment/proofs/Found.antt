@@ -26,7 +26,7 @@ pub record Agrees (common : RawCommon) (rest : List ℕ) (s : StampedRow) : Type
   pub time : s.row.time ≡ common.time
   pub import : s.import ≡ common.import
   pub active : active_code s.row.active ≡ common.active
-  pub «module» : s.row.«module» ≡ common.module_id
+  pub module_id : s.row.module_id ≡ common.module_id
   pub body : rest ≡ spelled (body_fields s.row.body)
 
 pub common_there : (record_bytes : List ℕ) (common : RawCommon) (rest : List ℕ) (s : StampedRow) → fields_at common_forms record_bytes ≡ Some (raw_common_fields common, rest)
@@ -35,7 +35,7 @@ common_there bytes common rest s read is e =
     let both = sym read ∙ ap (fields_at common_forms) e ∙ common_again s is in
     let parts = parts_are (raw_common_fields common) (common_fields s) rest (spelled (body_fields s.row.body)) both in
     let same = parts.0 in
-    record { kind = cc; id = cc; time = cc; import = cc; active = cc; «module» = cc; body = parts.1 }
+    record { kind = cc; id = cc; time = cc; import = cc; active = cc; module_id = cc; body = parts.1 }
 
 pub common_missing : (record_bytes : List ℕ) → fields_at common_forms record_bytes ≡ None → (s : StampedRow) → IsStamped s → record_bytes ≡ spelled (fields_of s) → ⊥
 common_missing bytes none s is e = let read = ap (fields_at common_forms) e ∙ common_again s is in absurd cc
@@ -45,7 +45,7 @@ pub row_found : (bytes : List ℕ) (common : RawCommon) (rest : List ℕ) (s : S
     → Agrees common rest s → bytes ≡ spelled (fields_of s)
 row_found bytes common rest s fits read a =
     let parts = fields_some common_forms bytes (raw_common_fields common, rest) fits read in
-    let same : raw_common_fields common ≡ common_fields s = λ i. Number w8 (sym a.kind i) ∷ Number w128 (sym a.id i) ∷ Number w32 (sym a.time i) ∷ Number w32 (sym a.import i) ∷ Number w8 (sym a.active i) ∷ Number w64 (sym a.«module» i) ∷ [] in
+    let same : raw_common_fields common ≡ common_fields s = λ i. Number w8 (sym a.kind i) ∷ Number w128 (sym a.id i) ∷ Number w32 (sym a.time i) ∷ Number w32 (sym a.import i) ∷ Number w8 (sym a.active i) ∷ Number w64 (sym a.module_id i) ∷ [] in
     parts.whole ∙ ap (λ (fields : List Field). spelled fields ++ rest) same ∙ ap (λ (end : List ℕ). spelled (common_fields s) ++ end) a.body
     ∙ sym (flat_map-append field_bytes (common_fields s) (body_fields s.row.body))
 

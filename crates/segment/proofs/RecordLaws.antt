@@ -41,7 +41,7 @@ small_time t is = omega (arith, is.year_to)
 
 common_fits : (s : StampedRow) → IsStamped s → AllByRecursion Fits (common_fields s)
 common_fits s is =
-    (small_kind (kind_of s.row), (small_id (kind_of s.row) s.row.id is.row.id, (small_time s.row.time is.row.time, (is.fits, (small_flag s.row.active, (omega (arith, is.row.module.sctid.high), tt))))))
+    (small_kind (kind_of s.row), (small_id (kind_of s.row) s.row.id is.row.id, (small_time s.row.time is.row.time, (is.fits, (small_flag s.row.active, (omega (arith, is.row.module_id.sctid.high), tt))))))
 
 body_fits : (b : Body) (id time active module_id : List ℕ) → IsBody b → length (line_of (id ∷ time ∷ active ∷ module_id ∷ body_columns b)) ≤ 65535 → AllByRecursion Fits (body_fields b)
 body_fits (bodies.Concept c) id time active module_id is short = (omega (arith, is.sctid.high), tt)
@@ -54,7 +54,7 @@ body_fits (bodies.Association a) id time active module_id is short =
     (omega (arith, is.0.sctid.high), (omega (arith, is.1.sctid.high), (omega (arith, is.2.sctid.high), tt)))
 
 pub row_fits : (v : Version) → IsVersion v → AllByRecursion Fits (body_fields v.body)
-row_fits v is = body_fits v.body (id_text (kind_of v) v.id) (decimal v.time) (flag v.active) (decimal v.«module») is.body is.short
+row_fits v is = body_fits v.body (id_text (kind_of v) v.id) (decimal v.time) (flag v.active) (decimal v.module_id) is.body is.short
 
 -- ---- reading the fields of a row again
 
@@ -155,8 +155,8 @@ same_rows s t e body_is =
     let import_is : s.import ≡ t.import = cc in
     let flag_is : active_code s.row.active ≡ active_code t.row.active = cc in
     let active_is : s.row.active ≡ t.row.active = code_flag s.row.active t.row.active flag_is in
-    let module_is : s.row.«module» ≡ t.row.«module» = cc in
-    λ i. record { row = record { id = id_is i; time = time_is i; active = active_is i; «module» = module_is i; body = body_is i }; import = import_is i }
+    let module_is : s.row.module_id ≡ t.row.module_id = cc in
+    λ i. record { row = record { id = id_is i; time = time_is i; active = active_is i; module_id = module_is i; body = body_is i }; import = import_is i }
 
 -- the fields of a record are those of one row
 pub same_spelled : (s t : StampedRow) → IsStamped s → IsStamped t → spelled (fields_of s) ≡ spelled (fields_of t) → s ≡ t
@@ -198,7 +198,7 @@ body_room (bodies.Relationship r) id time active module_id short = omega arith
 body_room (bodies.Association a) id time active module_id short = omega arith
 
 pub row_room : (v : Version) → IsVersion v → fields_len (body_fields v.body) ≤ 65563
-row_room v is = body_room v.body (id_text (kind_of v) v.id) (decimal v.time) (flag v.active) (decimal v.«module») is.short
+row_room v is = body_room v.body (id_text (kind_of v) v.id) (decimal v.time) (flag v.active) (decimal v.module_id) is.short
 
 pub length-fields : (s : StampedRow) → length (spelled (fields_of s)) ≡ 34 + fields_len (body_fields s.row.body)
 length-fields s = omega (arith, length-spelled (fields_of s))
@@ -254,7 +254,7 @@ regroup o l k i t n a m z = simp append_assoc
 
 -- what is put at the end, field after field, is the record
 pub record_appended : (s : StampedRow) (len kind id time import active module_id : ℕ) (b : Body)
-    → len ≡ length (record_of s) → kind ≡ kind_code (kind_of s.row) → id ≡ s.row.id → time ≡ s.row.time → import ≡ s.import → active ≡ active_code s.row.active → module_id ≡ s.row.«module» → b ≡ s.row.body
+    → len ≡ length (record_of s) → kind ≡ kind_code (kind_of s.row) → id ≡ s.row.id → time ≡ s.row.time → import ≡ s.import → active ≡ active_code s.row.active → module_id ≡ s.row.module_id → b ≡ s.row.body
     → (o o1 o2 o3 o4 o5 o6 o7 out : List ℕ)
     → o1 ≡ o ++ field_bytes (Number w32 len) → o2 ≡ o1 ++ field_bytes (Number w8 kind) → o3 ≡ o2 ++ field_bytes (Number w128 id) → o4 ≡ o3 ++ field_bytes (Number w32 time)
     → o5 ≡ o4 ++ field_bytes (Number w32 import) → o6 ≡ o5 ++ field_bytes (Number w8 active) → o7 ≡ o6 ++ field_bytes (Number w64 module_id) → out ≡ o7 ++ spelled (body_fields b)
@@ -266,7 +266,7 @@ record_appended s len kind id time import active module_id b len_is kind_is id_i
     let t = field_bytes (Number w32 s.row.time) in
     let n = field_bytes (Number w32 s.import) in
     let a = field_bytes (Number w8 (active_code s.row.active)) in
-    let m = field_bytes (Number w64 s.row.«module») in
+    let m = field_bytes (Number w64 s.row.module_id) in
     let z = spelled (body_fields s.row.body) in
     let whole : out ≡ (((((((o ++ l) ++ k) ++ i) ++ t) ++ n) ++ a) ++ m) ++ z = cc in
     let grouped : (((((((o ++ l) ++ k) ++ i) ++ t) ++ n) ++ a) ++ m) ++ z ≡ o ++ (l ++ (k ++ (i ++ (t ++ (n ++ (a ++ (m ++ z))))))) = regroup o l k i t n a m z in

@@ -1,4 +1,4 @@
--- What is found, and what a refusal says.
+-- What is found, and what a refusal says: words of the private readers of bytes, which no public clause cites.
 use Rattle.std.specs.Prelude.{◌≡◌, ℕ, List, ◌++◌, Result, Ok, Err, Some}
 use Rattle.rf2_values.specs.declared.row.Body.{Body}
 use Rattle.rf2_values.specs.declared.row.Kind.{Kind}

@@ -115,7 +115,7 @@ fn put_record(out: &mut Vec<u8>, stamped: &StampedRow) -> Result<(), AllocError>
     put_u32(out, row.time.value())?;
     put_u32(out, stamped.import)?;
     put_u8(out, code_of_active(row.active))?;
-    put_u64(out, row.module.value())?;
+    put_u64(out, row.module_id.value())?;
     put_body(out, &row.body)
 }
 

@@ -10,6 +10,7 @@ use Rattle.blocks.specs.declared.slots.Slot.{Slot}
 use Rattle.blocks.specs.declared.slots.Current.{Current}
 use Rattle.blocks.specs.declared.slots.SlotFault.{SlotFault}
 use Rattle.blocks.specs.declared.slots.SlotFault.TheVariants as slots
+use Rattle.fault_counts.specs.Counting.{HasRisen}
 use Rattle.blocks.specs.Slots.{IsCurrentWith, IsGreatest, content_of, epoch_of, ReadsCurrent, CountsSlotFault}
 use Rattle.blocks.proofs.Greatest.{one_slot, some_gate, not_two_equal}
 use Rattle.history_model.specs.declared.stamped.StampedRow.{StampedRow}
@@ -99,14 +100,11 @@ no_slot slots.NoSlot file into is = is
 no_slot slots.ShortSlot file into is = (is.0, λ store. let whole = store.1.2.stands.slot.0.whole in omega (arith, whole, is.1))
 no_slot slots.TwoEqual file into is = (inl is.1, λ store. let s = store.1.2 in not_two_equal file s.slot store.1.0 s.stands.slot.0 is.1 is.2 is.3)
 
-abbrev pub failed_slot : SlotFault → Result Current SlotFault
-failed_slot e = Err e
-
 abbrev pub failed_image : ImageFault → Result Current ImageFault
 failed_image e = Err e
 
-pub slot_counts : (e : SlotFault) (a b c : ℕ) → b ≡ a → CountsSlotFault (failed_slot e) b c → CountsFault (failed_image (of_slot e)) a c
-slot_counts slots.DiskFault a b c same counts = subst (λ (n : ℕ). CountsSlotFault (failed_slot slots.DiskFault) n c) same counts
+pub slot_counts : (e : SlotFault) (a b c : ℕ) → b ≡ a → CountsSlotFault e b c → CountsFault (failed_image (of_slot e)) a c
+slot_counts slots.DiskFault a b c same counts = subst (λ (n : ℕ). HasRisen n c) same counts
 slot_counts slots.NoSlot a b c same counts = counts ∙ same
 slot_counts slots.ShortSlot a b c same counts = counts ∙ same
 slot_counts slots.TwoEqual a b c same counts = counts ∙ same

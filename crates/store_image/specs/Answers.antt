@@ -1,6 +1,7 @@
 -- What making and opening answer.
 use Rattle.std.specs.Prelude.{◌≡◌, ◌⊎◌, ℕ, ◌≤◌, List, [], length, Result, Ok, Err}
-use Rattle.disk_model.specs.Disk.{Moments, HasRisen, followed_by, settled}
+use Rattle.fault_counts.specs.Counting.{HasRisen}
+use Rattle.disk_model.specs.Disk.{Moments, followed_by, settled}
 use Rattle.blocks.specs.declared.slots.Slot.TheVariants.{A, B}
 use Rattle.blocks.specs.declared.slots.SlotFault.{SlotFault}
 use Rattle.blocks.specs.declared.slots.SlotFault.TheVariants as slots
@@ -77,7 +78,7 @@ StandingIsOpened = (file : List ℕ) (h : History) (epoch : ℕ) (entries : List
 abbrev pub CountsFault : {T : Type 0} → Result T ImageFault → ℕ → ℕ → Type 0
 CountsFault (Ok done) old new = new ≡ old
 CountsFault (Err faults.OutOfMemory) old new = new ≡ old
-CountsFault (Err faults.DiskFault) old new = HasRisen old new × (old ≤ new)
+CountsFault (Err faults.DiskFault) old new = HasRisen old new
 CountsFault (Err faults.NotEmpty) old new = new ≡ old
 CountsFault (Err faults.NotAStore) old new = new ≡ old
 CountsFault (Err faults.Damaged) old new = new ≡ old

@@ -1,7 +1,8 @@
 //! The two ways of writing the next directory: behind the slots with a segment first, or alone.
 
 ghost use Rattle.std.specs.Prelude.{◌≡◌, ◌⊎◌, ◌↔◌, ◌++◌, ◌∷◌, [], List, length, IfOk, OnOk};
-ghost use Rattle.disk_model.specs.Disk.{EachImage, LeavesOnly, CountsFailure};
+ghost use Rattle.disk_model.specs.Disk.{EachImage, LeavesOnly};
+ghost use Rattle.fault_counts.specs.Counting.{CountsEach};
 ghost use Rattle.blocks.specs.Extents.{byte_range};
 ghost use Rattle.blocks.specs.Outside.{SameOutside};
 ghost use Rattle.blocks.specs.Slots.{other, slot_range};
@@ -37,7 +38,7 @@ pub fn publish_listing<D: Disk>(
     ensures elsewhere { D.is_honest disk.old → OnOk result (SameOutside (slot_range (other slot) ∷ []) (D.moments disk.old).state.now (D.moments disk.new).state.now) }
     ensures next { IfOk result (λ published. published ≡ other slot) }
     ensures honesty { D.is_honest disk.old ↔ D.is_honest disk.new }
-    ensures failures { CountsFailure result (D.failures disk.old) (D.failures disk.new) }
+    ensures failures { CountsEach result (D.failures disk.old) (D.failures disk.new) }
 {
     let content = content_of(next);
     let current = Current {
@@ -69,7 +70,7 @@ pub fn add_segment<D: Disk>(
     ensures elsewhere { D.is_honest disk.old → OnOk result (SameOutside (byte_range (extent_of entry) ∷ slot_range (other slot) ∷ []) (D.moments disk.old).state.now (D.moments disk.new).state.now) }
     ensures next { IfOk result (λ published. published ≡ other slot) }
     ensures honesty { D.is_honest disk.old ↔ D.is_honest disk.new }
-    ensures failures { CountsFailure result (D.failures disk.old) (D.failures disk.new) }
+    ensures failures { CountsEach result (D.failures disk.old) (D.failures disk.new) }
 {
     write_through(disk, BLOCK * u64::from(entry.first), bytes)?;
     publish_listing(disk, slot, next)

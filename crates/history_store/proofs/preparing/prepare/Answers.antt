@@ -5,7 +5,11 @@ use Rattle.history_model.specs.InOrder.{IsAscending}
 use Rattle.history_model.specs.History.{stamped, stamped_cmp}
 use Rattle.segment.specs.Records.{IsSegment}
 use Rattle.history_store.specs.Prepared.{IsPlacedAt}
+use Rattle.segment.specs.Standing.{places_of}
 use Rattle.history_store.proofs.NewSegment.{ascending_stamped, from_one, added_listing, prepared_is, length-stamped}
+use Rattle.segment.specs.declared.place.Posted.{Posted}
+use Rattle.as_of_index.specs.Places.{place_cmp}
+use Rattle.history_store.proofs.Places.{ascending_places}
 use Rattle.history_store.proofs.preparing.prepare.Goals as goal
 
 pub encode-requires-clause-ascending : goal.encode-requires-clause-ascending
@@ -30,4 +34,9 @@ returns-clause-prepared c =
     let listing = added_listing c.args.directory.now c.in_ok-next.next c.deref.result.now c.in_ok-entry.entry c.place.ensures.listing c.requires.not_spent some c.in_ok-entry.ensures.placed c.in_ok-next.ensures in
     let placed = subst (λ (l : List StampedRow). IsPlacedAt c.args.directory.now l c.in_ok-entry.entry) (c.deref.ensures.value ∙ list) c.in_ok-entry.ensures.placed in
     let segment = subst (λ (l : List StampedRow). IsSegment l c.in_ok-bytes.bytes.items) (c.deref-2.ensures.value ∙ list) c.in_ok-bytes.ensures in
-    prepared_is c.args.directory.now _ _ c.in_ok-next.next listing placed c.in_ok-next.ensures c.add.ensures list segment
+    prepared_is c.args.directory.now _ _ c.in_ok-next.next listing placed c.in_ok-next.ensures c.add.ensures (c.in_ok-places.ensures.placed.1 ∙ c.deref-3.ensures.value ∙ list) (c.new.ensures ∙ c.in_ok-places.ensures.placed.0 ∙ ap places_of (c.deref-3.ensures.value ∙ list)) segment
+
+pub new-requires : goal.new-requires
+new-requires c =
+    let same = c.deref-3.ensures.value ∙ c.in_ok-list.ensures in
+    subst (λ (p : List Posted). IsAscending place_cmp p) (sym (c.in_ok-places.ensures.placed.0 ∙ ap places_of same)) (ascending_places _ (ascending_stamped _ c.args.fresh.items c.requires.ascending))

@@ -1,6 +1,7 @@
 use Rattle.std.proofs.Common.{◌≡◌, length, drop, sym, ap, ◌∙◌, arith}
 use Rattle.std.proofs.lemmas.List.{take_rest}
-use Rattle.rf2_rows.specs.Line.{columns_in, own_layout, texts, FirstFault, IsFaultOfColumns}
+use Rattle.rf2_rows.specs.Line.{columns_in, own_layout, FirstFault, IsFaultOfColumns}
+use Rattle.rf2_rows.specs.Private.{texts}
 use Rattle.std.proofs.lemmas.Result.{err_from_is_err_and}
 use Rattle.rf2_rows.proofs.Faults.{fault_in_common, fault_in_own, given_map, row_of_columns}
 use Rattle.rf2_rows.proofs.line.read_columns.Goals as goal
@@ -21,7 +22,7 @@ returns-in_err-body c =
     let h = c.in_ok-common.ensures in
     rw (p.1, p.2) (given_map (FirstFault (columns_in (own_layout c.args.kind)) (texts (drop 4 c.args.columns.now))) (IsFaultOfColumns c.args.kind (texts c.args.columns.now))
     (λ f. fault_in_own c.args.kind c.args.columns.now f (omega arith) own_len
-    ((common.id, h.0, h.1), ((common.time, h.2, h.3), ((common.active, h.4), ((common.module, h.5, h.6), tt))))) c.in_err-body.field-0.0 (rw own at c.in_err-body.ensures))
+    ((common.id, h.0, h.1), ((common.time, h.2, h.3), ((common.active, h.4), ((common.module_id, h.5, h.6), tt))))) c.in_err-body.field-0.0 (rw own at c.in_err-body.ensures))
 
 pub new-requires : goal.new-requires
 new-requires c =
@@ -29,5 +30,5 @@ new-requires c =
     let common = c.in_ok-common.common in
     let h = c.in_ok-common.ensures in
     let b = c.in_ok-body.ensures in
-    row_of_columns c.args.kind c.args.columns.now common.id common.time common.active common.module c.in_ok-body.body (omega arith)
+    row_of_columns c.args.kind c.args.columns.now common.id common.time common.active common.module_id c.in_ok-body.body (omega arith)
     h.0 h.1 h.2 h.3 h.4 h.5 h.6 b.0 b.1 (sym (ap texts own) ∙ b.2) c.requires

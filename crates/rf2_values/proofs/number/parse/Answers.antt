@@ -1,7 +1,7 @@
 use Rattle.std.proofs.Common.{subst, sym}
 use Rattle.std.specs.Str.{IsUtf8}
 use Rattle.std.proofs.lemmas.Bool.{both_ways}
-use Rattle.rf2_values.specs.Number.{IsPlain}
+use Rattle.rf2_values.specs.Private.{IsPlain}
 use Rattle.rf2_values.proofs.Decimals.{decimal_is_plain, decimal_is_utf8, parsed, reads}
 use Rattle.rf2_values.proofs.number.parse.Goals as goal
 

@@ -6,7 +6,7 @@ use Rattle.segment.proofs.RecordLaws.{row_fits, record_appended}
 use Rattle.segment.proofs.encoding.put_record.Goals as goal
 
 pub put_body-requires : goal.put_body-requires
-put_body-requires c = row_fits (version c.row.inside.id c.row.inside.time c.row.inside.active c.row.inside.«module» c.row.inside.body) c.row.invariant
+put_body-requires c = row_fits (version c.row.inside.id c.row.inside.time c.row.inside.active c.row.inside.module_id c.row.inside.body) c.row.invariant
 
 pub returns-clause-bytes : goal.returns-clause-bytes
 returns-clause-bytes c =
@@ -14,7 +14,7 @@ returns-clause-bytes c =
     on_ok_weaker c.put_body.result
     (λ last. record_appended c.args.stamped.now _ _ _ _ _ _ _ c.row.inside.body
     c.record_len.ensures (c.code_of.ensures ∙ ap kind_code c.kind.ensures.kind) (ap (λ (v : Version). v.id) is) (c.value.ensures.value ∙ ap (λ (v : Version). v.time) is) refl
-    (c.code_of_active.ensures ∙ ap (λ (v : Version). active_code v.active) is) (c.value-2.ensures.value ∙ ap (λ (v : Version). v.«module») is) (ap (λ (v : Version). v.body) is)
+    (c.code_of_active.ensures ∙ ap (λ (v : Version). active_code v.active) is) (c.value-2.ensures.value ∙ ap (λ (v : Version). v.module_id) is) (ap (λ (v : Version). v.body) is)
     _ _ _ _ _ _ _ _ _
     c.in_ok-put_u32.ensures c.in_ok-put_u8.ensures c.in_ok-put_u128.ensures c.in_ok-put_u32-2.ensures c.in_ok-put_u32-3.ensures c.in_ok-put_u8-2.ensures c.in_ok-put_u64.ensures last)
     c.put_body.ensures

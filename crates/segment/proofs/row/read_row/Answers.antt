@@ -46,7 +46,7 @@ pub returns-in_err-module_id : goal.returns-in_err-module_id
 returns-in_err-module_id c =
     passed_on IsSctid (λ (n : ℕ). n ≡ c.in-Some.common.module_id) IsStamped (IsRowIn c.args.bytes.now) c.from_residual-in_err-module_id.result c.in_err-module_id.field-0.0
     (err_from_is_err_and c.from_residual-in_err-module_id.result c.from_residual-in_err-module_id.ensures.1) c.in_err-module_id.ensures
-    (λ s is has. let a = common_there c.args.bytes.now c.in-Some.common c.in-Some.rest.now s c.in-Some.ensures is has.1 in (s.row.«module», is.row.«module».sctid, a.«module»))
+    (λ s is has. let a = common_there c.args.bytes.now c.in-Some.common c.in-Some.rest.now s c.in-Some.ensures is has.1 in (s.row.module_id, is.row.module_id.sctid, a.module_id))
 
 pub returns-in_err-body : goal.returns-in_err-body
 returns-in_err-body c =
@@ -63,7 +63,7 @@ returns-in-None c = λ s is has.
     let kind_is = code_kind (kind_of s.row) c.in_ok-kind.kind (a.kind ∙ sym c.in_ok-kind.ensures) in
     let time_is : s.row.time ≡ c.in_ok-time.time = a.time ∙ sym c.in_ok-time.ensures in
     let active_is : s.row.active ≡ c.in_ok-active.active = code_flag s.row.active c.in_ok-active.active (a.active ∙ sym c.in_ok-active.ensures) in
-    let module_is : s.row.«module» ≡ c.in_ok-module_id.module_id = a.«module» ∙ sym c.in_ok-module_id.ensures in
+    let module_is : s.row.module_id ≡ c.in_ok-module_id.module_id = a.module_id ∙ sym c.in_ok-module_id.ensures in
     let body_is : s.row.body ≡ c.in_ok-body.body = one_body c.in_ok-kind.kind c.in-Some.rest.now s.row.body c.in_ok-body.body (body_there s c.in_ok-kind.kind c.in-Some.rest.now is kind_is a.body) c.in_ok-body.ensures in
     let same : s.row ≡ version c.in-Some.common.id c.in_ok-time.time c.in_ok-active.active c.in_ok-module_id.module_id c.in_ok-body.body = λ i. version (a.id i) (time_is i) (active_is i) (module_is i) (body_is i) in
     c.in-None.ensures (subst IsVersion same is.row)
@@ -80,7 +80,7 @@ returns-in-Some-of c =
       time = c.in_ok-time.ensures;
       import = c.in_ok-import.ensures.1;
       active = c.in_ok-active.ensures;
-      «module» = c.in_ok-module_id.ensures;
+      module_id = c.in_ok-module_id.ensures;
       body = body_bytes c.in_ok-kind.kind c.in-Some.rest.now c.in_ok-body.body parts.rest_fits c.in_ok-body.ensures;
     } in
     let small : c.in_ok-import.import < 2 ^ 32 = omega (arith, c.in_ok-import.ensures.1) in

@@ -3,6 +3,7 @@ use Rattle.std.specs.List.{flat_map}
 use Rattle.std.proofs.lemmas.Result.{err_from_is_err_and}
 use Rattle.directory.specs.declared.listing.DirectoryFault.{DirectoryFault}
 use Rattle.directory.specs.declared.listing.DirectoryFault.TheVariants.{OutOfMemory, BadDirectory}
+use Rattle.directory.specs.Listings.{most_entries}
 use Rattle.directory.specs.Content.{Lists, entry_bytes, header_bytes, listing_bytes}
 use Rattle.directory.proofs.Spelled.{listed, table_of, block_is, one_listing, header_length}
 use Rattle.directory.proofs.listing.Directory.decode.Goals as goal
@@ -11,7 +12,7 @@ pub returns-in_default-clause-only : goal.returns-in_default-clause-only
 returns-in_default-clause-only c d lists =
     absurd (c.in_default.ensures.only d.epoch d.imports (length d.entries) (flat_map entry_bytes d.entries ++ drop (length (listing_bytes d)) c.args.block.now) lists.is.epoch lists.is.epoch_fits lists.is.count (block_is c.args.block.now d lists))
 
-enough : (block rest : List ℕ) (epoch imports count size : ℕ) → block ≡ header_bytes epoch imports count ++ rest → count ≤ 128 → length block ≡ size → 32 + 16 * 128 ≤ size → 16 * count ≤ length rest
+enough : (block rest : List ℕ) (epoch imports count size : ℕ) → block ≡ header_bytes epoch imports count ++ rest → count ≤ most_entries → length block ≡ size → 32 + 16 * most_entries ≤ size → 16 * count ≤ length rest
 enough block rest epoch imports count size e few is room = omega (arith, ap length e, length-append (header_bytes epoch imports count) rest, header_length epoch imports count, few, is, room)
 
 pub read_entries-requires-clause-there : goal.read_entries-requires-clause-there

@@ -2,7 +2,7 @@ use Rattle.std.proofs.Common.{List, sym, ◌∙◌, ap}
 use Rattle.disk_model.specs.Change.{Change, replayed, made}
 use Rattle.disk_model.specs.Contents.{shown}
 use Rattle.disk_model.specs.Record.{changes_in}
-use Rattle.disk_model.specs.Replayed.{now-made}
+use Rattle.disk_model.proofs.Calls.{now-made}
 use Rattle.disk_model.specs.declared.memory.contents.Contents.{Contents}
 use Rattle.disk_model.proofs.memory.MemDisk.from_bytes.Goals as goal
 

@@ -1,6 +1,12 @@
-use Rattle.history_store.proofs.Held.{held_first}
+use Rattle.std.proofs.Common.{ap, refl}
+use Rattle.history_store.specs.Shelf.{shelf_of}
+use Rattle.history_store.proofs.Held.{held_first, new_history}
 use Rattle.history_store.proofs.store.Store.create.Goals as goal
 
 pub invariant_of-result : goal.invariant_of-result
 invariant_of-result g c =
-    held_first _ _ _ _ _ c.in-Ok.ensures.made.1 c.new.ensures.items (λ honest. c.in-Ok.ensures.on_disk (c.make.ensures.honesty.1 honest))
+    held_first _ _ _ _ _ _ _ c.in-Ok.ensures.empty.0 c.in-Ok.ensures.empty.1 c.new.ensures.items c.in-Ok.ensures.empty.2 (λ honest. c.in-Ok.ensures.on_disk (c.start.ensures.honesty.1 honest))
+
+pub returns-in-Ok-clause-made : goal.returns-in-Ok-clause-made
+returns-in-Ok-clause-made g c = λ honest.
+    (c.in-Ok.ensures.made honest, record { history = new_history _ _ c.in-Ok.ensures.empty.0 c.new.ensures.items; shelf = ap shelf_of c.in-Ok.ensures.empty.0; open_still = refl })

@@ -1,0 +1,107 @@
+#!/usr/bin/env python3
+"""Measures a store in a file on releases that make_release.py made.
+
+measure.py PROGRAM FOLDER [ROWS ..]
+
+PROGRAM is the built crate bench_store. For each number of rows (235000 and 2350000, if none is
+given) a Full release and a Delta are made in FOLDER, if they aren't there, and each piece of work
+is run as a process of its own on a store in a file: its seconds of processor and wall, and the
+peak of its resident memory less that of opening an empty store. Standard library alone.
+"""
+
+import os
+import random
+import subprocess
+import sys
+import time
+
+HERE = os.path.dirname(os.path.abspath(__file__))
+
+
+class Work:
+    """What a run of the program cost, and what it printed."""
+
+    def __init__(self, words):
+        start = time.monotonic()
+        child = subprocess.Popen(words, stdout=subprocess.PIPE)
+        self.text = child.stdout.read().decode().strip()
+        _, status, usage = os.wait4(child.pid, 0)
+        self.wall = time.monotonic() - start
+        self.processor = usage.ru_utime + usage.ru_stime
+        self.peak = usage.ru_maxrss * 1024
+        if status != 0:
+            raise SystemExit("failed: %s" % " ".join(words))
+
+
+def first_column(path, count, chance):
+    """Ids of rows that are drawn from a file."""
+    with open(path, "rb") as file:
+        lines = file.read().split(b"\r\n")[1:-1]
+    return [chance.choice(lines).split(b"\t") for _ in range(count)]
+
+
+def write_lines(path, lines):
+    with open(path, "wb") as file:
+        file.write(b"\n".join(lines))
+
+
+def made(folder, rows):
+    """The folder of the releases of so many rows, with the words of the queries."""
+    place = os.path.join(folder, str(rows))
+    if not os.path.isdir(os.path.join(place, "full")):
+        subprocess.check_call([sys.executable, os.path.join(HERE, "make_release.py"), place, str(rows)])
+    chance = random.Random(7)
+    terminology = os.path.join(place, "full", "Terminology")
+    names = {name.split("_")[1]: os.path.join(terminology, name) for name in os.listdir(terminology)}
+    concepts = first_column(names["Concept"], 10000, chance)
+    write_lines(os.path.join(place, "concepts"), [columns[0] for columns in concepts])
+    terms = first_column(names["Description"], 1000, chance)
+    write_lines(os.path.join(place, "terms"), [b" ".join(row[7].split(b" ")[:3]) for row in terms])
+    parents = first_column(names["Relationship"], 1000, chance)
+    write_lines(os.path.join(place, "parents"), [columns[5] for columns in parents])
+    write_lines(os.path.join(place, "pages"), [columns[0] for columns in concepts[:1000]])
+    return place
+
+
+def measure(program, folder, rows):
+    place = made(folder, rows)
+    store, empty = os.path.join(place, "store"), os.path.join(place, "empty")
+    for path in (store, empty):
+        if os.path.exists(path):
+            os.remove(path)
+        Work([program, "make", path])
+    ground = Work([program, "open", empty]).peak
+
+    def run(title, *words, less=None):
+        work = Work([program, words[0], store, *words[1:]])
+        processor = work.processor - (less.processor if less else 0)
+        wall = work.wall - (less.wall if less else 0)
+        peak = (work.peak - ground) / rows
+        print("| %d | %s | %.2f | %.2f | %.0f | %s |" % (rows, title, processor, wall, peak, work.text))
+        return work
+
+    run("import the Full release", "import", place, "full")
+    opening = run("open", "open")
+    for title, words in (
+        ("10,000 lookups", ("lookups", os.path.join(place, "concepts"))),
+        ("1,000 pages of 100", ("pages", os.path.join(place, "pages"))),
+        ("1,000 searches of terms", ("terms", os.path.join(place, "terms"))),
+        ("1,000 questions for children", ("children", os.path.join(place, "parents"))),
+    ):
+        run(title, *words, less=opening)
+    run("import a Delta of 100 rows", "import", place, "delta", less=opening)
+
+
+def main(words):
+    if len(words) < 2:
+        print(__doc__.strip(), file=sys.stderr)
+        return 2
+    print("| Rows | Work | Processor seconds | Wall seconds | Peak bytes a row | Count |")
+    print("|---|---|---|---|---|---|")
+    for rows in [int(word) for word in words[2:]] or [235000, 2350000]:
+        measure(os.path.abspath(words[0]), words[1], rows)
+    return 0
+
+
+if __name__ == "__main__":
+    sys.exit(main(sys.argv[1:]))

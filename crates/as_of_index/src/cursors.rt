@@ -1,0 +1,83 @@
+//! One cursor a list: all that stands before it is passed over.
+
+ghost use Rattle.std.specs.Prelude.{◌≡◌, IfOk, Some};
+ghost use Rattle.as_of_index.specs.Search.{all_places, ArePassed, IsPick, IsNext, IsNextId};
+ghost use Rattle.as_of_index.specs.declared.search.Start.TheVariants as starts;
+
+use crate::listed::Listed;
+use crate::search::{Start, go_on, is_of, later, latest_before, place, place_at, sooner};
+use rf2_values::{EffectiveTime, Kind};
+use segment::Posted;
+use std::alloc::{AllocError, Global};
+
+/// Each at the first place of its list that isn't passed over.
+pub(crate) fn cursors_at(
+    alloc: Global,
+    lists: &[Listed],
+    start: &Start,
+) -> Result<Vec<usize>, AllocError>
+    ensures { IfOk result (λ cursors. ArePassed start.now lists.now cursors.items) }
+{
+    let mut cursors = Vec::with_capacity(alloc, lists.len())?;
+    for list in lists {
+        cursors.push(place(list.places(), *start))?;
+    }
+    Ok(cursors)
+}
+
+/// The first place of all lists that isn't passed over, and the number of its list. The cursors go on to it or beyond.
+fn next_on(lists: &[Listed], cursors: &mut Vec<usize>, start: &Start) -> Option<(usize, Posted)>
+    requires { ArePassed start.now lists.now cursors.old.items }
+    ensures next { IsNext start.now (λ x. x.1) (all_places 0 lists.now) result }
+    ensures passed { ArePassed start.now lists.now cursors.new.items }
+{
+    let mut best = None;
+    for (segment, list) in lists.iter().enumerate() {
+        let places = list.places();
+        let first = go_on(places, cursors[segment], start);
+        cursors[segment] = first;
+        best = sooner(best, segment, place_at(places, first));
+    }
+    best
+}
+
+/// The least id of a kind above `after`, if that is given.
+pub(crate) fn next_id(
+    lists: &[Listed],
+    cursors: &mut Vec<usize>,
+    kind: Kind,
+    after: Option<u128>,
+) -> Option<u128>
+    requires { ArePassed (starts.Components kind after) lists.now cursors.old.items }
+    ensures next { IsNextId kind after (all_places 0 lists.now) result }
+    ensures passed { ArePassed (starts.Components kind after) lists.now cursors.new.items }
+{
+    let start = Start::Components { kind, after };
+    match next_on(lists, cursors, &start) {
+        Some((_, first)) if is_of(kind, first.key.id, &first) => Some(first.key.id),
+        _ => None,
+    }
+}
+
+/// The latest version of the component up to the date that the pin shows, and the number of its list.
+pub(crate) fn latest_on(
+    lists: &[Listed],
+    cursors: &[usize],
+    kind: Kind,
+    id: u128,
+    time: EffectiveTime,
+    pin: u32,
+) -> Option<(usize, Posted)>
+    requires { ArePassed (starts.AfterVersion kind id time) lists.now cursors.now }
+    ensures { IsPick kind id time pin (λ x. x.1) (all_places 0 lists.now) result }
+{
+    let start = Start::AfterVersion { kind, id, time };
+    let mut best = None;
+    for (segment, list) in lists.iter().enumerate() {
+        let places = list.places();
+        let end = go_on(places, cursors[segment], &start);
+        let found = latest_before(places, end, kind, id, pin);
+        best = later(best, segment, found);
+    }
+    best
+}

@@ -1,0 +1,73 @@
+//! Searches in several lists of places, by a bisection in each.
+
+ghost use Rattle.std.specs.Prelude.{◌↔◌, IsTrue};
+ghost use Rattle.std.specs.List.{AllByRecursion};
+ghost use Rattle.history_model.specs.InOrder.{IsAscending};
+ghost use Rattle.as_of_index.specs.Places.{place_cmp, ShareNoKey};
+ghost use Rattle.as_of_index.specs.Search.{all_places, IsPick, IsNext, IsNextVersion};
+
+use crate::listed::Listed;
+use crate::search::{Start, is_of, later, latest_in, next_in, share_no_key, sooner};
+use rf2_values::{EffectiveTime, Kind};
+use segment::Posted;
+
+/// The latest version of the component up to the date that the pin shows, and the number of its list.
+pub(crate) fn latest(
+    lists: &[Listed],
+    kind: Kind,
+    id: u128,
+    time: EffectiveTime,
+    pin: u32,
+) -> Option<(usize, Posted)>
+    ensures { IsPick kind id time pin (λ x. x.1) (all_places 0 lists.now) result }
+{
+    let mut best = None;
+    for (segment, list) in lists.iter().enumerate() {
+        let found = latest_in(list.places(), kind, id, time, pin);
+        best = later(best, segment, found);
+    }
+    best
+}
+
+/// The first place of all lists that isn't passed over, and the number of its list.
+fn next(lists: &[Listed], start: &Start) -> Option<(usize, Posted)>
+    ensures { IsNext start.now (λ x. x.1) (all_places 0 lists.now) result }
+{
+    let mut best = None;
+    for (segment, list) in lists.iter().enumerate() {
+        let found = next_in(list.places(), *start);
+        best = sooner(best, segment, found);
+    }
+    best
+}
+
+/// The first version of a component after a time, if that is given.
+pub(crate) fn next_version(
+    lists: &[Listed],
+    kind: Kind,
+    id: u128,
+    after: Option<EffectiveTime>,
+) -> Option<(usize, Posted)>
+    ensures { IsNextVersion kind id after (all_places 0 lists.now) result }
+{
+    let start = Start::Later { kind, id, after };
+    match next(lists, &start) {
+        Some((segment, p)) if is_of(kind, id, &p) => Some((segment, p)),
+        _ => None,
+    }
+}
+
+/// Whether no key of the list is in one of the others.
+pub(crate) fn is_apart(lists: &[Listed], list: &Listed) -> bool
+    ensures apart { IsTrue result
+        ↔ AllByRecursion (λ places. ShareNoKey places list.now) lists.now }
+    ensures ascending { IsAscending place_cmp list.now }
+{
+    let places = list.places();
+    for own in lists {
+        if !share_no_key(own.places(), places) {
+            return false;
+        }
+    }
+    true
+}

@@ -1,0 +1,90 @@
+-- The sources that are taken from all lists are the children.
+use Rattle.std.proofs.Common.{◌≡◌, ℕ, true, Bool, List, [], map, refl, sym, ap, subst, inl, inr, ◌∙◌, arith}
+use Rattle.std.specs.Prelude.{◌&&◌, ◌==◌}
+use Rattle.std.specs.List.{filter}
+use Rattle.std.specs.Ordering.{nat_cmp}
+use Rattle.std.specs.Cmp.{nat_cmp_total, ranked}
+use Rattle.std.specs.declared.cmp.Ordering.TheVariants.{Equal}
+use Rattle.std.proofs.lemmas.Bool.Decides.{nat_tests}
+use Rattle.rf2_values.specs.declared.row.Body.{Body}
+use Rattle.rf2_values.specs.declared.row.Body.TheVariants as body
+use Rattle.rf2_values.specs.Row.{Version}
+use Rattle.rf2_values.specs.Key.{key_of}
+use Rattle.history_model.specs.declared.stamped.StampedRow.{StampedRow}
+use Rattle.history_model.specs.InOrder.{Has, in_order, joined}
+use Rattle.history_model.specs.Queries.{snapshot, is_child_of, says_is_a, is_a, source_of}
+use Rattle.history_model.proofs.InOrder.{same_ascending, Has-put_all_cases, Has-put_all_new, IsAscending-in_order}
+use Rattle.history_model.proofs.Filtered.{both, Has-filter, Has-filter_from, Has-map, Has-map_from}
+use Rattle.segment.specs.Standing.{places_of}
+use Rattle.as_of_index.specs.Places.{ArePlaces}
+use Rattle.as_of_index.specs.Current.{is_among}
+use Rattle.as_of_index.specs.Postings.{numbered}
+use Rattle.as_of_index.proofs.Among.{among_from, among_has, looked_up}
+use Rattle.as_of_index.proofs.Current.{standing_row, one_row, shown, current_where}
+use Rattle.associations.specs.declared.postings.Link.{Link}
+use Rattle.associations.specs.Edges.{Edges, links_in}
+use Rattle.associations.specs.Children.{PostsLinks, link_keys, children_among}
+use Rattle.associations.specs.Collecting.{IsThere, AreSources}
+use Rattle.associations.proofs.Numbering.{has_numbered, number_of}
+
+eq_of : (m n : ℕ) → (m == n) ≡ true → m ≡ n
+eq_of m n e = grind (arith, nat_tests, e)
+
+-- who is a child of two is a child of one
+says_dest : (c d : ℕ) (b : Body) → says_is_a c b ≡ true → says_is_a d b ≡ true → c ≡ d
+says_dest c d (body.Concept x) e f = absurd (cc)
+says_dest c d (body.Description x) e f = absurd (cc)
+says_dest c d (body.Relationship r) e f = sym (eq_of r.destination c (both (r.destination == c) (r.type_id == is_a) e).0) ∙ eq_of r.destination d (both (r.destination == d) (r.type_id == is_a) f).0
+says_dest c d (body.Association x) e f = absurd (cc)
+
+dest_of : (c d : ℕ) (row : Version) → is_child_of c row ≡ true → is_child_of d row ≡ true → c ≡ d
+dest_of c d row e f = says_dest c d row.body (both row.active (says_is_a c row.body) e).1 (both row.active (says_is_a d row.body) f).1
+
+-- a number that ties with one that is there is there
+number_there : (ids : List ℕ) (id : ℕ) → IsThere nat_cmp ids id → Has ids id
+number_there ids id w = subst (λ m. Has ids m) (sym (ranked id w.0 Equal (sym w.2))) w.1
+
+module _ (lists : List (List StampedRow)) (are : ArePlaces (map places_of lists)) (edges : List Edges) (posts : PostsLinks lists edges) (concept date pin : ℕ) where
+  abbrev at_date : List Version
+  at_date = snapshot (shown lists are date pin) date
+
+  abbrev counts : Version → Bool
+  counts row = is_child_of concept row && is_among (link_keys edges) row
+
+  abbrev sources : List ℕ
+  sources = map (λ (row : Version). source_of row.body) (filter counts at_date)
+
+  module _ (ids : List ℕ) (a : AreSources lists date pin concept (numbered 0 (links_in edges)) ids) where
+    to_children : (id : ℕ) → Has ids id → Has sources id
+    to_children id h =
+        let w = a.only id h in
+        let x = w.0 in
+        let s = w.3.0 in
+        let post = posts x w.1 in
+        let same : s ≡ post.0 = one_row lists are x.0 x.0 x.1.at x.1.at s post.0 w.3.1 post.1 refl in
+        let child : is_child_of concept s.row ≡ true = subst (λ (z : StampedRow). is_child_of concept z.row ≡ true) (sym same) (subst (λ d. is_child_of d post.0.row ≡ true) w.2 post.2.says) in
+        let among : is_among (link_keys edges) s.row ≡ true = among_from (link_keys edges) s.row x.1.at.key (Has-map_from (λ (l : Link). l.at.key) (joined (links_in edges)) x.1 (has_numbered 0 (links_in edges) x w.1)) (standing_row lists are x.0 x.1.at s w.3.1).1 in
+        let there = Has-filter_from counts at_date s.row (looked_up x.1.at.key.kind x.1.at.key.id date (shown lists are date pin) s.row w.3.2) (rw (child, among) refl) in
+        let id_is : source_of s.row.body ≡ id = ap (λ (z : StampedRow). source_of z.row.body) same ∙ post.2.source_is ∙ w.4 in
+        subst (λ k. Has sources k) id_is (Has-map_from (λ (row : Version). source_of row.body) (filter counts at_date) s.row there)
+
+    from_children : (id : ℕ) → Has sources id → Has ids id
+    from_children id h =
+        let m = Has-map (λ (row : Version). source_of row.body) (filter counts at_date) id h in
+        let row = m.0 in
+        let f = Has-filter counts at_date row m.1 in
+        let t = both (is_child_of concept row) (is_among (link_keys edges) row) f.1 in
+        let g = Has-map (λ (l : Link). l.at.key) (joined (links_in edges)) (key_of row) (among_has (link_keys edges) row t.1) in
+        let l = g.0 in
+        let n = number_of 0 (links_in edges) l g.1 in
+        let post = posts (n.0, l) n.1 in
+        let now = current_where lists are date pin n.0 l.at post.0 row post.1 f.0 g.2 in
+        let dest : l.destination ≡ concept = dest_of l.destination concept post.0.row post.2.says (subst (λ (z : Version). is_child_of concept z ≡ true) now.0 t.0) in
+        let id_is : l.source ≡ id = sym post.2.source_is ∙ ap (λ (z : Version). source_of z.body) (sym now.0) ∙ m.2 in
+        subst (λ k. Has ids k) id_is (number_there ids l.source (a.taken (n.0, l) n.1 dest now.1))
+
+    pub children_from_sources : ids ≡ children_among (link_keys edges) concept date (shown lists are date pin)
+    unfolding children_among
+    children_from_sources = same_ascending nat_cmp_total ids (in_order nat_cmp sources) a.ascending (IsAscending-in_order nat_cmp_total sources)
+        (λ id h. Has-put_all_new nat_cmp sources [] id (λ y there tie. sym (ranked id y Equal (sym tie))) (to_children id h))
+        (λ id h. elim (Has-put_all_cases nat_cmp sources [] id h) [ inl l ↦ from_children id l | inr r ↦ absurd r ])

@@ -1,0 +1,173 @@
+-- The rows of the references that are taken from all lists are the replacements.
+use Rattle.std.proofs.Common.{◌≡◌, ℕ, Bool, true, List, [], map, refl, sym, ap, subst, inl, inr, ◌∙◌, arith}
+use Rattle.std.specs.Prelude.{◌&&◌, ◌==◌}
+use Rattle.std.specs.List.{filter}
+use Rattle.std.specs.Ordering.{nat_cmp, ordering_then}
+use Rattle.std.specs.declared.cmp.Ordering.TheVariants.{Equal}
+use Rattle.std.proofs.lemmas.Bool.Decides.{nat_tests}
+use Rattle.rf2_values.specs.declared.row.Kind.TheVariants as kinds
+use Rattle.rf2_values.specs.declared.row.Body.{Body}
+use Rattle.rf2_values.specs.declared.row.Body.TheVariants as body
+use Rattle.rf2_values.specs.declared.key.Key.{Key}
+use Rattle.rf2_values.specs.Row.{Version, kind_of, kind_of_body}
+use Rattle.rf2_values.specs.Key.{key_of}
+use Rattle.history_model.specs.declared.stamped.StampedRow.{StampedRow}
+use Rattle.history_model.specs.InOrder.{Has, IsAscending, in_order, joined}
+use Rattle.history_model.specs.Queries.{lookup, snapshot, is_replacement_of, refers_to, replacement_cmp}
+use Rattle.history_model.proofs.InOrder.{same_ascending, Has-put_all_cases, Has-put_all_new, IsAscending-in_order}
+use Rattle.history_model.proofs.Filtered.{both, Has-filter, Has-filter_from, Has-map, Has-map_from}
+use Rattle.segment.specs.declared.place.Posted.{Posted}
+use Rattle.segment.specs.Standing.{places_of, StandsAt}
+use Rattle.as_of_index.specs.declared.chosen.Chosen.{Chosen}
+use Rattle.as_of_index.specs.Places.{ArePlaces}
+use Rattle.as_of_index.specs.Chosen.{ranked_cmp, StandAtAll}
+use Rattle.as_of_index.specs.Current.{is_among, IsCurrentAt}
+use Rattle.as_of_index.specs.Postings.{numbered}
+use Rattle.as_of_index.proofs.Among.{among_from, among_has, looked_up}
+use Rattle.as_of_index.proofs.Current.{standing_row, one_row, shown, current_where, AllCurrent, rows_for, stand_for, row_for, for_row, ascending_rows_for}
+use Rattle.associations.specs.declared.postings.Reference.{Reference}
+use Rattle.associations.specs.Edges.{Edges, references_in}
+use Rattle.associations.specs.Replacements.{PostsReferences, IsReferenceOf, reference_keys, replacements_among}
+use Rattle.associations.specs.Collecting.{ranked, AreRanked}
+use Rattle.associations.proofs.Numbering.{has_numbered, number_of}
+use Rattle.associations.proofs.Ranked.{one_id, one_row_id, replacements_total}
+
+eq_of : (m n : ℕ) → (m == n) ≡ true → m ≡ n
+eq_of m n e = grind (arith, nat_tests, e)
+
+refers_dest : (c d : ℕ) (b : Body) → refers_to c b ≡ true → refers_to d b ≡ true → c ≡ d
+refers_dest c d (body.Concept x) e f = absurd (cc)
+refers_dest c d (body.Description x) e f = absurd (cc)
+refers_dest c d (body.Relationship x) e f = absurd (cc)
+refers_dest c d (body.Association a) e f = sym (eq_of a.referenced c e) ∙ eq_of a.referenced d f
+
+associated : (d : ℕ) (row : Version) (b : Body) → row.body ≡ b → refers_to d b ≡ true → kind_of row ≡ kinds.Association
+associated d row (body.Concept x) e f = absurd (cc)
+associated d row (body.Description x) e f = absurd (cc)
+associated d row (body.Relationship x) e f = absurd (cc)
+associated d row (body.Association a) e f = ap (λ (x : Body). kind_of_body x) e
+
+module _ (lists : List (List StampedRow)) (are : ArePlaces (map places_of lists)) (edges : List Edges) (posts : PostsReferences lists edges) (d date pin : ℕ) where
+  abbrev at_date : List Version
+  at_date = snapshot (shown lists are date pin) date
+
+  abbrev counts : Version → Bool
+  counts row = is_replacement_of d row && is_among (reference_keys edges) row
+
+  abbrev wanted : List Version
+  wanted = filter counts at_date
+
+  -- what is posted of one that is chosen
+  record IsPosted (k : Chosen) : Type 0 where
+    r : Reference
+    there : Has (joined (references_in edges)) r
+    place_is : r.at ≡ k.at
+    refset_is : r.refset ≡ k.refset
+    target_is : r.target ≡ k.target
+    d_is : r.referenced ≡ d
+    s : StampedRow
+    stands : StandsAt lists k.segment k.at s
+    says : IsReferenceOf r s.row
+
+  module _ (kept : List Chosen) (a : AreRanked lists date pin d (numbered 0 (references_in edges)) kept) where
+    posted_of : (k : Chosen) → Has kept k → IsPosted k
+    posted_of k h =
+        let w = a.only k h in
+        let p = posts w.0 w.1 in
+        record {
+          r = w.0.1;
+          there = has_numbered 0 (references_in edges) w.0 w.1;
+          place_is = ap (λ (j : Chosen). j.at) w.4;
+          refset_is = ap (λ (j : Chosen). j.refset) w.4;
+          target_is = ap (λ (j : Chosen). j.target) w.4;
+          d_is = w.2;
+          s = p.0;
+          stands = subst (λ (j : Chosen). StandsAt lists j.segment j.at p.0) w.4 p.1;
+          says = p.2;
+        }
+
+    each_current : AllCurrent lists date pin kept
+    each_current k h = let w = a.only k h in subst (λ (j : Chosen). IsCurrentAt lists date pin j.segment j.at) w.4 w.3
+
+    said : (k : Chosen) (s : StampedRow) → (h : Has kept k) → StandsAt lists k.segment k.at s → IsReferenceOf (posted_of k h).r s.row
+    said k s h w = let p = posted_of k h in subst (λ (z : StampedRow). IsReferenceOf p.r z.row) (one_row lists are k.segment k.segment k.at k.at p.s s p.stands w refl) p.says
+
+    -- the rank of one that is chosen is its row's
+    rank_is : (j k : Chosen) (s t : StampedRow) → Has kept j → Has kept k → StandsAt lists j.segment j.at s → StandsAt lists k.segment k.at t → replacement_cmp s.row t.row ≡ ranked_cmp j k
+    rank_is j k s t g h v w =
+        let p = posted_of j g in
+        let q = posted_of k h in
+        let ps = said j s g v in
+        let qs = said k t h w in
+        let id_s : s.row.id ≡ j.at.key.id = ap (λ (x : Key). x.id) (sym (standing_row lists are j.segment j.at s v).1) in
+        let id_t : t.row.id ≡ k.at.key.id = ap (λ (x : Key). x.id) (sym (standing_row lists are k.segment k.at t w).1) in
+        λ i. ordering_then (nat_cmp ((ps.refset_is ∙ p.refset_is) i) ((qs.refset_is ∙ q.refset_is) i))
+        (ordering_then (nat_cmp ((ps.target_is ∙ p.target_is) i) ((qs.target_is ∙ q.target_is) i)) (nat_cmp (id_s i) (id_t i)))
+
+    abbrev found_rows : List Version
+    found_rows = map (λ (s : StampedRow). s.row) (rows_for lists date pin kept each_current)
+
+    to_wanted : (row : Version) → Has found_rows row → Has wanted row
+    to_wanted row h =
+        let x = row_for lists date pin kept each_current row h in
+        let p = posted_of x.k x.there in
+        let says = said x.k x.s x.there x.stands in
+        let replaces : is_replacement_of d x.s.row ≡ true = subst (λ n. is_replacement_of n x.s.row ≡ true) p.d_is says.says in
+        let among : is_among (reference_keys edges) x.s.row ≡ true = among_from (reference_keys edges) x.s.row p.r.at.key (Has-map_from (λ (r : Reference). r.at.key) (joined (references_in edges)) p.r p.there) (ap (λ (q : Posted). q.key) p.place_is ∙ (standing_row lists are x.k.segment x.k.at x.s x.stands).1) in
+        subst (λ z. Has wanted z) x.row_is
+        (Has-filter_from counts at_date x.s.row (looked_up x.k.at.key.kind x.k.at.key.id date (shown lists are date pin) x.s.row x.found) (rw (replaces, among) refl))
+
+    from_wanted : (row : Version) → Has wanted row → Has found_rows row
+    from_wanted row h =
+        let f = Has-filter counts at_date row h in
+        let t = both (is_replacement_of d row) (is_among (reference_keys edges) row) f.1 in
+        let g = Has-map (λ (r : Reference). r.at.key) (joined (references_in edges)) (key_of row) (among_has (reference_keys edges) row t.1) in
+        let n = number_of 0 (references_in edges) g.0 g.1 in
+        let post = posts (n.0, g.0) n.1 in
+        let now = current_where lists are date pin n.0 g.0.at post.0 row post.1 f.0 g.2 in
+        let refers = (both row.active (refers_to d row.body) t.0).1 in
+        let refers_post : refers_to g.0.referenced row.body ≡ true = subst (λ (z : Version). refers_to g.0.referenced z.body ≡ true) (sym now.0) (both post.0.row.active (refers_to g.0.referenced post.0.row.body) post.2.says).1 in
+        let kind : kind_of row ≡ kinds.Association = associated d row row.body refl refers in
+        let w = a.taken (n.0, g.0) n.1 (refers_dest g.0.referenced d row.body refers_post refers) now.1 in
+        let j = w.0 in
+        let v = for_row lists date pin kept each_current j w.1 in
+        let keys = (standing_row lists are j.segment j.at v.0 v.1).1 in
+        let p = posted_of j w.1 in
+        let says = said j v.0 w.1 v.1 in
+        let kind_j : kind_of v.0.row ≡ kinds.Association = associated p.r.referenced v.0.row v.0.row.body refl (both v.0.row.active (refers_to p.r.referenced v.0.row.body) says.says).1 in
+        let kinds_are : j.at.key.kind ≡ g.0.at.key.kind = ap (λ (k : Key). k.kind) keys ∙ kind_j ∙ sym kind ∙ ap (λ (k : Key). k.kind) (sym g.2) in
+        let ids_are : j.at.key.id ≡ g.0.at.key.id = sym (one_id (ranked n.0 g.0) j w.2) in
+        let both_found = sym v.2 ∙ (λ i. lookup (kinds_are i) (ids_are i) date (shown lists are date pin)) ∙ now.1.2 in
+        let one : v.0.row ≡ now.1.0.row = cc in
+        let same : v.0.row ≡ row = one ∙ ap (λ (z : StampedRow). z.row) (one_row lists are n.0 n.0 g.0.at g.0.at now.1.0 post.0 now.1.1 post.1 refl) ∙ sym now.0 in
+        subst (λ z. Has found_rows z) same v.3
+
+    rows_ascend : IsAscending replacement_cmp found_rows
+    rows_ascend = ascending_rows_for lists date pin replacement_cmp ranked_cmp kept each_current (λ j k s t g h v w less. rank_is j k s t g h v w ∙ less) a.ascending
+
+    -- of those that count no two have one rank
+    one_of_rank : (x y : Version) → Has wanted x → Has wanted y → replacement_cmp x y ≡ Equal → y ≡ x
+    one_of_rank x y h k tie =
+        let m = row_for lists date pin kept each_current x (from_wanted x h) in
+        let n = row_for lists date pin kept each_current y (from_wanted y k) in
+        let km = said m.k m.s m.there m.stands in
+        let kn = said n.k n.s n.there n.stands in
+        let key_m = (standing_row lists are m.k.segment m.k.at m.s m.stands).1 in
+        let key_n = (standing_row lists are n.k.segment n.k.at n.s n.stands).1 in
+        let kind_m : kind_of m.s.row ≡ kinds.Association = associated _ m.s.row m.s.row.body refl (both m.s.row.active _ km.says).1 in
+        let kind_n : kind_of n.s.row ≡ kinds.Association = associated _ n.s.row n.s.row.body refl (both n.s.row.active _ kn.says).1 in
+        let kinds_are : m.k.at.key.kind ≡ n.k.at.key.kind = ap (λ (q : Key). q.kind) key_m ∙ kind_m ∙ sym kind_n ∙ ap (λ (q : Key). q.kind) (sym key_n) in
+        let ids_are : m.k.at.key.id ≡ n.k.at.key.id = ap (λ (q : Key). q.id) key_m ∙ ap (λ (v : Version). v.id) m.row_is ∙ one_row_id x y tie ∙ ap (λ (v : Version). v.id) (sym n.row_is) ∙ ap (λ (q : Key). q.id) (sym key_n) in
+        let found = sym m.found ∙ (λ i. lookup (kinds_are i) (ids_are i) date (shown lists are date pin)) ∙ n.found in
+        let one : m.s.row ≡ n.s.row = cc in
+        sym n.row_is ∙ sym one ∙ m.row_is
+
+    pub replacements_from_chosen : (rows : List StampedRow) × StandAtAll lists kept rows × (map (λ (s : StampedRow). s.row) rows ≡ replacements_among (reference_keys edges) d date (shown lists are date pin))
+    unfolding replacements_among
+    replacements_from_chosen = (
+      rows_for lists date pin kept each_current,
+      stand_for lists date pin kept each_current,
+      same_ascending replacements_total found_rows (in_order replacement_cmp wanted) rows_ascend (IsAscending-in_order replacements_total wanted)
+          (λ row h. Has-put_all_new replacement_cmp wanted [] row (λ y there tie. elim there [ inl l ↦ one_of_rank row y (to_wanted row h) l tie | inr r ↦ absurd r ]) (to_wanted row h))
+          (λ row h. elim (Has-put_all_cases replacement_cmp wanted [] row h) [ inl l ↦ from_wanted row l | inr r ↦ absurd r ]),
+    )

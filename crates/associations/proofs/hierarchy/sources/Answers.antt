@@ -1,0 +1,31 @@
+use Rattle.std.proofs.Common.{ℕ, subst, take, take_all}
+use Rattle.std.specs.Ordering.{nat_cmp}
+use Rattle.std.specs.Cmp.{nat_cmp_total}
+use Rattle.as_of_index.specs.Postings.{numbered}
+use Rattle.associations.specs.declared.postings.Link.{Link}
+use Rattle.associations.specs.Edges.{Edges, links_in}
+use Rattle.associations.specs.Collecting.{AreSources}
+use Rattle.associations.proofs.Numbering.{numbered-more}
+use Rattle.associations.proofs.Collected.{none_taken, more_taken}
+use Rattle.associations.proofs.hierarchy.sources.Goals as goal
+
+pub loop-segment-init : goal.loop-segment-init
+loop-segment-init c = λ lists listed_so.
+    let a = c.args in
+    rw c.new-ids.ensures.items (none_taken nat_cmp nat_cmp_total (λ (x : Link). x.at) (λ (n : ℕ) (x : Link). x.source) lists a.time a.pin 0 (λ (x : Link). x.destination) a.destination)
+
+pub loop-segment-preserved : goal.loop-segment-preserved
+loop-segment-preserved c = λ lists listed_so.
+    let a = c.args in
+    let i = c.loop-segment.segment in
+    let list = c.index-links-segment.result in
+    let so_far = c.loop-segment.invariant lists listed_so in
+    let which = rw c.links.ensures.links at (c.links_to-those.ensures (rw c.links.ensures.links c.links.ensures.rising)) in
+    rw (numbered-more (λ (e : Edges). e.links) a.links.now i list c.loop-segment-test.true c.index-links-segment.is)
+    (more_taken nat_cmp nat_cmp_total (λ (x : Link). x.at) (λ (n : ℕ) (x : Link). x.source) lists a.time a.pin i (λ (x : Link). x.destination) a.destination (numbered 0 (links_in (take i a.links.now))) list.links c.links_to-those.result.now c.loop-segment.ids.items c.add_sources.new.ids.items
+    so_far which (c.in_ok-add_sources.ensures lists listed_so so_far.ascending))
+
+pub returns : goal.returns
+returns c = λ lists listed_so.
+    let a = c.args in
+    subst (λ xs. AreSources lists a.time a.pin a.destination (numbered 0 (links_in xs)) c.loop-segment.ids.items) (take_all c.loop-segment.segment a.links.now c.loop-segment-test.false) (c.loop-segment.invariant lists listed_so)

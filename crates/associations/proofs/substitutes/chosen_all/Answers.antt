@@ -1,0 +1,31 @@
+use Rattle.std.proofs.Common.{subst, take, take_all}
+use Rattle.as_of_index.specs.Chosen.{ranked_cmp}
+use Rattle.associations.proofs.Ranked.{ranked_total}
+use Rattle.as_of_index.specs.Postings.{numbered}
+use Rattle.associations.specs.declared.postings.Reference.{Reference}
+use Rattle.associations.specs.Edges.{Edges, references_in}
+use Rattle.associations.specs.Collecting.{ranked, AreRanked}
+use Rattle.associations.proofs.Numbering.{numbered-more}
+use Rattle.associations.proofs.Collected.{none_taken, more_taken}
+use Rattle.associations.proofs.substitutes.chosen_all.Goals as goal
+
+pub loop-segment-init : goal.loop-segment-init
+loop-segment-init c = λ lists listed_so.
+    let a = c.args in
+    rw c.new-kept.ensures.items (none_taken ranked_cmp ranked_total (λ (x : Reference). x.at) ranked lists a.time a.pin 0 (λ (x : Reference). x.referenced) a.referenced)
+
+pub loop-segment-preserved : goal.loop-segment-preserved
+loop-segment-preserved c = λ lists listed_so.
+    let a = c.args in
+    let i = c.loop-segment.segment in
+    let list = c.index-links-segment.result in
+    let so_far = c.loop-segment.invariant lists listed_so in
+    let which = rw c.references.ensures.references at (c.references_to-those.ensures (rw c.references.ensures.references c.references.ensures.rising)) in
+    rw (numbered-more (λ (e : Edges). e.references) a.links.now i list c.loop-segment-test.true c.index-links-segment.is)
+    (more_taken ranked_cmp ranked_total (λ (x : Reference). x.at) ranked lists a.time a.pin i (λ (x : Reference). x.referenced) a.referenced (numbered 0 (references_in (take i a.links.now))) list.references c.references_to-those.result.now c.loop-segment.kept.items c.add_references.new.kept.items
+    so_far which (c.in_ok-add_references.ensures lists listed_so so_far.ascending))
+
+pub returns : goal.returns
+returns c = λ lists listed_so.
+    let a = c.args in
+    subst (λ xs. AreRanked lists a.time a.pin a.referenced (numbered 0 (references_in xs)) c.loop-segment.kept.items) (take_all c.loop-segment.segment a.links.now c.loop-segment-test.false) (c.loop-segment.invariant lists listed_so)

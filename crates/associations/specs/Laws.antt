@@ -1,0 +1,62 @@
+-- What a store that posts each row's link and reference can say of its lists.
+use Rattle.std.specs.Prelude.{◌≡◌, ℕ, List, [], ◌∷◌, ◌++◌, slice_set, remove}
+use Rattle.history_model.specs.History.{rows_at}
+use Rattle.history_model.specs.Lists.{listed}
+use Rattle.history_model.specs.Queries.{children, replacements}
+use Rattle.history_model.specs.declared.stamped.StampedRow.{StampedRow}
+use Rattle.segment.specs.declared.place.Posted.{Posted}
+use Rattle.segment.specs.Standing.{with_places}
+use Rattle.associations.specs.Edges.{Edges, AreSameEdges, edges_of, joined_edges, posted_edges}
+use Rattle.associations.specs.Children.{PostsLinks, link_keys, children_among}
+use Rattle.associations.specs.Replacements.{PostsReferences, reference_keys, replacements_among}
+
+-- the postings of a segment's rows, each row pushed with its own place
+abbrev pub ArePostingsOf : List StampedRow → Edges → Type 0
+ArePostingsOf rows edges = AreSameEdges (posted_edges (with_places 0 rows)) edges
+
+-- as many lists of postings as of rows, each those of its rows
+abbrev pub EachPosted : List (List StampedRow) → List Edges → Type 0
+EachPosted [] [] = Unit {0}
+EachPosted [] (e ∷ edges) = ⊥
+EachPosted (rows ∷ lists) [] = ⊥
+EachPosted (rows ∷ lists) (e ∷ edges) = ArePostingsOf rows e × EachPosted lists edges
+
+-- one row more
+abbrev pub PushedOneByOne : Type 0
+PushedOneByOne = (rows : List (StampedRow × Posted)) (row : StampedRow × Posted)
+    → posted_edges (rows ++ row ∷ []) ≡ joined_edges (posted_edges rows) (edges_of row.0.row row.1)
+
+-- such lists post rows of their own lists
+abbrev pub PostedLinksStand : Type 0
+PostedLinksStand = (lists : List (List StampedRow)) (edges : List Edges)
+    → EachPosted lists edges → PostsLinks lists edges
+
+abbrev pub PostedReferencesStand : Type 0
+PostedReferencesStand = (lists : List (List StampedRow)) (edges : List Edges)
+    → EachPosted lists edges → PostsReferences lists edges
+
+-- and nothing is left out
+abbrev pub PostedLinksAreAll : Type 0
+PostedLinksAreAll = (lists : List (List StampedRow)) (edges : List Edges) (concept date pin : ℕ)
+    → EachPosted lists edges
+    → children_among (link_keys edges) concept date (rows_at pin (listed lists))
+    ≡ children concept date (rows_at pin (listed lists))
+
+abbrev pub PostedReferencesAreAll : Type 0
+PostedReferencesAreAll = (lists : List (List StampedRow)) (edges : List Edges) (id date pin : ℕ)
+    → EachPosted lists edges
+    → replacements_among (reference_keys edges) id date (rows_at pin (listed lists))
+    ≡ replacements id date (rows_at pin (listed lists))
+
+-- they stay such where a list is added
+abbrev pub EdgesMore : Type 0
+EdgesMore = (lists : List (List StampedRow)) (edges : List Edges) (rows : List StampedRow) (e : Edges)
+    → EachPosted lists edges → ArePostingsOf rows e
+    → EachPosted (lists ++ rows ∷ []) (edges ++ e ∷ [])
+
+-- and where one is put in the place of two
+abbrev pub EdgesMerged : Type 0
+EdgesMerged = (lists : List (List StampedRow)) (edges : List Edges) (i j : ℕ)
+    (rows : List StampedRow) (e : Edges)
+    → EachPosted lists edges → ArePostingsOf rows e
+    → EachPosted (remove (slice_set lists i rows) j) (remove (slice_set edges i e) j)

@@ -1,0 +1,23 @@
+//! Which concepts are children of a concept, and what stands in the place of a component, at a date
+//! and a pin.
+//!
+//! Active relationships and associations are posted as rows are written, each with its place. A
+//! posting is a candidate: it counts only where the index picks that very version at the date and the
+//! pin.
+#![tactic(auto)]
+
+mod hierarchy;
+pub mod laws;
+mod links;
+mod postings;
+mod substitutes;
+
+pub use hierarchy::children;
+pub use links::Links;
+pub use postings::{EdgeCount, Link, Postings, Reference, Sealed};
+pub use substitutes::replacements;
+
+#[cfg(test)]
+mod making;
+#[cfg(test)]
+mod tests;

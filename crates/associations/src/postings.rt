@@ -1,0 +1,186 @@
+//! Postings of relationships and associations: in the order in which rows were pushed, and sealed.
+
+ghost use Rattle.std.specs.Prelude.{◌≡◌, OnOk, OnErr};
+ghost use Rattle.std.specs.List.Sorted.{IsNonDecreasingBy, IsPermutation};
+ghost use Rattle.associations.specs.Edges.{Edges, no_edges, link, reference, edges_of, joined_edges, count_of, first_edges, AreSameEdges, IsSealed};
+
+use history_model::StampedRow;
+use rf2_values::{Association, Body, Relationship};
+use segment::Posted;
+use std::alloc::{AllocError, Global};
+use std::marker::Model;
+
+/// The type of a relationship that says "is a".
+const IS_A: u64 = 116_680_003;
+
+/// An active relationship that says that its source is a kind of its destination, and where its row
+/// stands.
+#[derive(Clone, Copy)]
+pub struct Link {
+    pub destination: u64,
+    pub source: u64,
+    pub at: Posted,
+}
+
+/// An active association, and where its row stands. The member's id is that of the place's key.
+#[derive(Clone, Copy)]
+pub struct Reference {
+    /// The component that it refers to.
+    pub referenced: u64,
+    pub refset: u64,
+    pub target: u64,
+    pub at: Posted,
+}
+
+/// How many links and references there are.
+#[derive(Clone, Copy, Debug, PartialEq, Eq)]
+pub struct EdgeCount {
+    pub links: usize,
+    pub references: usize,
+}
+
+/// The links and references of the rows of one segment, in the order in which they were pushed.
+#[derive(Drop)]
+pub struct Postings {
+    links: Vec<Link>,
+    references: Vec<Reference>,
+}
+
+impl Model for Postings {
+    ghost use Rattle.associations.specs.Edges.{Edges};
+
+    ghost Value = { Edges };
+
+    ghost view = { λ a. record { links = a.links.items; references = a.references.items } };
+}
+
+/// The links of a segment, ascending by destination, and its references, ascending by what they
+/// refer to.
+#[derive(Drop)]
+pub struct Sealed {
+    links: Vec<Link>,
+    references: Vec<Reference>,
+}
+
+impl Model for Sealed {
+    ghost use Rattle.associations.specs.Edges.{Edges, IsSealed};
+
+    ghost Value = { Edges };
+
+    ghost view = { λ a. record { links = a.links.items; references = a.references.items } };
+
+    ghost invariant = { λ a. IsSealed (record { links = a.links.items; references = a.references.items }) };
+}
+
+fn link_of(relationship: &Relationship, at: Posted) -> Link
+    ensures { result ≡ link relationship.now at }
+{
+    Link {
+        destination: relationship.destination.value(),
+        source: relationship.source.value(),
+        at,
+    }
+}
+
+fn reference_of(association: &Association, at: Posted) -> Reference
+    ensures { result ≡ reference association.now at }
+{
+    Reference {
+        referenced: association.referenced.value(),
+        refset: association.refset.value(),
+        target: association.target.value(),
+        at,
+    }
+}
+
+fn sort_links(links: &mut Vec<Link>)
+    ensures permutation { IsPermutation links.old.items links.new.items }
+    ensures rising { IsNonDecreasingBy (λ l. l.destination) links.new.items }
+{
+    links.sort_unstable_by(|a, b| a.destination.cmp(&b.destination));
+}
+
+fn sort_references(references: &mut Vec<Reference>)
+    ensures permutation { IsPermutation references.old.items references.new.items }
+    ensures rising { IsNonDecreasingBy (λ r. r.referenced) references.new.items }
+{
+    references.sort_unstable_by(|a, b| a.referenced.cmp(&b.referenced));
+}
+
+impl Postings {
+    /// None. It takes no memory; later calls take theirs from `alloc`.
+    pub fn new(alloc: Global) -> Postings
+        ensures { result ≡ no_edges }
+    {
+        Postings {
+            links: Vec::new(alloc),
+            references: Vec::new(alloc),
+        }
+    }
+
+    /// Adds the row's link or reference, if it is active and has one. An `Err` changes nothing.
+    pub fn push(&mut self, row: &StampedRow, at: Posted) -> Result<(), AllocError>
+        ensures ok { OnOk result (self.new ≡ joined_edges self.old (edges_of row.now.row at)) }
+        ensures err { OnErr result (self.new ≡ self.old) }
+    {
+        match &row.row.body {
+            Body::Relationship(r) if row.row.active && r.type_id.value() == IS_A => {
+                self.links.push(link_of(r, at))?;
+                Ok(())
+            }
+            Body::Association(a) if row.row.active => {
+                self.references.push(reference_of(a, at))?;
+                Ok(())
+            }
+            _ => Ok(()),
+        }
+    }
+
+    /// How many there are, for `cut_to`.
+    pub fn len(&self) -> EdgeCount
+        ensures { result ≡ count_of self.now }
+    {
+        EdgeCount {
+            links: self.links.len(),
+            references: self.references.len(),
+        }
+    }
+
+    /// Keeps the first so many of each, all where there are fewer.
+    pub fn cut_to(&mut self, len: EdgeCount)
+        ensures { self.new ≡ first_edges len self.old }
+    {
+        self.links.truncate(len.links);
+        self.references.truncate(len.references);
+    }
+
+    /// Both in order. It takes no memory.
+    pub fn seal(self) -> Sealed
+        ensures same { AreSameEdges self result }
+        ensures rising { IsSealed result }
+    {
+        let Postings {
+            mut links,
+            mut references,
+        } = self;
+        sort_links(&mut links);
+        sort_references(&mut references);
+        Sealed { links, references }
+    }
+}
+
+impl Sealed {
+    pub(crate) fn links(&self) -> &[Link]
+        ensures links { result.now ≡ self.now.links }
+        ensures rising { IsNonDecreasingBy (λ l. l.destination) self.now.links }
+    {
+        self.links.as_slice()
+    }
+
+    pub(crate) fn references(&self) -> &[Reference]
+        ensures references { result.now ≡ self.now.references }
+        ensures rising { IsNonDecreasingBy (λ r. r.referenced) self.now.references }
+    {
+        self.references.as_slice()
+    }
+}

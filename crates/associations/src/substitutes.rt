@@ -1,0 +1,144 @@
+//! What stands in the place of a component, as the posted associations say.
+
+ghost use Rattle.std.specs.Prelude.{◌≡◌, ◌≢◌, ◌↔◌, ◌≤◌, List, length, IfOk, IfErr, OnOk};
+ghost use Rattle.std.specs.List.Sorted.{IsNonDecreasingBy};
+ghost use Rattle.history_model.specs.declared.stamped.StampedRow.{StampedRow};
+ghost use Rattle.history_model.specs.InOrder.{Has, IsAscending, IsPlace, put};
+ghost use Rattle.history_model.specs.History.{rows_at};
+ghost use Rattle.history_model.specs.Lists.{listed};
+ghost use Rattle.as_of_index.specs.Places.{Lists};
+ghost use Rattle.as_of_index.specs.Chosen.{ranked_cmp};
+ghost use Rattle.as_of_index.specs.Postings.{numbered};
+ghost use Rattle.fault_counts.specs.Counting.{Counts};
+ghost use Rattle.as_of_index.specs.Reader.{CountsDiskFault, CountsDamage};
+ghost use Rattle.as_of_index.specs.declared.reader.ReadFault.TheVariants as readfault;
+ghost use Rattle.associations.specs.Edges.{references_in};
+ghost use Rattle.associations.specs.Replacements.{PostsReferences, reference_keys, replacements_among};
+ghost use Rattle.associations.specs.Collecting.{ranked, TakesReferences, AreRanked};
+
+use crate::links::Links;
+use crate::postings::{Reference, Sealed};
+use as_of_index::{Chosen, Index, ReadFault, RowReader, read_all};
+use rf2_values::{EffectiveTime, Row, Sctid};
+use std::alloc::{AllocError, Global};
+use std::cmp::Ordering;
+
+/// Those that refer to a component.
+fn references_to(list: &[Reference], referenced: u64) -> &[Reference]
+    ensures { IsNonDecreasingBy (λ r. r.referenced) list.now →
+        (r : _) → Has result.now r ↔ (Has list.now r × (r.referenced ≡ referenced)) }
+{
+    let first = list.partition_point(|r| r.referenced < referenced);
+    let rest = &list[first..];
+    let count = rest.partition_point(|r| r.referenced <= referenced);
+    &rest[..count]
+}
+
+fn chosen(segment: usize, r: &Reference) -> Chosen
+    ensures { result ≡ ranked segment r.now }
+{
+    Chosen {
+        segment,
+        at: r.at,
+        refset: r.refset,
+        target: r.target,
+    }
+}
+
+/// By refset, then by target, then by member.
+fn rank(a: &Chosen, b: &Chosen) -> Ordering
+    ensures { result ≡ ranked_cmp a.now b.now }
+{
+    a.refset.cmp(&b.refset).then(a.target.cmp(&b.target).then(a.at.key.id.cmp(&b.at.key.id)))
+}
+
+/// Where one of the same rank stands, or else the place at which it is to be inserted.
+fn place_for(kept: &[Chosen], k: &Chosen) -> Result<usize, usize>
+    ensures within { IfErr result (λ place. place ≤ length kept.now) }
+    ensures found { IsAscending ranked_cmp kept.now → IsPlace ranked_cmp k.now kept.now result }
+{
+    kept.binary_search_by(|other| rank(other, k))
+}
+
+fn put(kept: &mut Vec<Chosen>, segment: usize, r: &Reference) -> Result<(), AllocError>
+    ensures { OnOk result (IsAscending ranked_cmp kept.old.items
+        → kept.new.items ≡ put ranked_cmp (ranked segment r.now) kept.old.items) }
+{
+    if let Err(place) = place_for(kept, &chosen(segment, r)) {
+        kept.insert(place, chosen(segment, r))?;
+    }
+    Ok(())
+}
+
+/// Adds those that are current.
+fn add_references(
+    kept: &mut Vec<Chosen>,
+    references: &[Reference],
+    segment: usize,
+    index: &Index,
+    time: EffectiveTime,
+    pin: u32,
+) -> Result<(), AllocError>
+    ensures { OnOk result ((lists : List (List StampedRow)) → Lists index.now lists
+        → IsAscending ranked_cmp kept.old.items
+        → TakesReferences lists time pin segment references.now kept.old.items kept.new.items) }
+{
+    for r in references {
+        if index.is_current(segment, r.at, time, pin) {
+            put(kept, segment, r)?;
+        }
+    }
+    Ok(())
+}
+
+/// The places of the current associations of a component, in the order of the answer.
+fn chosen_all(
+    alloc: Global,
+    links: &[Sealed],
+    index: &Index,
+    referenced: u64,
+    time: EffectiveTime,
+    pin: u32,
+) -> Result<Vec<Chosen>, AllocError>
+    ensures { IfOk result (λ kept. (lists : List (List StampedRow)) → Lists index.now lists
+        → AreRanked lists time pin referenced (numbered 0 (references_in links.now)) kept.items) }
+{
+    let mut kept = Vec::new(alloc);
+    for (segment, list) in links.iter().enumerate() {
+        let those = references_to(list.references(), referenced);
+        add_references(&mut kept, those, segment, index, time, pin)?;
+    }
+    Ok(kept)
+}
+
+/// The active associations of the component at the date, by refset, target and member, of the rows
+/// that the pin shows and of the versions that are posted. It reads these rows alone.
+pub fn replacements<R: RowReader>(
+    alloc: Global,
+    links: &Links,
+    index: &Index,
+    reader: &mut R,
+    component: Sctid,
+    time: EffectiveTime,
+    pin: u32,
+) -> Result<Vec<Row>, ReadFault>
+    ensures found { R.is_honest reader.old → Lists index.now (R.lists reader.old)
+        → PostsReferences (R.lists reader.old) links.now
+        → IfOk result (λ rows.
+        rows.items ≡ replacements_among (reference_keys links.now) component time
+        (rows_at pin (listed (R.lists reader.old)))) }
+    ensures undamaged { R.is_honest reader.old → Lists index.now (R.lists reader.old)
+        → PostsReferences (R.lists reader.old) links.now
+        → IfErr result (λ e. e ≢ readfault.Damaged) }
+    ensures lists { R.lists reader.new ≡ R.lists reader.old }
+    ensures honesty { R.is_honest reader.old → R.is_honest reader.new }
+    ensures stays { R.stays reader.old reader.new }
+    ensures disk_faults { Counts CountsDiskFault result
+        (R.disk_faults reader.old) (R.disk_faults reader.new) }
+    ensures damages { Counts CountsDamage result (R.damages reader.old) (R.damages reader.new) }
+{
+    // It says that no key is listed twice.
+    let _listed = index.lists();
+    let kept = chosen_all(alloc, links.sealed(), index, component.value(), time, pin)?;
+    read_all(alloc, reader, kept.as_slice())
+}

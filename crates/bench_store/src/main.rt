@@ -1,0 +1,109 @@
+//! Does one piece of work on a store in a file, for a driver that measures it (bench/measure.py). Without words it does nothing.
+#![tactic(auto)]
+
+use disk_model::FileDisk;
+use history_store::Store;
+use release_folder::read_folder;
+use rf2_rows::{EffectiveTime, Kind, Sctid};
+use std::process::ExitCode;
+use std::rt::HostRuntime;
+use std::{env, fs};
+
+/// The store in a file.
+fn opened(rt: &HostRuntime, path: &str) -> Option<Store<FileDisk>> {
+    let disk = FileDisk::open(rt, path).ok()?;
+    match Store::open(rt.alloc(), disk) {
+        Ok(store) => Some(store),
+        Err(_) => None,
+    }
+}
+
+/// Makes an empty store.
+fn make(rt: &HostRuntime, path: &str) -> Option<u64> {
+    let disk = FileDisk::open_or_make(rt, path).ok()?;
+    match Store::create(rt.alloc(), disk) {
+        Ok(store) => Some(store.row_count()),
+        Err(_) => None,
+    }
+}
+
+/// Imports a release of a folder. How many rows are new.
+fn import(rt: &HostRuntime, path: &str, folder: &str, name: &str) -> Option<u64> {
+    let mut store = opened(rt, path)?;
+    let release = read_folder(rt, rt.alloc(), folder, name).ok()?;
+    match store.import(&release) {
+        Ok(receipt) => Some(receipt.new),
+        Err(_) => None,
+    }
+}
+
+/// Looks up each concept of a file, one a line. How many are found.
+fn look_up(rt: &HostRuntime, path: &str, ids: &str) -> Option<u64> {
+    let mut store = opened(rt, path)?;
+    let ids = fs::read(rt, ids).ok()?;
+    let time = EffectiveTime::of(20_251_231)?;
+    let pin = store.imports();
+    let mut found = 0;
+    for line in ids.split(|byte| *byte == b'\n') {
+        if let Some(id) = Sctid::parse(line) {
+            if pin > store.imports() {
+                return None;
+            }
+            let row = store
+                .lookup(Kind::Concept, u128::from(id.value()), time, pin)
+                .ok()?;
+            found += u64::from(row.is_some() && found < u64::MAX);
+        }
+    }
+    Some(found)
+}
+
+/// Reads a page of a hundred concepts behind each concept of a file. How many rows that are.
+fn turn_pages(rt: &HostRuntime, path: &str, ids: &str) -> Option<u64> {
+    let mut store = opened(rt, path)?;
+    let ids = fs::read(rt, ids).ok()?;
+    let time = EffectiveTime::of(20_251_231)?;
+    let pin = store.imports();
+    let mut found: u64 = 0;
+    for line in ids.split(|byte| *byte == b'\n') {
+        if let Some(id) = Sctid::parse(line) {
+            if pin > store.imports() {
+                return None;
+            }
+            let after = Some(u128::from(id.value()));
+            let rows = store.page(Kind::Concept, time, pin, after, 100).ok()?;
+            found = found.saturating_add(rows.len() as u64);
+        }
+    }
+    Some(found)
+}
+
+/// Does what the words say, and prints how many rows it brought, found or holds. None where it can't be done.
+fn run(rt: &HostRuntime) -> Option<()> {
+    let mut words = env::args(rt).ok()?.skip(1);
+    let Some(what) = words.next() else {
+        return Some(());
+    };
+    let path = words.next()?;
+    let count = match what.as_str() {
+        "make" => make(rt, path.as_str())?,
+        "import" => import(
+            rt,
+            path.as_str(),
+            words.next()?.as_str(),
+            words.next()?.as_str(),
+        )?,
+        "open" => opened(rt, path.as_str())?.row_count(),
+        "pages" => turn_pages(rt, path.as_str(), words.next()?.as_str())?,
+        "lookups" => look_up(rt, path.as_str(), words.next()?.as_str())?,
+        _ => return None,
+    };
+    println!(rt; "{count}").ok()
+}
+
+fn main(rt: HostRuntime) -> ExitCode {
+    match run(&rt) {
+        Some(()) => ExitCode::SUCCESS,
+        None => ExitCode::FAILURE,
+    }
+}

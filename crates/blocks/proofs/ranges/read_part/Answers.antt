@@ -1,0 +1,52 @@
+use Rattle.std.proofs.Common.{◌≡◌, ◌+◌, ◌*◌, ◌≤◌, ◌++◌, take, drop, ◌/◌, ◌%◌, List, ℕ, length, refl, sym, ap, subst, ◌∙◌, arith}
+use Rattle.disk_model.specs.Disk.{Moments}
+use Rattle.blocks.specs.Cache.{count_of, AgreesWith}
+use Rattle.blocks.proofs.PartsRead.{IsReadSoFar, all_read, more_read, short_read}
+use Rattle.blocks.proofs.ranges.read_part.Goals as goal
+
+pub returns-clause-bytes : goal.returns-clause-bytes
+returns-clause-bytes g c honest agrees =
+    let inv = c.loop-done.invariant in
+    let file = (g.D.Disk.moments c.args.disk.now).state.now in
+    let all : c.loop-done.done ≡ length c.args.into.now = omega (arith, inv.0, inv.1, c.loop-done-test.false) in
+    all_read c.args.from file c.loop-done.into (length c.args.into.now) inv.0 (subst (IsReadSoFar c.args.from file c.loop-done.into) all (inv.5 honest agrees).1)
+
+pub returns-then-count-skip-clause-bytes : goal.returns-then-count-skip-clause-bytes
+returns-then-count-skip-clause-bytes g c honest agrees =
+    let inv = c.loop-done.invariant in
+    let file = (g.D.Disk.moments c.args.disk.now).state.now in
+    let at = c.args.from + c.loop-done.done in
+    let same : (g.D.Disk.moments c.loop-done.disk).state.now ≡ file = ap (λ (m : Moments). m.state.now) (inv.3 honest) in
+    let counted = c.in_ok-count.ensures.count (inv.2.0 honest) (subst (AgreesWith c.loop-done.cache) (sym same) (inv.5 honest agrees).0) in
+    short_read c.args.from file c.args.into.now c.loop-done.done at (at / 4096) (at % 4096) c.min-taken.result c.in_ok-count.count refl (omega arith) (counted ∙ ap (λ l. count_of l (at / 4096)) same)
+    (length c.args.into.now) c.if-count-skip.true (omega (arith, c.min-taken.ensures)) (omega (arith, inv.0, c.loop-done-test.true)) (omega (arith, inv.0, c.min-taken.ensures, c.loop-done-test.true))
+
+pub returns-then-count-skip-clause-agrees : goal.returns-then-count-skip-clause-agrees
+returns-then-count-skip-clause-agrees g c honest agrees =
+    let inv = c.loop-done.invariant in
+    let file = (g.D.Disk.moments c.args.disk.now).state.now in
+    let same : (g.D.Disk.moments c.loop-done.disk).state.now ≡ file = ap (λ (m : Moments). m.state.now) (inv.3 honest) in
+    subst (AgreesWith c.read.new.self) same (c.in_ok-count.ensures.agrees (inv.2.0 honest) (subst (AgreesWith c.loop-done.cache) (sym same) (inv.5 honest agrees).0))
+
+pub loop-done-preserved : goal.loop-done-preserved
+loop-done-preserved g c =
+    let inv = c.loop-done.invariant in
+    let file = (g.D.Disk.moments c.args.disk.now).state.now in
+    let at = c.args.from + c.loop-done.done in
+    let room : c.loop-done.done + c.min-taken.result ≤ length c.loop-done.into = omega (arith, inv.0, c.min-taken.ensures, c.loop-done-test.true) in
+    let long : length c.copy_part.new.into ≡ length c.loop-done.into = c.copy_part.auto.into in (
+      long ∙ inv.0,
+      omega (arith, inv.0, room),
+      (λ up. c.in_ok-count.ensures.honesty.0 (inv.2.0 up), λ down. inv.2.1 (c.in_ok-count.ensures.honesty.1 down)),
+      (λ honest. c.in_ok-count.ensures.moments (inv.2.0 honest) ∙ inv.3 honest),
+      c.in_ok-count.ensures.failures ∙ inv.4,
+      (λ honest agrees.
+          let same : (g.D.Disk.moments c.loop-done.disk).state.now ≡ file = ap (λ (m : Moments). m.state.now) (inv.3 honest) in
+          let kept = subst (AgreesWith c.loop-done.cache) (sym same) (inv.5 honest agrees).0 in
+          let counted = c.in_ok-count.ensures.count (inv.2.0 honest) kept in (
+            subst (AgreesWith c.read.new.self) same (c.in_ok-count.ensures.agrees (inv.2.0 honest) kept),
+            more_read c.args.from file c.loop-done.into c.loop-done.done at (at / 4096) (at % 4096) c.min-taken.result c.in_ok-count.count refl (omega arith) (counted ∙ ap (λ l. count_of l (at / 4096)) same)
+                c.loop-done.buffer c.read.new.into c.copy_part.new.into (c.in_ok-count.ensures.bytes (inv.2.0 honest) kept ∙ ap (λ (l : List ℕ). take c.in_ok-count.count (drop (4096 * (at / 4096)) l) ++ drop c.in_ok-count.count c.loop-done.buffer) same) c.if-count-skip.false c.read.array_long (omega (arith, c.min-taken.ensures)) room c.copy_part.ensures (inv.5 honest agrees).1,
+          )),
+      c.in_ok-count.ensures.capacity ∙ inv.6,
+    )

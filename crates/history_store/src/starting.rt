@@ -1,0 +1,72 @@
+//! An empty store, and what a store keeps in memory beside its directory.
+
+ghost use Rattle.std.specs.Prelude.{◌≡◌, ◌≢◌, ◌↔◌, ◌<◌, ◌≤◌, [], length, map, vec_items, IfOk, IfErr, OnOk};
+ghost use Rattle.lru.specs.LruCache.{lru_cache};
+ghost use Rattle.as_of_index.specs.Places.{ArePlaces};
+ghost use Rattle.store_image.specs.Shown.{IsOnDisk};
+ghost use Rattle.store_image.specs.Answers.{empty_listing};
+ghost use Rattle.history_store.specs.Answers.{Counts, IsNotMade};
+ghost use Rattle.history_store.specs.declared.refusal.Refusal.TheVariants as refusals;
+
+use crate::refusal::Refusal;
+use as_of_index::{Index, Listed, Posted};
+use blocks::{BlockCache, Slot};
+use directory::Directory;
+use disk_model::Disk;
+use std::alloc::{AllocError, Global};
+use store_image::{Made, check_empty, make};
+
+/// How many blocks of the disk are kept in memory: 4 MiB.
+const KEPT_BLOCKS: usize = 1024;
+
+/// What a store keeps in memory beside its directory.
+#[derive(Drop)]
+pub(crate) struct Room {
+    pub(crate) index: Index,
+    pub(crate) cache: BlockCache,
+}
+
+/// An empty store.
+#[derive(Drop)]
+pub(crate) struct Started {
+    pub(crate) slot: Slot,
+    pub(crate) directory: Directory,
+    pub(crate) index: Index,
+    pub(crate) cache: BlockCache,
+}
+
+/// An index of these places, and a cache that keeps no block.
+pub(crate) fn room_for(alloc: Global, places: Vec<Vec<Posted>>) -> Result<Room, AllocError>
+    requires few { length places.items ≤ 128 }
+    requires places { ArePlaces (map vec_items places.items) }
+    ensures index { IfOk result (λ room. room.index ≡ map vec_items places.items) }
+    ensures cache { IfOk result (λ room. room.cache ≡ lru_cache [] 1024) }
+{
+    let mut index = Index::new(alloc)?;
+    for list in places {
+        index.add(Listed::new(list));
+    }
+    let cache = BlockCache::new(alloc, KEPT_BLOCKS)?;
+    Ok(Room { index, cache })
+}
+
+/// Makes a store on an empty disk.
+pub(crate) fn start<D: Disk>(alloc: Global, disk: &mut D) -> Result<Started, Refusal>
+    ensures empty { IfOk result (λ s. (s.directory ≡ empty_listing) × (s.index ≡ []) × (s.cache ≡ lru_cache [] 1024)) }
+    ensures made { D.is_honest disk.old → OnOk result (length (D.moments disk.old).state.now ≡ 0) }
+    ensures on_disk { D.is_honest disk.old → IfOk result (λ s. IsOnDisk (D.moments disk.new).state s.slot s.directory []) }
+    ensures why { D.is_honest disk.old → IfErr result (λ e. IsNotMade e (D.moments disk.old).state.now) }
+    ensures refused { D.is_honest disk.old → IfErr result (λ e. e ≢ refusals.DiskFault → D.moments disk.new ≡ D.moments disk.old) }
+    ensures honesty { D.is_honest disk.old ↔ D.is_honest disk.new }
+    ensures failures { Counts result (D.failures disk.old) (D.failures disk.new) }
+{
+    check_empty(disk)?;
+    let Room { index, cache } = room_for(alloc, Vec::new(alloc))?;
+    let Made { slot, directory } = make(alloc, disk)?;
+    Ok(Started {
+        slot,
+        directory,
+        index,
+        cache,
+    })
+}

@@ -1,0 +1,80 @@
+-- What holds of every row, line and file. Each is proved by the function of its name in `laws`.
+use Rattle.std.specs.Prelude.{◌≡◌, ◌≢◌, ◌↔◌, ◌⊎◌, ℕ, ◌-◌, ◌<◌, List, length, slice_index}
+use Rattle.std.specs.List.{All, AllByRecursion}
+use Rattle.rf2_values.specs.declared.row.Kind.{Kind}
+use Rattle.rf2_values.specs.Row.{Version, IsVersion, Spells, canonical, kind_of}
+use Rattle.rf2_rows.specs.declared.fault.LineFault.{LineFault}
+use Rattle.rf2_rows.specs.Line.{IsFaultOf}
+use Rattle.rf2_rows.specs.File.{InLines, lines_in, IsReleaseFile, IsFaultOfFile}
+
+-- ---- lines
+
+-- A text spells at most one row of a kind.
+abbrev pub SpellsOneRow : Type 0
+SpellsOneRow =
+    (v w : Version) (text : List ℕ) → kind_of v ≡ kind_of w → Spells v text → Spells w text → v ≡ w
+
+-- The canonical spelling of a row spells it.
+abbrev pub CanonicalSpells : Type 0
+CanonicalSpells = (v : Version) → IsVersion v → Spells v (canonical v)
+
+-- A line has at most one fault.
+abbrev pub OneFaultOfLine : Type 0
+OneFaultOfLine =
+    (kind : Kind) (text : List ℕ) (f g : LineFault)
+    → IsFaultOf kind text f → IsFaultOf kind text g → f ≡ g
+
+-- A line that spells a row has no fault.
+abbrev pub RowHasNoFault : Type 0
+RowHasNoFault = (v : Version) (text : List ℕ) (f : LineFault) → Spells v text → ¬ IsFaultOf (kind_of v) text f
+
+-- Each line spells a row of the kind or has a fault.
+abbrev pub RowOrFault : Type 0
+RowOrFault =
+    (kind : Kind) (text : List ℕ)
+    → ((v : Version) × (kind_of v ≡ kind) × Spells v text) ⊎ ((f : LineFault) × IsFaultOf kind text f)
+
+-- ---- files
+
+-- The bytes of a file are those of at most one list of rows.
+abbrev pub OneList : Type 0
+OneList =
+    (kind : Kind) (rows others : List Version) (bytes : List ℕ)
+    → IsReleaseFile kind rows bytes → IsReleaseFile kind others bytes → rows ≡ others
+
+-- A file has at most one first faulty line, with one fault.
+abbrev pub OneFaultOfFile : Type 0
+OneFaultOfFile =
+    (kind : Kind) (bytes : List ℕ) (m n : ℕ) (f g : LineFault)
+    → IsFaultOfFile kind bytes m f → IsFaultOfFile kind bytes n g → (m ≡ n) × (f ≡ g)
+
+-- A release file has no fault.
+abbrev pub ReleaseFileHasNoFault : Type 0
+ReleaseFileHasNoFault =
+    (kind : Kind) (rows : List Version) (bytes : List ℕ) (n : ℕ) (f : LineFault)
+    → IsReleaseFile kind rows bytes → ¬ IsFaultOfFile kind bytes n f
+
+-- Each file is a release file of the kind or has a fault.
+abbrev pub FileOrFault : Type 0
+FileOrFault =
+    (kind : Kind) (bytes : List ℕ)
+    → ((rows : List Version) × IsReleaseFile kind rows bytes)
+    ⊎ ((n : ℕ) × (f : LineFault) × IsFaultOfFile kind bytes n f)
+
+-- ---- the lines of bytes
+
+-- a text that any line end shows as it is: some bytes without LF, the last of which is no CR
+pub record IsLineText (text : List ℕ) : Type 0 where
+  pub some : 0 < length text
+  pub no_lf : All (λ b. b ≢ 10) text
+  pub no_cr : slice_index text (length text - 1) ≢ 13
+
+-- Any bytes are their lines in order, each with a line end, which the last one may lack.
+abbrev pub BytesAreTheirLines : Type 0
+BytesAreTheirLines = (bytes : List ℕ) → InLines (lines_in bytes) bytes
+
+-- Bytes have these lines exactly where they are these texts in order, each with a line end, which the last one may lack.
+abbrev pub LinesAreFound : Type 0
+LinesAreFound =
+    (texts : List (List ℕ)) (bytes : List ℕ)
+    → AllByRecursion IsLineText texts → (InLines texts bytes ↔ (lines_in bytes ≡ texts))

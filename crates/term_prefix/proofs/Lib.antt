@@ -1,0 +1,6 @@
+pub mod Prefixed
+pub mod FirstKept
+pub mod Terming
+pub mod Laid
+pub mod Posted
+mod Growing

@@ -1,0 +1,47 @@
+-- The first places by id that are kept while postings are gone through: words of private functions.
+use Rattle.std.specs.Prelude.{◌≡◌, ◌⊎◌, ◌≤◌, ◌<◌, ℕ, Bool, true, false, List, length, map, nat_eq}
+use Rattle.std.specs.List.{filter, starts_with}
+use Rattle.history_model.specs.declared.stamped.StampedRow.{StampedRow}
+use Rattle.history_model.specs.InOrder.{Has, IsAscending}
+use Rattle.as_of_index.specs.declared.chosen.Chosen.{Chosen}
+use Rattle.as_of_index.specs.Chosen.{chosen, chosen_cmp}
+use Rattle.as_of_index.specs.Current.{IsCurrentAt}
+use Rattle.term_prefix.specs.Terms.{TermAt}
+
+-- the folding begins with a text
+abbrev pub begins : List ℕ → TermAt → Bool
+begins text t = starts_with nat_eq t.folded text
+
+-- the places of those that begin so
+abbrev pub begun : List ℕ → List (ℕ × TermAt) → List Chosen
+begun text xs = map (λ x. chosen x.0 x.1.at) (filter (λ x. begins text x.1) xs)
+
+-- as many as may be are kept, with ids below this one
+abbrev pub IsBeyond : ℕ → List Chosen → ℕ → Type 0
+IsBeyond limit kept id = (limit ≤ length kept) × ((j : Chosen) → Has kept j → j.at.key.id < id)
+
+-- the id is kept, or beyond those that are
+abbrev pub IsTaken : ℕ → List Chosen → ℕ → Type 0
+IsTaken limit kept id = ((j : Chosen) × Has kept j × (j.at.key.id ≡ id)) ⊎ IsBeyond limit kept id
+
+-- what a test answers of an id: it is taken, or, where as many are kept as may be, one that is kept
+-- is above it
+abbrev pub SaysTaken : ℕ → List Chosen → ℕ → Bool → Type 0
+SaysTaken limit kept id true = IsTaken limit kept id
+SaysTaken limit kept id false = limit ≤ length kept → (j : Chosen) × Has kept j × (id < j.at.key.id)
+
+-- and of a place: it is current, and there is room for it
+abbrev pub SaysWanted : List (List StampedRow) → ℕ → ℕ → ℕ → List Chosen → Chosen → Bool → Type 0
+SaysWanted lists date pin limit kept k true =
+    IsCurrentAt lists date pin k.segment k.at × SaysTaken limit kept k.at.key.id false
+SaysWanted lists date pin limit kept k false =
+    IsTaken limit kept k.at.key.id ⊎ (IsCurrentAt lists date pin k.segment k.at → ⊥)
+
+-- of those that are current, the first by id, as many as may be
+pub record AreKept (lists : List (List StampedRow)) (date pin limit : ℕ) (seen kept : List Chosen)
+    : Type 0 where
+  pub ascending : IsAscending chosen_cmp kept
+  pub few : length kept ≤ limit
+  pub all : (k : Chosen) → Has seen k → IsCurrentAt lists date pin k.segment k.at
+      → IsTaken limit kept k.at.key.id
+  pub only : (k : Chosen) → Has kept k → Has seen k × IsCurrentAt lists date pin k.segment k.at

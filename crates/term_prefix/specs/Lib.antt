@@ -1,0 +1,10 @@
+pub use Rattle.history_model.specs.Queries
+pub use Rattle.segment.specs.Standing
+pub use Rattle.as_of_index.specs.Places
+pub use Rattle.as_of_index.specs.Current
+pub use Rattle.as_of_index.specs.Chosen
+pub use Rattle.as_of_index.specs.Postings
+pub mod Terms
+pub mod Pushed
+pub mod Laid
+pub mod Keeping

@@ -1,0 +1,58 @@
+-- What is posted of rows, and lists of it that stay such.
+use Rattle.std.specs.Prelude.{◌≡◌, ℕ, List, [], ◌∷◌, ◌++◌, remove, slice_set, if◌then◌else◌}
+use Rattle.std.specs.List.Sorted.{IsPermutation}
+use Rattle.rf2_values.specs.declared.row.Body.{Body}
+use Rattle.rf2_values.specs.declared.row.Body.TheVariants as body
+use Rattle.rf2_values.specs.Row.{Version}
+use Rattle.history_model.specs.declared.stamped.StampedRow.{StampedRow}
+use Rattle.history_model.specs.History.{rows_at}
+use Rattle.history_model.specs.Lists.{listed}
+use Rattle.history_model.specs.Queries.{folded, terms}
+use Rattle.segment.specs.declared.place.Posted.{Posted}
+use Rattle.segment.specs.Standing.{with_places}
+use Rattle.as_of_index.specs.Postings.{posted_all, AllPosted}
+use Rattle.term_prefix.specs.Terms.{TermAt, PostsTerms, term_keys, terms_among}
+
+abbrev pub term_of_body : Body → Posted → List TermAt
+term_of_body (body.Concept c) at = []
+term_of_body (body.Description d) at = record { folded = folded d.term; at = at } ∷ []
+term_of_body (body.Relationship r) at = []
+term_of_body (body.Association a) at = []
+
+-- what is posted of a row: an active description's folded term
+abbrev pub posted_term : Version → Posted → List TermAt
+posted_term row at = if row.active then term_of_body row.body at else []
+
+-- the list is what is posted of these rows, each with its own place, in any order
+abbrev pub IsPosted : List StampedRow → List TermAt → Type 0
+IsPosted rows ts = IsPermutation (posted_all posted_term (with_places 0 rows)) ts
+
+-- as many lists of postings as of rows, each of its own rows
+abbrev pub ArePosted : List (List StampedRow) → List (List TermAt) → Type 0
+ArePosted lists terms = AllPosted posted_term lists terms
+
+-- such lists post rows of their own lists
+abbrev pub PostedTermsStand : Type 0
+PostedTermsStand = (lists : List (List StampedRow)) (terms : List (List TermAt))
+    → ArePosted lists terms → PostsTerms lists terms
+
+-- and nothing is left out
+abbrev pub PostedTermsAreAll : Type 0
+PostedTermsAreAll = (lists : List (List StampedRow)) (posts : List (List TermAt))
+    (prefix : List ℕ) (date pin limit : ℕ)
+    → ArePosted lists posts
+    → terms_among (term_keys posts) prefix date limit (rows_at pin (listed lists))
+    ≡ terms prefix date limit (rows_at pin (listed lists))
+
+-- they stay such where a list is added
+abbrev pub PostedTermsMore : Type 0
+PostedTermsMore = (lists : List (List StampedRow)) (terms : List (List TermAt))
+    (rows : List StampedRow) (ts : List TermAt)
+    → ArePosted lists terms → IsPosted rows ts → ArePosted (lists ++ rows ∷ []) (terms ++ ts ∷ [])
+
+-- and where one is put in the place of two
+abbrev pub PostedTermsMerged : Type 0
+PostedTermsMerged = (lists : List (List StampedRow)) (terms : List (List TermAt))
+    (i j : ℕ) (rows : List StampedRow) (ts : List TermAt)
+    → ArePosted lists terms → IsPosted rows ts
+    → ArePosted (remove (slice_set lists i rows) j) (remove (slice_set terms i ts) j)

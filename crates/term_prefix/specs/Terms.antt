@@ -1,0 +1,61 @@
+-- Postings of descriptions' terms, and the rows that are found by the beginning of one.
+use Rattle.std.specs.Prelude.{◌≡◌, ℕ, true, false, ◌&&◌, List, [], ◌∷◌, map, take}
+use Rattle.std.specs.List.{filter, AllByRecursion}
+use Rattle.std.specs.Ordering.{nat_cmp, is_lt}
+use Rattle.std.specs.Cmp.Lexicographic.{slice_cmp}
+use Rattle.rf2_values.specs.declared.row.Body.{Body}
+use Rattle.rf2_values.specs.declared.row.Body.TheVariants as body
+use Rattle.rf2_values.specs.declared.key.Key.{Key}
+use Rattle.rf2_values.specs.Row.{Version}
+use Rattle.history_model.specs.declared.stamped.StampedRow.{StampedRow}
+use Rattle.history_model.specs.InOrder.{Has, joined}
+use Rattle.history_model.specs.Queries.{snapshot, is_term, folded, terms}
+use Rattle.segment.specs.declared.place.Posted.{Posted}
+use Rattle.segment.specs.Standing.{StandsAt}
+use Rattle.as_of_index.specs.Current.{is_among}
+use Rattle.as_of_index.specs.Postings.{numbered}
+
+-- a folded term and the place of its row
+pub record TermAt : Type 0 where
+  pub folded : List ℕ
+  pub at : Posted
+
+-- no text is below one before it
+abbrev pub TextsRise : List TermAt → Type 0
+TextsRise [] = Unit {0}
+TextsRise (t ∷ ts) =
+    AllByRecursion (λ u. is_lt (slice_cmp nat_cmp u.folded t.folded) ≡ false) ts × TextsRise ts
+
+-- the body is a description's, and this is the folding of its term
+abbrev pub HasFolded : List ℕ → Body → Type 0
+HasFolded text (body.Concept c) = ⊥
+HasFolded text (body.Description d) = folded d.term ≡ text
+HasFolded text (body.Relationship r) = ⊥
+HasFolded text (body.Association a) = ⊥
+
+-- what a posting says of the row that stands at its place
+pub record IsTermOf (t : TermAt) (row : Version) : Type 0 where
+  pub active : row.active ≡ true
+  pub folded_is : HasFolded t.folded row.body
+
+-- the lists post rows of these lists, each with its own place, and in the list with the same number
+abbrev pub PostsTerms : List (List StampedRow) → List (List TermAt) → Type 0
+PostsTerms lists terms = (x : ℕ × TermAt) → Has (numbered 0 terms) x
+    → (s : StampedRow) × StandsAt lists x.0 x.1.at s × IsTermOf x.1 s.row
+
+-- the keys of what is posted
+abbrev pub term_keys : List (List TermAt) → List Key
+term_keys terms = map (λ t. t.at.key) (joined terms)
+
+-- the first so many active descriptions at the date with such a term, drawn from the versions with
+-- these keys alone
+unfoldable pub terms_among : List Key → List ℕ → ℕ → ℕ → List Version → List Version
+terms_among keys prefix date limit rows =
+    take limit (filter (λ row. is_term prefix row && is_among keys row) (snapshot rows date))
+
+-- where each of them is posted these are the answers
+abbrev pub EachTermIsPosted : Type 0
+EachTermIsPosted = (keys : List Key) (prefix : List ℕ) (date limit : ℕ) (rows : List Version)
+    → ((row : Version) → Has (snapshot rows date) row → is_term prefix row ≡ true
+    → is_among keys row ≡ true)
+    → terms_among keys prefix date limit rows ≡ terms prefix date limit rows

@@ -1,0 +1,23 @@
+//! Descriptions found by the beginning of their terms.
+//!
+//! Each list of rows has a sorted list of the folded terms of its active descriptions. A term that is
+//! found is a candidate: it counts only where its version is the one that is picked at the date and the
+//! pin.
+#![tactic(auto)]
+
+pub mod laws;
+mod postings;
+mod sealed;
+mod search;
+mod terms;
+mod text;
+
+pub use postings::Postings;
+pub use sealed::Sealed;
+pub use search::find;
+pub use terms::Terms;
+
+#[cfg(test)]
+mod making;
+#[cfg(test)]
+mod tests;

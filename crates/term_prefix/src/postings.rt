@@ -1,0 +1,159 @@
+//! The terms of rows, as they are pushed.
+
+ghost use Rattle.std.specs.Prelude.{◌≡◌, ◌++◌, [], List, length, take, OnOk, OnErr, IfOk, string_bytes};
+ghost use Rattle.std.specs.List.Sorted.{IsPermutation};
+ghost use Rattle.std.specs.Str.{IsUtf8};
+ghost use Rattle.std.specs.Ordering.{nat_cmp};
+ghost use Rattle.std.specs.Cmp.Lexicographic.{slice_cmp};
+ghost use Rattle.history_model.specs.Queries.{folded};
+ghost use Rattle.term_prefix.specs.Terms.{TextsRise};
+ghost use Rattle.term_prefix.specs.Pushed.{posted_term};
+ghost use Rattle.term_prefix.specs.Laid.{term_at, terms_at, AreLaid, AddsTerm, IsCut};
+
+use crate::sealed::Sealed;
+use crate::text::{Term, piece};
+use caseless::default_case_fold_str;
+use history_model::StampedRow;
+use rf2_values::Body;
+use segment::Posted;
+use std::alloc::{AllocError, Global};
+use std::cmp::Ordering;
+use std::marker::Model;
+
+/// The terms of rows, in the order in which they were pushed. Their foldings stand in one text.
+#[derive(Drop)]
+pub struct Postings {
+    text: Vec<u8>,
+    terms: Vec<Term>,
+    alloc: Global,
+}
+
+impl Model for Postings {
+    ghost use Rattle.std.specs.Prelude.{List, length};
+    ghost use Rattle.term_prefix.specs.Terms.{TermAt};
+    ghost use Rattle.term_prefix.specs.Laid.{terms_at, AreLaid};
+
+    ghost Value = { List TermAt };
+
+    ghost view = { λ a. terms_at a.text.items a.terms.items };
+
+    ghost invariant = { λ a. AreLaid 0 a.terms.items (length a.text.items) };
+}
+
+/// A term in the default case folding.
+#[tactic(auto, unfolding(history_model::specs::Queries::folded))]
+fn folded(alloc: Global, term: &[u8]) -> Result<String, AllocError>
+    requires { IsUtf8 term.now }
+    ensures { IfOk result (λ t. string_bytes t ≡ folded term.now) }
+{
+    match str::from_utf8(term) {
+        Ok(text) => default_case_fold_str(alloc, text),
+        Err(_) => unreachable!(),
+    }
+}
+
+/// Adds a folded term. An `Err` changes nothing.
+fn push_term(
+    text: &mut Vec<u8>,
+    terms: &mut Vec<Term>,
+    folded: &[u8],
+    at: Posted,
+) -> Result<(), AllocError>
+    ensures ok { OnOk result
+        (AddsTerm text.old.items terms.old.items folded.now at text.new.items terms.new.items) }
+    ensures err { OnErr result
+        ((text.new.items ≡ text.old.items) × (terms.new.items ≡ terms.old.items)) }
+{
+    terms.reserve(1)?;
+    let start = text.len();
+    text.extend_from_slice(folded)?;
+    let Ok(()) = terms.push(Term {
+        at,
+        start,
+        len: folded.len(),
+    }) else {
+        unreachable!()
+    };
+    Ok(())
+}
+
+/// Takes away all terms from a place on, and their text.
+fn cut(text: &mut Vec<u8>, terms: &mut Vec<Term>, len: usize)
+    ensures { AreLaid 0 terms.old.items (length text.old.items)
+        → IsCut text.old.items terms.old.items len text.new.items terms.new.items }
+{
+    if len < terms.len() {
+        let end = terms[len].start;
+        terms.truncate(len);
+        text.truncate(end);
+    }
+}
+
+fn compare(text: &[u8], a: &Term, b: &Term) -> Ordering
+    ensures { result ≡ slice_cmp nat_cmp (term_at text.now a.now).folded
+        (term_at text.now b.now).folded }
+{
+    piece(text, a.start, a.len).cmp(piece(text, b.start, b.len))
+}
+
+fn sort(text: &[u8], terms: &mut Vec<Term>)
+    ensures permutation { IsPermutation terms.old.items terms.new.items }
+    ensures rising { TextsRise (terms_at text.now terms.new.items) }
+{
+    terms.sort_unstable_by(|a, b| compare(text, a, b));
+}
+
+impl Postings {
+    /// No terms. It takes no memory.
+    pub fn new(alloc: Global) -> Postings
+        ensures { result ≡ [] }
+    {
+        Postings {
+            text: Vec::new(alloc),
+            terms: Vec::new(alloc),
+            alloc,
+        }
+    }
+
+    /// Adds the row's term with the row's place, if it is an active description.
+    pub fn push(&mut self, row: &StampedRow, at: Posted) -> Result<(), AllocError>
+        ensures ok { OnOk result (self.new ≡ self.old ++ posted_term row.now.row at) }
+        ensures err { OnErr result (self.new ≡ self.old) }
+    {
+        match &row.row.body {
+            Body::Description(description) if row.row.active => {
+                let folded = folded(self.alloc, description.term.as_bytes())?;
+                push_term(&mut self.text, &mut self.terms, folded.as_bytes(), at)
+            }
+            _ => Ok(()),
+        }
+    }
+
+    /// How many terms there are.
+    pub fn len(&self) -> usize
+        ensures { result ≡ length self.now }
+    {
+        self.terms.len()
+    }
+
+    /// Takes away all terms from a place on: what `len` answered once is left.
+    pub fn cut_to(&mut self, len: usize)
+        ensures { self.new ≡ take len self.old }
+    {
+        cut(&mut self.text, &mut self.terms, len);
+    }
+
+    /// The terms in the order of their foldings. It takes no memory.
+    pub fn seal(self) -> Sealed
+        ensures permutation { IsPermutation self result }
+        ensures rising { TextsRise result }
+    {
+        let Postings {
+            text,
+            mut terms,
+            ..
+        } = self;
+        sort(text.as_slice(), &mut terms);
+        Sealed { text, terms }
+    }
+}

@@ -1,0 +1,180 @@
+//! Searches of postings.
+
+ghost use Rattle.std.specs.Prelude.{◌≡◌, ◌≢◌, ◌≤◌, ◌++◌, List, length, map, take, IfOk, IfErr, OnOk};
+ghost use Rattle.history_model.specs.declared.stamped.StampedRow.{StampedRow};
+ghost use Rattle.history_model.specs.InOrder.{IsAscending, put};
+ghost use Rattle.history_model.specs.Searches.{IsPlace};
+ghost use Rattle.history_model.specs.History.{rows_at};
+ghost use Rattle.history_model.specs.Lists.{listed};
+ghost use Rattle.as_of_index.specs.Places.{Lists};
+ghost use Rattle.fault_counts.specs.Counting.{Counts};
+ghost use Rattle.as_of_index.specs.Reader.{CountsDiskFault, CountsDamage};
+ghost use Rattle.as_of_index.specs.Chosen.{chosen, chosen_cmp};
+ghost use Rattle.as_of_index.specs.Postings.{numbered};
+ghost use Rattle.as_of_index.specs.declared.reader.ReadFault.TheVariants as readfault;
+ghost use Rattle.term_prefix.specs.Terms.{PostsTerms, term_keys, terms_among};
+ghost use Rattle.term_prefix.specs.Keeping.{begun, SaysTaken, SaysWanted, AreKept};
+
+use crate::sealed::Sealed;
+use crate::terms::Terms;
+use crate::text::Term;
+use as_of_index::{Chosen, Index, ReadFault, RowReader, read_all};
+use caseless::default_case_fold_str;
+use rf2_values::{EffectiveTime, Row};
+use segment::Posted;
+use std::alloc::{AllocError, Global};
+
+fn id_of(at: &Posted) -> u128
+    ensures { result ≡ at.now.key.id }
+{
+    at.key.id
+}
+
+/// Where a place of this id stands, or else where one is to be inserted.
+fn place_for(kept: &[Chosen], id: u128) -> Result<usize, usize>
+    ensures within { IfErr result (λ place. place ≤ length kept.now) }
+    ensures found { IsAscending chosen_cmp kept.now → (k : Chosen) → k.at.key.id ≡ id
+        → IsPlace chosen_cmp k kept.now result }
+{
+    let place = kept.partition_point(|other| other.at.key.id < id);
+    if place < kept.len() && kept[place].at.key.id == id {
+        Ok(place)
+    } else {
+        Err(place)
+    }
+}
+
+/// Keeps the place, and of all that are kept the first so many by id.
+fn keep(kept: &mut Vec<Chosen>, limit: u32, segment: usize, at: Posted) -> Result<(), AllocError>
+    ensures { OnOk result (IsAscending chosen_cmp kept.old.items → length kept.old.items ≤ limit
+        → kept.new.items ≡ take limit (put chosen_cmp (chosen segment at) kept.old.items)) }
+{
+    if let Err(place) = place_for(kept, id_of(&at)) {
+        kept.insert(
+            place,
+            Chosen {
+                segment,
+                at,
+                refset: 0,
+                target: 0,
+            },
+        )?;
+        kept.truncate(limit as usize);
+    }
+    Ok(())
+}
+
+/// Whether there is no need to keep the id: as many are kept as there may be, none with a
+/// greater id.
+fn is_taken(kept: &[Chosen], limit: u32, id: u128) -> bool
+    ensures { IsAscending chosen_cmp kept.now → SaysTaken limit kept.now id result }
+{
+    match kept.last() {
+        Some(last) => limit as usize <= kept.len() && last.at.key.id <= id,
+        None => limit == 0,
+    }
+}
+
+/// Whether the place is to be kept. Whether it is current is asked last, since that costs a search
+/// of the index.
+fn is_wanted(
+    kept: &[Chosen],
+    limit: u32,
+    segment: usize,
+    at: &Posted,
+    index: &Index,
+    time: EffectiveTime,
+    pin: u32,
+) -> bool
+    ensures { (lists : List (List StampedRow)) → Lists index.now lists
+        → IsAscending chosen_cmp kept.now
+        → SaysWanted lists time pin limit kept.now (chosen segment at.now) result }
+{
+    !is_taken(kept, limit, id_of(at)) && index.is_current(segment, *at, time, pin)
+}
+
+/// Keeps those of the terms that are current, and of all that are kept the first so many by id.
+fn keep_current(
+    kept: &mut Vec<Chosen>,
+    limit: u32,
+    terms: &[Term],
+    segment: usize,
+    index: &Index,
+    time: EffectiveTime,
+    pin: u32,
+) -> Result<(), AllocError>
+    ensures { OnOk result ((lists : List (List StampedRow)) → Lists index.now lists
+        → (seen : List Chosen) → AreKept lists time pin limit seen kept.old.items
+        → AreKept lists time pin limit (seen ++ map (λ t. chosen segment t.at) terms.now)
+        kept.new.items) }
+{
+    for term in terms {
+        if is_wanted(kept, limit, segment, &term.at, index, time, pin) {
+            keep(kept, limit, segment, term.at)?;
+        }
+    }
+    Ok(())
+}
+
+/// The first places by id of the current terms that begin with the prefix.
+fn keep_all(
+    alloc: Global,
+    lists: &[Sealed],
+    index: &Index,
+    prefix: &[u8],
+    time: EffectiveTime,
+    pin: u32,
+    limit: u32,
+) -> Result<Vec<Chosen>, AllocError>
+    ensures { IfOk result (λ kept. (rows : List (List StampedRow)) → Lists index.now rows
+        → AreKept rows time pin limit (begun prefix.now (numbered 0 lists.now)) kept.items) }
+{
+    let mut kept = Vec::new(alloc);
+    for (segment, list) in lists.iter().enumerate() {
+        let those = list.candidates(prefix);
+        keep_current(&mut kept, limit, those, segment, index, time, pin)?;
+    }
+    Ok(kept)
+}
+
+/// The first rows by id of active descriptions at the date of which the folded term begins with the
+/// folded prefix, of the rows that the pin shows and of the versions that are posted.
+///
+/// A row is read only where it is answered.
+pub fn find<R: RowReader>(
+    alloc: Global,
+    terms: &Terms,
+    index: &Index,
+    reader: &mut R,
+    prefix: &str,
+    time: EffectiveTime,
+    pin: u32,
+    limit: u32,
+) -> Result<Vec<Row>, ReadFault>
+    ensures found { R.is_honest reader.old → Lists index.now (R.lists reader.old)
+        → PostsTerms (R.lists reader.old) terms.now
+        → IfOk result (λ rows. rows.items ≡ terms_among (term_keys terms.now) prefix.now time limit
+        (rows_at pin (listed (R.lists reader.old)))) }
+    ensures undamaged { R.is_honest reader.old → Lists index.now (R.lists reader.old)
+        → PostsTerms (R.lists reader.old) terms.now → IfErr result (λ e. e ≢ readfault.Damaged) }
+    ensures lists { R.lists reader.new ≡ R.lists reader.old }
+    ensures honesty { R.is_honest reader.old → R.is_honest reader.new }
+    ensures stays { R.stays reader.old reader.new }
+    ensures disk_faults { Counts CountsDiskFault result
+        (R.disk_faults reader.old) (R.disk_faults reader.new) }
+    ensures damages { Counts CountsDamage result (R.damages reader.old) (R.damages reader.new) }
+{
+    // Its contract says that no key is listed twice.
+    let _listed = index.lists();
+    let folded = default_case_fold_str(alloc, prefix)?;
+    let kept = keep_all(
+        alloc,
+        terms.lists.as_slice(),
+        index,
+        folded.as_bytes(),
+        time,
+        pin,
+        limit,
+    )?;
+    read_all(alloc, reader, kept.as_slice())
+}

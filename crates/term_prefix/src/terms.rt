@@ -1,0 +1,61 @@
+//! The terms of several lists of rows.
+
+ghost use Rattle.std.specs.Prelude.{◌≡◌, ◌<◌, ◌++◌, ◌∷◌, [], length, IfOk, remove, slice_set};
+
+use crate::sealed::Sealed;
+use std::alloc::{AllocError, Global};
+use std::marker::Model;
+
+/// The terms of several lists of rows, in the order of these lists.
+#[derive(Drop)]
+pub struct Terms {
+    pub(crate) lists: Vec<Sealed>,
+}
+
+impl Model for Terms {
+    ghost use Rattle.std.specs.Prelude.{List, vec_capacity, ◌≤◌};
+    ghost use Rattle.term_prefix.specs.Terms.{TermAt};
+
+    ghost Value = { List (List TermAt) };
+
+    ghost view = { λ a. a.lists.items };
+
+    ghost invariant = { λ a. 128 ≤ vec_capacity a.lists };
+}
+
+impl Terms {
+    /// No lists, with room for all that there may be.
+    pub fn new(alloc: Global) -> Result<Terms, AllocError>
+        ensures { IfOk result (λ terms. terms ≡ []) }
+    {
+        let lists = Vec::with_capacity(alloc, 128)?;
+        Ok(Terms { lists })
+    }
+
+    /// How many lists there are.
+    pub fn lists(&self) -> usize
+        ensures { result ≡ length self.now }
+    {
+        self.lists.len()
+    }
+
+    /// Adds a list as the last. It takes no memory.
+    pub fn add(&mut self, list: Sealed)
+        requires { length self.old < 128 }
+        ensures { self.new ≡ self.old ++ list ∷ [] }
+    {
+        let Ok(()) = self.lists.push(list) else {
+            unreachable!()
+        };
+    }
+
+    /// Puts a list in the place of two, at the first's. It takes no memory.
+    pub fn replace_two(&mut self, i: usize, j: usize, list: Sealed)
+        requires places { i < j }
+        requires within { j < length self.old }
+        ensures { self.new ≡ remove (slice_set self.old i list) j }
+    {
+        self.lists[i] = list;
+        let _removed = self.lists.remove(j);
+    }
+}
