@@ -10,5 +10,4 @@ pub mod Refusing
 pub mod Apart
 pub mod FreshRows
 pub mod Imported
-pub mod Shortness
 pub mod Reopened

@@ -7,7 +7,6 @@
 mod counting;
 mod known;
 pub mod laws;
-mod loading;
 mod placing;
 mod posting;
 mod preparing;

@@ -3,12 +3,12 @@
 ghost use Rattle.std.specs.Prelude.{◌≡◌, ◌≤◌, [], length, IfOk};
 ghost use Rattle.associations.specs.Edges.{no_edges};
 
-use crate::loading::RowSink;
 use associations::Links;
 use history_model::StampedRow;
 use segment::Posted;
 use std::alloc::{AllocError, Global};
 use std::mem;
+use store_image::RowSink;
 use term_prefix::Terms;
 
 /// What is posted of the rows of segments, as they come.
@@ -64,10 +64,7 @@ impl RowSink for Posting {
 }
 
 /// The terms of several segments.
-pub(crate) fn terms_of(
-    alloc: Global,
-    lists: Vec<term_prefix::Sealed>,
-) -> Result<Terms, AllocError>
+pub(crate) fn terms_of(alloc: Global, lists: Vec<term_prefix::Sealed>) -> Result<Terms, AllocError>
     requires { length lists.items ≤ 128 }
     ensures { IfOk result (λ terms. terms ≡ lists.items) }
 {
@@ -79,10 +76,7 @@ pub(crate) fn terms_of(
 }
 
 /// The links of several segments.
-pub(crate) fn links_of(
-    alloc: Global,
-    lists: Vec<associations::Sealed>,
-) -> Result<Links, AllocError>
+pub(crate) fn links_of(alloc: Global, lists: Vec<associations::Sealed>) -> Result<Links, AllocError>
     requires { length lists.items ≤ 128 }
     ensures { IfOk result (λ links. links ≡ lists.items) }
 {

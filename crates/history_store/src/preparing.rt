@@ -44,7 +44,8 @@ fn stamp(alloc: Global, rows: Vec<Row>, import: u32) -> Result<Vec<StampedRow>, 
 
 /// Whether the last import number was given, or the last epoch was reached.
 pub(crate) fn is_spent(directory: &Directory) -> bool
-    ensures spent { result ≡ true → (directory.now.imports ≡ last_import) ⊎ (directory.now.epoch ≡ last_epoch) }
+    ensures spent { result ≡ true
+        → (directory.now.imports ≡ last_import) ⊎ (directory.now.epoch ≡ last_epoch) }
     ensures left { result ≡ false → IsNotSpent directory.now.imports directory.now.epoch }
 {
     directory.imports() == u32::MAX || directory.epoch() == u64::MAX
@@ -53,7 +54,12 @@ pub(crate) fn is_spent(directory: &Directory) -> bool
 /// The directory after an import without new rows.
 pub(crate) fn repeated(alloc: Global, directory: &Directory) -> Result<Directory, AllocError>
     requires { IsNotSpent directory.now.imports directory.now.epoch }
-    ensures { IfOk result (λ d. d ≡ record { epoch = directory.now.epoch + 1; imports = directory.now.imports + 1; entries = directory.now.entries }) }
+    ensures { IfOk result
+        (λ d. d ≡ record {
+          epoch = directory.now.epoch + 1;
+          imports = directory.now.imports + 1;
+          entries = directory.now.entries;
+        }) }
 {
     let mut next = directory.try_clone(alloc)?;
     next.advance(directory.imports() + 1);
@@ -91,8 +97,10 @@ pub(crate) fn prepare(
     requires not_spent { IsNotSpent directory.now.imports directory.now.epoch }
     requires some { 1 ≤ length fresh.items }
     requires ascending { IsAscending row_cmp fresh.items }
-    ensures prepared { IfOk result (IsPrepared directory.now (stamped (directory.now.imports + 1) fresh.items)) }
-    ensures refused { IfErr result (λ e. IsUnprepared e (stamped (directory.now.imports + 1) fresh.items) (shelf_of directory.now)) }
+    ensures prepared { IfOk result (IsPrepared directory.now (stamped
+        (directory.now.imports + 1) fresh.items)) }
+    ensures refused { IfErr result (λ e. IsUnprepared e (stamped
+        (directory.now.imports + 1) fresh.items) (shelf_of directory.now)) }
 {
     let list = stamp(alloc, fresh, directory.imports() + 1)?;
     let entry = place(directory, &list)?;

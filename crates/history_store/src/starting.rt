@@ -8,8 +8,8 @@ ghost use Rattle.store_image.specs.Answers.{empty_listing};
 ghost use Rattle.history_store.specs.Answers.{Counts, IsNotMade};
 ghost use Rattle.history_store.specs.declared.refusal.Refusal.TheVariants as refusals;
 
-use crate::refusal::Refusal;
 use crate::posting::{Posting, links_of, terms_of};
+use crate::refusal::Refusal;
 use as_of_index::{Index, Listed, Posted};
 use associations::Links;
 use blocks::{BlockCache, Slot};
@@ -85,11 +85,15 @@ pub(crate) fn room_for(
 
 /// Makes a store on an empty disk.
 pub(crate) fn start<D: Disk>(alloc: Global, disk: &mut D) -> Result<Started, Refusal>
-    ensures empty { IfOk result (λ s. (s.directory ≡ empty_listing) × (s.index ≡ []) × (s.cache ≡ lru_cache [] 1024) × (s.terms ≡ []) × (s.links ≡ [])) }
+    ensures empty { IfOk result (λ s. (s.directory ≡ empty_listing) × (s.index ≡ [])
+        × (s.cache ≡ lru_cache [] 1024) × (s.terms ≡ []) × (s.links ≡ [])) }
     ensures made { D.is_honest disk.old → OnOk result (length (D.moments disk.old).state.now ≡ 0) }
-    ensures on_disk { D.is_honest disk.old → IfOk result (λ s. IsOnDisk (D.moments disk.new).state s.slot s.directory []) }
-    ensures why { D.is_honest disk.old → IfErr result (λ e. IsNotMade e (D.moments disk.old).state.now) }
-    ensures refused { D.is_honest disk.old → IfErr result (λ e. e ≢ refusals.DiskFault → D.moments disk.new ≡ D.moments disk.old) }
+    ensures on_disk { D.is_honest disk.old
+        → IfOk result (λ s. IsOnDisk (D.moments disk.new).state s.slot s.directory []) }
+    ensures why { D.is_honest disk.old
+        → IfErr result (λ e. IsNotMade e (D.moments disk.old).state.now) }
+    ensures refused { D.is_honest disk.old → IfErr result (λ e. e ≢ refusals.DiskFault
+        → D.moments disk.new ≡ D.moments disk.old) }
     ensures honesty { D.is_honest disk.old ↔ D.is_honest disk.new }
     ensures failures { Counts result (D.failures disk.old) (D.failures disk.new) }
 {

@@ -5,24 +5,22 @@ ghost use Rattle.disk_model.specs.Disk.{EachImage, IsImage, LeavesOnly};
 
 use crate::counting::row_count;
 use crate::known::fresh_rows;
-use crate::loading::{Loaded, load};
 use crate::posting::Posting;
 use crate::preparing::{Prepared, is_spent, prepare, repeated};
 use crate::reading::DiskRows;
 use crate::refusal::Refusal;
-use history_model::Shown;
 use crate::starting::{Room, Started, room_for, start};
 use as_of_index::{Index, ReadFault};
 use associations::{Links, children, replacements};
 use blocks::{BlockCache, Slot};
 use directory::Directory;
 use disk_model::Disk;
-use history_model::Receipt;
+use history_model::{Receipt, Shown};
 use import_check::{Fresh, ImportFault, KnownFault, Release};
 use rf2_rows::{EffectiveTime, Kind, Row, Sctid};
 use std::alloc::Global;
 use std::marker::Model;
-use store_image::{add_segment, publish_listing};
+use store_image::{Loaded, add_segment, load, publish_listing};
 use term_prefix::{Terms, find};
 
 /// The release history of a terminology, on a disk.
@@ -87,14 +85,16 @@ impl<D: Disk> Store<D> {
     {
         let mut disk = disk;
         match start(alloc, &mut disk) {
-            Ok(Started {
-                slot,
-                directory,
-                index,
-                terms,
-                links,
-                cache,
-            }) => Ok(Store {
+            Ok(
+                Started {
+                    slot,
+                    directory,
+                    index,
+                    terms,
+                    links,
+                    cache,
+                },
+            ) => Ok(Store {
                 alloc,
                 disk,
                 cache,
@@ -114,7 +114,9 @@ impl<D: Disk> Store<D> {
     pub fn open(alloc: Global, disk: D) -> Result<Store<D>, (Refusal, D)>
         ensures exact { D.is_honest disk → IsOpeningOf result (D.moments disk).state.now }
         // A stop at any moment leaves what it might have left before.
-        ensures any_moment { D.is_honest disk → LeavesOnly (D.moments disk) (D.moments (device_of result)) (IsImage (D.moments disk).state) }
+        ensures any_moment { D.is_honest disk
+            → LeavesOnly (D.moments disk) (D.moments (device_of result)) (IsImage
+            (D.moments disk).state) }
         // Whatever it answers, a read gives what it gave before.
         ensures read { D.is_honest disk
             → (D.moments (device_of result)).state.now ≡ (D.moments disk).state.now }
@@ -139,12 +141,14 @@ impl<D: Disk> Store<D> {
             ..
         } = posting;
         match room_for(alloc, places, sealed_terms, sealed_edges) {
-            Ok(Room {
-                index,
-                terms,
-                links,
-                cache,
-            }) => Ok(Store {
+            Ok(
+                Room {
+                    index,
+                    terms,
+                    links,
+                    cache,
+                },
+            ) => Ok(Store {
                 alloc,
                 disk,
                 cache,
@@ -169,13 +173,16 @@ impl<D: Disk> Store<D> {
         pin: u32,
     ) -> Result<Option<Row>, Refusal>
         requires { pin ≤ self.old.history.imports }
-        ensures found { D.is_honest self.old.disk → IfOk result (λ row. row ≡ lookup kind id time (rows_at pin self.old.history.rows)) }
+        ensures found { D.is_honest self.old.disk
+            → IfOk result (λ row. row ≡ lookup kind id time (rows_at pin self.old.history.rows)) }
         ensures undamaged { D.is_honest self.old.disk → IfErr result (λ e. e ≢ refusals.Damaged) }
         ensures read { IsReadingOf result self.old self.new }
         // A store that has to be opened again leaves everything as it is.
         ensures closed { self.old.needs_reopen ≡ true → self.new ≡ self.old }
-        ensures moments { D.is_honest self.old.disk → D.moments self.new.disk ≡ D.moments self.old.disk }
-        ensures acknowledged { D.is_honest self.old.disk → self.new.needs_reopen ≡ false → IsAcknowledged D.moments self.new }
+        ensures moments { D.is_honest self.old.disk
+            → D.moments self.new.disk ≡ D.moments self.old.disk }
+        ensures acknowledged { D.is_honest self.old.disk → self.new.needs_reopen ≡ false
+            → IsAcknowledged D.moments self.new }
         ensures honesty { D.is_honest self.old.disk ↔ D.is_honest self.new.disk }
         ensures failures { Counts result (D.failures self.old.disk) (D.failures self.new.disk) }
     {
@@ -203,14 +210,17 @@ impl<D: Disk> Store<D> {
     /// The rows of a release that aren't known.
     fn fresh_rows(&mut self, release: &Release) -> Result<Fresh, Refusal>
         requires still { self.old.needs_reopen ≡ false }
-        ensures accepted { D.is_honest self.old.disk → IfOk result (IsAcceptedAs (full self.old.history) release.now) }
+        ensures accepted { D.is_honest self.old.disk
+            → IfOk result (IsAcceptedAs (full self.old.history) release.now) }
         // The new rows go with what is known on every disk.
         ensures apart { IfOk result (λ fresh. IsApart (full self.old.history) fresh.rows.items) }
         ensures is_read { IfOk result (λ fresh. IsRead release.now) }
-        ensures refused { IfErr result (λ e. IsNotFresh (D.is_honest self.old.disk) e (full self.old.history) release.now) }
+        ensures refused { IfErr result (λ e. IsNotFresh (D.is_honest self.old.disk) e
+            (full self.old.history) release.now) }
         ensures still { IfOk result (λ fresh. IsStill self.old self.new) }
         ensures closed { IfErr result (λ e. IsRefused e self.old self.new) }
-        ensures moments { D.is_honest self.old.disk → D.moments self.new.disk ≡ D.moments self.old.disk }
+        ensures moments { D.is_honest self.old.disk
+            → D.moments self.new.disk ≡ D.moments self.old.disk }
         ensures honesty { D.is_honest self.old.disk ↔ D.is_honest self.new.disk }
         ensures failures { Counts result (D.failures self.old.disk) (D.failures self.new.disk) }
     {
@@ -237,11 +247,28 @@ impl<D: Disk> Store<D> {
     fn repeat(&mut self, next: Directory) -> Result<(), Refusal>
         requires still { self.old.needs_reopen ≡ false }
         requires room { IsNotSpent self.old.history.imports self.old.shelf.epoch }
-        requires next { next ≡ record { epoch = self.old.shelf.epoch + 1; imports = self.old.history.imports + 1; entries = self.old.shelf.entries } }
-        ensures step { IsStep result self.old self.new (record { imports = self.old.history.imports + 1; rows = self.old.history.rows }) (record { epoch = self.old.shelf.epoch + 1; entries = self.old.shelf.entries; merge = self.old.shelf.merge }) }
-        ensures any_moment { D.is_honest self.old.disk → LeavesOnly (D.moments self.old.disk) (D.moments self.new.disk) (λ c. StandsForHistory self.old.history c ⊎ StandsForHistory (record { imports = self.old.history.imports + 1; rows = self.old.history.rows }) c) }
-        ensures refused { D.is_honest self.old.disk → KeepsMoments D.moments result self.old self.new }
-        ensures acknowledged { D.is_honest self.old.disk → self.new.needs_reopen ≡ false → IsAcknowledged D.moments self.new }
+        requires next { next ≡ record {
+          epoch = self.old.shelf.epoch + 1;
+          imports =
+              self.old.history.imports + 1;
+          entries = self.old.shelf.entries;
+        } }
+        ensures step { IsStep result self.old self.new
+            (record { imports = self.old.history.imports + 1; rows = self.old.history.rows })
+            (record {
+              epoch = self.old.shelf.epoch + 1;
+              entries = self.old.shelf.entries;
+              merge =
+                  self.old.shelf.merge;
+            }) }
+        ensures any_moment { D.is_honest self.old.disk
+            → LeavesOnly (D.moments self.old.disk) (D.moments self.new.disk)
+            (λ c. StandsForHistory self.old.history c ⊎ StandsForHistory
+            (record { imports = self.old.history.imports + 1; rows = self.old.history.rows }) c) }
+        ensures refused { D.is_honest self.old.disk
+            → KeepsMoments D.moments result self.old self.new }
+        ensures acknowledged { D.is_honest self.old.disk → self.new.needs_reopen ≡ false
+            → IsAcknowledged D.moments self.new }
         ensures honesty { D.is_honest self.old.disk ↔ D.is_honest self.new.disk }
         ensures failures { Counts result (D.failures self.old.disk) (D.failures self.new.disk) }
     {
@@ -263,10 +290,16 @@ impl<D: Disk> Store<D> {
     fn extend(&mut self, prepared: Prepared) -> Result<(), Refusal>
         requires still { self.old.needs_reopen ≡ false }
         requires prepared { IsPreparedFor self.old prepared }
-        ensures step { IsStep result self.old self.new (with_rows self.old.history prepared.shown) (shelf_of prepared.directory) }
-        ensures any_moment { D.is_honest self.old.disk → LeavesOnly (D.moments self.old.disk) (D.moments self.new.disk) (λ c. StandsForHistory self.old.history c ⊎ StandsForHistory (with_rows self.old.history prepared.shown) c) }
-        ensures refused { D.is_honest self.old.disk → KeepsMoments D.moments result self.old self.new }
-        ensures acknowledged { D.is_honest self.old.disk → self.new.needs_reopen ≡ false → IsAcknowledged D.moments self.new }
+        ensures step { IsStep result self.old self.new
+            (with_rows self.old.history prepared.shown) (shelf_of prepared.directory) }
+        ensures any_moment { D.is_honest self.old.disk
+            → LeavesOnly (D.moments self.old.disk) (D.moments self.new.disk)
+            (λ c. StandsForHistory self.old.history c ⊎ StandsForHistory
+            (with_rows self.old.history prepared.shown) c) }
+        ensures refused { D.is_honest self.old.disk
+            → KeepsMoments D.moments result self.old self.new }
+        ensures acknowledged { D.is_honest self.old.disk → self.new.needs_reopen ≡ false
+            → IsAcknowledged D.moments self.new }
         ensures honesty { D.is_honest self.old.disk ↔ D.is_honest self.new.disk }
         ensures failures { Counts result (D.failures self.old.disk) (D.failures self.new.disk) }
     {
@@ -303,15 +336,20 @@ impl<D: Disk> Store<D> {
 
     /// Adds a release: all of its rows, or nothing. All memory is taken before the first write.
     pub fn import(&mut self, release: &Release) -> Result<Receipt, Refusal>
-        ensures answer { D.is_honest self.old.disk → IsImportOf result self.old self.new release.now }
+        ensures answer { D.is_honest self.old.disk
+            → IsImportOf result self.old self.new release.now }
         // What holds on every disk.
         ensures kept { IsImportAtAll result self.old self.new release.now }
         // A stop at any moment leaves the history from before, or that with the release.
-        ensures any_moment { D.is_honest self.old.disk → self.old.needs_reopen ≡ false → LeavesOnly (D.moments self.old.disk) (D.moments self.new.disk) (IsBeforeOrAfter self.old.history release.now) }
+        ensures any_moment { D.is_honest self.old.disk → self.old.needs_reopen ≡ false
+            → LeavesOnly (D.moments self.old.disk) (D.moments self.new.disk)
+            (IsBeforeOrAfter self.old.history release.now) }
         // After Ok each stop leaves the new one.
-        ensures acknowledged { D.is_honest self.old.disk → self.new.needs_reopen ≡ false → IsAcknowledged D.moments self.new }
+        ensures acknowledged { D.is_honest self.old.disk → self.new.needs_reopen ≡ false
+            → IsAcknowledged D.moments self.new }
         // Refused for any other reason than the device, it leaves whatever a stop may leave as it was.
-        ensures refused { D.is_honest self.old.disk → KeepsMoments D.moments result self.old self.new }
+        ensures refused { D.is_honest self.old.disk
+            → KeepsMoments D.moments result self.old self.new }
         // A store that has to be opened again leaves everything as it is.
         ensures closed { self.old.needs_reopen ≡ true → self.new ≡ self.old }
         ensures honesty { D.is_honest self.old.disk ↔ D.is_honest self.new.disk }
@@ -340,19 +378,18 @@ impl<D: Disk> Store<D> {
     }
 
     /// All versions of the component that the first `pin` imports brought, ascending by time.
-    pub fn history(
-        &mut self,
-        kind: Kind,
-        id: u128,
-        pin: u32,
-    ) -> Result<Vec<Row>, Refusal>
+    pub fn history(&mut self, kind: Kind, id: u128, pin: u32) -> Result<Vec<Row>, Refusal>
         requires { pin ≤ self.old.history.imports }
-        ensures found { D.is_honest self.old.disk → IfOk result (λ rows. rows.items ≡ versions kind id (rows_at pin self.old.history.rows)) }
+        ensures found { D.is_honest self.old.disk
+            → IfOk result (λ rows. rows.items ≡ versions kind id
+            (rows_at pin self.old.history.rows)) }
         ensures undamaged { D.is_honest self.old.disk → IfErr result (λ e. e ≢ refusals.Damaged) }
         ensures read { IsReadingOf result self.old self.new }
         ensures closed { self.old.needs_reopen ≡ true → self.new ≡ self.old }
-        ensures moments { D.is_honest self.old.disk → D.moments self.new.disk ≡ D.moments self.old.disk }
-        ensures acknowledged { D.is_honest self.old.disk → self.new.needs_reopen ≡ false → IsAcknowledged D.moments self.new }
+        ensures moments { D.is_honest self.old.disk
+            → D.moments self.new.disk ≡ D.moments self.old.disk }
+        ensures acknowledged { D.is_honest self.old.disk → self.new.needs_reopen ≡ false
+            → IsAcknowledged D.moments self.new }
         ensures honesty { D.is_honest self.old.disk ↔ D.is_honest self.new.disk }
         ensures failures { Counts result (D.failures self.old.disk) (D.failures self.new.disk) }
     {
@@ -387,12 +424,16 @@ impl<D: Disk> Store<D> {
         limit: u32,
     ) -> Result<Vec<Row>, Refusal>
         requires { pin ≤ self.old.history.imports }
-        ensures found { D.is_honest self.old.disk → IfOk result (λ rows. rows.items ≡ page kind time after limit (rows_at pin self.old.history.rows)) }
+        ensures found { D.is_honest self.old.disk
+            → IfOk result (λ rows. rows.items ≡ page kind time after limit
+            (rows_at pin self.old.history.rows)) }
         ensures undamaged { D.is_honest self.old.disk → IfErr result (λ e. e ≢ refusals.Damaged) }
         ensures read { IsReadingOf result self.old self.new }
         ensures closed { self.old.needs_reopen ≡ true → self.new ≡ self.old }
-        ensures moments { D.is_honest self.old.disk → D.moments self.new.disk ≡ D.moments self.old.disk }
-        ensures acknowledged { D.is_honest self.old.disk → self.new.needs_reopen ≡ false → IsAcknowledged D.moments self.new }
+        ensures moments { D.is_honest self.old.disk
+            → D.moments self.new.disk ≡ D.moments self.old.disk }
+        ensures acknowledged { D.is_honest self.old.disk → self.new.needs_reopen ≡ false
+            → IsAcknowledged D.moments self.new }
         ensures honesty { D.is_honest self.old.disk ↔ D.is_honest self.new.disk }
         ensures failures { Counts result (D.failures self.old.disk) (D.failures self.new.disk) }
     {
@@ -426,12 +467,16 @@ impl<D: Disk> Store<D> {
         limit: u32,
     ) -> Result<Vec<Row>, Refusal>
         requires { pin ≤ self.old.history.imports }
-        ensures found { D.is_honest self.old.disk → IfOk result (λ rows. rows.items ≡ terms prefix.now time limit (rows_at pin self.old.history.rows)) }
+        ensures found { D.is_honest self.old.disk
+            → IfOk result (λ rows. rows.items ≡ terms prefix.now time limit
+            (rows_at pin self.old.history.rows)) }
         ensures undamaged { D.is_honest self.old.disk → IfErr result (λ e. e ≢ refusals.Damaged) }
         ensures read { IsReadingOf result self.old self.new }
         ensures closed { self.old.needs_reopen ≡ true → self.new ≡ self.old }
-        ensures moments { D.is_honest self.old.disk → D.moments self.new.disk ≡ D.moments self.old.disk }
-        ensures acknowledged { D.is_honest self.old.disk → self.new.needs_reopen ≡ false → IsAcknowledged D.moments self.new }
+        ensures moments { D.is_honest self.old.disk
+            → D.moments self.new.disk ≡ D.moments self.old.disk }
+        ensures acknowledged { D.is_honest self.old.disk → self.new.needs_reopen ≡ false
+            → IsAcknowledged D.moments self.new }
         ensures honesty { D.is_honest self.old.disk ↔ D.is_honest self.new.disk }
         ensures failures { Counts result (D.failures self.old.disk) (D.failures self.new.disk) }
     {
@@ -473,8 +518,11 @@ impl<D: Disk> Store<D> {
         pin: u32,
     ) -> Result<Vec<u64>, Refusal>
         requires { pin ≤ self.old.history.imports }
-        ensures found { IfOk result (λ ids. (self.old.needs_reopen ≡ false) × (ids.items ≡ children id time (rows_at pin self.old.history.rows))) }
-        ensures refused { IfErr result (λ e. ((e ≡ refusals.ReopenNeeded) × (self.old.needs_reopen ≡ true)) ⊎ ((e ≡ refusals.OutOfMemory) × (self.old.needs_reopen ≡ false))) }
+        ensures found { IfOk result (λ ids. (self.old.needs_reopen ≡ false)
+            × (ids.items ≡ children id time (rows_at pin self.old.history.rows))) }
+        ensures refused { IfErr result (λ e. ((e ≡ refusals.ReopenNeeded)
+            × (self.old.needs_reopen ≡ true)) ⊎ ((e ≡ refusals.OutOfMemory)
+            × (self.old.needs_reopen ≡ false))) }
         ensures unchanged { self.new ≡ self.old }
     {
         if self.needs_reopen {
@@ -492,12 +540,16 @@ impl<D: Disk> Store<D> {
         pin: u32,
     ) -> Result<Vec<Row>, Refusal>
         requires { pin ≤ self.old.history.imports }
-        ensures found { D.is_honest self.old.disk → IfOk result (λ rows. rows.items ≡ replacements id time (rows_at pin self.old.history.rows)) }
+        ensures found { D.is_honest self.old.disk
+            → IfOk result (λ rows. rows.items ≡ replacements id time
+            (rows_at pin self.old.history.rows)) }
         ensures undamaged { D.is_honest self.old.disk → IfErr result (λ e. e ≢ refusals.Damaged) }
         ensures read { IsReadingOf result self.old self.new }
         ensures closed { self.old.needs_reopen ≡ true → self.new ≡ self.old }
-        ensures moments { D.is_honest self.old.disk → D.moments self.new.disk ≡ D.moments self.old.disk }
-        ensures acknowledged { D.is_honest self.old.disk → self.new.needs_reopen ≡ false → IsAcknowledged D.moments self.new }
+        ensures moments { D.is_honest self.old.disk
+            → D.moments self.new.disk ≡ D.moments self.old.disk }
+        ensures acknowledged { D.is_honest self.old.disk → self.new.needs_reopen ≡ false
+            → IsAcknowledged D.moments self.new }
         ensures honesty { D.is_honest self.old.disk ↔ D.is_honest self.new.disk }
         ensures failures { Counts result (D.failures self.old.disk) (D.failures self.new.disk) }
     {
@@ -562,7 +614,9 @@ impl<D: Disk> Store<D> {
     pub fn close(self) -> D
         ensures disk { result ≡ self.disk }
         // Whatever a stop leaves of it stands for what the store held.
-        ensures stands { D.is_honest result → self.needs_reopen ≡ false → EachImage (D.moments result).state (λ c. StandsFor c self.history self.shelf.epoch self.shelf.entries) }
+        ensures stands { D.is_honest result → self.needs_reopen ≡ false
+            → EachImage (D.moments result).state
+            (λ c. StandsFor c self.history self.shelf.epoch self.shelf.entries) }
     {
         self.disk
     }

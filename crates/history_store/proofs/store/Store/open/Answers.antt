@@ -42,7 +42,8 @@ room_for-requires-clause-few_edges g c =
 
 pub invariant_of-result : goal.invariant_of-result
 invariant_of-result g c =
-    let taken = c.in-Ok.ensures.taken [] (c.new-posting.ensures.current.0, c.new-posting.ensures.current.1, no_terms _ c.new-posting.ensures.sealed.0, no_links _ c.new-posting.ensures.sealed.1) in
-    (held_opened _ _ _ c.in-Ok.loaded.slot c.in-Ok.loaded.directory _ c.in-Ok.loaded.shown.items c.in-Ok.ensures.kept (c.in-Ok-room_for.ensures.index ∙ c.in-Ok.ensures.places) c.in-Ok-room_for.ensures.cache (λ up. c.in-Ok.ensures.on_disk (c.load.ensures.honesty.1 up)),
-    subst (λ t. ArePosted c.in-Ok.loaded.shown.items t) (sym c.in-Ok-room_for.ensures.terms) (terms_posted _ _ taken.2),
-    subst (λ e. EachPosted c.in-Ok.loaded.shown.items e) (sym c.in-Ok-room_for.ensures.links) (edges_posted _ _ taken.3))
+    let taken = c.in-Ok.ensures.taken [] (c.new-posting.ensures.current.0, c.new-posting.ensures.current.1, no_terms _ c.new-posting.ensures.sealed.0, no_links _ c.new-posting.ensures.sealed.1) in (
+      held_opened _ _ _ c.in-Ok.loaded.slot c.in-Ok.loaded.directory _ c.in-Ok.loaded.shown.items c.in-Ok.ensures.kept (c.in-Ok-room_for.ensures.index ∙ c.in-Ok.ensures.places) c.in-Ok-room_for.ensures.cache (λ up. c.in-Ok.ensures.on_disk (c.load.ensures.honesty.1 up)),
+      subst (λ t. ArePosted c.in-Ok.loaded.shown.items t) (sym c.in-Ok-room_for.ensures.terms) (terms_posted _ _ taken.2),
+      subst (λ e. EachPosted c.in-Ok.loaded.shown.items e) (sym c.in-Ok-room_for.ensures.links) (edges_posted _ _ taken.3),
+    )

@@ -9,16 +9,20 @@ use Rattle.history_store.proofs.Refusing.{read_undamaged}
 use Rattle.history_store.proofs.store.Store.replacements.Goals as goal
 
 pub invariant_of-self : goal.invariant_of-self
-invariant_of-self g c =
-    (held_read _ _ (g.D.Disk.moments c.self.inside.disk) (g.D.Disk.moments c.replacements.new.reader.disk.now) c.self.inside.cache c.replacements.new.reader.cache.now c.self.inside.slot c.self.inside.directory c.self.inside.index c.self.inside.shown.items c.self.inside.needs_reopen c.self.invariant.0 c.replacements.ensures.stays.0
-    (λ up still. (c.replacements.ensures.honesty (lent_honest _ _ _ _ _ _ _ _ c.self.invariant.0 c.entries.result.now c.as_slice.result.now c.entries.ensures.entries c.as_slice.ensures.value up still (g.met.D.Disk.now_is_image c.self.inside.disk up))).1),
-    c.self.invariant.1, c.self.invariant.2)
+invariant_of-self g c = (
+  held_read _ _ (g.D.Disk.moments c.self.inside.disk) (g.D.Disk.moments c.replacements.new.reader.disk.now) c.self.inside.cache c.replacements.new.reader.cache.now c.self.inside.slot c.self.inside.directory c.self.inside.index c.self.inside.shown.items c.self.inside.needs_reopen c.self.invariant.0 c.replacements.ensures.stays.0
+      (λ up still. (c.replacements.ensures.honesty (lent_honest _ _ _ _ _ _ _ _ c.self.invariant.0 c.entries.result.now c.as_slice.result.now c.entries.ensures.entries c.as_slice.ensures.value up still (g.met.D.Disk.now_is_image c.self.inside.disk up))).1),
+  c.self.invariant.1,
+  c.self.invariant.2,
+)
 
 pub invariant_of-self-else-matches : goal.invariant_of-self-else-matches
-invariant_of-self-else-matches g c =
-    (held_read _ _ (g.D.Disk.moments c.self.inside.disk) (g.D.Disk.moments c.replacements.new.reader.disk.now) c.self.inside.cache c.replacements.new.reader.cache.now c.self.inside.slot c.self.inside.directory c.self.inside.index c.self.inside.shown.items c.self.inside.needs_reopen c.self.invariant.0 c.replacements.ensures.stays.0
-    (λ up still. (c.replacements.ensures.honesty (lent_honest _ _ _ _ _ _ _ _ c.self.invariant.0 c.entries.result.now c.as_slice.result.now c.entries.ensures.entries c.as_slice.ensures.value up still (g.met.D.Disk.now_is_image c.self.inside.disk up))).1),
-    c.self.invariant.1, c.self.invariant.2)
+invariant_of-self-else-matches g c = (
+  held_read _ _ (g.D.Disk.moments c.self.inside.disk) (g.D.Disk.moments c.replacements.new.reader.disk.now) c.self.inside.cache c.replacements.new.reader.cache.now c.self.inside.slot c.self.inside.directory c.self.inside.index c.self.inside.shown.items c.self.inside.needs_reopen c.self.invariant.0 c.replacements.ensures.stays.0
+      (λ up still. (c.replacements.ensures.honesty (lent_honest _ _ _ _ _ _ _ _ c.self.invariant.0 c.entries.result.now c.as_slice.result.now c.entries.ensures.entries c.as_slice.ensures.value up still (g.met.D.Disk.now_is_image c.self.inside.disk up))).1),
+  c.self.invariant.1,
+  c.self.invariant.2,
+)
 
 pub returns-in-Ok-clause-found : goal.returns-in-Ok-clause-found
 returns-in-Ok-clause-found g c = rw (← c.self.view_is) (λ up.
