@@ -9,7 +9,7 @@ use Rattle.rf2_values.specs.declared.key.Key.{Key}
 use Rattle.rf2_values.specs.Key.{key_cmp}
 use Rattle.history_model.specs.InOrder.{Has, IsAscending}
 use Rattle.history_model.proofs.InOrder.{Has-all, all_from_has, not_both}
-use Rattle.history_model.proofs.Keys.{keys_total}
+use Rattle.rf2_values.specs.Key.{keys_total}
 use Rattle.segment.specs.declared.place.Posted.{Posted}
 use Rattle.store_image.specs.declared.apart.Rest.{Rest}
 use Rattle.store_image.specs.Keys.{keys_of, AreDisjoint, EachKeyOnce, keys_in, keys_left, first_cmp, AreOpen, Opens}

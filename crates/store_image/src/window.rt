@@ -26,7 +26,7 @@ pub(crate) struct Window {
 }
 
 impl Window {
-    ghost use Rattle.disk_model.specs.Disk.{CountsFailure};
+    ghost use Rattle.fault_counts.specs.Counting.{CountsEach};
     ghost use Rattle.blocks.specs.Extents.{bytes_of};
     ghost use Rattle.segment.specs.Records.{record_of, IsStamped};
     ghost use Rattle.store_image.specs.Answers.{CountsFault};
@@ -64,7 +64,7 @@ impl Window {
             → OnOk result (IsFull self.new (D.moments disk.old).state.now) }
         ensures moments { D.is_honest disk.old → D.moments disk.new ≡ D.moments disk.old }
         ensures honesty { D.is_honest disk.old ↔ D.is_honest disk.new }
-        ensures failures { CountsFailure result (D.failures disk.old) (D.failures disk.new) }
+        ensures failures { CountsEach result (D.failures disk.old) (D.failures disk.new) }
     {
         let left = self.extent.bytes - at;
         let place = BLOCK * u64::from(self.extent.first) + u64::from(at);
