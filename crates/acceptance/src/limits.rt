@@ -22,10 +22,7 @@ fn a_directory_lists_128_segments(rt: HostRuntime) -> Result<(), Fail> {
     }
     assert_eq!(rt; store.segments(), 128);
     let further = of_year(rt.alloc(), 2_029)?;
-    assert_eq!(rt;
-        store.import(&further),
-        Err(Refusal::TooManySegments)
-    );
+    assert_eq!(rt; store.import(&further), Err(Refusal::TooManySegments));
     assert_eq!(rt; Refusal::TooManySegments.code(), 6);
     assert_eq!(rt; store.imports(), 128);
     // A release of repeated rows needs no segment.

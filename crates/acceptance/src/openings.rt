@@ -107,10 +107,7 @@ fn the_last_epoch_is_opened_and_takes_no_import(rt: HostRuntime) -> Result<(), F
     let mut store = opened(rt.alloc(), MemDisk::from_bytes(rt.alloc(), last))?;
     assert_eq!(rt; store.imports(), 1);
     let release = root_release(rt.alloc())?;
-    assert_eq!(rt;
-        store.import(&release),
-        Err(Refusal::CountSpent)
-    );
+    assert_eq!(rt; store.import(&release), Err(Refusal::CountSpent));
     assert_eq!(rt; Refusal::CountSpent.code(), 13);
     assert!(rt; !store.needs_reopen());
     Ok(())

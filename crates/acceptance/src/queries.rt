@@ -1,10 +1,10 @@
 //! What is asked of a store's history: versions, pages, dates and pins; and what is asked of the disk for it.
 
-use crate::fixtures::{line, new_store, opened};
+use crate::fixtures::{line, new_store, one_file, opened};
 use disk_model::MemDisk;
 use history_store::{Refusal, Store};
 use import_check::sample;
-use rf2_rows::{EffectiveTime, Kind, Row, write_row};
+use rf2_rows::{EffectiveTime, Kind, Row, Sctid, write_row};
 use std::alloc::Global;
 use std::test::Fail;
 
@@ -55,11 +55,16 @@ fn a_pin_shows_the_imports_up_to_it(rt: HostRuntime) -> Result<(), Fail> {
     ];
     for (pin, id, date, want) in &cases {
         let time = EffectiveTime::of(*date).ok_or("a date")?;
-        let row = store.lookup(Kind::Concept, *id, time, *pin)?.ok_or("a row")?;
+        let row = store
+            .lookup(Kind::Concept, *id, time, *pin)?
+            .ok_or("a row")?;
         let mut got = Vec::new(rt.alloc());
         write_row(rt.alloc(), &row, &mut got)?;
         let want = line(rt.alloc(), *want)?;
-        assert!(rt; got.as_slice() == want.as_bytes(), "{id} at {date}, pin {pin}");
+        assert!(rt;
+            got.as_slice() == want.as_bytes(),
+            "{id} at {date}, pin {pin}"
+        );
     }
     let time = EffectiveTime::of(20_200_831).ok_or("a date")?;
     assert!(rt; store.lookup(Kind::Concept, ROOT, time, 0)?.is_none());
@@ -74,7 +79,10 @@ fn versions_and_pages(rt: HostRuntime) -> Result<(), Fail> {
     assert!(rt; empty.page(Kind::Concept, day, 0, None, 10)?.is_empty());
     let mut store = after(rt.alloc(), &["r1", "r2"])?;
     let versions = store.history(Kind::Concept, 1_000_004, 2)?;
-    let want = ["1000004|20200131|1|CORE|PRIM", "1000004|20210131|0|CORE|PRIM"];
+    let want = [
+        "1000004|20200131|1|CORE|PRIM",
+        "1000004|20210131|0|CORE|PRIM",
+    ];
     assert!(rt; lines(rt.alloc(), &versions)? == wanted(rt.alloc(), &want)?);
     let versions = store.history(Kind::Concept, 1_000_004, 1)?;
     assert!(rt; lines(rt.alloc(), &versions)? == wanted(rt.alloc(), &want[..1])?);
@@ -82,7 +90,10 @@ fn versions_and_pages(rt: HostRuntime) -> Result<(), Fail> {
         (
             None,
             2,
-            &["1000004|20200131|1|CORE|PRIM", "2000001|20200131|1|CORE|PRIM"],
+            &[
+                "1000004|20200131|1|CORE|PRIM",
+                "2000001|20200131|1|CORE|PRIM",
+            ],
         ),
         (Some(2_000_001), 2, &["138875005|20200131|1|CORE|PRIM"]),
         (Some(ROOT), 2, &[]),
@@ -90,7 +101,10 @@ fn versions_and_pages(rt: HostRuntime) -> Result<(), Fail> {
     let mut store = after(rt.alloc(), &["r1"])?;
     for (above, limit, want) in &pages {
         let got = store.page(Kind::Concept, day, 1, *above, *limit)?;
-        assert!(rt; lines(rt.alloc(), &got)? == wanted(rt.alloc(), want)?, "above {above:?}");
+        assert!(rt;
+            lines(rt.alloc(), &got)? == wanted(rt.alloc(), want)?,
+            "above {above:?}"
+        );
     }
     Ok(())
 }
@@ -122,5 +136,57 @@ fn a_lookup_again_asks_nothing_of_the_disk(rt: HostRuntime) -> Result<(), Fail> 
     let row = root_of(&mut store)?.ok_or("a row")?;
     assert_eq!(rt; row.id, ROOT);
     assert!(rt; !store.needs_reopen());
+    Ok(())
+}
+
+#[test]
+fn terms_are_found_whatever_their_case(rt: HostRuntime) -> Result<(), Fail> {
+    let street = "1000015|20200131|1|CORE|1000004|de|SYN|Straße|ECI";
+    let way = "1000015|20210131|1|CORE|1000004|de|SYN|Weg|ECI";
+    let cases: [(&[&str], &str, u32, &[&str]); 6] = [
+        (&["r1"], "straß", 20_200_131, &[street]),
+        (&["r1"], "STRASSE", 20_200_131, &[street]),
+        (&["r1"], "ss", 20_200_131, &[]),
+        (&["r1", "r2"], "STRASS", 20_210_130, &[street]),
+        (&["r1", "r2"], "STRASS", 20_210_131, &[]),
+        (&["r1", "r2"], "we", 20_210_131, &[way]),
+    ];
+    for (names, prefix, date, want) in &cases {
+        let mut store = after(rt.alloc(), names)?;
+        let time = EffectiveTime::of(*date).ok_or("a date")?;
+        let pin = store.imports();
+        let got = store.terms(prefix, time, pin, 10)?;
+        assert!(rt;
+            lines(rt.alloc(), &got)? == wanted(rt.alloc(), want)?,
+            "{prefix} at {date}"
+        );
+    }
+    Ok(())
+}
+
+#[test]
+fn children_and_replacements(rt: HostRuntime) -> Result<(), Fail> {
+    let root = Sctid::of(138_875_005).ok_or("an identifier")?;
+    let child = Sctid::of(1_000_004).ok_or("an identifier")?;
+    let first = EffectiveTime::of(20_200_131).ok_or("a date")?;
+    let before = EffectiveTime::of(20_210_130).ok_or("a date")?;
+    let later = EffectiveTime::of(20_210_131).ok_or("a date")?;
+    let mut store = after(rt.alloc(), &["r1", "r2"])?;
+    assert!(rt; store.children(root, first, 0)?.is_empty());
+    assert!(rt; store.children(root, first, 1)?.as_slice() == &[1_000_004]);
+    assert!(rt; store.children(root, later, 2)?.as_slice() == &[1_000_004]);
+    let replaced = store.replacements(child, later, 2)?;
+    let want = [
+        "0b6a0c2e-5d0f-4c53-9f6e-8d9d2a7b1c01|20210131|1|CORE|900000000000527005|1000004|2000001",
+    ];
+    assert!(rt; lines(rt.alloc(), &replaced)? == wanted(rt.alloc(), &want)?);
+    assert!(rt; store.replacements(child, before, 2)?.is_empty());
+    let further = one_file(
+        rt.alloc(),
+        Kind::Relationship,
+        &["1000027|20210131|0|CORE|1000004|138875005|0|116680003|INF|MOD"],
+    )?;
+    store.import(&further)?;
+    assert!(rt; store.children(root, later, 3)?.is_empty());
     Ok(())
 }

@@ -146,9 +146,7 @@ fn files_that_are_cut_short(rt: HostRuntime) -> Result<(), Fail> {
     for (less, want) in &cases {
         let mut store = new_store(rt.alloc())?;
         let release = cut_concepts(rt.alloc(), *less, b"")?.ok_or("a sample")?;
-        let got = store
-            .import(&release)
-            .map(|receipt| receipt.new);
+        let got = store.import(&release).map(|receipt| receipt.new);
         assert_eq!(rt; got, *want, "{less} bytes less");
     }
     Ok(())
@@ -169,9 +167,6 @@ fn files_of_the_column_names_alone(rt: HostRuntime) -> Result<(), Fail> {
     }
     assert_eq!(rt; store.imports(), 4);
     let nothing = of_bytes(rt.alloc(), Kind::Concept, b"")?;
-    assert_eq!(rt;
-        store.import(&nothing),
-        Err(at(1, LineFault::Header))
-    );
+    assert_eq!(rt; store.import(&nothing), Err(at(1, LineFault::Header)));
     Ok(())
 }

@@ -66,10 +66,7 @@ fn a_failed_import_closes_the_store(rt: HostRuntime) -> Result<(), Fail> {
     assert_eq!(rt; store.import(&release), Err(Refusal::DiskFault));
     assert!(rt; store.needs_reopen());
     assert_eq!(rt; (store.imports(), store.row_count()), (0, 0));
-    assert_eq!(rt;
-        store.import(&release),
-        Err(Refusal::ReopenNeeded)
-    );
+    assert_eq!(rt; store.import(&release), Err(Refusal::ReopenNeeded));
     let day = EffectiveTime::of(20_200_131).ok_or("a date")?;
     let found = store.lookup(Kind::Concept, 138_875_005, day, 0);
     assert_eq!(rt; found.err(), Some(Refusal::ReopenNeeded));

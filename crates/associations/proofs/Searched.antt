@@ -7,7 +7,8 @@ use Rattle.std.specs.Cmp.{IsTotalOrder, tied_back}
 use Rattle.std.proofs.lemmas.List.Sorted.{searchable_from_sorted}
 use Rattle.std.specs.declared.cmp.Ordering.{Ordering}
 use Rattle.std.specs.declared.cmp.Ordering.TheVariants.{Less, Equal, Greater}
-use Rattle.history_model.specs.InOrder.{Has, IsAscending, IsPlace, placed, put}
+use Rattle.history_model.specs.InOrder.{Has, IsAscending, placed, put}
+use Rattle.history_model.specs.Searches.{IsPlace}
 use Rattle.history_model.proofs.InOrder.{Has-all, not_both}
 
 has_at : {X : Type 0} (xs : List X) (i : ℕ) (d : X) → i < length xs → Has xs (get_or xs i d)

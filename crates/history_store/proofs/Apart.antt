@@ -28,8 +28,8 @@ of_stamped k (row ∷ rows) s h = elim h [
 pub fresh_lists : (h : History) (fresh : List Version) → IsHistory h → IsApart (full h) fresh → AreLists (h.rows ∷ stamped (h.imports + 1) fresh ∷ [])
 fresh_lists h fresh is apart =
     let share : ShareNoKey h.rows (stamped (h.imports + 1) fresh) = λ s t hs ht same.
-        let w = of_stamped (h.imports + 1) fresh t ht in
-        apart.unknown t.row w.0 s.row (Has-map_from (λ (x : StampedRow). x.row) h.rows s hs) same in
+    let w = of_stamped (h.imports + 1) fresh t ht in
+    apart.unknown t.row w.0 s.row (Has-map_from (λ (x : StampedRow). x.row) h.rows s hs) same in
     record { ascending = (is.ascending, (ascending_stamped (h.imports + 1) fresh apart.ascending, tt)); apart = ((share, tt), (tt, tt)) }
 
 pub fresh_history : (h : History) (fresh : List Version) → IsHistory h → IsHistory (with_rows h (stamped (h.imports + 1) fresh))

@@ -153,18 +153,18 @@ before_reading old mid release e still why = subst (λ (h : History). IsNotTaken
 pub not_prepared : {D : Type 0} (old v mid : Stored D) (release : Release) (fresh : Fresh) (e : Refusal) → v ≡ mid → IsStill old mid → IsAt mid release fresh → IsUnprepared e (stamped (v.history.imports + 1) fresh.rows.items) v.shelf → IsImportRefusal e old release
 not_prepared {D} old v mid release fresh e same still at why =
     each e (subst (λ (x : Stored D). IsUnprepared e (stamped (x.history.imports + 1) fresh.rows.items) x.shelf) same why) where
-  each : (x : Refusal) → IsUnprepared x (stamped (mid.history.imports + 1) fresh.rows.items) mid.shelf → IsImportRefusal x old release
-  each refusals.OutOfMemory lacks = (still.open_before, before_reading old mid release refusals.OutOfMemory still at.room)
-  each refusals.DiskFault lacks = absurd lacks
-  each refusals.ReopenNeeded lacks = absurd lacks
-  each refusals.NotEmpty lacks = absurd lacks
-  each refusals.Full lacks = (still.open_before, before_reading old mid release refusals.Full still (unplaced mid release fresh HasNoPlace at lacks))
-  each refusals.TooManySegments lacks = (still.open_before, before_reading old mid release refusals.TooManySegments still (unplaced mid release fresh HasNoEntry at lacks))
-  each refusals.NotAStore lacks = absurd lacks
-  each refusals.Damaged lacks = absurd lacks
-  each refusals.CountSpent lacks = absurd lacks
-  each (refusals.Line file line fault) lacks = absurd lacks
-  each (refusals.Contradiction file line) lacks = absurd lacks
+      each : (x : Refusal) → IsUnprepared x (stamped (mid.history.imports + 1) fresh.rows.items) mid.shelf → IsImportRefusal x old release
+      each refusals.OutOfMemory lacks = (still.open_before, before_reading old mid release refusals.OutOfMemory still at.room)
+      each refusals.DiskFault lacks = absurd lacks
+      each refusals.ReopenNeeded lacks = absurd lacks
+      each refusals.NotEmpty lacks = absurd lacks
+      each refusals.Full lacks = (still.open_before, before_reading old mid release refusals.Full still (unplaced mid release fresh HasNoPlace at lacks))
+      each refusals.TooManySegments lacks = (still.open_before, before_reading old mid release refusals.TooManySegments still (unplaced mid release fresh HasNoEntry at lacks))
+      each refusals.NotAStore lacks = absurd lacks
+      each refusals.Damaged lacks = absurd lacks
+      each refusals.CountSpent lacks = absurd lacks
+      each (refusals.Line file line fault) lacks = absurd lacks
+      each (refusals.Contradiction file line) lacks = absurd lacks
 
 lacking : {D : Type 0} (s : Stored D) (release : Release) (rows : List StampedRow) (e : Refusal) → s.needs_reopen ≡ false → IsNotSpent s.history.imports s.shelf.epoch → IsRead release → IsUnprepared e rows s.shelf → IsRefusalAtAll e s release
 lacking s release rows refusals.OutOfMemory still room read lacks = (still, room)

@@ -4,10 +4,10 @@ pub mod Sorted
 pub mod Counted
 pub mod Held
 pub mod Places
+pub mod Taken
 pub mod NewSegment
 pub mod Refusing
 pub mod Apart
 pub mod FreshRows
 pub mod Imported
-pub mod Shortness
 pub mod Reopened

@@ -13,6 +13,8 @@ use Rattle.directory.proofs.Adding.{fit_may_be_added}
 use Rattle.history_model.specs.InOrder.{IsAscending}
 use Rattle.store_image.specs.Says.{IsSegmentOf}
 use Rattle.history_store.specs.declared.preparing.Prepared.{Prepared}
+use Rattle.term_prefix.specs.Pushed.{IsPosted}
+use Rattle.associations.specs.Laws.{ArePostingsOf}
 use Rattle.history_store.specs.Shelf.{shelf_of}
 use Rattle.history_store.specs.Prepared.{IsNotSpent, IsPlacedAt, IsPrepared}
 use Rattle.segment.specs.Standing.{places_of}
@@ -80,12 +82,14 @@ last_all : (P : Entry → Type 0) (entries : List Entry) (entry : Entry) → All
 last_all P [] entry all = all.0
 last_all P (e ∷ entries) entry all = last_all P entries entry all.1
 
-pub prepared_is : (d : Listing) (rows : List StampedRow) (p : Prepared) (next : Listing) → IsListing (with_entry next p.entry) → IsPlacedAt d rows p.entry → next ≡ repeated_listing d → p.directory ≡ with_entry next p.entry → p.shown ≡ rows → p.places ≡ places_of rows → IsSegment rows p.bytes.items → IsPrepared d rows p
-prepared_is d rows p next is placed same directory shown places segment =
+pub prepared_is : (d : Listing) (rows : List StampedRow) (p : Prepared) (next : Listing) → IsListing (with_entry next p.entry) → IsPlacedAt d rows p.entry → next ≡ repeated_listing d → p.directory ≡ with_entry next p.entry → p.shown ≡ rows → p.places ≡ places_of rows → IsPosted rows p.terms → ArePostingsOf rows p.edges → IsSegment rows p.bytes.items → IsPrepared d rows p
+prepared_is d rows p next is placed same directory shown places terms edges segment =
     let all : p.directory ≡ record { epoch = d.epoch + 1; imports = d.imports + 1; entries = d.entries ++ p.entry ∷ [] } = directory ∙ ap (λ (l : Listing). with_entry l p.entry) same in
     record {
       shown_is = shown;
       places_are = places;
+      terms_are = terms;
+      edges_are = edges;
       bytes_are = segment.bytes_are;
       entry_is = last_all IsEntry next.entries p.entry is.entries;
       segment = segment_is d rows p.entry p.bytes.items placed segment;

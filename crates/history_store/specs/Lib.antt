@@ -5,6 +5,7 @@ pub mod Prepared
 pub mod Answers
 pub mod Refusals
 pub mod Laws
+pub mod Taken
 pub use Rattle.store_image.specs.Images
 pub use Rattle.history_model.specs.History
 pub use Rattle.directory.specs.Fit

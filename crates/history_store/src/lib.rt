@@ -7,8 +7,8 @@
 mod counting;
 mod known;
 pub mod laws;
-mod loading;
 mod placing;
+mod posting;
 mod preparing;
 mod reading;
 mod refusal;

@@ -8,8 +8,8 @@ ghost use Rattle.history_store.specs.Stored.{last_import, last_epoch};
 ghost use Rattle.history_store.specs.Shelf.{shelf_of};
 ghost use Rattle.history_store.specs.Prepared.{IsNotSpent, IsPlacedAt, IsPrepared, IsUnprepared};
 
-use crate::loading::Nothing;
 use crate::placing::place_all;
+use crate::posting::Posting;
 use crate::refusal::Refusal;
 use as_of_index::Listed;
 use blocks::Extent;
@@ -19,13 +19,15 @@ use rf2_values::Row;
 use segment::{encode, encoded_len};
 use std::alloc::{AllocError, Global};
 
-/// A segment of new rows, its places, and the directory that lists it.
+/// A segment of new rows, its places, what is posted of its rows, and the directory that lists it.
 #[derive(Drop)]
 pub(crate) struct Prepared {
     pub(crate) directory: Directory,
     pub(crate) entry: Entry,
     pub(crate) places: Listed,
     pub(crate) shown: Shown,
+    pub(crate) terms: term_prefix::Sealed,
+    pub(crate) edges: associations::Sealed,
     pub(crate) bytes: Vec<u8>,
 }
 
@@ -42,7 +44,8 @@ fn stamp(alloc: Global, rows: Vec<Row>, import: u32) -> Result<Vec<StampedRow>, 
 
 /// Whether the last import number was given, or the last epoch was reached.
 pub(crate) fn is_spent(directory: &Directory) -> bool
-    ensures spent { result ≡ true → (directory.now.imports ≡ last_import) ⊎ (directory.now.epoch ≡ last_epoch) }
+    ensures spent { result ≡ true
+        → (directory.now.imports ≡ last_import) ⊎ (directory.now.epoch ≡ last_epoch) }
     ensures left { result ≡ false → IsNotSpent directory.now.imports directory.now.epoch }
 {
     directory.imports() == u32::MAX || directory.epoch() == u64::MAX
@@ -51,7 +54,12 @@ pub(crate) fn is_spent(directory: &Directory) -> bool
 /// The directory after an import without new rows.
 pub(crate) fn repeated(alloc: Global, directory: &Directory) -> Result<Directory, AllocError>
     requires { IsNotSpent directory.now.imports directory.now.epoch }
-    ensures { IfOk result (λ d. d ≡ record { epoch = directory.now.epoch + 1; imports = directory.now.imports + 1; entries = directory.now.entries }) }
+    ensures { IfOk result
+        (λ d. d ≡ record {
+          epoch = directory.now.epoch + 1;
+          imports = directory.now.imports + 1;
+          entries = directory.now.entries;
+        }) }
 {
     let mut next = directory.try_clone(alloc)?;
     next.advance(directory.imports() + 1);
@@ -89,14 +97,17 @@ pub(crate) fn prepare(
     requires not_spent { IsNotSpent directory.now.imports directory.now.epoch }
     requires some { 1 ≤ length fresh.items }
     requires ascending { IsAscending row_cmp fresh.items }
-    ensures prepared { IfOk result (IsPrepared directory.now (stamped (directory.now.imports + 1) fresh.items)) }
-    ensures refused { IfErr result (λ e. IsUnprepared e (stamped (directory.now.imports + 1) fresh.items) (shelf_of directory.now)) }
+    ensures prepared { IfOk result (IsPrepared directory.now (stamped
+        (directory.now.imports + 1) fresh.items)) }
+    ensures refused { IfErr result (λ e. IsUnprepared e (stamped
+        (directory.now.imports + 1) fresh.items) (shelf_of directory.now)) }
 {
     let list = stamp(alloc, fresh, directory.imports() + 1)?;
     let entry = place(directory, &list)?;
     let bytes = encode(alloc, &list)?;
-    let mut sink = Nothing;
-    let (places, shown) = place_all(alloc, &list, &mut sink)?;
+    let mut posting = Posting::new(alloc);
+    let (places, shown) = place_all(alloc, &list, &mut posting)?;
+    let Posting { terms, edges, .. } = posting;
     let mut next = repeated(alloc, directory)?;
     next.add(entry);
     Ok(Prepared {
@@ -104,6 +115,8 @@ pub(crate) fn prepare(
         entry,
         places: Listed::new(places),
         shown,
+        terms: terms.seal(),
+        edges: edges.seal(),
         bytes,
     })
 }

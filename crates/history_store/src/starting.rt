@@ -8,13 +8,16 @@ ghost use Rattle.store_image.specs.Answers.{empty_listing};
 ghost use Rattle.history_store.specs.Answers.{Counts, IsNotMade};
 ghost use Rattle.history_store.specs.declared.refusal.Refusal.TheVariants as refusals;
 
+use crate::posting::{Posting, links_of, terms_of};
 use crate::refusal::Refusal;
 use as_of_index::{Index, Listed, Posted};
+use associations::Links;
 use blocks::{BlockCache, Slot};
 use directory::Directory;
 use disk_model::Disk;
 use std::alloc::{AllocError, Global};
 use store_image::{Made, check_empty, make};
+use term_prefix::Terms;
 
 /// How many blocks of the disk are kept in memory: 4 MiB.
 const KEPT_BLOCKS: usize = 1024;
@@ -23,6 +26,8 @@ const KEPT_BLOCKS: usize = 1024;
 #[derive(Drop)]
 pub(crate) struct Room {
     pub(crate) index: Index,
+    pub(crate) terms: Terms,
+    pub(crate) links: Links,
     pub(crate) cache: BlockCache,
 }
 
@@ -32,41 +37,86 @@ pub(crate) struct Started {
     pub(crate) slot: Slot,
     pub(crate) directory: Directory,
     pub(crate) index: Index,
+    pub(crate) terms: Terms,
+    pub(crate) links: Links,
     pub(crate) cache: BlockCache,
 }
 
-/// An index of these places, and a cache that keeps no block.
-pub(crate) fn room_for(alloc: Global, places: Vec<Vec<Posted>>) -> Result<Room, AllocError>
+/// An index of these places.
+fn index_of(alloc: Global, places: Vec<Vec<Posted>>) -> Result<Index, AllocError>
     requires few { length places.items ≤ 128 }
     requires places { ArePlaces (map vec_items places.items) }
-    ensures index { IfOk result (λ room. room.index ≡ map vec_items places.items) }
-    ensures cache { IfOk result (λ room. room.cache ≡ lru_cache [] 1024) }
+    ensures { IfOk result (λ index. index ≡ map vec_items places.items) }
 {
     let mut index = Index::new(alloc)?;
     for list in places {
         index.add(Listed::new(list));
     }
+    Ok(index)
+}
+
+/// An index of these places, these postings, and a cache that keeps no block.
+pub(crate) fn room_for(
+    alloc: Global,
+    places: Vec<Vec<Posted>>,
+    terms: Vec<term_prefix::Sealed>,
+    edges: Vec<associations::Sealed>,
+) -> Result<Room, AllocError>
+    requires few { length places.items ≤ 128 }
+    requires few_terms { length terms.items ≤ 128 }
+    requires few_edges { length edges.items ≤ 128 }
+    requires places { ArePlaces (map vec_items places.items) }
+    ensures index { IfOk result (λ room. room.index ≡ map vec_items places.items) }
+    ensures terms { IfOk result (λ room. room.terms ≡ terms.items) }
+    ensures links { IfOk result (λ room. room.links ≡ edges.items) }
+    ensures cache { IfOk result (λ room. room.cache ≡ lru_cache [] 1024) }
+{
+    let index = index_of(alloc, places)?;
+    let terms = terms_of(alloc, terms)?;
+    let links = links_of(alloc, edges)?;
     let cache = BlockCache::new(alloc, KEPT_BLOCKS)?;
-    Ok(Room { index, cache })
+    Ok(Room {
+        index,
+        terms,
+        links,
+        cache,
+    })
 }
 
 /// Makes a store on an empty disk.
 pub(crate) fn start<D: Disk>(alloc: Global, disk: &mut D) -> Result<Started, Refusal>
-    ensures empty { IfOk result (λ s. (s.directory ≡ empty_listing) × (s.index ≡ []) × (s.cache ≡ lru_cache [] 1024)) }
+    ensures empty { IfOk result (λ s. (s.directory ≡ empty_listing) × (s.index ≡ [])
+        × (s.cache ≡ lru_cache [] 1024) × (s.terms ≡ []) × (s.links ≡ [])) }
     ensures made { D.is_honest disk.old → OnOk result (length (D.moments disk.old).state.now ≡ 0) }
-    ensures on_disk { D.is_honest disk.old → IfOk result (λ s. IsOnDisk (D.moments disk.new).state s.slot s.directory []) }
-    ensures why { D.is_honest disk.old → IfErr result (λ e. IsNotMade e (D.moments disk.old).state.now) }
-    ensures refused { D.is_honest disk.old → IfErr result (λ e. e ≢ refusals.DiskFault → D.moments disk.new ≡ D.moments disk.old) }
+    ensures on_disk { D.is_honest disk.old
+        → IfOk result (λ s. IsOnDisk (D.moments disk.new).state s.slot s.directory []) }
+    ensures why { D.is_honest disk.old
+        → IfErr result (λ e. IsNotMade e (D.moments disk.old).state.now) }
+    ensures refused { D.is_honest disk.old → IfErr result (λ e. e ≢ refusals.DiskFault
+        → D.moments disk.new ≡ D.moments disk.old) }
     ensures honesty { D.is_honest disk.old ↔ D.is_honest disk.new }
     ensures failures { Counts result (D.failures disk.old) (D.failures disk.new) }
 {
     check_empty(disk)?;
-    let Room { index, cache } = room_for(alloc, Vec::new(alloc))?;
+    let nothing = Posting::new(alloc);
+    let Posting {
+        sealed_terms,
+        sealed_edges,
+        ..
+    } = nothing;
+    let Room {
+        index,
+        terms,
+        links,
+        cache,
+    } = room_for(alloc, Vec::new(alloc), sealed_terms, sealed_edges)?;
     let Made { slot, directory } = make(alloc, disk)?;
     Ok(Started {
         slot,
         directory,
         index,
+        terms,
+        links,
         cache,
     })
 }

@@ -5,22 +5,23 @@ ghost use Rattle.disk_model.specs.Disk.{EachImage, IsImage, LeavesOnly};
 
 use crate::counting::row_count;
 use crate::known::fresh_rows;
-use crate::loading::{Loaded, Nothing, load};
+use crate::posting::Posting;
 use crate::preparing::{Prepared, is_spent, prepare, repeated};
 use crate::reading::DiskRows;
 use crate::refusal::Refusal;
-use history_model::Shown;
 use crate::starting::{Room, Started, room_for, start};
 use as_of_index::{Index, ReadFault};
+use associations::{Links, children, replacements};
 use blocks::{BlockCache, Slot};
 use directory::Directory;
 use disk_model::Disk;
-use history_model::Receipt;
+use history_model::{Receipt, Shown};
 use import_check::{Fresh, ImportFault, KnownFault, Release};
-use rf2_rows::{EffectiveTime, Kind, Row};
+use rf2_rows::{EffectiveTime, Kind, Row, Sctid};
 use std::alloc::Global;
 use std::marker::Model;
-use store_image::{add_segment, publish_listing};
+use store_image::{Loaded, add_segment, load, publish_listing};
+use term_prefix::{Terms, find};
 
 /// The release history of a terminology, on a disk.
 #[derive(Drop)]
@@ -32,6 +33,9 @@ pub struct Store<D: Disk> {
     directory: Directory,
     /// Where the rows of each segment lie, in the directory's order.
     index: Index,
+    /// What is posted of the rows of each segment.
+    terms: Terms,
+    links: Links,
     /// The rows of each segment, which only clauses read.
     shown: Vec<Shown>,
     needs_reopen: bool,
@@ -41,6 +45,8 @@ impl<D: Disk> Model for Store<D> {
     ghost use Rattle.history_model.specs.Lists.{listed};
     ghost use Rattle.history_store.specs.Shelf.{shelf_of};
     ghost use Rattle.history_store.specs.Stored.{Stored, IsHeld};
+    ghost use Rattle.term_prefix.specs.Pushed.{ArePosted};
+    ghost use Rattle.associations.specs.Laws.{EachPosted};
 
     ghost Value = { Stored D };
 
@@ -51,12 +57,12 @@ impl<D: Disk> Model for Store<D> {
       needs_reopen = s.needs_reopen;
     } };
 
-    ghost invariant = { λ s. IsHeld (D.is_honest s.disk) (D.moments s.disk).state s.cache s.slot s.directory s.index s.shown.items s.needs_reopen };
+    ghost invariant = { λ s. IsHeld (D.is_honest s.disk) (D.moments s.disk).state s.cache s.slot s.directory s.index s.shown.items s.needs_reopen × ArePosted s.shown.items s.terms × EachPosted s.shown.items s.links };
 }
 
 impl<D: Disk> Store<D> {
     ghost use Rattle.history_model.specs.History.{rows_at, full};
-    ghost use Rattle.history_model.specs.Queries.{lookup, versions, page};
+    ghost use Rattle.history_model.specs.Queries.{lookup, versions, page, terms, children, replacements};
     ghost use Rattle.directory.specs.Listings.{Listing};
     ghost use Rattle.import_check.specs.Fresh.{IsAcceptedAs, IsRead};
     ghost use Rattle.import_check.specs.Fresh.{IsApart};
@@ -79,18 +85,24 @@ impl<D: Disk> Store<D> {
     {
         let mut disk = disk;
         match start(alloc, &mut disk) {
-            Ok(Started {
-                slot,
-                directory,
-                index,
-                cache,
-            }) => Ok(Store {
+            Ok(
+                Started {
+                    slot,
+                    directory,
+                    index,
+                    terms,
+                    links,
+                    cache,
+                },
+            ) => Ok(Store {
                 alloc,
                 disk,
                 cache,
                 slot,
                 directory,
                 index,
+                terms,
+                links,
                 shown: Vec::new(alloc),
                 needs_reopen: false,
             }),
@@ -102,7 +114,9 @@ impl<D: Disk> Store<D> {
     pub fn open(alloc: Global, disk: D) -> Result<Store<D>, (Refusal, D)>
         ensures exact { D.is_honest disk → IsOpeningOf result (D.moments disk).state.now }
         // A stop at any moment leaves what it might have left before.
-        ensures any_moment { D.is_honest disk → LeavesOnly (D.moments disk) (D.moments (device_of result)) (IsImage (D.moments disk).state) }
+        ensures any_moment { D.is_honest disk
+            → LeavesOnly (D.moments disk) (D.moments (device_of result)) (IsImage
+            (D.moments disk).state) }
         // Whatever it answers, a read gives what it gave before.
         ensures read { D.is_honest disk
             → (D.moments (device_of result)).state.now ≡ (D.moments disk).state.now }
@@ -111,24 +125,38 @@ impl<D: Disk> Store<D> {
         ensures failures { CountsOpening result (D.failures disk) (D.failures (device_of result)) }
     {
         let mut disk = disk;
-        let mut sink = Nothing;
+        let mut posting = Posting::new(alloc);
         let Loaded {
             slot,
             directory,
             places,
             shown,
-        } = match load(alloc, &mut disk, &mut sink) {
+        } = match load(alloc, &mut disk, &mut posting) {
             Ok(loaded) => loaded,
             Err(fault) => return Err((Refusal::from(fault), disk)),
         };
-        match room_for(alloc, places) {
-            Ok(Room { index, cache }) => Ok(Store {
+        let Posting {
+            sealed_terms,
+            sealed_edges,
+            ..
+        } = posting;
+        match room_for(alloc, places, sealed_terms, sealed_edges) {
+            Ok(
+                Room {
+                    index,
+                    terms,
+                    links,
+                    cache,
+                },
+            ) => Ok(Store {
                 alloc,
                 disk,
                 cache,
                 slot,
                 directory,
                 index,
+                terms,
+                links,
                 shown,
                 needs_reopen: false,
             }),
@@ -145,13 +173,16 @@ impl<D: Disk> Store<D> {
         pin: u32,
     ) -> Result<Option<Row>, Refusal>
         requires { pin ≤ self.old.history.imports }
-        ensures found { D.is_honest self.old.disk → IfOk result (λ row. row ≡ lookup kind id time (rows_at pin self.old.history.rows)) }
+        ensures found { D.is_honest self.old.disk
+            → IfOk result (λ row. row ≡ lookup kind id time (rows_at pin self.old.history.rows)) }
         ensures undamaged { D.is_honest self.old.disk → IfErr result (λ e. e ≢ refusals.Damaged) }
         ensures read { IsReadingOf result self.old self.new }
         // A store that has to be opened again leaves everything as it is.
         ensures closed { self.old.needs_reopen ≡ true → self.new ≡ self.old }
-        ensures moments { D.is_honest self.old.disk → D.moments self.new.disk ≡ D.moments self.old.disk }
-        ensures acknowledged { D.is_honest self.old.disk → self.new.needs_reopen ≡ false → IsAcknowledged D.moments self.new }
+        ensures moments { D.is_honest self.old.disk
+            → D.moments self.new.disk ≡ D.moments self.old.disk }
+        ensures acknowledged { D.is_honest self.old.disk → self.new.needs_reopen ≡ false
+            → IsAcknowledged D.moments self.new }
         ensures honesty { D.is_honest self.old.disk ↔ D.is_honest self.new.disk }
         ensures failures { Counts result (D.failures self.old.disk) (D.failures self.new.disk) }
     {
@@ -179,14 +210,17 @@ impl<D: Disk> Store<D> {
     /// The rows of a release that aren't known.
     fn fresh_rows(&mut self, release: &Release) -> Result<Fresh, Refusal>
         requires still { self.old.needs_reopen ≡ false }
-        ensures accepted { D.is_honest self.old.disk → IfOk result (IsAcceptedAs (full self.old.history) release.now) }
+        ensures accepted { D.is_honest self.old.disk
+            → IfOk result (IsAcceptedAs (full self.old.history) release.now) }
         // The new rows go with what is known on every disk.
         ensures apart { IfOk result (λ fresh. IsApart (full self.old.history) fresh.rows.items) }
         ensures is_read { IfOk result (λ fresh. IsRead release.now) }
-        ensures refused { IfErr result (λ e. IsNotFresh (D.is_honest self.old.disk) e (full self.old.history) release.now) }
+        ensures refused { IfErr result (λ e. IsNotFresh (D.is_honest self.old.disk) e
+            (full self.old.history) release.now) }
         ensures still { IfOk result (λ fresh. IsStill self.old self.new) }
         ensures closed { IfErr result (λ e. IsRefused e self.old self.new) }
-        ensures moments { D.is_honest self.old.disk → D.moments self.new.disk ≡ D.moments self.old.disk }
+        ensures moments { D.is_honest self.old.disk
+            → D.moments self.new.disk ≡ D.moments self.old.disk }
         ensures honesty { D.is_honest self.old.disk ↔ D.is_honest self.new.disk }
         ensures failures { Counts result (D.failures self.old.disk) (D.failures self.new.disk) }
     {
@@ -213,11 +247,28 @@ impl<D: Disk> Store<D> {
     fn repeat(&mut self, next: Directory) -> Result<(), Refusal>
         requires still { self.old.needs_reopen ≡ false }
         requires room { IsNotSpent self.old.history.imports self.old.shelf.epoch }
-        requires next { next ≡ record { epoch = self.old.shelf.epoch + 1; imports = self.old.history.imports + 1; entries = self.old.shelf.entries } }
-        ensures step { IsStep result self.old self.new (record { imports = self.old.history.imports + 1; rows = self.old.history.rows }) (record { epoch = self.old.shelf.epoch + 1; entries = self.old.shelf.entries; merge = self.old.shelf.merge }) }
-        ensures any_moment { D.is_honest self.old.disk → LeavesOnly (D.moments self.old.disk) (D.moments self.new.disk) (λ c. StandsForHistory self.old.history c ⊎ StandsForHistory (record { imports = self.old.history.imports + 1; rows = self.old.history.rows }) c) }
-        ensures refused { D.is_honest self.old.disk → KeepsMoments D.moments result self.old self.new }
-        ensures acknowledged { D.is_honest self.old.disk → self.new.needs_reopen ≡ false → IsAcknowledged D.moments self.new }
+        requires next { next ≡ record {
+          epoch = self.old.shelf.epoch + 1;
+          imports =
+              self.old.history.imports + 1;
+          entries = self.old.shelf.entries;
+        } }
+        ensures step { IsStep result self.old self.new
+            (record { imports = self.old.history.imports + 1; rows = self.old.history.rows })
+            (record {
+              epoch = self.old.shelf.epoch + 1;
+              entries = self.old.shelf.entries;
+              merge =
+                  self.old.shelf.merge;
+            }) }
+        ensures any_moment { D.is_honest self.old.disk
+            → LeavesOnly (D.moments self.old.disk) (D.moments self.new.disk)
+            (λ c. StandsForHistory self.old.history c ⊎ StandsForHistory
+            (record { imports = self.old.history.imports + 1; rows = self.old.history.rows }) c) }
+        ensures refused { D.is_honest self.old.disk
+            → KeepsMoments D.moments result self.old self.new }
+        ensures acknowledged { D.is_honest self.old.disk → self.new.needs_reopen ≡ false
+            → IsAcknowledged D.moments self.new }
         ensures honesty { D.is_honest self.old.disk ↔ D.is_honest self.new.disk }
         ensures failures { Counts result (D.failures self.old.disk) (D.failures self.new.disk) }
     {
@@ -239,10 +290,16 @@ impl<D: Disk> Store<D> {
     fn extend(&mut self, prepared: Prepared) -> Result<(), Refusal>
         requires still { self.old.needs_reopen ≡ false }
         requires prepared { IsPreparedFor self.old prepared }
-        ensures step { IsStep result self.old self.new (with_rows self.old.history prepared.shown) (shelf_of prepared.directory) }
-        ensures any_moment { D.is_honest self.old.disk → LeavesOnly (D.moments self.old.disk) (D.moments self.new.disk) (λ c. StandsForHistory self.old.history c ⊎ StandsForHistory (with_rows self.old.history prepared.shown) c) }
-        ensures refused { D.is_honest self.old.disk → KeepsMoments D.moments result self.old self.new }
-        ensures acknowledged { D.is_honest self.old.disk → self.new.needs_reopen ≡ false → IsAcknowledged D.moments self.new }
+        ensures step { IsStep result self.old self.new
+            (with_rows self.old.history prepared.shown) (shelf_of prepared.directory) }
+        ensures any_moment { D.is_honest self.old.disk
+            → LeavesOnly (D.moments self.old.disk) (D.moments self.new.disk)
+            (λ c. StandsForHistory self.old.history c ⊎ StandsForHistory
+            (with_rows self.old.history prepared.shown) c) }
+        ensures refused { D.is_honest self.old.disk
+            → KeepsMoments D.moments result self.old self.new }
+        ensures acknowledged { D.is_honest self.old.disk → self.new.needs_reopen ≡ false
+            → IsAcknowledged D.moments self.new }
         ensures honesty { D.is_honest self.old.disk ↔ D.is_honest self.new.disk }
         ensures failures { Counts result (D.failures self.old.disk) (D.failures self.new.disk) }
     {
@@ -251,6 +308,8 @@ impl<D: Disk> Store<D> {
             entry,
             places,
             shown,
+            terms,
+            edges,
             bytes,
         } = prepared;
         self.shown.reserve(1)?;
@@ -261,6 +320,8 @@ impl<D: Disk> Store<D> {
                 self.slot = slot;
                 self.directory = directory;
                 self.index.add(places);
+                self.terms.add(terms);
+                self.links.add(edges);
                 let Ok(()) = self.shown.push(shown) else {
                     unreachable!()
                 };
@@ -275,15 +336,20 @@ impl<D: Disk> Store<D> {
 
     /// Adds a release: all of its rows, or nothing. All memory is taken before the first write.
     pub fn import(&mut self, release: &Release) -> Result<Receipt, Refusal>
-        ensures answer { D.is_honest self.old.disk → IsImportOf result self.old self.new release.now }
+        ensures answer { D.is_honest self.old.disk
+            → IsImportOf result self.old self.new release.now }
         // What holds on every disk.
         ensures kept { IsImportAtAll result self.old self.new release.now }
         // A stop at any moment leaves the history from before, or that with the release.
-        ensures any_moment { D.is_honest self.old.disk → self.old.needs_reopen ≡ false → LeavesOnly (D.moments self.old.disk) (D.moments self.new.disk) (IsBeforeOrAfter self.old.history release.now) }
+        ensures any_moment { D.is_honest self.old.disk → self.old.needs_reopen ≡ false
+            → LeavesOnly (D.moments self.old.disk) (D.moments self.new.disk)
+            (IsBeforeOrAfter self.old.history release.now) }
         // After Ok each stop leaves the new one.
-        ensures acknowledged { D.is_honest self.old.disk → self.new.needs_reopen ≡ false → IsAcknowledged D.moments self.new }
+        ensures acknowledged { D.is_honest self.old.disk → self.new.needs_reopen ≡ false
+            → IsAcknowledged D.moments self.new }
         // Refused for any other reason than the device, it leaves whatever a stop may leave as it was.
-        ensures refused { D.is_honest self.old.disk → KeepsMoments D.moments result self.old self.new }
+        ensures refused { D.is_honest self.old.disk
+            → KeepsMoments D.moments result self.old self.new }
         // A store that has to be opened again leaves everything as it is.
         ensures closed { self.old.needs_reopen ≡ true → self.new ≡ self.old }
         ensures honesty { D.is_honest self.old.disk ↔ D.is_honest self.new.disk }
@@ -312,19 +378,18 @@ impl<D: Disk> Store<D> {
     }
 
     /// All versions of the component that the first `pin` imports brought, ascending by time.
-    pub fn history(
-        &mut self,
-        kind: Kind,
-        id: u128,
-        pin: u32,
-    ) -> Result<Vec<Row>, Refusal>
+    pub fn history(&mut self, kind: Kind, id: u128, pin: u32) -> Result<Vec<Row>, Refusal>
         requires { pin ≤ self.old.history.imports }
-        ensures found { D.is_honest self.old.disk → IfOk result (λ rows. rows.items ≡ versions kind id (rows_at pin self.old.history.rows)) }
+        ensures found { D.is_honest self.old.disk
+            → IfOk result (λ rows. rows.items ≡ versions kind id
+            (rows_at pin self.old.history.rows)) }
         ensures undamaged { D.is_honest self.old.disk → IfErr result (λ e. e ≢ refusals.Damaged) }
         ensures read { IsReadingOf result self.old self.new }
         ensures closed { self.old.needs_reopen ≡ true → self.new ≡ self.old }
-        ensures moments { D.is_honest self.old.disk → D.moments self.new.disk ≡ D.moments self.old.disk }
-        ensures acknowledged { D.is_honest self.old.disk → self.new.needs_reopen ≡ false → IsAcknowledged D.moments self.new }
+        ensures moments { D.is_honest self.old.disk
+            → D.moments self.new.disk ≡ D.moments self.old.disk }
+        ensures acknowledged { D.is_honest self.old.disk → self.new.needs_reopen ≡ false
+            → IsAcknowledged D.moments self.new }
         ensures honesty { D.is_honest self.old.disk ↔ D.is_honest self.new.disk }
         ensures failures { Counts result (D.failures self.old.disk) (D.failures self.new.disk) }
     {
@@ -359,12 +424,16 @@ impl<D: Disk> Store<D> {
         limit: u32,
     ) -> Result<Vec<Row>, Refusal>
         requires { pin ≤ self.old.history.imports }
-        ensures found { D.is_honest self.old.disk → IfOk result (λ rows. rows.items ≡ page kind time after limit (rows_at pin self.old.history.rows)) }
+        ensures found { D.is_honest self.old.disk
+            → IfOk result (λ rows. rows.items ≡ page kind time after limit
+            (rows_at pin self.old.history.rows)) }
         ensures undamaged { D.is_honest self.old.disk → IfErr result (λ e. e ≢ refusals.Damaged) }
         ensures read { IsReadingOf result self.old self.new }
         ensures closed { self.old.needs_reopen ≡ true → self.new ≡ self.old }
-        ensures moments { D.is_honest self.old.disk → D.moments self.new.disk ≡ D.moments self.old.disk }
-        ensures acknowledged { D.is_honest self.old.disk → self.new.needs_reopen ≡ false → IsAcknowledged D.moments self.new }
+        ensures moments { D.is_honest self.old.disk
+            → D.moments self.new.disk ≡ D.moments self.old.disk }
+        ensures acknowledged { D.is_honest self.old.disk → self.new.needs_reopen ≡ false
+            → IsAcknowledged D.moments self.new }
         ensures honesty { D.is_honest self.old.disk ↔ D.is_honest self.new.disk }
         ensures failures { Counts result (D.failures self.old.disk) (D.failures self.new.disk) }
     {
@@ -379,6 +448,130 @@ impl<D: Disk> Store<D> {
             damages: 0,
         };
         match self.index.page(&mut reader, kind, time, pin, after, limit) {
+            Ok(found) => Ok(found),
+            Err(fault) => {
+                if matches!(fault, ReadFault::DiskFault) {
+                    self.needs_reopen = true;
+                }
+                Err(Refusal::from(fault))
+            }
+        }
+    }
+
+    /// Active descriptions whose term begins with the prefix, whatever the case, ascending by id, at most `limit`.
+    pub fn terms(
+        &mut self,
+        prefix: &str,
+        time: EffectiveTime,
+        pin: u32,
+        limit: u32,
+    ) -> Result<Vec<Row>, Refusal>
+        requires { pin ≤ self.old.history.imports }
+        ensures found { D.is_honest self.old.disk
+            → IfOk result (λ rows. rows.items ≡ terms prefix.now time limit
+            (rows_at pin self.old.history.rows)) }
+        ensures undamaged { D.is_honest self.old.disk → IfErr result (λ e. e ≢ refusals.Damaged) }
+        ensures read { IsReadingOf result self.old self.new }
+        ensures closed { self.old.needs_reopen ≡ true → self.new ≡ self.old }
+        ensures moments { D.is_honest self.old.disk
+            → D.moments self.new.disk ≡ D.moments self.old.disk }
+        ensures acknowledged { D.is_honest self.old.disk → self.new.needs_reopen ≡ false
+            → IsAcknowledged D.moments self.new }
+        ensures honesty { D.is_honest self.old.disk ↔ D.is_honest self.new.disk }
+        ensures failures { Counts result (D.failures self.old.disk) (D.failures self.new.disk) }
+    {
+        if self.needs_reopen {
+            return Err(Refusal::ReopenNeeded);
+        }
+        let mut reader = DiskRows {
+            disk: &mut self.disk,
+            cache: &mut self.cache,
+            entries: self.directory.entries(),
+            shown: self.shown.as_slice(),
+            damages: 0,
+        };
+        match find(
+            self.alloc,
+            &self.terms,
+            &self.index,
+            &mut reader,
+            prefix,
+            time,
+            pin,
+            limit,
+        ) {
+            Ok(found) => Ok(found),
+            Err(fault) => {
+                if matches!(fault, ReadFault::DiskFault) {
+                    self.needs_reopen = true;
+                }
+                Err(Refusal::from(fault))
+            }
+        }
+    }
+
+    /// The sources of the active relationships of the type "is a" to a concept, ascending. Nothing is read.
+    pub fn children(
+        &mut self,
+        id: Sctid,
+        time: EffectiveTime,
+        pin: u32,
+    ) -> Result<Vec<u64>, Refusal>
+        requires { pin ≤ self.old.history.imports }
+        ensures found { IfOk result (λ ids. (self.old.needs_reopen ≡ false)
+            × (ids.items ≡ children id time (rows_at pin self.old.history.rows))) }
+        ensures refused { IfErr result (λ e. ((e ≡ refusals.ReopenNeeded)
+            × (self.old.needs_reopen ≡ true)) ⊎ ((e ≡ refusals.OutOfMemory)
+            × (self.old.needs_reopen ≡ false))) }
+        ensures unchanged { self.new ≡ self.old }
+    {
+        if self.needs_reopen {
+            return Err(Refusal::ReopenNeeded);
+        }
+        let found = children(self.alloc, &self.links, &self.index, id, time, pin)?;
+        Ok(found)
+    }
+
+    /// The active associations of a component, one step, ascending by refset, target and member.
+    pub fn replacements(
+        &mut self,
+        id: Sctid,
+        time: EffectiveTime,
+        pin: u32,
+    ) -> Result<Vec<Row>, Refusal>
+        requires { pin ≤ self.old.history.imports }
+        ensures found { D.is_honest self.old.disk
+            → IfOk result (λ rows. rows.items ≡ replacements id time
+            (rows_at pin self.old.history.rows)) }
+        ensures undamaged { D.is_honest self.old.disk → IfErr result (λ e. e ≢ refusals.Damaged) }
+        ensures read { IsReadingOf result self.old self.new }
+        ensures closed { self.old.needs_reopen ≡ true → self.new ≡ self.old }
+        ensures moments { D.is_honest self.old.disk
+            → D.moments self.new.disk ≡ D.moments self.old.disk }
+        ensures acknowledged { D.is_honest self.old.disk → self.new.needs_reopen ≡ false
+            → IsAcknowledged D.moments self.new }
+        ensures honesty { D.is_honest self.old.disk ↔ D.is_honest self.new.disk }
+        ensures failures { Counts result (D.failures self.old.disk) (D.failures self.new.disk) }
+    {
+        if self.needs_reopen {
+            return Err(Refusal::ReopenNeeded);
+        }
+        let mut reader = DiskRows {
+            disk: &mut self.disk,
+            cache: &mut self.cache,
+            entries: self.directory.entries(),
+            shown: self.shown.as_slice(),
+            damages: 0,
+        };
+        match replacements(
+            self.alloc,
+            &self.links,
+            &self.index,
+            &mut reader,
+            id,
+            time,
+            pin,
+        ) {
             Ok(found) => Ok(found),
             Err(fault) => {
                 if matches!(fault, ReadFault::DiskFault) {
@@ -421,7 +614,9 @@ impl<D: Disk> Store<D> {
     pub fn close(self) -> D
         ensures disk { result ≡ self.disk }
         // Whatever a stop leaves of it stands for what the store held.
-        ensures stands { D.is_honest result → self.needs_reopen ≡ false → EachImage (D.moments result).state (λ c. StandsFor c self.history self.shelf.epoch self.shelf.entries) }
+        ensures stands { D.is_honest result → self.needs_reopen ≡ false
+            → EachImage (D.moments result).state
+            (λ c. StandsFor c self.history self.shelf.epoch self.shelf.entries) }
     {
         self.disk
     }

@@ -4,6 +4,9 @@ pub mod Standing
 pub mod Published
 pub mod Added
 pub mod Empty
-pub mod Apart
+pub mod Windowed
+pub mod RowsRead
 pub mod Segments
+pub mod KeyLists
+pub mod KeysOnce
 pub mod Opened

@@ -1,121 +1,173 @@
--- The segments that were read, and those that are left.
-use Rattle.std.proofs.Common.{◌≡◌, ℕ, suc, ◌+◌, ◌<◌, List, [], ◌∷◌, ◌++◌, length, get_or, take, drop, sym, ap, subst, ◌∙◌, arith, append_assoc}
+-- Segments, as their entries say.
+use Rattle.std.proofs.Common.{◌≡◌, ◌≢◌, ◌⊎◌, ℕ, zero, suc, ◌+◌, ◌-◌, ◌*◌, ◌<◌, ◌≤◌, ◌++◌, List, [], ◌∷◌, length, get_or, map, min, take, drop, refl, sym, ap, ◌∙◌, subst, arith, length-take, length-drop, length-append, append_assoc}
 use Rattle.std.specs.List.{AllByRecursion}
-use Rattle.std.proofs.Math.Seq.{drop-cons}
-use Rattle.std.proofs.lemmas.List.{take_more}
-use Rattle.std.proofs.lemmas.List.Elements.{All-push, All-head, All-tail}
-use Rattle.history_model.specs.declared.stamped.StampedRow.{StampedRow}
-use Rattle.history_model.specs.Lists.{EachApart}
-use Rattle.history_model.proofs.Listings.{AreLists-push}
-use Rattle.blocks.specs.Extents.{start_of}
+use Rattle.std.proofs.lemmas.List.{append-nil, take_more, take_all}
+use Rattle.std.proofs.lemmas.List.Elements.{All-nil, All-push, All-head, All-tail}
+use Rattle.blocks.specs.Extents.{start_of, bytes_of}
 use Rattle.directory.specs.declared.entry.Entry.{Entry}
+use Rattle.directory.specs.Listings.{IsEntry}
 use Rattle.directory.specs.Places.{extent_of}
-use Rattle.segment.specs.Records.{segment_of}
+use Rattle.history_model.specs.declared.stamped.StampedRow.{StampedRow}
+use Rattle.history_model.specs.Lists.{AreLists}
+use Rattle.segment.specs.declared.place.Posted.{Posted}
+use Rattle.segment.specs.Records.{record_of, segment_of, IsStamped, IsSegment}
+use Rattle.segment.specs.Standing.{with_places, places_of}
+use Rattle.segment.proofs.SegmentLaws.{no_rows, goes_on, one_segment}
 use Rattle.store_image.specs.declared.fault.ImageFault.{ImageFault}
 use Rattle.store_image.specs.declared.fault.ImageFault.TheVariants as faults
 use Rattle.store_image.specs.Stands.{Holds, HoldsAll}
 use Rattle.store_image.specs.Says.{IsSegmentOf, AreSegments, pieces_of}
-use Rattle.store_image.specs.Reading.{IsAt, AreRead, AreNumbered, IsNotReadAt, AreNotRead}
-use Rattle.store_image.proofs.Apart.{AllApart, joined_apart, apart_before, in_middle}
+use Rattle.store_image.specs.Reading.{AreReadTo, AreNumbered, BeginsWith, IsNotNext, IsAt, IsNotReadAt, AreRead, AreNotRead}
 use Rattle.store_image.proofs.Added.{AreSegments-push, pieces_of-push}
-use Rattle.segment.proofs.SegmentLaws.{one_segment}
-use Rattle.store_image.proofs.Standing.{one_segment_at}
+use Rattle.store_image.proofs.Standing.{same_segments}
+use Rattle.store_image.proofs.Windowed.{record_least}
+
+-- ---- room for an entry
+
+segment_least : (rows : List StampedRow) → 46 * length rows ≤ length (segment_of rows)
+unfolding segment_of
+segment_least [] = omega arith
+segment_least (s ∷ rows) = omega (arith, record_least s, segment_least rows, length-append (record_of s) (segment_of rows))
+
+pub disk_ends : (imports : ℕ) (entry : Entry) (file : List ℕ) → length file < 4096 * entry.first + entry.bytes → IsNotReadAt faults.Damaged imports entry file
+disk_ends imports entry file short rows is numbered =
+    let within = is.1.within in
+    let long = is.0.bytes in
+    absurd (omega (arith, short, within, long))
+
+pub too_many_rows : (imports : ℕ) (entry : Entry) (file : List ℕ) → entry.bytes < 46 * entry.rows → IsNotReadAt faults.Damaged imports entry file
+too_many_rows imports entry file many rows is numbered =
+    let long = is.0.bytes in
+    let count = is.0.count in
+    absurd (omega (arith, many, long, count, segment_least rows))
+
+-- ---- one segment
+
+at_segment : (file : List ℕ) (entry : Entry) (rows : List StampedRow) → IsAt file entry rows → IsSegment rows (bytes_of (extent_of entry) file)
+at_segment file entry rows is = record {
+  each = is.0.is.each;
+  ascending = is.0.is.ascending;
+  bytes_are = ap (λ n. take n (drop (start_of (extent_of entry)) file)) (sym is.0.bytes) ∙ is.1.bytes;
+}
+
+pub none_read : (imports : ℕ) (places : List Posted) (rows : List StampedRow) → places ≡ [] → rows ≡ [] → AreReadTo 0 imports places rows
+none_read imports places rows places_are none =
+    subst (λ (r : List StampedRow). AreReadTo 0 imports places r) (sym none) (record {
+      places_are = places_are;
+      at_is = sym (ap length no_rows);
+      each = tt;
+      ascending = tt;
+      numbered = All-nil (λ (s : StampedRow). s.import ≤ imports);
+    })
+
+pub none_begins : (rows : List StampedRow) (bytes : List ℕ) → rows ≡ [] → BeginsWith rows bytes
+none_begins rows bytes none = (bytes, sym (ap (λ (l : List ℕ). l ++ bytes) (ap segment_of none ∙ no_rows)))
+
+pub not_next : (e : ImageFault) (imports : ℕ) (entry : Entry) (rows : List StampedRow) (file : List ℕ) → IsNotNext e imports rows (bytes_of (extent_of entry) file) → BeginsWith rows (bytes_of (extent_of entry) file) → length rows < entry.rows → IsNotReadAt e imports entry file
+not_next faults.OutOfMemory imports entry rows file why begins more = tt
+not_next faults.DiskFault imports entry rows file why begins more = tt
+not_next faults.NotEmpty imports entry rows file why begins more = why
+not_next faults.NotAStore imports entry rows file why begins more = why
+not_next faults.Damaged imports entry rows file why begins more = λ others is numbered.
+    let count = is.0.count in
+    why begins others (at_segment file entry others is) numbered (omega (arith, more, count))
+
+nothing : {X : Type 0} (xs : List X) → length xs ≡ 0 → xs ≡ []
+nothing [] none = refl
+nothing (x ∷ xs) none = absurd (omega (arith, none))
+
+pub wrong_end : (at imports : ℕ) (entry : Entry) (places : List Posted) (rows : List StampedRow) (file : List ℕ) → AreReadTo at imports places rows → length rows ≡ entry.rows → (at ≡ entry.bytes → ⊥) → BeginsWith rows (bytes_of (extent_of entry) file)
+    → IsNotReadAt faults.Damaged imports entry file
+wrong_end at imports entry places rows file read count wrong begins others is numbered =
+    let segment = at_segment file entry others is in
+    let on = goes_on rows others begins.0 read.each segment.each (sym begins.1 ∙ segment.bytes_are) in
+    let others_count = is.0.count in
+    let long = ap length on.1 in
+    let none = nothing on.0 (omega (arith, count, others_count, long, length-append rows on.0)) in
+    let same : others ≡ rows = on.1 ∙ ap (λ (l : List StampedRow). rows ++ l) none ∙ append-nil rows in
+    wrong (read.at_is ∙ sym (ap (λ (l : List StampedRow). length (segment_of l)) same) ∙ is.0.bytes)
+
+pub segment_found : (imports : ℕ) (entry : Entry) (places : List Posted) (rows : List StampedRow) → AreReadTo entry.bytes imports places rows → length rows ≡ entry.rows → IsSegmentOf entry rows
+segment_found imports entry places rows read count = record {
+  is = record { each = read.each; ascending = read.ascending; bytes_are = refl };
+  bytes = sym read.at_is;
+  count = count;
+}
+
+pub at_found : (file : List ℕ) (entry : Entry) (rows : List StampedRow) → IsEntry entry → IsSegmentOf entry rows → BeginsWith rows (bytes_of (extent_of entry) file) → IsAt file entry rows
+at_found file entry rows is found begins =
+    let start = start_of (extent_of entry) in
+    let long = ap length begins.1 in
+    let bytes = found.bytes in
+    let most = length-take entry.bytes (drop start file) in
+    let rest_none = nothing begins.0 (omega (arith, long, most, bytes, length-append (segment_of rows) begins.0)) in
+    let same : bytes_of (extent_of entry) file ≡ segment_of rows = begins.1 ∙ ap (λ (l : List ℕ). segment_of rows ++ l) rest_none ∙ append-nil (segment_of rows) in
+    let whole = ap length same in
+    let first = is.first in
+    let some = is.bytes in (
+      found,
+      record {
+        behind = omega (arith, first);
+        within = omega (arith, whole, most, bytes, some, length-drop start file);
+        bytes = ap (λ n. take n (drop start file)) bytes ∙ same;
+      },
+    )
+
+-- ---- all segments
+
+record IsThere (imports : ℕ) (file : List ℕ) (entry : Entry) : Type 0 where
+  rows : List StampedRow
+  at : IsAt file entry rows
+  numbered : AreNumbered imports rows
+
+entry_there : (imports : ℕ) (file : List ℕ) (entries : List Entry) (lists : List (List StampedRow)) (i : ℕ) (d : Entry) → i < length entries → AreSegments entries lists → AllByRecursion (AreNumbered imports) lists → HoldsAll (pieces_of entries lists) file
+    → IsThere imports file (get_or entries i d)
+entry_there imports file [] lists i d lt are numbered held = absurd (omega (arith, lt))
+entry_there imports file (e ∷ entries) [] i d lt are numbered held = absurd are
+entry_there imports file (e ∷ entries) (rows ∷ lists) zero d lt are numbered held =
+    record { rows = rows; at = (are.0, All-head (λ piece. Holds piece file) (start_of (extent_of e), segment_of rows) (pieces_of entries lists) held); numbered = numbered.0 }
+entry_there imports file (e ∷ entries) (rows ∷ lists) (suc i) d lt are numbered held =
+    entry_there imports file entries lists i d (omega (arith, lt)) are.1 numbered.1 (All-tail (λ piece. Holds piece file) (start_of (extent_of e), segment_of rows) (pieces_of entries lists) held)
+
+-- where one segment isn't there, they all aren't
+pub not_read_at : (e : ImageFault) (imports : ℕ) (file : List ℕ) (entries : List Entry) (i : ℕ) (d : Entry) → i < length entries → IsNotReadAt e imports (get_or entries i d) file → AreNotRead e imports entries file
+not_read_at faults.OutOfMemory imports file entries i d lt why = tt
+not_read_at faults.DiskFault imports file entries i d lt why = tt
+not_read_at faults.NotEmpty imports file entries i d lt why = why
+not_read_at faults.NotAStore imports file entries i d lt why = why
+not_read_at faults.Damaged imports file entries i d lt why = λ lists are held.
+    let there = entry_there imports file entries lists i d lt are.segments are.numbered held in why there.rows there.at there.numbered
+
+-- where two segments that were read share a key, no segments are there that share none
+pub not_apart : (imports : ℕ) (file : List ℕ) (entries : List Entry) (lists : List (List StampedRow)) → AreSegments entries lists → HoldsAll (pieces_of entries lists) file → (AreLists lists → ⊥) → AreNotRead faults.Damaged imports entries file
+not_apart imports file entries lists are held not others read there =
+    not (subst (λ (l : List (List StampedRow)). AreLists l) (same_segments one_segment file entries others lists read.segments are there held) read.apart)
 
 all_pushed : {X : Type 0} (P : X → Type 0) (xs : List X) (x : X) → AllByRecursion P xs → P x → AllByRecursion P (xs ++ x ∷ [])
-all_pushed P [] x a p = (p, tt)
-all_pushed P (y ∷ ys) x a p = (a.0, all_pushed P ys x a.1 p)
+all_pushed P [] x all p = (p, tt)
+all_pushed P (y ∷ xs) x all p = (all.0, all_pushed P xs x all.1 p)
 
--- one segment more is read
-pub read_more : (imports : ℕ) (entries : List Entry) (i : ℕ) (entry d : Entry) (lists : List (List StampedRow)) (rows : List StampedRow) → i < length entries → entry ≡ get_or entries i d → AreRead imports (take i entries) lists → IsSegmentOf entry rows
-    → AreNumbered imports rows → AllApart lists rows → AreRead imports (take (i + 1) entries) (lists ++ rows ∷ [])
-read_more imports entries i entry d lists rows lt same read is numbered apart =
-    let P : List Entry → Type 0 = λ l. AreSegments l (lists ++ rows ∷ []) in
-    let front : take (i + 1) entries ≡ take i entries ++ entry ∷ [] = take_more entries i d lt ∙ ap (λ (e : Entry). take i entries ++ e ∷ []) (sym same) in record {
-      segments = subst P (sym front) (AreSegments-push (take i entries) lists entry rows read.segments is);
-      apart = AreLists-push lists rows read.apart is.is.ascending (joined_apart lists rows apart);
-      numbered = all_pushed (AreNumbered imports) lists rows read.numbered numbered;
-    }
+pub map-push : {X Y : Type 0} (f : X → Y) (xs : List X) (x : X) → map f (xs ++ x ∷ []) ≡ map f xs ++ f x ∷ []
+map-push f [] x = refl
+map-push f (y ∷ xs) x = ap (λ l. f y ∷ l) (map-push f xs x)
 
-pub held_more : (file : List ℕ) (entries : List Entry) (i : ℕ) (entry d : Entry) (lists : List (List StampedRow)) (rows : List StampedRow) → i < length entries → entry ≡ get_or entries i d → AreSegments (take i entries) lists
-    → HoldsAll (pieces_of (take i entries) lists) file → IsAt file entry rows → HoldsAll (pieces_of (take (i + 1) entries) (lists ++ rows ∷ [])) file
-held_more file entries i entry d lists rows lt same are held is =
-    let P : List (ℕ × List ℕ) → Type 0 = λ l. HoldsAll l file in
-    let front : take (i + 1) entries ≡ take i entries ++ entry ∷ [] = take_more entries i d lt ∙ ap (λ (e : Entry). take i entries ++ e ∷ []) (sym same) in
-    let pieces = ap (λ (l : List Entry). pieces_of l (lists ++ rows ∷ [])) front ∙ pieces_of-push (take i entries) lists entry rows are in
-    subst P (sym pieces) (All-push (λ piece. Holds piece file) (pieces_of (take i entries) lists) (start_of (extent_of entry), segment_of rows) held is.1)
+module _ (entries : List Entry) (i : ℕ) (d : Entry) (lists more : List (List StampedRow)) (rows : List StampedRow) (lt : i < length entries) (more_is : more ≡ lists ++ rows ∷ []) where
+  front : take (i + 1) entries ≡ take i entries ++ get_or entries i d ∷ []
+  front = take_more entries i d lt
 
--- the rest of the segments of which so many were read
-pub record IsRest (file : List ℕ) (entries : List Entry) (lists others rest : List (List StampedRow)) : Type 0 where
-  pub others_are : others ≡ lists ++ rest
-  pub segments : AreSegments entries rest
-  pub held : HoldsAll (pieces_of entries rest) file
+  pub more_segments : AreSegments (take i entries) lists → IsSegmentOf (get_or entries i d) rows → AreSegments (take (i + 1) entries) more
+  more_segments are is =
+      subst (λ l. AreSegments (take (i + 1) entries) l) (sym more_is)
+      (subst (λ (l : List Entry). AreSegments l (lists ++ rows ∷ [])) (sym front) (AreSegments-push (take i entries) lists (get_or entries i d) rows are is))
 
--- whatever segments are there, they begin with those that were read
-abbrev pub BeginWith : List ℕ → ℕ → List Entry → ℕ → List (List StampedRow) → Type 0
-BeginWith file imports entries i lists =
-    (others : List (List StampedRow)) → AreRead imports entries others → HoldsAll (pieces_of entries others) file → (rest : List (List StampedRow)) × IsRest file (drop i entries) lists others rest
+  pub more_numbered : (imports : ℕ) → AllByRecursion (AreNumbered imports) lists → AreNumbered imports rows → AllByRecursion (AreNumbered imports) more
+  more_numbered imports all low = subst (λ l. AllByRecursion (AreNumbered imports) l) (sym more_is) (all_pushed (AreNumbered imports) lists rows all low)
 
--- the next of them, and those behind it
-pub record IsFirst (file : List ℕ) (entry : Entry) (entries : List Entry) (lists others : List (List StampedRow)) : Type 0 where
-  pub rows : List StampedRow
-  pub more : List (List StampedRow)
-  pub there : IsAt file entry rows
-  pub others_are : others ≡ lists ++ rows ∷ more
-  pub rest : IsRest file entries (lists ++ rows ∷ []) others more
+  pub more_held : (file : List ℕ) → AreSegments (take i entries) lists → HoldsAll (pieces_of (take i entries) lists) file → IsAt file (get_or entries i d) rows → HoldsAll (pieces_of (take (i + 1) entries) more) file
+  more_held file are held is =
+      let P : List (ℕ × List ℕ) → Type 0 = λ l. HoldsAll l file in
+      let pieces = ap (λ l. pieces_of (take (i + 1) entries) l) more_is ∙ ap (λ (l : List Entry). pieces_of l (lists ++ rows ∷ [])) front ∙ pieces_of-push (take i entries) lists (get_or entries i d) rows are in
+      subst P (sym pieces) (All-push (λ piece. Holds piece file) (pieces_of (take i entries) lists) (start_of (extent_of (get_or entries i d)), segment_of rows) held is.1)
 
-rest_first : (file : List ℕ) (entry : Entry) (entries : List Entry) (lists others rest : List (List StampedRow)) → IsRest file (entry ∷ entries) lists others rest → IsFirst file entry entries lists others
-rest_first file entry entries lists others [] is = absurd is.segments
-rest_first file entry entries lists others (rows ∷ more) is =
-    let P : ℕ × List ℕ → Type 0 = λ piece. Holds piece file in
-    let place = start_of (extent_of entry) in record {
-      rows = rows;
-      more = more;
-      there = (is.segments.0, All-head P (place, segment_of rows) (pieces_of entries more) is.held);
-      others_are = is.others_are;
-      rest = record {
-        others_are = is.others_are ∙ sym (append_assoc lists (rows ∷ []) more);
-        segments = is.segments.1;
-        held = All-tail P (place, segment_of rows) (pieces_of entries more) is.held;
-      };
-    }
-
-module _ (file : List ℕ) (imports : ℕ) (entries : List Entry) (i : ℕ) (entry d : Entry) (lists : List (List StampedRow)) (lt : i < length entries) (same : entry ≡ get_or entries i d) (begins : BeginWith file imports entries i lists) where
-  entries_left : drop i entries ≡ entry ∷ drop (i + 1) entries
-  entries_left = drop-cons entries i d lt ∙ ap (λ (e : Entry). e ∷ drop (suc i) entries) (sym same) ∙ ap (λ n. entry ∷ drop n entries) (let e : suc i ≡ i + 1 = omega arith in e)
-
-  first_left : (others : List (List StampedRow)) → AreRead imports entries others → HoldsAll (pieces_of entries others) file → IsFirst file entry (drop (i + 1) entries) lists others
-  first_left others are held =
-      let rest = begins others are held in
-      rest_first file entry (drop (i + 1) entries) lists others rest.0 (subst (λ (l : List Entry). IsRest file l lists others rest.0) entries_left rest.1)
-
-  -- what is there for the entry is what was read
-  module _ (rows : List StampedRow) (there : IsAt file entry rows) where
-    same_rows : (others : List (List StampedRow)) (are : AreRead imports entries others) (held : HoldsAll (pieces_of entries others) file) → (first_left others are held).rows ≡ rows
-    same_rows others are held = one_segment_at one_segment file entry (first_left others are held).rows rows (first_left others are held).there there
-
-    pub begins_more : BeginWith file imports entries (i + 1) (lists ++ rows ∷ [])
-    begins_more others are held =
-        let first = first_left others are held in
-        (first.more, subst (λ (r : List StampedRow). IsRest file (drop (i + 1) entries) (lists ++ r ∷ []) others first.more) (same_rows others are held) first.rest)
-
-    others_with : (others : List (List StampedRow)) (are : AreRead imports entries others) (held : HoldsAll (pieces_of entries others) file) → others ≡ lists ++ rows ∷ (first_left others are held).more
-    others_with others are held =
-        let first = first_left others are held in
-        first.others_are ∙ ap (λ (r : List StampedRow). lists ++ r ∷ first.more) (same_rows others are held)
-
-    pub not_numbered : (AreNumbered imports rows → ⊥) → (others : List (List StampedRow)) → AreRead imports entries others → HoldsAll (pieces_of entries others) file → ⊥
-    not_numbered not others are held =
-        let first = first_left others are held in
-        not (in_middle (AreNumbered imports) lists rows first.more (subst (λ (l : List (List StampedRow)). AllByRecursion (AreNumbered imports) l) (others_with others are held) are.numbered))
-
-    pub not_apart : (AllApart lists rows → ⊥) → (others : List (List StampedRow)) → AreRead imports entries others → HoldsAll (pieces_of entries others) file → ⊥
-    not_apart not others are held =
-        let first = first_left others are held in
-        not (apart_before lists rows first.more (subst EachApart (others_with others are held) are.apart.apart))
-
-  pub not_read_at : (e : ImageFault) → IsNotReadAt e entry file → AreNotRead e imports entries file
-  not_read_at faults.OutOfMemory why = tt
-  not_read_at faults.DiskFault why = tt
-  not_read_at faults.NotEmpty why = why
-  not_read_at faults.NotAStore why = why
-  not_read_at faults.Damaged why = λ others are held. let first = first_left others are held in why first.rows first.there
+  pub more_segments_taken : (segments : List (List (StampedRow × Posted))) → (segments ++ map (with_places 0) lists) ++ with_places 0 rows ∷ [] ≡ segments ++ map (with_places 0) more
+  more_segments_taken segments = append_assoc segments (map (with_places 0) lists) (with_places 0 rows ∷ []) ∙ ap (λ l. segments ++ l) (sym (map-push (with_places 0) lists rows) ∙ sym (ap (map (with_places 0)) more_is))

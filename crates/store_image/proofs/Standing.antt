@@ -26,7 +26,7 @@ one_segment_at one file entry xs ys hx hy =
     let same : segment_of xs ≡ segment_of ys = sym hx.1.bytes ∙ ap (λ (n : ℕ). take n (drop (start_of (extent_of entry)) file)) len ∙ hy.1.bytes in
     one xs ys (segment_of ys) (subst (IsSegment xs) same hx.0.is) hy.0.is
 
-same_segments : OneSegment → (file : List ℕ) (entries : List Entry) (xs ys : List (List StampedRow)) → AreSegments entries xs → AreSegments entries ys → HoldsAll (pieces_of entries xs) file → HoldsAll (pieces_of entries ys) file → xs ≡ ys
+pub same_segments : OneSegment → (file : List ℕ) (entries : List Entry) (xs ys : List (List StampedRow)) → AreSegments entries xs → AreSegments entries ys → HoldsAll (pieces_of entries xs) file → HoldsAll (pieces_of entries ys) file → xs ≡ ys
 same_segments one file [] [] [] hx hy px py = refl
 same_segments one file [] [] (y ∷ ys) hx hy px py = absurd hy
 same_segments one file [] (x ∷ xs) ys hx hy px py = absurd hx

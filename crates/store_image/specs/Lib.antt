@@ -4,6 +4,7 @@ pub mod Images
 pub mod Shown
 pub mod Next
 pub mod Reading
+pub mod Keys
 pub mod Answers
 pub use Rattle.disk_model.specs.Disk
 pub use Rattle.blocks.specs.Extents
@@ -15,3 +16,4 @@ pub use Rattle.directory.specs.Content
 pub use Rattle.directory.specs.Listings
 pub use Rattle.directory.specs.Places
 pub use Rattle.segment.specs.Records
+pub use Rattle.segment.specs.Standing

@@ -2,19 +2,21 @@
 #![tactic(auto)]
 
 mod adding;
+mod apart;
 mod content;
 mod fault;
 pub mod laws;
 mod making;
-mod numbers;
 mod opening;
 mod reading;
-mod shared;
+mod sink;
+mod window;
 
 pub use adding::{add_segment, publish_listing};
 pub use fault::ImageFault;
 pub use making::{Made, check_empty, make};
 pub use opening::{Loaded, load};
+pub use sink::RowSink;
 
 #[cfg(test)]
 mod tests;

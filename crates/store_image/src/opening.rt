@@ -1,17 +1,22 @@
 //! Reading what a disk stands for.
 
-ghost use Rattle.std.specs.Prelude.{◌≡◌, ◌↔◌, map, vec_items, IfOk, MatchResult};
+ghost use Rattle.std.specs.Prelude.{◌≡◌, ◌↔◌, ◌++◌, [], List, map, vec_items, IfOk, MatchResult};
 ghost use Rattle.disk_model.specs.Disk.{IsImage, LeavesOnly};
+ghost use Rattle.history_model.specs.declared.stamped.StampedRow.{StampedRow};
+ghost use Rattle.segment.specs.declared.place.Posted.{Posted};
+ghost use Rattle.segment.specs.Standing.{places_of, with_places};
 ghost use Rattle.store_image.specs.Says.{IsKept};
 ghost use Rattle.store_image.specs.Shown.{Shows, IsOnDisk};
 ghost use Rattle.store_image.specs.Answers.{IsNotOpened, IsSynced, CountsFault};
 
 use crate::fault::ImageFault;
-use crate::reading::read_segments;
+use crate::reading::{Segments, read_segments};
+use crate::sink::RowSink;
 use blocks::{Slot, read_current};
 use directory::Directory;
 use disk_model::Disk;
-use history_model::StampedRow;
+use history_model::Shown;
+use segment::Posted;
 use std::alloc::Global;
 
 /// What was read.
@@ -19,15 +24,27 @@ use std::alloc::Global;
 pub struct Loaded {
     pub slot: Slot,
     pub directory: Directory,
-    /// The rows of each segment, in the directory's order.
-    pub lists: Vec<Vec<StampedRow>>,
+    /// The places of each segment's rows, in the directory's order.
+    pub places: Vec<Vec<Posted>>,
+    /// The rows of each segment, which clauses alone see.
+    pub shown: Vec<Shown>,
 }
 
-/// Reads what a disk stands for, after a sync.
-pub fn load<D: Disk>(alloc: Global, disk: &mut D) -> Result<Loaded, ImageFault>
-    ensures exact { D.is_honest disk.old → MatchResult result (λ l. Shows l.slot l.directory (map vec_items l.lists.items) (D.moments disk.old).state.now) (λ e. IsNotOpened e (D.moments disk.old).state.now) }
+/// Reads what a disk stands for, after a sync. Each record is read once, through a buffer of fixed size, and its row is handed to the sink.
+pub fn load<D: Disk, S: RowSink>(
+    alloc: Global,
+    disk: &mut D,
+    sink: &mut S,
+) -> Result<Loaded, ImageFault>
+    ensures exact { D.is_honest disk.old → MatchResult result (λ l. Shows l.slot l.directory l.shown.items (D.moments disk.old).state.now) (λ e. IsNotOpened e (D.moments disk.old).state.now) }
     // What was read fits together, on every disk.
-    ensures kept { IfOk result (λ l. IsKept l.directory (map vec_items l.lists.items)) }
+    ensures kept { IfOk result (λ l. IsKept l.directory l.shown.items) }
+    ensures places { IfOk result
+        (λ l. map vec_items l.places.items ≡ map places_of l.shown.items) }
+    // The sink took each segment's rows, in order, with their places.
+    ensures taken { (segments : List (List (StampedRow × Posted)))
+        → S.has_taken sink.old segments [] → IfOk result
+        (λ l. S.has_taken sink.new (segments ++ map (with_places 0) l.shown.items) []) }
     // A stop at any moment leaves what it might have left before.
     ensures any_moment { D.is_honest disk.old → LeavesOnly (D.moments disk.old) (D.moments disk.new) (IsImage (D.moments disk.old).state) }
     // It syncs once and changes nothing else, whatever it answers.
@@ -36,7 +53,7 @@ pub fn load<D: Disk>(alloc: Global, disk: &mut D) -> Result<Loaded, ImageFault>
     ensures unchanged { D.is_honest disk.old
         → (D.moments disk.new).state.now ≡ (D.moments disk.old).state.now }
     // After Ok each stop leaves what was read.
-    ensures on_disk { D.is_honest disk.old → IfOk result (λ l. IsOnDisk (D.moments disk.new).state l.slot l.directory (map vec_items l.lists.items)) }
+    ensures on_disk { D.is_honest disk.old → IfOk result (λ l. IsOnDisk (D.moments disk.new).state l.slot l.directory l.shown.items) }
     ensures honesty { D.is_honest disk.old ↔ D.is_honest disk.new }
     ensures failures { CountsFault result (D.failures disk.old) (D.failures disk.new) }
 {
@@ -44,10 +61,17 @@ pub fn load<D: Disk>(alloc: Global, disk: &mut D) -> Result<Loaded, ImageFault>
     let mut content = [0; 4096];
     let current = read_current(disk, &mut content)?;
     let directory = Directory::decode(alloc, &content)?;
-    let lists = read_segments(alloc, disk, directory.entries(), directory.imports())?;
+    let Segments { places, shown } = read_segments(
+        alloc,
+        disk,
+        directory.entries(),
+        directory.imports(),
+        sink,
+    )?;
     Ok(Loaded {
         slot: current.slot,
         directory,
-        lists,
+        places,
+        shown,
     })
 }

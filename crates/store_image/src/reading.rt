@@ -1,86 +1,251 @@
-//! Reading the segments that a directory lists.
+//! Reading the segments that a directory lists, record by record.
 
-ghost use Rattle.std.specs.Prelude.{◌≡◌, ◌↔◌, ◌≤◌, length, map, vec_items, IfOk, MatchResult};
+ghost use Rattle.std.specs.Prelude.{◌≡◌, ◌↔◌, ℕ, ◌+◌, ◌≤◌, [], ◌∷◌, ◌++◌, List, length, map, vec_items, IsTrue, IfOk, OnOk, MatchResult};
 ghost use Rattle.std.specs.List.{AllByRecursion};
 ghost use Rattle.blocks.specs.Extents.{bytes_of};
 ghost use Rattle.directory.specs.Listings.{IsEntry};
+ghost use Rattle.directory.specs.Places.{extent_of};
+ghost use Rattle.history_model.specs.declared.stamped.StampedRow.{StampedRow};
+ghost use Rattle.history_model.specs.InOrder.{IsAscending};
+ghost use Rattle.history_model.specs.History.{stamped_cmp};
+ghost use Rattle.rf2_values.specs.Key.{key_cmp};
+ghost use Rattle.std.specs.declared.cmp.Ordering.TheVariants.{Less};
+ghost use Rattle.segment.specs.declared.place.Posted.{Posted};
+ghost use Rattle.segment.specs.Standing.{posted, places_of, with_places};
 ghost use Rattle.store_image.specs.Stands.{HoldsAll};
 ghost use Rattle.store_image.specs.Says.{IsSegmentOf, pieces_of};
-ghost use Rattle.store_image.specs.Reading.{IsAt, AreRead, IsNotThere, IsNotReadAt, AreNotRead};
+ghost use Rattle.store_image.specs.Reading.{Sees, AreReadTo, BeginsWith, IsNotNext, AreNumbered, IsAt, IsNotReadAt, AreRead, AreNotRead};
 ghost use Rattle.store_image.specs.Answers.{CountsFault};
 
+use crate::apart::are_apart;
 use crate::fault::ImageFault;
-use crate::numbers::are_numbered;
-use crate::shared::is_apart;
-use blocks::{Extent, read_extent};
+use crate::sink::RowSink;
+use crate::window::Window;
+use blocks::BLOCK;
 use directory::Entry;
 use disk_model::Disk;
-use history_model::StampedRow;
-use segment::decode;
-use std::alloc::Global;
+use history_model::{Shown, StampedRow};
+use rf2_values::Key;
+use segment::Posted;
+use std::alloc::{AllocError, Global};
+
+/// Rows that were read: their places, and the rows, which clauses alone see.
+#[derive(Drop)]
+pub(crate) struct Rows {
+    pub(crate) places: Vec<Posted>,
+    pub(crate) shown: Shown,
+}
+
+impl Rows {
+    /// A row, the record of which begins at this place.
+    fn push(&mut self, row: &StampedRow, at: u32) -> Result<(), AllocError>
+        ensures shown { OnOk result (self.new.shown ≡ self.old.shown ++ row.now ∷ []) }
+        ensures places { OnOk result
+            (self.new.places.items ≡ self.old.places.items ++ posted row.now at ∷ []) }
+    {
+        self.shown.push(row)?;
+        match self.places.push(Posted::new(row, at)) {
+            Ok(()) => Ok(()),
+            Err(_) => Err(AllocError),
+        }
+    }
+}
+
+/// The same of several segments.
+#[derive(Drop)]
+pub(crate) struct Segments {
+    pub(crate) places: Vec<Vec<Posted>>,
+    pub(crate) shown: Vec<Shown>,
+}
+
+/// The fewest bytes that a record has.
+const RECORD_MIN: u64 = 46;
 
 /// The rows of each segment. A directory may list these entries.
-pub(crate) fn read_segments<D: Disk>(
+pub(crate) fn read_segments<D: Disk, S: RowSink>(
     alloc: Global,
     disk: &mut D,
     entries: &[Entry],
     imports: u32,
-) -> Result<Vec<Vec<StampedRow>>, ImageFault>
-    requires count { length entries.now ≤ 128 }
-    requires entries { AllByRecursion IsEntry entries.now }
-    ensures read { IfOk result (λ lists. AreRead imports entries.now (map vec_items lists.items)) }
-    ensures exact { D.is_honest disk.old → MatchResult result (λ lists. HoldsAll (pieces_of entries.now (map vec_items lists.items)) (D.moments disk.old).state.now) (λ e. AreNotRead e imports entries.now (D.moments disk.old).state.now) }
+    sink: &mut S,
+) -> Result<Segments, ImageFault>
+    requires { AllByRecursion IsEntry entries.now }
+    ensures read { IfOk result (λ read. AreRead imports entries.now read.shown.items) }
+    ensures places { IfOk result
+        (λ read. map vec_items read.places.items ≡ map places_of read.shown.items) }
+    ensures exact { D.is_honest disk.old → MatchResult result
+        (λ read. HoldsAll (pieces_of entries.now read.shown.items) (D.moments disk.old).state.now)
+        (λ e. AreNotRead e imports entries.now (D.moments disk.old).state.now) }
+    ensures taken { (segments : List (List (StampedRow × Posted)))
+        → S.has_taken sink.old segments [] → IfOk result
+        (λ read. S.has_taken sink.new (segments ++ map (with_places 0) read.shown.items) []) }
     ensures moments { D.is_honest disk.old → D.moments disk.new ≡ D.moments disk.old }
     ensures honesty { D.is_honest disk.old ↔ D.is_honest disk.new }
     ensures failures { CountsFault result (D.failures disk.old) (D.failures disk.new) }
 {
-    let mut lists = Vec::with_capacity(alloc, entries.len())?;
+    let mut window = Window::new(alloc)?;
+    let mut places = Vec::with_capacity(alloc, entries.len())?;
+    let mut shown = Vec::with_capacity(alloc, entries.len())?;
     for entry in entries {
-        let rows = read_segment(alloc, disk, *entry)?;
-        if !are_numbered(rows.as_slice(), imports) {
-            return Err(ImageFault::Damaged);
-        }
-        if !is_apart(lists.as_slice(), rows.as_slice()) {
-            return Err(ImageFault::Damaged);
-        }
-        lists.push(rows)?;
+        let rows = read_segment(alloc, disk, &mut window, *entry, imports, sink)?;
+        places.push(rows.places)?;
+        shown.push(rows.shown)?;
     }
-    Ok(lists)
+    if !are_apart(alloc, places.as_slice())? {
+        return Err(ImageFault::Damaged);
+    }
+    Ok(Segments { places, shown })
 }
 
 /// The rows of an entry's segment.
-fn read_segment<D: Disk>(
+fn read_segment<D: Disk, S: RowSink>(
     alloc: Global,
     disk: &mut D,
+    window: &mut Window,
     entry: Entry,
-) -> Result<Vec<StampedRow>, ImageFault>
+    imports: u32,
+    sink: &mut S,
+) -> Result<Rows, ImageFault>
     requires { IsEntry entry }
-    ensures found { IfOk result (λ rows. IsSegmentOf entry rows.items) }
-    ensures exact { D.is_honest disk.old → MatchResult result (λ rows. IsAt (D.moments disk.old).state.now entry rows.items) (λ e. IsNotReadAt e entry (D.moments disk.old).state.now) }
+    ensures found { IfOk result (λ rows. IsSegmentOf entry rows.shown) }
+    ensures numbered { IfOk result (λ rows. AreNumbered imports rows.shown) }
+    ensures places { IfOk result (λ rows. rows.places.items ≡ places_of rows.shown) }
+    ensures exact { D.is_honest disk.old → MatchResult result
+        (λ rows. IsAt (D.moments disk.old).state.now entry rows.shown)
+        (λ e. IsNotReadAt e imports entry (D.moments disk.old).state.now) }
+    ensures taken { (segments : List (List (StampedRow × Posted)))
+        → S.has_taken sink.old segments [] → IfOk result
+        (λ rows. S.has_taken sink.new (segments ++ with_places 0 rows.shown ∷ []) []) }
     ensures moments { D.is_honest disk.old → D.moments disk.new ≡ D.moments disk.old }
     ensures honesty { D.is_honest disk.old ↔ D.is_honest disk.new }
     ensures failures { CountsFault result (D.failures disk.old) (D.failures disk.new) }
 {
-    let bytes = read_bytes(alloc, disk, entry.extent())?;
-    let rows = decode(alloc, bytes.as_slice())?;
-    if rows.len() != entry.rows as usize {
+    check_room(disk, entry)?;
+    window.begin(entry.extent());
+    let rows = read_rows(alloc, disk, window, entry, imports, sink)?;
+    sink.end_segment()?;
+    Ok(rows)
+}
+
+/// Whether the disk reaches as far as an entry says, and as many rows may have as many bytes. So memory is taken for no more places than the disk has records.
+fn check_room<D: Disk>(disk: &mut D, entry: Entry) -> Result<(), ImageFault>
+    ensures exact { D.is_honest disk.old → (imports : ℕ) → MatchResult result (λ _. Unit {0})
+        (λ e. IsNotReadAt e imports entry (D.moments disk.old).state.now) }
+    ensures moments { D.is_honest disk.old → D.moments disk.new ≡ D.moments disk.old }
+    ensures honesty { D.is_honest disk.old ↔ D.is_honest disk.new }
+    ensures failures { CountsFault result (D.failures disk.old) (D.failures disk.new) }
+{
+    let end = BLOCK * u64::from(entry.first) + u64::from(entry.bytes);
+    if end > disk.len()? {
+        return Err(ImageFault::Damaged);
+    }
+    if RECORD_MIN * u64::from(entry.rows) > u64::from(entry.bytes) {
+        return Err(ImageFault::Damaged);
+    }
+    Ok(())
+}
+
+/// As many rows as the entry says, whose records are all the bytes of its extent.
+fn read_rows<D: Disk, S: RowSink>(
+    alloc: Global,
+    disk: &mut D,
+    window: &mut Window,
+    entry: Entry,
+    imports: u32,
+    sink: &mut S,
+) -> Result<Rows, ImageFault>
+    requires extent { window.old.extent ≡ extent_of entry }
+    requires from { window.old.from ≡ 0 }
+    requires sees { (file : List ℕ) → Sees window.old file }
+    requires entry { IsEntry entry }
+    ensures read { IfOk result
+        (λ rows. AreReadTo entry.bytes imports rows.places.items rows.shown) }
+    ensures count { IfOk result (λ rows. length rows.shown ≡ entry.rows) }
+    ensures exact { D.is_honest disk.old → MatchResult result
+        (λ rows. BeginsWith rows.shown (bytes_of (extent_of entry) (D.moments disk.old).state.now))
+        (λ e. IsNotReadAt e imports entry (D.moments disk.old).state.now) }
+    ensures taken { (segments : List (List (StampedRow × Posted)))
+        → S.has_taken sink.old segments [] → IfOk result
+        (λ rows. S.has_taken sink.new segments (with_places 0 rows.shown)) }
+    ensures moments { D.is_honest disk.old → D.moments disk.new ≡ D.moments disk.old }
+    ensures honesty { D.is_honest disk.old ↔ D.is_honest disk.new }
+    ensures failures { CountsFault result (D.failures disk.old) (D.failures disk.new) }
+{
+    let mut rows = Rows {
+        places: Vec::with_capacity(alloc, entry.rows as usize)?,
+        shown: Shown::new(alloc),
+    };
+    let mut at = 0;
+    'rows: for _count in 0..entry.rows {
+        at = read_row(alloc, disk, window, at, imports, &mut rows, sink)?;
+    }
+    if at != entry.bytes {
         return Err(ImageFault::Damaged);
     }
     Ok(rows)
 }
 
-/// The bytes of an extent. Memory is reserved for no more bytes than the disk has.
-fn read_bytes<D: Disk>(alloc: Global, disk: &mut D, extent: Extent) -> Result<Vec<u8>, ImageFault>
-    ensures len { IfOk result (λ bytes. length bytes.items ≡ extent.bytes) }
-    ensures exact { D.is_honest disk.old → MatchResult result (λ bytes. bytes.items ≡ bytes_of extent (D.moments disk.old).state.now) (λ e. IsNotThere e extent (D.moments disk.old).state.now) }
+/// The row whose record begins at a place of the segment, behind those that were read, and the place after the record.
+fn read_row<D: Disk, S: RowSink>(
+    alloc: Global,
+    disk: &mut D,
+    window: &mut Window,
+    at: u32,
+    imports: u32,
+    rows: &mut Rows,
+    sink: &mut S,
+) -> Result<u32, ImageFault>
+    requires from { window.old.from ≤ at }
+    requires within { at ≤ window.old.extent.bytes }
+    requires rows { AreReadTo at imports rows.old.places.items rows.old.shown }
+    ensures read { IfOk result
+        (λ next. AreReadTo next imports rows.new.places.items rows.new.shown) }
+    ensures one { IfOk result (λ next. length rows.new.shown ≡ length rows.old.shown + 1) }
+    ensures extent { window.new.extent ≡ window.old.extent }
+    ensures from { IfOk result (λ next. window.new.from ≤ next) }
+    ensures within { IfOk result (λ next. next ≤ window.old.extent.bytes) }
+    ensures exact { D.is_honest disk.old → Sees window.old (D.moments disk.old).state.now
+        → MatchResult result
+        (λ next. BeginsWith rows.old.shown
+        (bytes_of window.old.extent (D.moments disk.old).state.now)
+        → BeginsWith rows.new.shown (bytes_of window.old.extent (D.moments disk.old).state.now))
+        (λ e. IsNotNext e imports rows.old.shown
+        (bytes_of window.old.extent (D.moments disk.old).state.now)) }
+    ensures sees { D.is_honest disk.old → Sees window.old (D.moments disk.old).state.now
+        → IfOk result (λ next. Sees window.new (D.moments disk.old).state.now) }
+    ensures taken { (segments : List (List (StampedRow × Posted)))
+        → S.has_taken sink.old segments (with_places 0 rows.old.shown) → IfOk result
+        (λ next. S.has_taken sink.new segments (with_places 0 rows.new.shown)) }
     ensures moments { D.is_honest disk.old → D.moments disk.new ≡ D.moments disk.old }
     ensures honesty { D.is_honest disk.old ↔ D.is_honest disk.new }
     ensures failures { CountsFault result (D.failures disk.old) (D.failures disk.new) }
 {
-    if u64::from(extent.bytes) > disk.len()? {
+    let (row, next) = window.row_at(alloc, disk, at)?;
+    if row.import > imports {
         return Err(ImageFault::Damaged);
     }
-    let mut bytes = vec![in alloc; 0u8; extent.bytes as usize]?;
-    read_extent(disk, extent, bytes.as_mut_slice())?;
-    Ok(bytes)
+    if !comes_after(rows.places.as_slice(), &row) {
+        return Err(ImageFault::Damaged);
+    }
+    rows.push(&row, at)?;
+    sink.take(&row, Posted::new(&row, at))?;
+    Ok(next)
+}
+
+/// Whether the row's key is above those of rows in key order, which stand at these places.
+fn comes_after(places: &[Posted], row: &StampedRow) -> bool
+    ensures { (rows : List StampedRow) → places.now ≡ places_of rows
+        → IsAscending stamped_cmp rows
+        → (IsTrue result ↔ IsAscending stamped_cmp (rows ++ row.now ∷ [])) }
+{
+    match places {
+        [] => true,
+        [.., last] => is_below(&last.key, &row.row.key()),
+    }
+}
+
+fn is_below(key: &Key, other: &Key) -> bool
+    ensures { IsTrue result ↔ (key_cmp key.now other.now ≡ Less) }
+{
+    key.compare(other).is_lt()
 }

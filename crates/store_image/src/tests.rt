@@ -4,8 +4,50 @@ use crate::*;
 use blocks::Slot;
 use directory::{Directory, Entry};
 use disk_model::{Disk, MemDisk};
-use std::alloc::Global;
+use history_model::StampedRow;
+use segment::Posted;
+use std::alloc::{AllocError, Global};
 use std::test::Fail;
+
+/// What it was handed: of each row its id, the number of its import and its place, and how many segments ended before it.
+#[derive(Drop)]
+struct Seen {
+    rows: Vec<(u128, u32, u32, u32)>,
+    segments: u32,
+}
+
+impl Seen {
+    fn new(alloc: Global) -> Seen {
+        Seen {
+            rows: Vec::new(alloc),
+            segments: 0,
+        }
+    }
+}
+
+impl RowSink for Seen {
+    ghost has_taken = { λ _ _ _. Unit {0} };
+
+    fn take(&mut self, row: &StampedRow, at: Posted) -> Result<(), AllocError> {
+        match self
+            .rows
+            .push((row.row.id, row.import, at.at, self.segments))
+        {
+            Ok(()) => Ok(()),
+            Err(_) => Err(AllocError),
+        }
+    }
+
+    fn end_segment(&mut self) -> Result<(), AllocError> {
+        self.segments = self.segments.saturating_add(1);
+        Ok(())
+    }
+}
+
+/// What a disk is loaded as, by a sink that is then left out.
+fn loaded(alloc: Global, disk: &mut MemDisk) -> Result<Loaded, ImageFault> {
+    load(alloc, disk, &mut Seen::new(alloc))
+}
 
 // 138875005|20200131|1|900000000000207008|900000000000074008 at import 1
 const ROOT: [u8; 46] =
@@ -71,10 +113,10 @@ fn an_empty_store(rt: HostRuntime) -> Result<(), Fail> {
     assert_eq!(rt; made.slot, Slot::A);
     assert_eq!(rt; made.directory.epoch(), 1);
     assert_eq!(rt; disk.bytes().len(), 16384);
-    let loaded = load(rt.alloc(), &mut disk)?;
-    assert_eq!(rt; loaded.slot, Slot::A);
-    assert_eq!(rt; loaded.directory.epoch(), 1);
-    assert_eq!(rt; loaded.lists.len(), 0);
+    let store = loaded(rt.alloc(), &mut disk)?;
+    assert_eq!(rt; store.slot, Slot::A);
+    assert_eq!(rt; store.directory.epoch(), 1);
+    assert_eq!(rt; store.places.len(), 0);
     assert_eq!(rt; check_empty(&mut disk), Err(ImageFault::NotEmpty));
     let again = make(rt.alloc(), &mut disk);
     assert_eq!(rt; again.err(), Some(ImageFault::NotEmpty));
@@ -98,24 +140,39 @@ fn an_import_byte_for_byte(rt: HostRuntime) -> Result<(), Fail> {
     assert_eq!(rt; disk.bytes().get(12288..12336), Some(CONTENT.as_slice()));
     directory.advance(2);
     assert_eq!(rt; publish_listing(&mut disk, slot, &directory)?, Slot::A);
-    let loaded = load(rt.alloc(), &mut disk)?;
-    assert_eq!(rt; loaded.directory.epoch(), 3);
-    assert_eq!(rt; loaded.directory.imports(), 2);
-    assert_eq!(rt; loaded.lists.len(), 1);
-    for rows in loaded.lists.iter() {
-        assert_eq!(rt; rows.len(), 1);
-        for s in rows.iter() {
-            assert_eq!(rt; s.row.id, 138_875_005);
-            assert_eq!(rt; s.import, 1);
+    let store = loaded(rt.alloc(), &mut disk)?;
+    assert_eq!(rt; store.directory.epoch(), 3);
+    assert_eq!(rt; store.directory.imports(), 2);
+    assert_eq!(rt; store.places.len(), 1);
+    for places in store.places.iter() {
+        assert_eq!(rt; places.len(), 1);
+        for place in places.iter() {
+            assert_eq!(rt; place.key.id, 138_875_005);
+            assert_eq!(rt; place.import, 1);
+            assert_eq!(rt; place.at, 0);
+            assert_eq!(rt; place.bytes, 46);
         }
     }
     Ok(())
 }
 
 #[test]
+fn rows_are_handed_on_segment_by_segment(rt: HostRuntime) -> Result<(), Fail> {
+    let mut disk = two_imports(rt.alloc(), &OTHER)?;
+    let mut seen = Seen::new(rt.alloc());
+    load(rt.alloc(), &mut disk, &mut seen)?;
+    assert_eq!(rt;
+        seen.rows.as_slice(),
+        [(138_875_005, 1, 0, 0), (1_000_004, 2, 0, 1)].as_slice()
+    );
+    assert_eq!(rt; seen.segments, 2);
+    Ok(())
+}
+
+#[test]
 fn each_way_in_which_an_image_is_damaged(rt: HostRuntime) -> Result<(), Fail> {
     let mut good = two_imports(rt.alloc(), &OTHER)?;
-    assert_eq!(rt; load(rt.alloc(), &mut good)?.lists.len(), 2);
+    assert_eq!(rt; loaded(rt.alloc(), &mut good)?.places.len(), 2);
     for (place, byte, cause) in [
         (4111, b'2', "another mark, though the older slot is good"),
         (4135, 0, "an entry of no bytes"),
@@ -127,31 +184,31 @@ fn each_way_in_which_an_image_is_damaged(rt: HostRuntime) -> Result<(), Fail> {
     ] {
         let mut disk = patched(rt.alloc(), &good, place, byte)?;
         assert_eq!(rt;
-            load(rt.alloc(), &mut disk).err(),
+            loaded(rt.alloc(), &mut disk).err(),
             Some(ImageFault::Damaged),
             "{cause}"
         );
     }
     let mut shared = two_imports(rt.alloc(), &ROOT)?;
     assert_eq!(rt;
-        load(rt.alloc(), &mut shared).err(),
+        loaded(rt.alloc(), &mut shared).err(),
         Some(ImageFault::Damaged)
     );
     let mut short = MemDisk::new(rt.alloc());
     short.write_at(0, &[0xa5])?;
     assert_eq!(rt;
-        load(rt.alloc(), &mut short).err(),
+        loaded(rt.alloc(), &mut short).err(),
         Some(ImageFault::Damaged)
     );
     let mut zeros = MemDisk::new(rt.alloc());
     zeros.write_at(16383, &[0])?;
     assert_eq!(rt;
-        load(rt.alloc(), &mut zeros).err(),
+        loaded(rt.alloc(), &mut zeros).err(),
         Some(ImageFault::NotAStore)
     );
     good.set_fuse(1);
     assert_eq!(rt;
-        load(rt.alloc(), &mut good).err(),
+        loaded(rt.alloc(), &mut good).err(),
         Some(ImageFault::DiskFault)
     );
     Ok(())

@@ -1,11 +1,17 @@
-use Rattle.std.proofs.Common.{◌+◌, ◌≤◌, List, length, sym, ap, subst, ◌∙◌}
+use Rattle.std.proofs.Common.{◌+◌, ◌≤◌, List, [], length, sym, ap, subst, ◌∙◌}
 use Rattle.std.specs.List.{AllByRecursion}
 use Rattle.history_model.specs.declared.stamped.StampedRow.{StampedRow}
 use Rattle.history_model.specs.InOrder.{IsAscending}
 use Rattle.history_model.specs.History.{stamped, stamped_cmp}
 use Rattle.segment.specs.Records.{IsSegment}
 use Rattle.history_store.specs.Prepared.{IsPlacedAt}
-use Rattle.segment.specs.Standing.{places_of}
+use Rattle.segment.specs.Standing.{with_places, places_of}
+use Rattle.std.specs.List.Sorted.{IsPermutation}
+use Rattle.as_of_index.specs.Postings.{posted_all}
+use Rattle.term_prefix.specs.Terms.{TermAt}
+use Rattle.term_prefix.specs.Pushed.{posted_term}
+use Rattle.associations.specs.Edges.{Edges, AreSameEdges, posted_edges}
+use Rattle.history_store.proofs.Taken.{no_terms, no_links}
 use Rattle.history_store.proofs.NewSegment.{ascending_stamped, from_one, added_listing, prepared_is, length-stamped}
 use Rattle.segment.specs.declared.place.Posted.{Posted}
 use Rattle.as_of_index.specs.Places.{place_cmp}
@@ -34,7 +40,10 @@ returns-clause-prepared c =
     let listing = added_listing c.args.directory.now c.in_ok-next.next c.deref.result.now c.in_ok-entry.entry c.place.ensures.listing c.requires.not_spent some c.in_ok-entry.ensures.placed c.in_ok-next.ensures in
     let placed = subst (λ (l : List StampedRow). IsPlacedAt c.args.directory.now l c.in_ok-entry.entry) (c.deref.ensures.value ∙ list) c.in_ok-entry.ensures.placed in
     let segment = subst (λ (l : List StampedRow). IsSegment l c.in_ok-bytes.bytes.items) (c.deref-2.ensures.value ∙ list) c.in_ok-bytes.ensures in
-    prepared_is c.args.directory.now _ _ c.in_ok-next.next listing placed c.in_ok-next.ensures c.add.ensures (c.in_ok-places.ensures.placed.1 ∙ c.deref-3.ensures.value ∙ list) (c.new.ensures ∙ c.in_ok-places.ensures.placed.0 ∙ ap places_of (c.deref-3.ensures.value ∙ list)) segment
+    let rows = c.deref-3.ensures.value ∙ list in
+    let taken = c.in_ok-places.ensures.taken [] (c.new-posting.ensures.current.0, c.new-posting.ensures.current.1, no_terms _ c.new-posting.ensures.sealed.0, no_links _ c.new-posting.ensures.sealed.1) in
+    prepared_is c.args.directory.now _ _ c.in_ok-next.next listing placed c.in_ok-next.ensures c.add.ensures (c.in_ok-places.ensures.placed.1 ∙ c.deref-3.ensures.value ∙ list) (c.new.ensures ∙ c.in_ok-places.ensures.placed.0 ∙ ap places_of (c.deref-3.ensures.value ∙ list)) (subst (λ (t : List TermAt). IsPermutation t c.seal.result) (taken.0 ∙ ap (λ (l : List StampedRow). posted_all posted_term (with_places 0 l)) rows) c.seal.ensures.permutation)
+    (subst (λ (e : Edges). AreSameEdges e c.seal-2.result) (taken.1 ∙ ap (λ (l : List StampedRow). posted_edges (with_places 0 l)) rows) c.seal-2.ensures.same) segment
 
 pub new-requires : goal.new-requires
 new-requires c =

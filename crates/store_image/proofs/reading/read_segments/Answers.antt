@@ -1,14 +1,20 @@
 use Rattle.std.specs.Prelude.{vec_items, map}
-use Rattle.std.proofs.Common.{◌≡◌, ℕ, ◌+◌, List, [], ◌∷◌, ◌++◌, get_or, take, refl, sym, ap, subst, ◌∙◌, Vec, Global}
+use Rattle.std.specs.List.{AllByRecursion}
+use Rattle.std.proofs.Common.{◌≡◌, ◌≤◌, ◌++◌, ℕ, List, [], ◌∷◌, length, get_or, take, refl, sym, ap, subst, ◌∙◌, arith, take_all, Vec, Global}
 use Rattle.std.proofs.lemmas.Result.{err_from_is_err_and}
 use Rattle.disk_model.specs.Disk.{Moments}
-use Rattle.history_model.specs.declared.stamped.StampedRow.{StampedRow}
 use Rattle.directory.specs.declared.entry.Entry.{Entry}
+use Rattle.history_model.specs.declared.stamped.StampedRow.{StampedRow}
+use Rattle.history_model.specs.InOrder.{IsAscending}
+use Rattle.rf2_values.specs.Key.{key_cmp}
+use Rattle.segment.specs.declared.place.Posted.{Posted}
+use Rattle.segment.specs.Standing.{places_of, with_places}
 use Rattle.store_image.specs.Stands.{HoldsAll}
-use Rattle.store_image.specs.Says.{pieces_of}
-use Rattle.store_image.specs.Reading.{IsAt, AreRead, AreNumbered, IsNotReadAt}
-use Rattle.store_image.proofs.Apart.{AllApart, map-push}
-use Rattle.store_image.proofs.Segments.{BeginWith, read_more, held_more, begins_more, not_numbered, not_apart, not_read_at}
+use Rattle.store_image.specs.Says.{AreSegments, pieces_of}
+use Rattle.store_image.specs.Reading.{IsAt, IsNotReadAt}
+use Rattle.store_image.specs.Keys.{keys_of, EachKeyOnce}
+use Rattle.store_image.proofs.Segments.{not_read_at, not_apart, map-push, more_segments, more_numbered, more_held, more_segments_taken}
+use Rattle.store_image.proofs.KeyLists.{ascending_keys, lists_from_once, once_from_lists}
 use Rattle.store_image.proofs.reading.read_segments.Goals as goal
 
 -- what an entry is read from where there is none
@@ -27,60 +33,77 @@ returns-in_err-rows-clause-exact g c honest =
     let entries = c.args.entries.now in
     let i = c.loop-entry.entry-index in
     let e = c.in_err-rows.field-0.0 in
-    let why = subst (IsNotReadAt e (get_or entries i none)) (same_now _ _ (inv.moments honest)) (c.in_err-rows.ensures.exact (inv.honesty.0 honest)) in
-    rw (p.1, p.2) (not_read_at _ c.args.imports entries i (get_or entries i none) none _ c.loop-entry-test.true refl (inv.begins honest) e why)
-
-pub returns-then-not-are_numbered-clause-exact : goal.returns-then-not-are_numbered-clause-exact
-unfolding none
-returns-then-not-are_numbered-clause-exact g c honest =
-    let inv = c.loop-entry.invariant in
-    let entries = c.args.entries.now in
-    let i = c.loop-entry.entry-index in
-    let entry = get_or entries i none in
-    let there = subst (λ (f : List ℕ). IsAt f entry c.in_ok-rows.rows.items) (same_now _ _ (inv.moments honest)) (c.in_ok-rows.ensures.exact (inv.honesty.0 honest)) in
-    not_numbered _ c.args.imports entries i entry none _ c.loop-entry-test.true refl (inv.begins honest) c.in_ok-rows.rows.items there (λ are.
-    let yes = c.are_numbered.ensures.1 (subst (AreNumbered c.args.imports) (sym c.as_slice.ensures.value) are) in
-    let no = c.if-not-are_numbered.true in
-    absurd cc)
-
-pub returns-then-not-is_apart-clause-exact : goal.returns-then-not-is_apart-clause-exact
-unfolding none
-returns-then-not-is_apart-clause-exact g c honest =
-    let inv = c.loop-entry.invariant in
-    let entries = c.args.entries.now in
-    let i = c.loop-entry.entry-index in
-    let entry = get_or entries i none in
-    let rows = c.in_ok-rows.rows.items in
-    let there = subst (λ (f : List ℕ). IsAt f entry rows) (same_now _ _ (inv.moments honest)) (c.in_ok-rows.ensures.exact (inv.honesty.0 honest)) in
-    let P : List (Vec StampedRow Global) → List StampedRow → Type 0 = λ lists others. AllApart (map vec_items lists) others in
-    not_apart _ c.args.imports entries i entry none _ c.loop-entry-test.true refl (inv.begins honest) rows there (λ are.
-    let yes = c.is_apart.ensures.1 (subst (λ (l : List (Vec StampedRow Global)). P l c.as_slice-in-loop-entry-2.result.now) (sym c.as_slice-in-loop-entry.ensures.value) (subst (P c.loop-entry.lists.items) (sym c.as_slice-in-loop-entry-2.ensures.value) are)) in
-    let no = c.if-not-is_apart.true in
-    absurd cc)
+    let why = subst (IsNotReadAt e c.args.imports (get_or entries i none)) (same_now _ _ (inv.moments honest)) (c.in_err-rows.ensures.exact (inv.honesty.0 honest)) in
+    rw (p.1, p.2) (not_read_at e c.args.imports _ entries i none c.loop-entry-test.true why)
 
 pub loop-entry-preserved : goal.loop-entry-preserved
 unfolding none
 loop-entry-preserved g c =
     let inv = c.loop-entry.invariant in
-    let imports = c.args.imports in
+    let read = c.in_ok-rows.ensures in
     let entries = c.args.entries.now in
     let i = c.loop-entry.entry-index in
-    let entry = get_or entries i none in
-    let lists = map vec_items c.loop-entry.lists.items in
-    let rows = c.in_ok-rows.rows.items in
+    let lists = c.loop-entry.shown.items in
+    let rows = c.in_ok-rows.rows.shown in
+    let more : List (List StampedRow) = c.push-in-loop-entry.new.self.items in
+    let more_is : more ≡ lists ++ rows ∷ [] = c.in_ok-push-2.ensures.items in
     let lt = c.loop-entry-test.true in
-    let now : List ℕ = (g.D.Disk.moments c.args.disk.now).state.now in
-    let items_are : map vec_items c.push.new.self.items ≡ lists ++ rows ∷ [] = ap (map vec_items) c.in_ok-push.ensures.items ∙ map-push vec_items c.loop-entry.lists.items c.in_ok-rows.rows in
-    let numbered : AreNumbered imports rows = subst (AreNumbered imports) c.as_slice.ensures.value (c.are_numbered.ensures.0 c.if-not-are_numbered.false) in
-    let P : List (Vec StampedRow Global) → List StampedRow → Type 0 = λ l others. AllApart (map vec_items l) others in
-    let apart : AllApart lists rows = subst (P c.loop-entry.lists.items) c.as_slice-in-loop-entry-2.ensures.value (subst (λ (l : List (Vec StampedRow Global)). P l c.as_slice-in-loop-entry-2.result.now) c.as_slice-in-loop-entry.ensures.value (c.is_apart.ensures.0 c.if-not-is_apart.false)) in
-    let there : g.D.Disk.is_honest c.args.disk.now → IsAt now entry rows = λ honest.
-    subst (λ (f : List ℕ). IsAt f entry rows) (same_now _ _ (inv.moments honest)) (c.in_ok-rows.ensures.exact (inv.honesty.0 honest)) in
     record {
-      read = subst (AreRead imports (take (i + 1) entries)) (sym items_are) (read_more imports entries i entry none lists rows lt refl inv.read c.in_ok-rows.ensures.found numbered apart);
-      held = λ honest. subst (λ (l : List (List StampedRow)). HoldsAll (pieces_of (take (i + 1) entries) l) now) (sym items_are) (held_more now entries i entry none lists rows lt refl inv.read.segments (inv.held honest) (there honest));
-      begins = λ honest. subst (BeginWith now imports entries (i + 1)) (sym items_are) (begins_more now imports entries i entry none lists lt refl (inv.begins honest) rows (there honest));
-      moments = λ honest. c.in_ok-rows.ensures.moments (inv.honesty.0 honest) ∙ inv.moments honest;
-      honesty = (λ h. c.in_ok-rows.ensures.honesty.0 (inv.honesty.0 h), λ h. inv.honesty.1 (c.in_ok-rows.ensures.honesty.1 h));
-      failures = c.in_ok-rows.ensures.failures ∙ inv.failures;
+      segments = more_segments entries i none lists more rows lt more_is inv.segments read.found;
+      numbered = more_numbered entries i none lists more rows lt more_is c.args.imports inv.numbered read.numbered;
+      places = ap (map vec_items) c.in_ok-push.ensures.items
+          ∙ map-push vec_items c.loop-entry.places.items c.in_ok-rows.rows.places
+          ∙ ap (λ (l : List (List Posted)). l ++ c.in_ok-rows.rows.places.items ∷ []) inv.places
+          ∙ ap (λ (p : List Posted). map places_of lists ++ p ∷ []) read.places
+          ∙ sym (map-push places_of lists rows)
+          ∙ sym (ap (map places_of) more_is);
+      held = λ honest.
+          let there = subst (λ (f : List ℕ). IsAt f (get_or entries i none) rows) (same_now _ _ (inv.moments honest)) (read.exact (inv.honesty.0 honest)) in
+          more_held entries i none lists more rows lt more_is _ inv.segments (inv.held honest) there;
+      taken = λ segments taken.
+          let before = segments ++ map (with_places 0) lists in
+          subst (λ (l : List (List (StampedRow × Posted))). g.S.RowSink.has_taken c.read_segment.new.sink l []) (more_segments_taken entries i none lists more rows lt more_is segments) (read.taken before (inv.taken segments taken));
+      moments = λ honest. read.moments (inv.honesty.0 honest) ∙ inv.moments honest;
+      honesty = (λ h. read.honesty.0 (inv.honesty.0 h), λ h. inv.honesty.1 (read.honesty.1 h));
+      failures = read.failures ∙ inv.failures;
+    }
+
+pub are_apart-requires : goal.are_apart-requires
+are_apart-requires g c =
+    let inv = c.loop-entry.invariant in
+    let lists = c.loop-entry.shown.items in
+    subst (λ (l : List (Vec Posted Global)). AllByRecursion (IsAscending key_cmp) (map keys_of (map vec_items l))) (sym c.as_slice.ensures.value) (ascending_keys (map vec_items c.loop-entry.places.items) lists inv.places (take c.loop-entry.entry-index c.args.entries.now) inv.segments)
+
+pub returns-then-not-branch-clause-exact : goal.returns-then-not-branch-clause-exact
+unfolding none
+returns-then-not-branch-clause-exact g c honest =
+    let inv = c.loop-entry.invariant in
+    let entries = c.args.entries.now in
+    let i = c.loop-entry.entry-index in
+    let lists = c.loop-entry.shown.items in
+    let ended = c.loop-entry-test.false in
+    let whole : take i entries ≡ entries = take_all i entries (omega (arith, ended)) in
+    let are = subst (λ (l : List Entry). AreSegments l lists) whole inv.segments in
+    let now : List ℕ = (g.D.Disk.moments c.args.disk.now).state.now in
+    let held = subst (λ (l : List Entry). HoldsAll (pieces_of l lists) now) whole (inv.held honest) in
+    not_apart c.args.imports now entries lists are held (λ apart.
+    let once = once_from_lists (map vec_items c.loop-entry.places.items) lists inv.places apart in
+    let yes = c.in_ok-are_apart.ensures.1 (subst (λ (l : List (Vec Posted Global)). EachKeyOnce (map keys_of (map vec_items l))) (sym c.as_slice.ensures.value) once) in
+    let no = c.if-not-branch.true in
+    absurd cc)
+
+pub returns-clause-read : goal.returns-clause-read
+returns-clause-read g c =
+    let inv = c.loop-entry.invariant in
+    let entries = c.args.entries.now in
+    let i = c.loop-entry.entry-index in
+    let lists = c.loop-entry.shown.items in
+    let ended = c.loop-entry-test.false in
+    let whole : take i entries ≡ entries = take_all i entries (omega (arith, ended)) in
+    let are = subst (λ (l : List Entry). AreSegments l lists) whole inv.segments in
+    let once = subst (λ (l : List (Vec Posted Global)). EachKeyOnce (map keys_of (map vec_items l))) c.as_slice.ensures.value (c.in_ok-are_apart.ensures.0 c.if-not-branch.false) in
+    record {
+      segments = are;
+      apart = lists_from_once (map vec_items c.loop-entry.places.items) lists inv.places entries are once;
+      numbered = inv.numbered;
     }

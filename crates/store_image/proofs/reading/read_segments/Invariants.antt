@@ -1,20 +1,25 @@
 use Rattle.std.specs.Prelude.{vec_items, map}
-use Rattle.std.proofs.Common.{◌≡◌, ◌↔◌, take}
+use Rattle.std.specs.List.{AllByRecursion}
+use Rattle.std.proofs.Common.{◌≡◌, ◌↔◌, ◌++◌, List, [], take}
+use Rattle.history_model.specs.declared.stamped.StampedRow.{StampedRow}
+use Rattle.segment.specs.declared.place.Posted.{Posted}
+use Rattle.segment.specs.Standing.{places_of, with_places}
 use Rattle.store_image.specs.Stands.{HoldsAll}
-use Rattle.store_image.specs.Says.{pieces_of}
-use Rattle.store_image.specs.Reading.{AreRead}
-use Rattle.store_image.proofs.Segments.{BeginWith}
+use Rattle.store_image.specs.Says.{AreSegments, pieces_of}
+use Rattle.store_image.specs.Reading.{AreNumbered}
 use Rattle.store_image.proofs.reading.read_segments.Given as goal
 
--- the segments of the entries so far are read, and whatever segments are there begin with them
+-- the segments of the entries so far are read
 abbrev pub invariant-loop-entry : goal.invariant-loop-entry
 invariant-loop-entry g l =
-    let lists = map vec_items l.lists.items in
     let old = g.D.Disk.moments l.fn.disk in
+    let done = take l.entry-index l.entries in
     record {
-      read : AreRead l.imports (take l.entry-index l.entries) lists;
-      held : g.D.Disk.is_honest l.fn.disk → HoldsAll (pieces_of (take l.entry-index l.entries) lists) old.state.now;
-      begins : g.D.Disk.is_honest l.fn.disk → BeginWith old.state.now l.imports l.entries l.entry-index lists;
+      segments : AreSegments done l.shown.items;
+      numbered : AllByRecursion (AreNumbered l.fn.imports) l.shown.items;
+      places : map vec_items l.places.items ≡ map places_of l.shown.items;
+      held : g.D.Disk.is_honest l.fn.disk → HoldsAll (pieces_of done l.shown.items) old.state.now;
+      taken : (segments : List (List (StampedRow × Posted))) → g.S.RowSink.has_taken l.fn.sink segments [] → g.S.RowSink.has_taken l.sink (segments ++ map (with_places 0) l.shown.items) [];
       moments : g.D.Disk.is_honest l.fn.disk → g.D.Disk.moments l.disk ≡ old;
       honesty : g.D.Disk.is_honest l.fn.disk ↔ g.D.Disk.is_honest l.disk;
       failures : g.D.Disk.failures l.disk ≡ g.D.Disk.failures l.fn.disk;

@@ -8,21 +8,27 @@ use Rattle.history_store.proofs.Refusing.{read_undamaged}
 use Rattle.history_store.proofs.store.Store.page.Goals as goal
 
 pub invariant_of-self : goal.invariant_of-self
-invariant_of-self g c =
-    held_read _ _ (g.D.Disk.moments c.self.inside.disk) (g.D.Disk.moments c.page.new.reader.disk.now) c.self.inside.cache c.page.new.reader.cache.now c.self.inside.slot c.self.inside.directory c.self.inside.index c.self.inside.shown.items c.self.inside.needs_reopen c.self.invariant c.page.ensures.stays.0
-    (λ up still. (c.page.ensures.honesty (lent_honest _ _ _ _ _ _ _ _ c.self.invariant c.entries.result.now c.as_slice.result.now c.entries.ensures.entries c.as_slice.ensures.value up still (g.met.D.Disk.now_is_image c.self.inside.disk up))).1)
+invariant_of-self g c = (
+  held_read _ _ (g.D.Disk.moments c.self.inside.disk) (g.D.Disk.moments c.page.new.reader.disk.now) c.self.inside.cache c.page.new.reader.cache.now c.self.inside.slot c.self.inside.directory c.self.inside.index c.self.inside.shown.items c.self.inside.needs_reopen c.self.invariant.0 c.page.ensures.stays.0
+      (λ up still. (c.page.ensures.honesty (lent_honest _ _ _ _ _ _ _ _ c.self.invariant.0 c.entries.result.now c.as_slice.result.now c.entries.ensures.entries c.as_slice.ensures.value up still (g.met.D.Disk.now_is_image c.self.inside.disk up))).1),
+  c.self.invariant.1,
+  c.self.invariant.2,
+)
 
 pub invariant_of-self-else-matches : goal.invariant_of-self-else-matches
-invariant_of-self-else-matches g c =
-    held_read _ _ (g.D.Disk.moments c.self.inside.disk) (g.D.Disk.moments c.page.new.reader.disk.now) c.self.inside.cache c.page.new.reader.cache.now c.self.inside.slot c.self.inside.directory c.self.inside.index c.self.inside.shown.items c.self.inside.needs_reopen c.self.invariant c.page.ensures.stays.0
-    (λ up still. (c.page.ensures.honesty (lent_honest _ _ _ _ _ _ _ _ c.self.invariant c.entries.result.now c.as_slice.result.now c.entries.ensures.entries c.as_slice.ensures.value up still (g.met.D.Disk.now_is_image c.self.inside.disk up))).1)
+invariant_of-self-else-matches g c = (
+  held_read _ _ (g.D.Disk.moments c.self.inside.disk) (g.D.Disk.moments c.page.new.reader.disk.now) c.self.inside.cache c.page.new.reader.cache.now c.self.inside.slot c.self.inside.directory c.self.inside.index c.self.inside.shown.items c.self.inside.needs_reopen c.self.invariant.0 c.page.ensures.stays.0
+      (λ up still. (c.page.ensures.honesty (lent_honest _ _ _ _ _ _ _ _ c.self.invariant.0 c.entries.result.now c.as_slice.result.now c.entries.ensures.entries c.as_slice.ensures.value up still (g.met.D.Disk.now_is_image c.self.inside.disk up))).1),
+  c.self.invariant.1,
+  c.self.invariant.2,
+)
 
 pub returns-in-Ok-clause-found : goal.returns-in-Ok-clause-found
 returns-in-Ok-clause-found g c = rw (← c.self.view_is) (λ up.
-    let lent = lent_honest _ _ _ _ _ _ _ _ c.self.invariant c.entries.result.now c.as_slice.result.now c.entries.ensures.entries c.as_slice.ensures.value up c.if-self.false (g.met.D.Disk.now_is_image c.self.inside.disk up) in
-    c.in-Ok.ensures.found lent (c.self.invariant.places ∙ ap (map places_of) (sym c.as_slice.ensures.value)) ∙ ap (λ l. page c.args.kind c.args.time c.args.after c.args.limit (rows_at c.args.pin (listed l))) c.as_slice.ensures.value)
+    let lent = lent_honest _ _ _ _ _ _ _ _ c.self.invariant.0 c.entries.result.now c.as_slice.result.now c.entries.ensures.entries c.as_slice.ensures.value up c.if-self.false (g.met.D.Disk.now_is_image c.self.inside.disk up) in
+    c.in-Ok.ensures.found lent (c.self.invariant.0.places ∙ ap (map places_of) (sym c.as_slice.ensures.value)) ∙ ap (λ l. page c.args.kind c.args.time c.args.after c.args.limit (rows_at c.args.pin (listed l))) c.as_slice.ensures.value)
 
 pub returns-after-matches-clause-undamaged : goal.returns-after-matches-clause-undamaged
 returns-after-matches-clause-undamaged g c = rw (← c.self.view_is) (λ up.
-    let lent = lent_honest _ _ _ _ _ _ _ _ c.self.invariant c.entries.result.now c.as_slice.result.now c.entries.ensures.entries c.as_slice.ensures.value up c.if-self.false (g.met.D.Disk.now_is_image c.self.inside.disk up) in
-    read_undamaged c.in-Err.fault c.from.result c.from.ensures (c.in-Err.ensures.undamaged lent (c.self.invariant.places ∙ ap (map places_of) (sym c.as_slice.ensures.value))))
+    let lent = lent_honest _ _ _ _ _ _ _ _ c.self.invariant.0 c.entries.result.now c.as_slice.result.now c.entries.ensures.entries c.as_slice.ensures.value up c.if-self.false (g.met.D.Disk.now_is_image c.self.inside.disk up) in
+    read_undamaged c.in-Err.fault c.from.result c.from.ensures (c.in-Err.ensures.undamaged lent (c.self.invariant.0.places ∙ ap (map places_of) (sym c.as_slice.ensures.value))))

@@ -1,0 +1,202 @@
+-- The rows of a segment, read one after the other.
+use Rattle.std.proofs.Common.{◌≡◌, ◌⊎◌, inl, inr, ℕ, zero, suc, ◌+◌, ◌-◌, ◌*◌, ◌<◌, ◌≤◌, ◌++◌, List, [], ◌∷◌, length, get_or, map, min, take, drop, refl, sym, ap, ◌∙◌, subst, arith, length-take, length-drop, length-append}
+use Rattle.std.specs.List.{AllByRecursion}
+use Rattle.std.specs.declared.cmp.Ordering.{Ordering}
+use Rattle.std.specs.declared.cmp.Ordering.TheVariants.{Less}
+use Rattle.std.proofs.lemmas.List.{take_at, drop_at, take-append-drop, append-nil, get_or-map, get_or_default, length-map}
+use Rattle.std.proofs.lemmas.List.Elements.{All-push, recursion_from_All}
+use Rattle.blocks.specs.Extents.{start_of, bytes_of}
+use Rattle.directory.specs.declared.entry.Entry.{Entry}
+use Rattle.directory.specs.Listings.{IsEntry}
+use Rattle.directory.specs.Places.{extent_of}
+use Rattle.rf2_values.specs.declared.key.Key.{Key}
+use Rattle.rf2_values.specs.Key.{key_of, key_cmp}
+use Rattle.history_model.specs.declared.stamped.StampedRow.{StampedRow}
+use Rattle.history_model.specs.InOrder.{IsAscending}
+use Rattle.history_model.specs.History.{stamped_cmp}
+use Rattle.history_model.proofs.Keys.{stamped_total}
+use Rattle.segment.specs.declared.place.Posted.{Posted}
+use Rattle.segment.specs.Records.{record_of, segment_of, IsStamped, IsSegment}
+use Rattle.segment.specs.Standing.{record_len, posted, with_places, places_of}
+use Rattle.segment.proofs.Ascending.{ascends_push, ascends_front, last_below, last_split}
+use Rattle.segment.proofs.Decoded.{reads_on}
+use Rattle.segment.proofs.RecordLaws.{same_records}
+use Rattle.segment.proofs.SegmentLaws.{segment_push, all_push, no_rows, goes_on}
+use Rattle.store_image.specs.declared.fault.ImageFault.{ImageFault}
+use Rattle.store_image.specs.declared.fault.ImageFault.TheVariants as faults
+use Rattle.store_image.specs.Stands.{Holds}
+use Rattle.store_image.specs.Says.{IsSegmentOf}
+use Rattle.store_image.specs.Reading.{HasRecord, IsNoRecord, AreReadTo, AreNumbered, BeginsWith, IsNotNext, IsAt, IsNotReadAt}
+use Rattle.store_image.proofs.Windowed.{record_least}
+
+-- ---- places
+
+key_posted : (s : StampedRow) (at : ℕ) → (posted s at).key ≡ key_of s.row
+unfolding posted
+key_posted s at = refl
+
+-- the keys of places are those of their rows
+pub keys_from : (at : ℕ) (rows : List StampedRow) → map (λ (p : Posted). p.key) (map (λ (x : StampedRow × Posted). x.1) (with_places at rows)) ≡ map (λ (s : StampedRow). key_of s.row) rows
+keys_from at [] = refl
+keys_from at (s ∷ rows) =
+    ap (λ k. k ∷ map (λ (p : Posted). p.key) (map (λ (x : StampedRow × Posted). x.1) (with_places (at + record_len s) rows))) (key_posted s at) ∙ ap (λ l. key_of s.row ∷ l) (keys_from (at + record_len s) rows)
+
+first_len : (s : StampedRow) (rows : List StampedRow) → length (segment_of (s ∷ rows)) ≡ length (record_of s) + length (segment_of rows)
+unfolding segment_of
+first_len s rows = length-append (record_of s) (segment_of rows)
+
+with_more_from : (at : ℕ) (rows : List StampedRow) (s : StampedRow) → with_places at (rows ++ s ∷ []) ≡ with_places at rows ++ (s, posted s (at + length (segment_of rows))) ∷ []
+with_more_from at [] s =
+    let none = ap length no_rows in
+    let same : at ≡ at + length (segment_of []) = omega (arith, none) in
+    ap (λ n. (s, posted s n) ∷ []) same
+with_more_from at (r ∷ rows) s =
+    let same : at + record_len r + length (segment_of rows) ≡ at + length (segment_of (r ∷ rows)) = omega (arith, first_len r rows) in
+    ap (λ l. (r, posted r at) ∷ l) (with_more_from (at + record_len r) rows s ∙ ap (λ n. with_places (at + record_len r) rows ++ (s, posted s n) ∷ []) same)
+
+-- one row more has the place where those before it end
+pub with_more : (at : ℕ) (rows : List StampedRow) (s : StampedRow) → at ≡ length (segment_of rows) → with_places 0 (rows ++ s ∷ []) ≡ with_places 0 rows ++ (s, posted s at) ∷ []
+with_more at rows s is =
+    let same : 0 + length (segment_of rows) ≡ at = omega (arith, is) in
+    with_more_from 0 rows s ∙ ap (λ n. with_places 0 rows ++ (s, posted s n) ∷ []) same
+
+map-more : {X Y : Type 0} (f : X → Y) (xs : List X) (x : X) → map f (xs ++ x ∷ []) ≡ map f xs ++ f x ∷ []
+map-more f [] x = refl
+map-more f (y ∷ xs) x = ap (λ l. f y ∷ l) (map-more f xs x)
+
+pub places_more : (at : ℕ) (rows : List StampedRow) (s : StampedRow) → at ≡ length (segment_of rows) → places_of (rows ++ s ∷ []) ≡ places_of rows ++ posted s at ∷ []
+places_more at rows s is = ap (map (λ (x : StampedRow × Posted). x.1)) (with_more at rows s is) ∙ map-more (λ (x : StampedRow × Posted). x.1) (with_places 0 rows) (s, posted s at)
+
+-- ---- the order
+
+module _ (places : List Posted) (rows : List StampedRow) (s : StampedRow) (are : places ≡ places_of rows) (up : IsAscending stamped_cmp rows) where
+  -- behind no rows each comes
+  pub none_before : length places ≡ 0 → IsAscending stamped_cmp (rows ++ s ∷ [])
+  none_before none = first rows (omega (arith, none, ap length (ap (map (λ (p : Posted). p.key)) are ∙ keys_from 0 rows), length-map places (λ (p : Posted). p.key), length-map rows (λ (t : StampedRow). key_of t.row))) where
+    first : (rows : List StampedRow) → length rows ≡ 0 → IsAscending stamped_cmp (rows ++ s ∷ [])
+    first [] none = (tt, tt)
+    first (r ∷ rows) none = absurd (omega (arith, none))
+
+  module _ (last d : Posted) (some : 1 ≤ length places) (last_is : last ≡ get_or places (length places - 1) d) where
+    keys_are : map (λ (p : Posted). p.key) places ≡ map (λ (t : StampedRow). key_of t.row) rows
+    keys_are = ap (map (λ (p : Posted). p.key)) are ∙ keys_from 0 rows
+
+    as_many : length places ≡ length rows
+    as_many = sym (length-map places (λ (p : Posted). p.key)) ∙ ap length keys_are ∙ length-map rows (λ (t : StampedRow). key_of t.row)
+
+    l : StampedRow
+    l = get_or rows (length rows - 1) s
+
+    last_key : last.key ≡ key_of l.row
+    unfolding l
+    last_key =
+        ap (λ (p : Posted). p.key) last_is
+        ∙ sym (get_or-map (λ (p : Posted). p.key) places (length places - 1) d d.key (omega (arith, some)))
+        ∙ ap (λ ks. get_or ks (length places - 1) d.key) keys_are
+        ∙ get_or-map (λ (t : StampedRow). key_of t.row) rows (length places - 1) s d.key (omega (arith, some, as_many))
+        ∙ ap (λ n. key_of (get_or rows (n - 1) s).row) as_many
+
+    split : rows ≡ take (length rows - 1) rows ++ l ∷ []
+    unfolding l
+    split = last_split rows l (omega (arith, some, as_many)) (get_or_default rows (length rows - 1) s l (omega (arith, some, as_many)))
+
+    pub comes : key_cmp last.key (key_of s.row) ≡ Less → IsAscending stamped_cmp (rows ++ s ∷ [])
+    comes below =
+        subst (λ (r : List StampedRow). IsAscending stamped_cmp (r ++ s ∷ [])) (sym split)
+        (ascends_push stamped_total (take (length rows - 1) rows) l s (subst (λ (r : List StampedRow). IsAscending stamped_cmp r) split up) (subst (λ k. key_cmp k (key_of s.row) ≡ Less) last_key below))
+
+    pub came : IsAscending stamped_cmp (rows ++ s ∷ []) → key_cmp last.key (key_of s.row) ≡ Less
+    came all =
+        subst (λ k. key_cmp k (key_of s.row) ≡ Less) (sym last_key) (last_below stamped_cmp (take (length rows - 1) rows) l s (subst (λ (r : List StampedRow). IsAscending stamped_cmp (r ++ s ∷ [])) split all))
+
+-- ---- one row more
+
+pub more_are_read : (at next imports : ℕ) (places after : List Posted) (rows more : List StampedRow) (s : StampedRow) (place : Posted) → AreReadTo at imports places rows → IsStamped s → next ≡ at + length (record_of s) → s.import ≤ imports
+    → IsAscending stamped_cmp (rows ++ s ∷ []) → place ≡ posted s at → after ≡ places ++ place ∷ [] → more ≡ rows ++ s ∷ [] → AreReadTo next imports after more
+more_are_read at next imports places after rows more s place read is next_is low up place_is after_is more_is =
+    let long = ap length (segment_push rows s) ∙ length-append (segment_of rows) (record_of s) in
+    subst (λ (r : List StampedRow). AreReadTo next imports after r) (sym more_is) (record {
+      places_are = after_is ∙ ap (λ p. places ++ p ∷ []) place_is ∙ ap (λ (l : List Posted). l ++ posted s at ∷ []) read.places_are ∙ sym (places_more at rows s read.at_is);
+      at_is = omega (arith, next_is, read.at_is, long);
+      each = all_push IsStamped rows s read.each is;
+      ascending = up;
+      numbered = All-push (λ (t : StampedRow). t.import ≤ imports) rows s read.numbered low;
+    })
+
+pub more_taken : (at : ℕ) (rows more : List StampedRow) (s : StampedRow) (place : Posted) → at ≡ length (segment_of rows) → place ≡ posted s at → more ≡ rows ++ s ∷ [] → with_places 0 more ≡ with_places 0 rows ++ (s, place) ∷ []
+more_taken at rows more s place is place_is more_is =
+    ap (with_places 0) more_is ∙ with_more at rows s is ∙ ap (λ p. with_places 0 rows ++ (s, p) ∷ []) (sym place_is)
+
+pub one_more : (rows more : List StampedRow) (s : StampedRow) → more ≡ rows ++ s ∷ [] → length more ≡ length rows + 1
+one_more rows more s is = let long = ap length is in omega (arith, long, length-append rows (s ∷ []))
+
+-- what stands behind a front
+behind : (at : ℕ) (rows : List StampedRow) (bytes rest : List ℕ) → at ≡ length (segment_of rows) → bytes ≡ segment_of rows ++ rest → drop at bytes ≡ rest
+behind at rows bytes rest is begins = ap (drop at) begins ∙ drop_at (segment_of rows) rest at (sym is)
+
+record_and_rest : (at : ℕ) (bytes : List ℕ) (s : StampedRow) → HasRecord bytes at s → drop at bytes ≡ record_of s ++ drop (length (record_of s)) (drop at bytes)
+record_and_rest at bytes s has = sym (take-append-drop (length (record_of s)) (drop at bytes)) ∙ ap (λ (front : List ℕ). front ++ drop (length (record_of s)) (drop at bytes)) has.1
+
+pub begins_more : (at : ℕ) (rows more : List StampedRow) (s : StampedRow) (bytes : List ℕ) → at ≡ length (segment_of rows) → HasRecord bytes at s → more ≡ rows ++ s ∷ [] → BeginsWith rows bytes → BeginsWith more bytes
+begins_more at rows more s bytes is has more_is begins =
+    let after = drop (length (record_of s)) (drop at bytes) in
+    let here = sym (behind at rows bytes begins.0 is begins.1) ∙ record_and_rest at bytes s has in
+    (after, reads_on rows bytes begins.0 after s begins.1 here ∙ ap (λ (r : List StampedRow). segment_of r ++ after) (sym more_is))
+
+-- ---- why no row is read
+
+-- the row that a segment of more rows has next
+pub record IsNext (at : ℕ) (rows others : List StampedRow) (bytes : List ℕ) : Type 0 where
+  pub row : StampedRow
+  pub later : List StampedRow
+  pub whole : others ≡ rows ++ row ∷ later
+  pub has : HasRecord bytes at row
+
+next_of : (at : ℕ) (rows others more : List StampedRow) (bytes rest : List ℕ) → drop at bytes ≡ rest → length rows < length others → others ≡ rows ++ more → rest ≡ segment_of more → AllByRecursion IsStamped more → IsNext at rows others bytes
+unfolding segment_of
+next_of at rows others [] bytes rest here more_rows whole rest_is each =
+    let long = ap length whole in
+    absurd (omega (arith, long, more_rows, length-append rows []))
+next_of at rows others (m ∷ more) bytes rest here more_rows whole rest_is each = record {
+  row = m;
+  later = more;
+  whole = whole;
+  has = (each.0, ap (take (length (record_of m))) (here ∙ rest_is) ∙ take_at (record_of m) (segment_of more) (length (record_of m)) refl);
+}
+
+module _ (at imports : ℕ) (places : List Posted) (rows : List StampedRow) (bytes : List ℕ) (read : AreReadTo at imports places rows) where
+  next_there : BeginsWith rows bytes → (others : List StampedRow) → IsSegment others bytes → length rows < length others → IsNext at rows others bytes
+  next_there begins others is more_rows =
+      let on = goes_on rows others begins.0 read.each is.each (sym begins.1 ∙ is.bytes_are) in
+      next_of at rows others on.0 bytes begins.0 (behind at rows bytes begins.0 read.at_is begins.1) more_rows on.1 on.2 on.3
+
+  pub no_record : (e : ImageFault) → IsNoRecord e bytes at → IsNotNext e imports rows bytes
+  no_record faults.OutOfMemory none = tt
+  no_record faults.DiskFault none = tt
+  no_record faults.NotEmpty none = none
+  no_record faults.NotAStore none = none
+  no_record faults.Damaged none = λ begins others is numbered more_rows.
+      let next = next_there begins others is more_rows in none next.row next.has
+
+  -- the row that was read is the next one of any segment that is there
+  same_next : (s : StampedRow) → HasRecord bytes at s → (others : List StampedRow) (next : IsNext at rows others bytes) → next.row ≡ s
+  same_next s has others next =
+      (same_records next.row s _ _ next.has.0 has.0 (sym (record_and_rest at bytes next.row next.has) ∙ record_and_rest at bytes s has)).0
+
+  pub above_number : (s : StampedRow) → HasRecord bytes at s → imports < s.import → IsNotNext faults.Damaged imports rows bytes
+  above_number s has above begins others is numbered more_rows =
+      let next = next_there begins others is more_rows in
+      let each = recursion_from_All (λ (t : StampedRow). t.import ≤ imports) others numbered in
+      let low : next.row.import ≤ imports = middle rows next.row next.later (subst (λ (l : List StampedRow). AllByRecursion (λ (t : StampedRow). t.import ≤ imports) l) next.whole each) in
+      let low_too : s.import ≤ imports = subst (λ (t : StampedRow). t.import ≤ imports) (same_next s has others next) low in
+      absurd (omega (arith, above, low_too))
+    where
+      middle : (rows : List StampedRow) (x : StampedRow) (later : List StampedRow) → AllByRecursion (λ (t : StampedRow). t.import ≤ imports) (rows ++ x ∷ later) → x.import ≤ imports
+      middle [] x later all = all.0
+      middle (r ∷ rows) x later all = middle rows x later all.1
+
+  pub out_of_order : (s : StampedRow) → HasRecord bytes at s → (IsAscending stamped_cmp (rows ++ s ∷ []) → ⊥) → IsNotNext faults.Damaged imports rows bytes
+  out_of_order s has not begins others is numbered more_rows =
+      let next = next_there begins others is more_rows in
+      let up = ascends_front stamped_cmp rows next.row next.later (subst (λ (l : List StampedRow). IsAscending stamped_cmp l) next.whole is.ascending) in
+      not (subst (λ (t : StampedRow). IsAscending stamped_cmp (rows ++ t ∷ [])) (same_next s has others next) up)

@@ -1,0 +1,13 @@
+use Rattle.std.proofs.Common.{◌↔◌, map}
+use Rattle.store_image.specs.Keys.{AreOpen, EachKeyOnce, keys_in, keys_left}
+use Rattle.store_image.proofs.apart.run_out.Given as goal
+
+-- what is left tells
+abbrev pub invariant-loop-rest : goal.invariant-loop-rest
+invariant-loop-rest l = record {
+  opened : AreOpen l.rests.items;
+  tells : EachKeyOnce (map keys_in l.rests.items) ↔ EachKeyOnce (map keys_in l.initial.rests.items);
+}
+
+abbrev pub decreases-loop-rest : goal.decreases-loop-rest
+decreases-loop-rest l = keys_left l.rests.items

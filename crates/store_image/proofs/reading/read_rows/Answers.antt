@@ -1,0 +1,80 @@
+use Rattle.std.proofs.Common.{◌≡◌, ℕ, ◌≤◌, List, length, refl, sym, ap, subst, ◌∙◌, arith}
+use Rattle.std.proofs.lemmas.Result.{err_from_is_err_and}
+use Rattle.disk_model.specs.Disk.{Moments}
+use Rattle.blocks.specs.declared.extent.Extent.{Extent}
+use Rattle.blocks.specs.Extents.{bytes_of}
+use Rattle.directory.specs.Places.{extent_of}
+use Rattle.history_model.specs.declared.stamped.StampedRow.{StampedRow}
+use Rattle.segment.specs.Standing.{with_places}
+use Rattle.store_image.specs.Reading.{Sees, BeginsWith, IsNotNext}
+use Rattle.store_image.proofs.Segments.{none_read, none_begins, not_next, wrong_end}
+use Rattle.store_image.proofs.reading.read_rows.Goals as goal
+
+-- the bytes are those from before
+same_now : (old new : Moments) → new ≡ old → new.state.now ≡ old.state.now
+same_now old new same = ap (λ (m : Moments). m.state.now) same
+
+pub rows-init : goal.rows-init
+rows-init g c = record {
+  read = none_read c.args.imports _ _ c.in_ok-with_capacity.ensures.items c.new.ensures;
+  count = subst (λ (rows : List StampedRow). ◌≡◌ {A = ℕ} (length rows) 0) (sym c.new.ensures) refl;
+  extent = c.requires.extent;
+  from = omega (arith, c.requires.from);
+  within = omega arith;
+  sees = λ honest. c.requires.sees _;
+  begins = λ honest. none_begins _ _ c.new.ensures;
+  taken = λ segments taken. subst (λ (rows : List StampedRow). g.S.RowSink.has_taken c.args.sink.now segments (with_places 0 rows)) (sym c.new.ensures) taken;
+  moments = λ honest. refl;
+  honesty = (λ h. h, λ h. h);
+  failures = refl;
+}
+
+pub returns-in_err-at-clause-exact : goal.returns-in_err-at-clause-exact
+returns-in_err-at-clause-exact g c honest =
+    let p = err_from_is_err_and c.from_residual-in_err-at.result c.from_residual-in_err-at.ensures.1 in
+    let inv = c.rows.invariant in
+    let rows = c.rows.rows.shown in
+    let e = c.in_err-at.field-0.0 in
+    let same = same_now _ _ (inv.moments honest) in
+    let sees = subst (Sees c.rows.window) (sym same) (inv.sees honest) in
+    let why = subst (λ (x : Extent). IsNotNext e c.args.imports rows (bytes_of x (g.D.Disk.moments c.rows.disk).state.now)) inv.extent (c.in_err-at.ensures.exact (inv.honesty.0 honest) sees) in
+    let left = c.rows-test.true in
+    let count = inv.count in
+    rw (p.1, p.2) (not_next e c.args.imports c.args.entry rows _ (subst (λ (f : List ℕ). IsNotNext e c.args.imports rows (bytes_of (extent_of c.args.entry) f)) same why) (inv.begins honest) (omega (arith, left, count)))
+
+pub rows-preserved : goal.rows-preserved
+rows-preserved g c =
+    let inv = c.rows.invariant in
+    let read = c.in_ok-at.ensures in
+    let entry = c.args.entry in
+    let one = read.one in
+    let count = inv.count in
+    record {
+      read = read.read;
+      count = omega (arith, one, count);
+      extent = read.extent ∙ inv.extent;
+      from = read.from;
+      within = subst (λ (x : Extent). c.in_ok-at.at ≤ x.bytes) inv.extent read.within;
+      sees = λ honest.
+          let same = same_now _ _ (inv.moments honest) in
+          subst (Sees c.read_row.new.window) same (read.sees (inv.honesty.0 honest) (subst (Sees c.rows.window) (sym same) (inv.sees honest)));
+      begins = λ honest.
+          let same = same_now _ _ (inv.moments honest) in
+          let later : List ℕ = (g.D.Disk.moments c.rows.disk).state.now in
+          let P : List StampedRow → Extent → List ℕ → Type 0 = λ rows x f. BeginsWith rows (bytes_of x f) in
+          let before = subst (λ (x : Extent). P c.rows.rows.shown x later) (sym inv.extent) (subst (λ (f : List ℕ). P c.rows.rows.shown (extent_of entry) f) (sym same) (inv.begins honest)) in
+          let after = read.exact (inv.honesty.0 honest) (subst (Sees c.rows.window) (sym same) (inv.sees honest)) before in
+          subst (λ (f : List ℕ). P c.read_row.new.rows.shown (extent_of entry) f) same (subst (λ (x : Extent). P c.read_row.new.rows.shown x later) inv.extent after);
+      taken = λ segments taken. read.taken segments (inv.taken segments taken);
+      moments = λ honest. read.moments (inv.honesty.0 honest) ∙ inv.moments honest;
+      honesty = (λ h. read.honesty.0 (inv.honesty.0 h), λ h. inv.honesty.1 (read.honesty.1 h));
+      failures = read.failures ∙ inv.failures;
+    }
+
+pub returns-then-at-entry-clause-exact : goal.returns-then-at-entry-clause-exact
+returns-then-at-entry-clause-exact g c honest =
+    let inv = c.rows.invariant in
+    let ended = c.rows-test.false in
+    let most = c.rows.auto._count-end in
+    let count = inv.count in
+    wrong_end c.rows.at c.args.imports c.args.entry c.rows.rows.places.items c.rows.rows.shown _ inv.read (omega (arith, ended, most, count)) c.if-at-entry.true (inv.begins honest)

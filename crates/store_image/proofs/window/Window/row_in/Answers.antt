@@ -1,0 +1,15 @@
+use Rattle.std.proofs.Common.{◌≡◌, ℕ, ◌+◌, ◌≤◌, arith}
+use Rattle.store_image.proofs.Windowed.{record_ends}
+use Rattle.store_image.proofs.window.Window.row_in.Goals as goal
+
+pub overflow_add-result : goal.overflow_add-result
+overflow_add-result c =
+    let ends = record_ends c.args.self.now.len _ c.in_ok-row.next c.as_slice.result.now c.in_ok-row.row c.in_ok-row.ensures.found in
+    let fits = c.args.self.now.fits in
+    omega (arith, ends, fits)
+
+pub returns-clause-within : goal.returns-clause-within
+returns-clause-within c =
+    let ends = record_ends c.args.self.now.len _ c.in_ok-row.next c.as_slice.result.now c.in_ok-row.row c.in_ok-row.ensures.found in
+    let within = c.args.self.now.within in
+    omega (arith, ends, within)

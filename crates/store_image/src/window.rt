@@ -1,0 +1,127 @@
+//! A segment's bytes, read through a buffer of fixed size.
+
+ghost use Rattle.std.specs.Prelude.{◌≡◌, ◌↔◌, ℕ, ◌+◌, ◌-◌, ◌^◌, ◌<◌, ◌≤◌, List, length, vec_len, IfOk, IfErr, OnOk, MatchResult};
+
+use crate::fault::ImageFault;
+use blocks::{BLOCK, Extent};
+use disk_model::{Disk, DiskFault};
+use segment::{SegmentFault, StampedRow, record_at};
+use std::alloc::{AllocError, Global};
+
+/// How many bytes are read at once. No record has more than 65,554.
+const WINDOW: usize = 131_072;
+
+/// Some of the bytes of a segment, as they were read last.
+#[derive(Drop)]
+pub(crate) struct Window {
+    pub(crate) extent: Extent,
+    bytes: Vec<u8>,
+    /// The place in the segment of the first of the bytes.
+    pub(crate) from: u32,
+    len: u32,
+    ghost long: { vec_len bytes ≡ 131072 },
+    ghost short: { len ≤ 131072 },
+    ghost within: { from + len ≤ extent.bytes },
+    ghost fits: { from + len < 2 ^ 32 },
+}
+
+impl Window {
+    ghost use Rattle.fault_counts.specs.Counting.{CountsEach};
+    ghost use Rattle.blocks.specs.Extents.{bytes_of};
+    ghost use Rattle.segment.specs.Records.{record_of, IsStamped};
+    ghost use Rattle.store_image.specs.Answers.{CountsFault};
+    ghost use Rattle.store_image.specs.Reading.{bytes_in, HasRecord, HasNoRecord, IsNoRecord, Sees, IsFull};
+
+    /// A window on a segment of no bytes.
+    pub(crate) fn new(alloc: Global) -> Result<Window, AllocError> {
+        Ok(Window {
+            extent: Extent { first: 0, bytes: 0 },
+            bytes: vec![in alloc; 0u8; WINDOW]?,
+            from: 0,
+            len: 0,
+        })
+    }
+
+    /// Goes to another segment, of which no byte is read yet.
+    pub(crate) fn begin(&mut self, extent: Extent)
+        ensures extent { self.new.extent ≡ extent }
+        ensures from { self.new.from ≡ 0 }
+        ensures sees { (file : List ℕ) → Sees self.new file }
+    {
+        self.len = 0;
+        self.from = 0;
+        self.extent = extent;
+    }
+
+    /// Reads the bytes from a place of the segment on.
+    fn fill<D: Disk>(&mut self, disk: &mut D, at: u32) -> Result<(), DiskFault>
+        requires { at ≤ self.old.extent.bytes }
+        ensures extent { self.new.extent ≡ self.old.extent }
+        ensures from { OnOk result (self.new.from ≡ at) }
+        ensures sees { D.is_honest disk.old
+            → OnOk result (Sees self.new (D.moments disk.old).state.now) }
+        ensures full { D.is_honest disk.old
+            → OnOk result (IsFull self.new (D.moments disk.old).state.now) }
+        ensures moments { D.is_honest disk.old → D.moments disk.new ≡ D.moments disk.old }
+        ensures honesty { D.is_honest disk.old ↔ D.is_honest disk.new }
+        ensures failures { CountsEach result (D.failures disk.old) (D.failures disk.new) }
+    {
+        let left = self.extent.bytes - at;
+        let place = BLOCK * u64::from(self.extent.first) + u64::from(at);
+        let count = disk.read_at(place, self.bytes.as_mut_slice())?;
+        self.len = 0;
+        self.from = at;
+        self.len = left.min(count as u32);
+        Ok(())
+    }
+
+    /// The row whose record begins at a place of the segment, and the place after the record, where the window has all of it.
+    fn row_in(&self, alloc: Global, at: u32) -> Result<(StampedRow, u32), SegmentFault>
+        requires { self.now.from ≤ at }
+        ensures found { IfOk result
+            (λ r. HasRecord (bytes_in self.now) (at - self.now.from) r.0) }
+        ensures next { IfOk result (λ r. r.1 ≡ at + length (record_of r.0)) }
+        ensures within { IfOk result (λ r. r.1 ≤ self.now.extent.bytes) }
+        ensures only { IfErr result
+            (λ e. HasNoRecord e (bytes_in self.now) (at - self.now.from)) }
+    {
+        let shown = &self.bytes.as_slice()[..self.len as usize];
+        let (row, next) = record_at(alloc, shown, (at - self.from) as usize)?;
+        Ok((row, self.from + next as u32))
+    }
+
+    /// The row whose record begins at a place of the segment, and the place after the record. It reads on where the window doesn't have all of it.
+    pub(crate) fn row_at<D: Disk>(
+        &mut self,
+        alloc: Global,
+        disk: &mut D,
+        at: u32,
+    ) -> Result<(StampedRow, u32), ImageFault>
+        requires from { self.old.from ≤ at }
+        requires within { at ≤ self.old.extent.bytes }
+        ensures extent { self.new.extent ≡ self.old.extent }
+        ensures from { IfOk result (λ r. self.new.from ≤ r.1) }
+        ensures is { IfOk result (λ r. IsStamped r.0) }
+        ensures next { IfOk result (λ r. r.1 ≡ at + length (record_of r.0)) }
+        ensures within { IfOk result (λ r. r.1 ≤ self.old.extent.bytes) }
+        ensures exact { D.is_honest disk.old → Sees self.old (D.moments disk.old).state.now
+            → MatchResult result
+            (λ r. HasRecord (bytes_of self.old.extent (D.moments disk.old).state.now) at r.0)
+            (λ e. IsNoRecord e (bytes_of self.old.extent (D.moments disk.old).state.now) at) }
+        ensures sees { D.is_honest disk.old → Sees self.old (D.moments disk.old).state.now
+            → IfOk result (λ _. Sees self.new (D.moments disk.old).state.now) }
+        ensures moments { D.is_honest disk.old → D.moments disk.new ≡ D.moments disk.old }
+        ensures honesty { D.is_honest disk.old ↔ D.is_honest disk.new }
+        ensures failures { CountsFault result (D.failures disk.old) (D.failures disk.new) }
+    {
+        match self.row_in(alloc, at) {
+            Ok((row, next)) => Ok((row, next)),
+            Err(SegmentFault::OutOfMemory) => Err(ImageFault::OutOfMemory),
+            Err(SegmentFault::BadSegment) => {
+                self.fill(disk, at)?;
+                let (row, next) = self.row_in(alloc, at)?;
+                Ok((row, next))
+            }
+        }
+    }
+}
