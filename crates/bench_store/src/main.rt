@@ -78,6 +78,44 @@ fn turn_pages(rt: &HostRuntime, path: &str, ids: &str) -> Option<u64> {
     Some(found)
 }
 
+/// Searches for ten descriptions by each prefix of a file. How many rows that are.
+fn search_terms(rt: &HostRuntime, path: &str, prefixes: &str) -> Option<u64> {
+    let mut store = opened(rt, path)?;
+    let prefixes = fs::read(rt, prefixes).ok()?;
+    let time = EffectiveTime::of(20_251_231)?;
+    let pin = store.imports();
+    let mut found: u64 = 0;
+    for line in prefixes.split(|byte| *byte == b'\n') {
+        if let Ok(prefix) = str::from_utf8(line) {
+            if pin > store.imports() {
+                return None;
+            }
+            let rows = store.terms(prefix, time, pin, 10).ok()?;
+            found = found.saturating_add(rows.len() as u64);
+        }
+    }
+    Some(found)
+}
+
+/// Asks for the children of each concept of a file. How many ids that are.
+fn ask_children(rt: &HostRuntime, path: &str, ids: &str) -> Option<u64> {
+    let mut store = opened(rt, path)?;
+    let ids = fs::read(rt, ids).ok()?;
+    let time = EffectiveTime::of(20_251_231)?;
+    let pin = store.imports();
+    let mut found: u64 = 0;
+    for line in ids.split(|byte| *byte == b'\n') {
+        if let Some(id) = Sctid::parse(line) {
+            if pin > store.imports() {
+                return None;
+            }
+            let children = store.children(id, time, pin).ok()?;
+            found = found.saturating_add(children.len() as u64);
+        }
+    }
+    Some(found)
+}
+
 /// Does what the words say, and prints how many rows it brought, found or holds. None where it can't be done.
 fn run(rt: &HostRuntime) -> Option<()> {
     let mut words = env::args(rt).ok()?.skip(1);
@@ -95,6 +133,8 @@ fn run(rt: &HostRuntime) -> Option<()> {
         )?,
         "open" => opened(rt, path.as_str())?.row_count(),
         "pages" => turn_pages(rt, path.as_str(), words.next()?.as_str())?,
+        "terms" => search_terms(rt, path.as_str(), words.next()?.as_str())?,
+        "children" => ask_children(rt, path.as_str(), words.next()?.as_str())?,
         "lookups" => look_up(rt, path.as_str(), words.next()?.as_str())?,
         _ => return None,
     };
