@@ -173,8 +173,9 @@ fn children_and_replacements(rt: HostRuntime) -> Result<(), Fail> {
     let later = EffectiveTime::of(20_210_131).ok_or("a date")?;
     let mut store = after(rt.alloc(), &["r1", "r2"])?;
     assert!(rt; store.children(root, first, 0)?.is_empty());
-    assert!(rt; store.children(root, first, 1)?.as_slice() == &[1_000_004]);
-    assert!(rt; store.children(root, later, 2)?.as_slice() == &[1_000_004]);
+    let one: [u64; 1] = [1_000_004];
+    assert!(rt; store.children(root, first, 1)?.as_slice() == one.as_slice());
+    assert!(rt; store.children(root, later, 2)?.as_slice() == one.as_slice());
     let replaced = store.replacements(child, later, 2)?;
     let want = [
         "0b6a0c2e-5d0f-4c53-9f6e-8d9d2a7b1c01|20210131|1|CORE|900000000000527005|1000004|2000001",
