@@ -55,6 +55,7 @@ fn one_concept_is_found_from_its_day_on(rt: HostRuntime) -> Result<(), Fail> {
     );
     assert_eq!(rt; store.imports(), 2);
     assert_eq!(rt; store.row_count(), 1);
+    assert_eq!(rt; store.segments(), 1);
     Ok(())
 }
 

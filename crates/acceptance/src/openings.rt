@@ -56,11 +56,16 @@ fn a_store_is_opened_as_it_was_closed(rt: HostRuntime) -> Result<(), Fail> {
     let want = line(rt.alloc(), "1000004|20200731|0|CORE|PRIM")?;
     let got = line_at(rt.alloc(), &mut store, Kind::Concept, 1_000_004, 20_200_831)?;
     assert!(rt; got.as_slice() == want.as_bytes());
-    // A disk that holds anything takes no new store.
-    let Err((refusal, _)) = Store::create(rt.alloc(), store.close()) else {
+    // A disk that holds anything takes no new store, and stays as it is.
+    let disk = store.close();
+    let bytes = disk.bytes().to_vec(rt.alloc())?;
+    let changes = disk.changes();
+    let Err((refusal, disk)) = Store::create(rt.alloc(), disk) else {
         return Err(Fail::from("made twice"));
     };
     assert_eq!(rt; refusal.code(), 4);
+    assert_eq!(rt; disk.changes(), changes);
+    assert!(rt; disk.bytes() == bytes.as_slice());
     Ok(())
 }
 

@@ -170,3 +170,45 @@ fn files_of_the_column_names_alone(rt: HostRuntime) -> Result<(), Fail> {
     assert_eq!(rt; store.import(&nothing), Err(at(1, LineFault::Header)));
     Ok(())
 }
+
+#[test]
+fn refusals_have_their_numbers(rt: HostRuntime) -> Result<(), Fail> {
+    let numbers = [
+        (Refusal::OutOfMemory, 1),
+        (Refusal::DiskFault, 2),
+        (Refusal::ReopenNeeded, 3),
+        (Refusal::NotEmpty, 4),
+        (Refusal::Full, 5),
+        (Refusal::TooManySegments, 6),
+        (Refusal::NotAStore, 7),
+        (Refusal::Damaged, 8),
+        (Refusal::CountSpent, 13),
+        (Refusal::Contradiction { file: 1, line: 2 }, 32),
+    ];
+    for (refusal, number) in &numbers {
+        assert_eq!(rt; refusal.code(), *number);
+    }
+    let faults = [
+        (LineFault::LineLength, 20),
+        (LineFault::NotUtf8, 21),
+        (LineFault::Header, 22),
+        (LineFault::Columns, 23),
+        (LineFault::Id, 24),
+        (LineFault::Partition, 25),
+        (LineFault::Time, 26),
+        (LineFault::Active, 27),
+        (LineFault::Reference, 28),
+        (LineFault::Number, 29),
+        (LineFault::MemberId, 30),
+        (LineFault::EmptyText, 31),
+    ];
+    for (fault, number) in &faults {
+        let refusal = Refusal::Line {
+            file: 1,
+            line: 2,
+            fault: *fault,
+        };
+        assert_eq!(rt; refusal.code(), *number);
+    }
+    Ok(())
+}

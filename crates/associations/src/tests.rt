@@ -9,7 +9,7 @@ use crate::making::{
 };
 use crate::{EdgeCount, Links, Postings, children, replacements};
 use as_of_index::{Index, KeptRows, ReadFault};
-use history_model::{StampedRow, listing, plain};
+use history_model::{StampedRow, plain};
 use rf2_values::Row;
 use std::alloc::Global;
 use std::process::Abort;
@@ -53,10 +53,9 @@ fn third_release(alloc: Global) -> Result<Vec<Row>, Fail> {
 
 /// The rows of the three, each as a list.
 fn three_lists(alloc: Global) -> Result<Vec<Vec<StampedRow>>, Fail> {
-    let mut rows = Vec::new(alloc);
-    listing::add_release(&mut rows, 1, first_release(alloc)?)?;
-    listing::add_release(&mut rows, 2, second_release(alloc)?)?;
-    listing::add_release(&mut rows, 3, third_release(alloc)?)?;
+    let first = plain::after_release(alloc, 0, &[], &first_release(alloc)?)?;
+    let second = plain::after_release(alloc, 1, &first, &second_release(alloc)?)?;
+    let rows = plain::after_release(alloc, 2, &second, &third_release(alloc)?)?;
     Ok(vec![in alloc;
         brought(alloc, &rows, 1, 1)?,
         brought(alloc, &rows, 2, 2)?,
@@ -158,8 +157,7 @@ fn replacements_stand_by_refset_then_target_then_member(rt: HostRuntime) -> Resu
     }
     release.push(association(3, 20_210_131, false, SAME_AS, (STREET, OTHER))?)?;
     release.push(association(4, 20_210_131, true, SAME_AS, (OTHER, STREET))?)?;
-    let mut rows = Vec::new(alloc);
-    listing::add_release(&mut rows, 1, release)?;
+    let rows = plain::after_release(alloc, 0, &[], &release)?;
     let lists = vec![in alloc; rows]?;
     let index = index_of(&rt, alloc, &lists)?;
     let links = links_of(&rt, alloc, &lists)?;
@@ -216,7 +214,7 @@ fn made_rows(alloc: Global) -> Result<Vec<StampedRow>, Fail> {
                 release.push(made_row(number, import)?)?;
             }
         }
-        listing::add_release(&mut rows, import, release)?;
+        rows = plain::after_release(alloc, import - 1, &rows, &release)?;
     }
     Ok(rows)
 }
