@@ -45,9 +45,8 @@ def write_lines(path, lines):
         file.write(b"\n".join(lines))
 
 
-def made(folder, rows):
-    """The folder of the releases of so many rows, with the words of the queries."""
-    place = os.path.join(folder, str(rows))
+def prepare(place, rows):
+    """Makes the releases of so many rows, and the words of the queries."""
     if not os.path.isdir(os.path.join(place, "full")):
         subprocess.check_call([sys.executable, os.path.join(HERE, "make_release.py"), place, str(rows)])
     chance = random.Random(7)
@@ -60,6 +59,13 @@ def made(folder, rows):
     parents = first_column(names["Relationship"], 1000, chance)
     write_lines(os.path.join(place, "parents"), [columns[5] for columns in parents])
     write_lines(os.path.join(place, "pages"), [columns[0] for columns in concepts[:1000]])
+
+
+def made(folder, rows):
+    """The folder of the releases of so many rows. It is made by a process of its own, since a process
+    that is started counts what its parent held at that moment as its own peak."""
+    place = os.path.join(folder, str(rows))
+    subprocess.check_call([sys.executable, os.path.abspath(__file__), "--prepare", place, str(rows)])
     return place
 
 
@@ -77,7 +83,8 @@ def measure(program, folder, rows):
         processor = work.processor - (less.processor if less else 0)
         wall = work.wall - (less.wall if less else 0)
         peak = (work.peak - ground) / rows
-        print("| %d | %s | %.2f | %.2f | %.0f | %s |" % (rows, title, processor, wall, peak, work.text))
+        row = (rows, title, processor, wall, peak, work.text)
+        print("| %d | %s | %.2f | %.2f | %.0f | %s |" % row, flush=True)
         return work
 
     run("import the Full release", "import", place, "full")
@@ -93,6 +100,9 @@ def measure(program, folder, rows):
 
 
 def main(words):
+    if words[:1] == ["--prepare"]:
+        prepare(words[1], int(words[2]))
+        return 0
     if len(words) < 2:
         print(__doc__.strip(), file=sys.stderr)
         return 2
