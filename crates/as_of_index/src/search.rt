@@ -92,6 +92,7 @@ pub(crate) fn place(list: &[Posted], start: Start) -> usize
     list.partition_point(|p| is_before(start, p))
 }
 
+/// The place there, not copied.
 pub(crate) fn lent_at(list: &[Posted], i: usize) -> Option<&Posted>
     ensures { option_copied result ≡ slice_get list.now i }
 {
@@ -147,8 +148,8 @@ pub(crate) fn latest_before(
     }
 }
 
-/// The same where all that stands before the cursor is below the component.
-/// A list that goes no further has no version of it up to the date.
+/// The latest version of the component in the list, up to the date, that the pin shows.
+/// All that stands before the cursor is below the component: a search that stops there finds none.
 pub(crate) fn latest_from(
     list: &[Posted],
     cursor: usize,
@@ -231,6 +232,7 @@ pub(crate) fn id_at(list: &[Posted], i: usize, kind: Kind) -> Option<u128>
     }
 }
 
+/// The lesser of two ids, of those that are given.
 pub(crate) fn lesser(best: Option<u128>, found: Option<u128>) -> Option<u128>
     ensures { result ≡ lesser_of best found }
 {
