@@ -13,7 +13,7 @@ use Rattle.history_model.proofs.Filtered.{both, Has-map, Has-map_from}
 use Rattle.history_model.proofs.Searching.{IsDescending}
 use Rattle.history_model.proofs.Searching.{IsDescending-reverse, Has-reverse_cases, Has-reverse_from}
 use Rattle.segment.specs.declared.place.Posted.{Posted}
-use Rattle.as_of_index.specs.declared.search.Start.TheVariants.{AfterVersion}
+use Rattle.as_of_index.specs.declared.search.Start.TheVariants.{AfterVersion, Later}
 use Rattle.as_of_index.specs.Places.{place_cmp}
 use Rattle.as_of_index.specs.Search.{in_segment, all_places, is_of, is_candidate, is_before, SplitsAt, stops, IsLatestOf, IsPick, later_of}
 use Rattle.as_of_index.proofs.Ordered.{below, IsBelow, IsAscending-take}
@@ -40,6 +40,9 @@ earlier kind id k i t l j u h e f = grind (arith, nat_tests, h, e, f)
 -- below what is up to the component's versions and is none of them there is none
 none_below : (kind id date k i t l j u : ℕ) → IsBelow k i t l j u → (nat_lt l kind || (l == kind && (nat_lt j id || (j == id && nat_le u date)))) ≡ true → (l == kind && j == id) ≡ false → (k == kind && i == id) ≡ true → ⊥
 none_below kind id date k i t l j u h e f g = grind (arith, nat_tests, h, e, f, g)
+
+below_not_of : (kind id k i : ℕ) → (nat_lt k kind || (k == kind && (nat_lt i id || (i == id && false)))) ≡ true → (k == kind && i == id) ≡ true → ⊥
+below_not_of kind id k i e f = grind (arith, nat_tests, e, f)
 
 module _ (kind : Kind) (id date pin : ℕ) where
   pub record IsCandidate (p : Posted) : Type 0 where
@@ -163,6 +166,12 @@ module _ (kind : Kind) (id date pin : ℕ) where
     pub none_of_list : None ≡ find (stops kind id pin) (reverse (take end list)) → IsPick kind id date pin (λ p. p) list None
     unfolding IsPick
     none_of_list e = λ z h c. none_found (reverse (take end list)) e z (from_list z h c) c
+
+    -- where all before it is below the component, there is none
+    pub none_from : AllByRecursion (λ z. is_before (Later kind id None) z ≡ true) (take end list) → IsPick kind id date pin (λ p. p) list None
+    unfolding IsPick
+    none_from under = λ z h c.
+        below_not_of (kind_place kind) id _ _ (Has-all (λ x. is_before (Later kind id None) x ≡ true) (take end list) z under (Has-reverse_cases (take end list) z (from_list z h c))) (candidate z c).of
 
   -- ---- several lists
 

@@ -7,6 +7,7 @@ pub mod OnePlace
 pub mod Among
 pub mod Keeping
 pub mod Paging
+pub mod LeastIds
 pub mod Later
 pub mod Storing
 pub mod First

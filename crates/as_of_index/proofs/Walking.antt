@@ -10,7 +10,7 @@ use Rattle.history_model.specs.InOrder.{IsAscending}
 use Rattle.history_model.specs.Queries.{is_above}
 use Rattle.segment.specs.declared.place.Posted.{Posted}
 use Rattle.as_of_index.specs.declared.search.Start.{Start}
-use Rattle.as_of_index.specs.declared.search.Start.TheVariants.{AfterVersion, Components}
+use Rattle.as_of_index.specs.declared.search.Start.TheVariants.{AfterVersion, Later, Components}
 use Rattle.as_of_index.specs.Places.{place_cmp}
 use Rattle.as_of_index.specs.Search.{is_before, SplitsAt, IsPassed, ArePassed, IsNextId}
 use Rattle.as_of_index.proofs.Ordered.{before-falls}
@@ -94,13 +94,21 @@ passed_further start other more [] (c ∷ cursors) a = absurd a
 passed_further start other more (ps ∷ lists) [] a = absurd a
 passed_further start other more (ps ∷ lists) (c ∷ cursors) a = (record { within = a.0.within; before = further_all start other more (take c ps) a.0.before }, passed_further start other more lists cursors a.1)
 
-version-some : (k kind i id t date last : ℕ) → nat_lt last id ≡ true → (nat_lt k kind || (k == kind && not (nat_lt last i))) ≡ true
-    → (nat_lt k kind || (k == kind && (nat_lt i id || (i == id && nat_le t date)))) ≡ true
-version-some k kind i id t date last above e = grind (arith, nat_tests, above, e)
+below-some : (k kind i id last : ℕ) → nat_lt last id ≡ true → (nat_lt k kind || (k == kind && not (nat_lt last i))) ≡ true
+    → (nat_lt k kind || (k == kind && (nat_lt i id || (i == id && false)))) ≡ true
+below-some k kind i id last above e = grind (arith, nat_tests, above, e)
 
-version-none : (k kind i id t date : ℕ) → (nat_lt k kind || (k == kind && false)) ≡ true
+below-none : (k kind i id : ℕ) → (nat_lt k kind || (k == kind && false)) ≡ true
+    → (nat_lt k kind || (k == kind && (nat_lt i id || (i == id && false)))) ≡ true
+below-none k kind i id e = grind (arith, nat_tests, e)
+
+below-version : (k kind i id t date : ℕ) → (nat_lt k kind || (k == kind && (nat_lt i id || (i == id && false)))) ≡ true
     → (nat_lt k kind || (k == kind && (nat_lt i id || (i == id && nat_le t date)))) ≡ true
-version-none k kind i id t date e = grind (arith, nat_tests, e)
+below-version k kind i id t date e = grind (arith, nat_tests, e)
+
+-- what is below a component is below its versions
+pub below_versions : (kind : Kind) (id date : ℕ) (xs : List Posted) → AllByRecursion (λ p. is_before (Later kind id None) p ≡ true) xs → AllByRecursion (λ p. is_before (AfterVersion kind id date) p ≡ true) xs
+below_versions kind id date xs a = further_all (Later kind id None) (AfterVersion kind id date) (λ p e. below-version (kind_place p.key.kind) (kind_place kind) p.key.id id p.key.time date e) xs a
 
 component-some : (k kind i id last : ℕ) → nat_lt last id ≡ true → (nat_lt k kind || (k == kind && not (nat_lt last i))) ≡ true
     → (nat_lt k kind || (k == kind && not (nat_lt id i))) ≡ true
@@ -111,9 +119,9 @@ component-none k kind i id e = grind (arith, nat_tests, e)
 
 module _ (kind : Kind) (id : ℕ) (lists : List (List Posted)) (cursors : List ℕ) where
   -- the versions of a component with a higher id lie ahead
-  pub versions_ahead : (last : Option ℕ) (date : ℕ) → is_above last id ≡ true → ArePassed (Components kind last) lists cursors → ArePassed (AfterVersion kind id date) lists cursors
-  versions_ahead None date above a = passed_further (Components kind None) (AfterVersion kind id date) (λ p e. version-none (kind_place p.key.kind) (kind_place kind) p.key.id id p.key.time date e) lists cursors a
-  versions_ahead (Some last) date above a = passed_further (Components kind (Some last)) (AfterVersion kind id date) (λ p e. version-some (kind_place p.key.kind) (kind_place kind) p.key.id id p.key.time date last above e) lists cursors a
+  pub versions_ahead : (last : Option ℕ) → is_above last id ≡ true → ArePassed (Components kind last) lists cursors → ArePassed (Later kind id None) lists cursors
+  versions_ahead None above a = passed_further (Components kind None) (Later kind id None) (λ p e. below-none (kind_place p.key.kind) (kind_place kind) p.key.id id e) lists cursors a
+  versions_ahead (Some last) above a = passed_further (Components kind (Some last)) (Later kind id None) (λ p e. below-some (kind_place p.key.kind) (kind_place kind) p.key.id id last above e) lists cursors a
 
   -- and so do the components after it
   pub others_ahead : (last : Option ℕ) → is_above last id ≡ true → ArePassed (Components kind last) lists cursors → ArePassed (Components kind (Some id)) lists cursors

@@ -113,6 +113,17 @@ unfoldable pub IsNextId : Kind → Option ℕ → List (ℕ × Posted) → Optio
 IsNextId kind after xs None = (x : ℕ × Posted) → Has xs x → is_kind_above kind after x.1 ≡ true → ⊥
 IsNextId kind after xs (Some id) = IsLeastId kind after xs id
 
+-- the id of a place of the kind
+abbrev pub id_of_kind : Kind → Option Posted → Option ℕ
+id_of_kind kind None = None
+id_of_kind kind (Some p) = elim (kind_place p.key.kind == kind_place kind) [ true ↦ Some p.key.id | false ↦ None ]
+
+-- the lesser of two ids, if they are given
+abbrev pub lesser_of : Option ℕ → Option ℕ → Option ℕ
+lesser_of best None = best
+lesser_of None (Some id) = Some id
+lesser_of (Some least) (Some id) = elim (nat_lt id least) [ true ↦ Some id | false ↦ Some least ]
+
 -- the place of a version of the component after a time, if one is given
 abbrev pub is_version_above : Kind → ℕ → Option ℕ → Posted → Bool
 is_version_above kind id after p = is_of kind id p && is_above after p.key.time

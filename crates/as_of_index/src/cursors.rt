@@ -1,11 +1,11 @@
 //! One cursor a list: all that stands before it is passed over.
 
-ghost use Rattle.std.specs.Prelude.{◌≡◌, IfOk, Some};
-ghost use Rattle.as_of_index.specs.Search.{all_places, ArePassed, IsPick, IsNext, IsNextId};
+ghost use Rattle.std.specs.Prelude.{IfOk, None};
+ghost use Rattle.as_of_index.specs.Search.{all_places, ArePassed, IsPick, IsNextId};
 ghost use Rattle.as_of_index.specs.declared.search.Start.TheVariants as starts;
 
 use crate::listed::Listed;
-use crate::search::{Start, go_on, is_of, later, latest_before, place, place_at, sooner};
+use crate::search::{Start, go_on, id_at, later, latest_from, lesser, place};
 use rf2_values::{EffectiveTime, Kind};
 use segment::Posted;
 use std::alloc::{AllocError, Global};
@@ -25,22 +25,6 @@ pub(crate) fn cursors_at(
     Ok(cursors)
 }
 
-/// The first place of all lists that isn't passed over, and the number of its list. The cursors go on to it or beyond.
-fn next_on(lists: &[Listed], cursors: &mut Vec<usize>, start: &Start) -> Option<(usize, Posted)>
-    requires { ArePassed start.now lists.now cursors.old.items }
-    ensures next { IsNext start.now (λ x. x.1) (all_places 0 lists.now) result }
-    ensures passed { ArePassed start.now lists.now cursors.new.items }
-{
-    let mut best = None;
-    for (segment, list) in lists.iter().enumerate() {
-        let places = list.places();
-        let first = go_on(places, cursors[segment], start);
-        cursors[segment] = first;
-        best = sooner(best, segment, place_at(places, first));
-    }
-    best
-}
-
 /// The least id of a kind above `after`, if that is given.
 pub(crate) fn next_id(
     lists: &[Listed],
@@ -53,10 +37,14 @@ pub(crate) fn next_id(
     ensures passed { ArePassed (starts.Components kind after) lists.now cursors.new.items }
 {
     let start = Start::Components { kind, after };
-    match next_on(lists, cursors, &start) {
-        Some((_, first)) if is_of(kind, first.key.id, &first) => Some(first.key.id),
-        _ => None,
+    let mut best = None;
+    for (segment, list) in lists.iter().enumerate() {
+        let places = list.places();
+        let first = go_on(places, cursors[segment], &start);
+        cursors[segment] = first;
+        best = lesser(best, id_at(places, first, kind));
     }
+    best
 }
 
 /// The latest version of the component up to the date that the pin shows, and the number of its list.
@@ -68,16 +56,15 @@ pub(crate) fn latest_on(
     time: EffectiveTime,
     pin: u32,
 ) -> Option<(usize, Posted)>
-    requires { ArePassed (starts.AfterVersion kind id time) lists.now cursors.now }
+    requires { ArePassed (starts.Later kind id None) lists.now cursors.now }
     ensures { IsPick kind id time pin (λ x. x.1) (all_places 0 lists.now) result }
 {
-    let start = Start::AfterVersion { kind, id, time };
     let mut best = None;
     for (segment, list) in lists.iter().enumerate() {
-        let places = list.places();
-        let end = go_on(places, cursors[segment], &start);
-        let found = latest_before(places, end, kind, id, pin);
-        best = later(best, segment, found);
+        let found = latest_from(list.places(), cursors[segment], kind, id, time, pin);
+        if let Some(p) = found {
+            best = later(best, segment, Some(p));
+        }
     }
     best
 }

@@ -1,6 +1,6 @@
 //! Searches in one list of places, by bisection.
 
-ghost use Rattle.std.specs.Prelude.{◌≡◌, ◌≤◌, ◌++◌, ◌∷◌, [], ℕ, ◌↔◌, length, IsTrue, find, reverse, take, drop, true, slice_get};
+ghost use Rattle.std.specs.Prelude.{◌≡◌, ◌≤◌, ◌++◌, ◌∷◌, [], ℕ, ◌↔◌, length, IsTrue, find, reverse, take, drop, true, slice_get, None};
 ghost use Rattle.std.specs.List.{AllByRecursion};
 ghost use Rattle.std.specs.Option.{option_copied};
 ghost use Rattle.std.specs.declared.cmp.Ordering.TheVariants.{Equal};
@@ -8,7 +8,7 @@ ghost use Rattle.rf2_values.specs.Key.{kind_place, key_cmp};
 ghost use Rattle.history_model.specs.InOrder.{Has, IsAscending};
 ghost use Rattle.history_model.specs.Queries.{is_above};
 ghost use Rattle.as_of_index.specs.Places.{place_cmp, ShareNoKey};
-ghost use Rattle.as_of_index.specs.Search.{is_under, is_of, is_before, SplitsAt, stops, IsPick, later_of, IsNext, sooner_of};
+ghost use Rattle.as_of_index.specs.Search.{is_under, is_of, is_before, SplitsAt, stops, IsPassed, IsPick, id_of_kind, later_of, lesser_of, IsNext, sooner_of};
 ghost use Rattle.as_of_index.specs.declared.search.Start.TheVariants as starts;
 ghost use Rattle.segment.specs.declared.place.Posted.{Posted};
 
@@ -92,6 +92,13 @@ pub(crate) fn place(list: &[Posted], start: Start) -> usize
     list.partition_point(|p| is_before(start, p))
 }
 
+/// The place there, not copied.
+pub(crate) fn lent_at(list: &[Posted], i: usize) -> Option<&Posted>
+    ensures { option_copied result ≡ slice_get list.now i }
+{
+    list.get(i)
+}
+
 /// The first place from `from` on that isn't passed over.
 pub(crate) fn go_on(list: &[Posted], from: usize, start: &Start) -> usize
     requires { from ≤ length list.now }
@@ -101,8 +108,8 @@ pub(crate) fn go_on(list: &[Posted], from: usize, start: &Start) -> usize
         → SplitsAt (is_before start.now) list.now result }
 {
     let mut place = from;
-    while let Some(p) = place_at(list, place) {
-        if !is_before(*start, &p) {
+    while let Some(p) = lent_at(list, place) {
+        if !is_before(*start, p) {
             return place;
         }
         place += 1;
@@ -139,6 +146,26 @@ pub(crate) fn latest_before(
         Some(p) if is_of(kind, id, p) => Some(*p),
         _ => None,
     }
+}
+
+/// The latest version of the component in the list, up to the date, that the pin shows.
+/// All that stands before the cursor is below the component: a search that stops there finds none.
+pub(crate) fn latest_from(
+    list: &[Posted],
+    cursor: usize,
+    kind: Kind,
+    id: u128,
+    time: EffectiveTime,
+    pin: u32,
+) -> Option<Posted>
+    requires { IsPassed (starts.Later kind id None) list.now cursor }
+    ensures { IsAscending place_cmp list.now → IsPick kind id time pin (λ p. p) list.now result }
+{
+    let end = go_on(list, cursor, &Start::AfterVersion { kind, id, time });
+    if end == cursor {
+        return None;
+    }
+    latest_before(list, end, kind, id, pin)
 }
 
 /// The latest version of the component in the list, up to the date, that the pin shows.
@@ -187,6 +214,33 @@ pub(crate) fn next_in(list: &[Posted], start: Start) -> Option<Posted>
 {
     let first = place(list, start);
     place_at(list, first)
+}
+
+/// The id of the place there, if it is one of the kind.
+pub(crate) fn id_at(list: &[Posted], i: usize, kind: Kind) -> Option<u128>
+    ensures { result ≡ id_of_kind kind (slice_get list.now i) }
+{
+    match lent_at(list, i) {
+        Some(p) => {
+            if p.key.kind as u8 == kind as u8 {
+                Some(p.key.id)
+            } else {
+                None
+            }
+        }
+        None => None,
+    }
+}
+
+/// The lesser of two ids, of those that are given.
+pub(crate) fn lesser(best: Option<u128>, found: Option<u128>) -> Option<u128>
+    ensures { result ≡ lesser_of best found }
+{
+    match (best, found) {
+        (_, None) => best,
+        (None, Some(_)) => found,
+        (Some(b), Some(f)) => { if f < b { found } else { best } }
+    }
 }
 
 fn compare(a: &Posted, b: &Posted) -> Ordering

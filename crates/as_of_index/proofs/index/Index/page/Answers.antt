@@ -13,7 +13,7 @@ pub latest_on-requires : goal.latest_on-requires
 latest_on-requires g c =
     let a = c.args in
     let above = id_above a.kind c.loop-lists.last _ c.in-Some.id c.in-Some.ensures.next in
-    let ahead = versions_ahead a.kind c.in-Some.id c.as_slice-lists.result.now c.next_id.new.cursors.items c.loop-lists.last a.time above c.in-Some.ensures.passed in
+    let ahead = versions_ahead a.kind c.in-Some.id c.as_slice-lists.result.now c.next_id.new.cursors.items c.loop-lists.last above c.in-Some.ensures.passed in
     rw c.deref.ensures.value ahead
 
 pub returns-in_err-found-in-Some-clause-undamaged : goal.returns-in_err-found-in-Some-clause-undamaged
