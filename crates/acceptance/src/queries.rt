@@ -1,5 +1,7 @@
 //! What is asked of a store's history: versions, pages, dates and pins; and what is asked of the disk for it.
 
+ghost use Rattle.std.specs.Prelude.{◌≤◌};
+
 use crate::fixtures::{line, new_store, one_file, opened};
 use disk_model::MemDisk;
 use history_store::{Refusal, Store};
@@ -18,6 +20,13 @@ fn after(alloc: Global, names: &[&str]) -> Result<Store<MemDisk>, Fail> {
         store.import(&release)?;
     }
     Ok(store)
+}
+
+/// The pin, which no test gives above the number of imports.
+fn pinned(store: &Store<MemDisk>, pin: u32) -> u32
+    ensures { result ≤ store.now.history.imports }
+{
+    pin.min(store.imports())
 }
 
 /// The lines of rows, each with a line end.
@@ -55,9 +64,8 @@ fn a_pin_shows_the_imports_up_to_it(rt: HostRuntime) -> Result<(), Fail> {
     ];
     for (pin, id, date, want) in &cases {
         let time = EffectiveTime::of(*date).ok_or("a date")?;
-        let row = store
-            .lookup(Kind::Concept, *id, time, *pin)?
-            .ok_or("a row")?;
+        let pin = pinned(&store, *pin);
+        let row = store.lookup(Kind::Concept, *id, time, pin)?.ok_or("a row")?;
         let mut got = Vec::new(rt.alloc());
         write_row(rt.alloc(), &row, &mut got)?;
         let want = line(rt.alloc(), *want)?;
@@ -78,13 +86,15 @@ fn versions_and_pages(rt: HostRuntime) -> Result<(), Fail> {
     assert!(rt; empty.history(Kind::Concept, ROOT, 0)?.is_empty());
     assert!(rt; empty.page(Kind::Concept, day, 0, None, 10)?.is_empty());
     let mut store = after(rt.alloc(), &["r1", "r2"])?;
-    let versions = store.history(Kind::Concept, 1_000_004, 2)?;
+    let pin = pinned(&store, 2);
+    let versions = store.history(Kind::Concept, 1_000_004, pin)?;
     let want = [
         "1000004|20200131|1|CORE|PRIM",
         "1000004|20210131|0|CORE|PRIM",
     ];
     assert!(rt; lines(rt.alloc(), &versions)? == wanted(rt.alloc(), &want)?);
-    let versions = store.history(Kind::Concept, 1_000_004, 1)?;
+    let pin = pinned(&store, 1);
+    let versions = store.history(Kind::Concept, 1_000_004, pin)?;
     assert!(rt; lines(rt.alloc(), &versions)? == wanted(rt.alloc(), &want[..1])?);
     let pages: [(Option<u128>, u32, &[&str]); 3] = [
         (
@@ -100,7 +110,8 @@ fn versions_and_pages(rt: HostRuntime) -> Result<(), Fail> {
     ];
     let mut store = after(rt.alloc(), &["r1"])?;
     for (above, limit, want) in &pages {
-        let got = store.page(Kind::Concept, day, 1, *above, *limit)?;
+        let pin = pinned(&store, 1);
+        let got = store.page(Kind::Concept, day, pin, *above, *limit)?;
         assert!(rt;
             lines(rt.alloc(), &got)? == wanted(rt.alloc(), want)?,
             "above {above:?}"
@@ -120,7 +131,10 @@ fn asked_once(alloc: Global, bytes: &[u8], calls: u64) -> Result<Store<MemDisk>,
 
 fn root_of(store: &mut Store<MemDisk>) -> Result<Option<Row>, Refusal> {
     match EffectiveTime::of(20_200_131) {
-        Some(day) => store.lookup(Kind::Concept, ROOT, day, 3),
+        Some(day) => {
+            let pin = pinned(store, 3);
+            store.lookup(Kind::Concept, ROOT, day, pin)
+        }
         None => Ok(None),
     }
 }
@@ -174,20 +188,25 @@ fn children_and_replacements(rt: HostRuntime) -> Result<(), Fail> {
     let mut store = after(rt.alloc(), &["r1", "r2"])?;
     assert!(rt; store.children(root, first, 0)?.is_empty());
     let one: [u64; 1] = [1_000_004];
-    assert!(rt; store.children(root, first, 1)?.as_slice() == one.as_slice());
-    assert!(rt; store.children(root, later, 2)?.as_slice() == one.as_slice());
-    let replaced = store.replacements(child, later, 2)?;
+    let pin = pinned(&store, 1);
+    assert!(rt; store.children(root, first, pin)?.as_slice() == one.as_slice());
+    let pin = pinned(&store, 2);
+    assert!(rt; store.children(root, later, pin)?.as_slice() == one.as_slice());
+    let pin = pinned(&store, 2);
+    let replaced = store.replacements(child, later, pin)?;
     let want = [
         "0b6a0c2e-5d0f-4c53-9f6e-8d9d2a7b1c01|20210131|1|CORE|900000000000527005|1000004|2000001",
     ];
     assert!(rt; lines(rt.alloc(), &replaced)? == wanted(rt.alloc(), &want)?);
-    assert!(rt; store.replacements(child, before, 2)?.is_empty());
+    let pin = pinned(&store, 2);
+    assert!(rt; store.replacements(child, before, pin)?.is_empty());
     let further = one_file(
         rt.alloc(),
         Kind::Relationship,
         &["1000027|20210131|0|CORE|1000004|138875005|0|116680003|INF|MOD"],
     )?;
     store.import(&further)?;
-    assert!(rt; store.children(root, later, 3)?.is_empty());
+    let pin = pinned(&store, 3);
+    assert!(rt; store.children(root, later, pin)?.is_empty());
     Ok(())
 }
