@@ -142,10 +142,13 @@ fn root_of(store: &mut Store<MemDisk>) -> Result<Option<Row>, Refusal> {
 #[test]
 fn a_lookup_again_asks_nothing_of_the_disk(rt: HostRuntime) -> Result<(), Fail> {
     let disk = after(rt.alloc(), &["r1", "r2", "r3"])?.close();
-    let mut calls = 0;
-    while calls < 1_000 && asked_once(rt.alloc(), disk.bytes(), calls).is_err() {
-        calls += 1;
+    let mut least = None;
+    for calls in 0..1_000u64 {
+        if least.is_none() && asked_once(rt.alloc(), disk.bytes(), calls).is_ok() {
+            least = Some(calls);
+        }
     }
+    let calls = least.ok_or("an opening within a thousand calls")?;
     let mut store = asked_once(rt.alloc(), disk.bytes(), calls)?;
     let row = root_of(&mut store)?.ok_or("a row")?;
     assert_eq!(rt; row.id, ROOT);
