@@ -5,7 +5,7 @@ make_release.py FOLDER ROWS [SEED]
 
 FOLDER/full holds a Full release of about ROWS rows of all four kinds, several versions of many of
 them, and FOLDER/delta a Delta of 100 rows: new versions and new components. The same ROWS and SEED
-give the same bytes. Standard library alone.
+give the same bytes. Seeds from 1 to 7 give releases that share no component. Standard library alone.
 """
 
 import os
@@ -79,6 +79,7 @@ class Edition:
 
     def __init__(self, seed):
         self.random = random.Random(seed)
+        self.shift = (seed - 1) % 7
         self.concepts = [ROOT]
         self.made = {"C": [], "D": [], "R": [], "A": []}
         self.items = {"C": 1000, "D": 1000, "R": 1000}
@@ -88,7 +89,7 @@ class Edition:
             return str(uuid.UUID(int=self.random.getrandbits(128)))
         partition = {"C": "00", "D": "01", "R": "02"}[kind]
         self.items[kind] += 1
-        return sctid(self.items[kind] * 7, partition)
+        return sctid(self.items[kind] * 7 + self.shift, partition)
 
     def body(self, kind):
         chance = self.random

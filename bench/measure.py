@@ -6,31 +6,38 @@ measure.py PROGRAM FOLDER [ROWS ..]
 PROGRAM is the built crate bench_store. For each number of rows (235000 and 2350000, if none is
 given) a Full release and a Delta are made in FOLDER, if they aren't there, and each piece of work
 is run as a process of its own on a store in a file: its seconds of processor and wall, and the
-peak of its resident memory less that of opening an empty store. Standard library alone.
+peak of its resident memory less that of opening an empty store. GNU time starts each process and
+says its peak: a process counts what its starter held at that moment as its own, and GNU time holds
+little, while this one holds more than a small store. Standard library alone.
 """
 
 import os
 import random
+import shutil
 import subprocess
 import sys
+import tempfile
 import time
 
 HERE = os.path.dirname(os.path.abspath(__file__))
+GNU_TIME = shutil.which("time")
 
 
 class Work:
     """What a run of the program cost, and what it printed."""
 
     def __init__(self, words):
-        start = time.monotonic()
-        child = subprocess.Popen(words, stdout=subprocess.PIPE)
-        self.text = child.stdout.read().decode().strip()
-        _, status, usage = os.wait4(child.pid, 0)
-        self.wall = time.monotonic() - start
-        self.processor = usage.ru_utime + usage.ru_stime
-        self.peak = usage.ru_maxrss * 1024
-        if status != 0:
-            raise SystemExit("failed: %s" % " ".join(words))
+        with tempfile.NamedTemporaryFile("r") as peak:
+            start = time.monotonic()
+            timed = [GNU_TIME, "-f", "%M", "-o", peak.name, *words]
+            child = subprocess.Popen(timed, stdout=subprocess.PIPE)
+            self.text = child.stdout.read().decode().strip()
+            _, status, usage = os.wait4(child.pid, 0)
+            self.wall = time.monotonic() - start
+            self.processor = usage.ru_utime + usage.ru_stime
+            if status != 0:
+                raise SystemExit("failed: %s" % " ".join(words))
+            self.peak = int(peak.read()) * 1024
 
 
 def first_column(path, count, chance):
@@ -61,16 +68,9 @@ def prepare(place, rows):
     write_lines(os.path.join(place, "pages"), [columns[0] for columns in concepts[:1000]])
 
 
-def made(folder, rows):
-    """The folder of the releases of so many rows. It is made by a process of its own, since a process
-    that is started counts what its parent held at that moment as its own peak."""
-    place = os.path.join(folder, str(rows))
-    subprocess.check_call([sys.executable, os.path.abspath(__file__), "--prepare", place, str(rows)])
-    return place
-
-
 def measure(program, folder, rows):
-    place = made(folder, rows)
+    place = os.path.join(folder, str(rows))
+    prepare(place, rows)
     store, empty = os.path.join(place, "store"), os.path.join(place, "empty")
     for path in (store, empty):
         if os.path.exists(path):
@@ -100,11 +100,11 @@ def measure(program, folder, rows):
 
 
 def main(words):
-    if words[:1] == ["--prepare"]:
-        prepare(words[1], int(words[2]))
-        return 0
     if len(words) < 2:
         print(__doc__.strip(), file=sys.stderr)
+        return 2
+    if GNU_TIME is None:
+        print("measure.py wants GNU time", file=sys.stderr)
         return 2
     print("| Rows | Work | Processor seconds | Wall seconds | Peak bytes a row | Count |")
     print("|---|---|---|---|---|---|")

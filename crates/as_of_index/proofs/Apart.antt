@@ -30,7 +30,7 @@ apart_push : (index : List (List Posted)) (list : List Posted) → EachApart ind
 apart_push [] list a each = (tt, tt)
 apart_push (places ∷ index) list a each = (all_push (λ others. ShareNoKey places others) index list a.0 each.0, apart_push index list a.1 each.1)
 
-all_last : {X : Type 0} (P : X → Type 0) (xs : List X) (l : X) → AllByRecursion P (xs ++ l ∷ []) → P l
+pub all_last : {X : Type 0} (P : X → Type 0) (xs : List X) (l : X) → AllByRecursion P (xs ++ l ∷ []) → P l
 all_last P [] l all = all.0
 all_last P (x ∷ xs) l all = all_last P xs l all.1
 

@@ -139,7 +139,7 @@ pub(crate) fn spread(
 }
 
 /// Where the rows of a list stand.
-fn places_of(alloc: Global, rows: &[StampedRow]) -> Result<Vec<Posted>, Fail> {
+pub(crate) fn places_of(alloc: Global, rows: &[StampedRow]) -> Result<Vec<Posted>, Fail> {
     let mut places = Vec::new(alloc);
     let mut at = 0u32;
     for stamped in rows {
@@ -159,6 +159,21 @@ fn add(index: &mut Index, places: Vec<Posted>) -> Result<(), Fail> {
         return Err(Fail::from("no room, or listed twice"));
     }
     index.add(list);
+    Ok(())
+}
+
+/// Puts a list in the place of two, where its keys are in none of the lists.
+pub(crate) fn put_in(index: &mut Index, i: usize, j: usize, list: Listed) -> Result<(), Fail> {
+    if i >= j {
+        return Err(Fail::from("not in order"));
+    }
+    if j >= index.lists() {
+        return Err(Fail::from("no such list"));
+    }
+    if !index.may_add(&list) {
+        return Err(Fail::from("no room, or listed twice"));
+    }
+    index.replace_two(i, j, list);
     Ok(())
 }
 

@@ -2,7 +2,7 @@
 
 use crate::making::{
     MEMBER, OTHER, ROOT, STREET, THIRD, Watched, all_releases, brought, day, index_of, made_rows,
-    spread,
+    places_of, put_in, spread,
 };
 use crate::{Chosen, Index, KeptRows, Listed, MAX_LISTS, ReadFault, RowReader, laws, read_all};
 use history_model::{StampedRow, plain};
@@ -242,6 +242,36 @@ fn lists_are_added_and_put_together(rt: HostRuntime) -> Result<(), Fail> {
     laws::places_of_lists();
     laws::lists_more();
     laws::lists_merged();
+    Ok(())
+}
+
+#[test]
+fn a_list_is_put_in_the_place_of_two(rt: HostRuntime) -> Result<(), Fail> {
+    let alloc = rt.alloc();
+    let lists = three_lists(alloc)?;
+    let date = day(20_210_731)?;
+    for (i, j, concept_at, member_at, left) in [
+        (0, 2, 1, 0, 20_210_131),
+        (0, 1, 1, 0, 20_200_731),
+        (1, 2, 0, 1, 20_200_131),
+    ] {
+        let mut index = index_of(alloc, &lists)?;
+        let members = brought(alloc, &made_rows(alloc)?, 1, 2)?;
+        let places = places_of(alloc, &members)?;
+        let count = places.len();
+        assert!(rt; Listed::may_list(&places));
+        put_in(&mut index, i, j, Listed::new(places))?;
+        assert_eq!(rt; index.lists(), 2);
+        assert!(rt; member_at < index.lists() && index.list(member_at).len() == count);
+        let (segment, at) = index
+            .picked(Kind::Concept, STREET, date, 3)
+            .ok_or("no concept")?;
+        assert_eq!(rt; (segment, at.key.time.value()), (concept_at, left));
+        let (segment, _) = index
+            .picked(Kind::Association, MEMBER + 3, date, 3)
+            .ok_or("no member")?;
+        assert_eq!(rt; segment, member_at);
+    }
     Ok(())
 }
 

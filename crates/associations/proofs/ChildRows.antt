@@ -57,7 +57,7 @@ module _ (lists : List (List StampedRow)) (are : ArePlaces (map places_of lists)
   module _ (ids : List ℕ) (a : AreSources lists date pin concept (numbered 0 (links_in edges)) ids) where
     to_children : (id : ℕ) → Has ids id → Has sources id
     to_children id h =
-        let w = a.only id h in
+        let w = a.1.only id (a.2.only id h) in
         let x = w.0 in
         let s = w.3.0 in
         let post = posts x w.1 in
@@ -81,10 +81,10 @@ module _ (lists : List (List StampedRow)) (are : ArePlaces (map places_of lists)
         let now = current_where lists are date pin n.0 l.at post.0 row post.1 f.0 g.2 in
         let dest : l.destination ≡ concept = dest_of l.destination concept post.0.row post.2.says (subst (λ (z : Version). is_child_of concept z ≡ true) now.0 t.0) in
         let id_is : l.source ≡ id = sym post.2.source_is ∙ ap (λ (z : Version). source_of z.body) (sym now.0) ∙ m.2 in
-        subst (λ k. Has ids k) id_is (number_there ids l.source (a.taken (n.0, l) n.1 dest now.1))
+        subst (λ k. Has ids k) id_is (number_there ids l.source (a.2.there l.source (a.1.taken (n.0, l) n.1 dest now.1)))
 
     pub children_from_sources : ids ≡ children_among (link_keys edges) concept date (shown lists are date pin)
     unfolding children_among
-    children_from_sources = same_ascending nat_cmp_total ids (in_order nat_cmp sources) a.ascending (IsAscending-in_order nat_cmp_total sources)
+    children_from_sources = same_ascending nat_cmp_total ids (in_order nat_cmp sources) a.2.ascending (IsAscending-in_order nat_cmp_total sources)
         (λ id h. Has-put_all_new nat_cmp sources [] id (λ y there tie. sym (ranked id y Equal (sym tie))) (to_children id h))
         (λ id h. elim (Has-put_all_cases nat_cmp sources [] id h) [ inl l ↦ from_children id l | inr r ↦ absurd r ])

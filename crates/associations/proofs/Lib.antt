@@ -1,8 +1,6 @@
-pub mod Searched
 pub mod Numbering
 pub mod Collected
 pub mod Ranked
 pub mod ChildRows
 pub mod ReplacingRows
 pub mod Posted
-pub mod Apart

@@ -2,12 +2,13 @@
 use Rattle.std.proofs.Common.{◌≡◌, ℕ, ◌+◌, ◌<◌, true, false, List, [], ◌∷◌, ◌++◌, length, get_or, take, drop, map, sym, ap, subst, inl, inr, ◌∙◌, arith, take-append-drop, append-nil, append_assoc}
 use Rattle.std.specs.Prelude.{nat_lt, nat_le}
 use Rattle.std.proofs.lemmas.Bool.Decides.{nat_tests}
-use Rattle.std.proofs.lemmas.List.{take_more, length-take, length-map}
+use Rattle.std.proofs.lemmas.List.{length-take, length-map}
 use Rattle.history_model.specs.InOrder.{Has, joined}
 use Rattle.history_model.proofs.InOrder.{Has-all, Has-append_left, Has-append_right, Has-append_cases}
 use Rattle.history_model.proofs.Filtered.{Has-map, Has-map_from}
 use Rattle.as_of_index.specs.Search.{SplitsAt}
 use Rattle.as_of_index.specs.Postings.{numbered}
+use Rattle.as_of_index.proofs.Apart.{one_more}
 use Rattle.as_of_index.proofs.Current.{map-push}
 
 -- ---- those of d stand between those of lower and those of higher numbers
@@ -39,9 +40,6 @@ module _ {X : Type 0} (of : X → ℕ) (list : List X) (d first count : ℕ) (lo
   ]
 
 -- ---- one list more
-
-pub one_more : {X : Type 0} (xs : List X) (i : ℕ) (x : X) → i < length xs → x ≡ get_or xs i x → take (i + 1) xs ≡ take i xs ++ x ∷ []
-one_more xs i x lt is = take_more xs i x lt ∙ ap (λ y. take i xs ++ y ∷ []) (sym is)
 
 abbrev pub in_list : {X : Type 0} → ℕ → List X → List (ℕ × X)
 in_list n xs = map (λ x. (n, x)) xs

@@ -72,7 +72,7 @@ module _ (lists : List (List StampedRow)) (are : ArePlaces (map places_of lists)
   module _ (kept : List Chosen) (a : AreRanked lists date pin d (numbered 0 (references_in edges)) kept) where
     posted_of : (k : Chosen) → Has kept k → IsPosted k
     posted_of k h =
-        let w = a.only k h in
+        let w = a.1.only k (a.2.only k h) in
         let p = posts w.0 w.1 in
         record {
           r = w.0.1;
@@ -87,7 +87,7 @@ module _ (lists : List (List StampedRow)) (are : ArePlaces (map places_of lists)
         }
 
     each_current : AllCurrent lists date pin kept
-    each_current k h = let w = a.only k h in subst (λ (j : Chosen). IsCurrentAt lists date pin j.segment j.at) w.4 w.3
+    each_current k h = let w = a.1.only k (a.2.only k h) in subst (λ (j : Chosen). IsCurrentAt lists date pin j.segment j.at) w.4 w.3
 
     said : (k : Chosen) (s : StampedRow) → (h : Has kept k) → StandsAt lists k.segment k.at s → IsReferenceOf (posted_of k h).r s.row
     said k s h w = let p = posted_of k h in subst (λ (z : StampedRow). IsReferenceOf p.r z.row) (one_row lists are k.segment k.segment k.at k.at p.s s p.stands w refl) p.says
@@ -128,7 +128,7 @@ module _ (lists : List (List StampedRow)) (are : ArePlaces (map places_of lists)
         let refers = (both row.active (refers_to d row.body) t.0).1 in
         let refers_post : refers_to g.0.referenced row.body ≡ true = subst (λ (z : Version). refers_to g.0.referenced z.body ≡ true) (sym now.0) (both post.0.row.active (refers_to g.0.referenced post.0.row.body) post.2.says).1 in
         let kind : kind_of row ≡ kinds.Association = associated d row row.body refl refers in
-        let w = a.taken (n.0, g.0) n.1 (refers_dest g.0.referenced d row.body refers_post refers) now.1 in
+        let w = a.2.there (ranked n.0 g.0) (a.1.taken (n.0, g.0) n.1 (refers_dest g.0.referenced d row.body refers_post refers) now.1) in
         let j = w.0 in
         let v = for_row lists date pin kept each_current j w.1 in
         let keys = (standing_row lists are j.segment j.at v.0 v.1).1 in
@@ -143,7 +143,7 @@ module _ (lists : List (List StampedRow)) (are : ArePlaces (map places_of lists)
         subst (λ z. Has found_rows z) same v.3
 
     rows_ascend : IsAscending replacement_cmp found_rows
-    rows_ascend = ascending_rows_for lists date pin replacement_cmp ranked_cmp kept each_current (λ j k s t g h v w less. rank_is j k s t g h v w ∙ less) a.ascending
+    rows_ascend = ascending_rows_for lists date pin replacement_cmp ranked_cmp kept each_current (λ j k s t g h v w less. rank_is j k s t g h v w ∙ less) a.2.ascending
 
     -- of those that count no two have one rank
     one_of_rank : (x y : Version) → Has wanted x → Has wanted y → replacement_cmp x y ≡ Equal → y ≡ x

@@ -1,18 +1,17 @@
 //! The children that the posted links say.
 
-ghost use Rattle.std.specs.Prelude.{◌≡◌, ◌↔◌, ◌≤◌, List, length, IfOk, IfErr, OnOk};
+ghost use Rattle.std.specs.Prelude.{◌≡◌, ◌↔◌, List, IfOk, OnOk};
 ghost use Rattle.std.specs.List.Sorted.{IsNonDecreasingBy};
 ghost use Rattle.std.specs.Ordering.{nat_cmp};
 ghost use Rattle.history_model.specs.declared.stamped.StampedRow.{StampedRow};
-ghost use Rattle.history_model.specs.InOrder.{Has, IsAscending, put};
-ghost use Rattle.history_model.specs.Searches.{IsPlace};
+ghost use Rattle.history_model.specs.InOrder.{Has};
 ghost use Rattle.history_model.specs.History.{rows_at};
 ghost use Rattle.history_model.specs.Lists.{listed};
 ghost use Rattle.as_of_index.specs.Places.{Lists};
 ghost use Rattle.as_of_index.specs.Postings.{numbered};
 ghost use Rattle.associations.specs.Edges.{links_in};
 ghost use Rattle.associations.specs.Children.{PostsLinks, link_keys, children_among};
-ghost use Rattle.associations.specs.Collecting.{TakesLinks, AreSources};
+ghost use Rattle.associations.specs.Collecting.{TakesLinks, AreOnce, AreSources};
 
 use crate::links::Links;
 use crate::postings::{Link, Sealed};
@@ -31,24 +30,6 @@ fn links_to(list: &[Link], destination: u64) -> &[Link]
     &rest[..count]
 }
 
-/// Where a number is, or else the place at which it is to be inserted.
-fn place_for(ids: &[u64], id: u64) -> Result<usize, usize>
-    ensures within { IfErr result (λ place. place ≤ length ids.now) }
-    ensures found { IsAscending nat_cmp ids.now → IsPlace nat_cmp id ids.now result }
-{
-    ids.binary_search(&id)
-}
-
-fn put(ids: &mut Vec<u64>, id: u64) -> Result<(), AllocError>
-    ensures { OnOk result (IsAscending nat_cmp ids.old.items
-        → ids.new.items ≡ put nat_cmp id ids.old.items) }
-{
-    if let Err(place) = place_for(ids, id) {
-        ids.insert(place, id)?;
-    }
-    Ok(())
-}
-
 /// Adds the sources of those links that are current.
 fn add_sources(
     ids: &mut Vec<u64>,
@@ -59,15 +40,22 @@ fn add_sources(
     pin: u32,
 ) -> Result<(), AllocError>
     ensures { OnOk result ((lists : List (List StampedRow)) → Lists index.now lists
-        → IsAscending nat_cmp ids.old.items
         → TakesLinks lists time pin segment links.now ids.old.items ids.new.items) }
 {
     for link in links {
         if index.is_current(segment, link.at, time, pin) {
-            put(ids, link.source)?;
+            ids.push(link.source)?;
         }
     }
     Ok(())
+}
+
+/// Each number once, ascending. It takes no memory.
+fn sort_once(ids: &mut Vec<u64>)
+    ensures { AreOnce nat_cmp ids.old.items ids.new.items }
+{
+    ids.sort_unstable();
+    ids.dedup();
 }
 
 /// The distinct sources of the current links to a destination, ascending.
@@ -87,11 +75,13 @@ fn sources(
         let those = links_to(list.links(), destination);
         add_sources(&mut ids, those, segment, index, time, pin)?;
     }
+    sort_once(&mut ids);
     Ok(ids)
 }
 
-/// The distinct sources of active "is a" relationships to the concept at the date, ascending, of the
-/// rows that the pin shows and of the versions that are posted. It reads no row.
+/// The distinct sources of active "is a" relationships to the concept at the date, ascending, of
+/// the rows that the pin shows and of the versions that are posted. It reads no row: each posted
+/// link to the concept costs a bisection a list, and those that count are sorted at the end.
 pub fn children(
     alloc: Global,
     links: &Links,
@@ -100,7 +90,8 @@ pub fn children(
     time: EffectiveTime,
     pin: u32,
 ) -> Result<Vec<u64>, AllocError>
-    // Whatever lists of rows they are that the index lists the places of, and the links post rows of.
+    // Whatever lists of rows they are that the index lists the places of, and the links post rows
+    // of.
     ensures found { IfOk result (λ ids. (lists : List (List StampedRow)) → Lists index.now lists
         → PostsLinks lists links.now
         → ids.items ≡ children_among (link_keys links.now) concept time

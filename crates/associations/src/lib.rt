@@ -2,8 +2,8 @@
 //! and a pin.
 //!
 //! Active relationships and associations are posted as rows are written, each with its place. A
-//! posting is a candidate: it counts only where the index picks that very version at the date and the
-//! pin.
+//! posting is a candidate: it counts only where the index picks that very version at the date and
+//! the pin.
 #![tactic(auto)]
 
 mod hierarchy;

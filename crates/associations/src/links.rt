@@ -1,13 +1,12 @@
 //! The sealed postings of the segments of a store.
 
 ghost use Rattle.std.specs.Prelude.{◌≡◌, ◌<◌, ◌++◌, ◌∷◌, [], length, slice_set, remove, IfOk};
+ghost use Rattle.as_of_index.specs.Places.{max_lists};
 
 use crate::postings::Sealed;
+use as_of_index::MAX_LISTS;
 use std::alloc::{AllocError, Global};
 use std::marker::Model;
-
-/// How many lists there may be.
-const MOST_LISTS: usize = 128;
 
 /// The postings of several segments, in the order of the index's lists.
 #[derive(Drop)]
@@ -17,21 +16,22 @@ pub struct Links {
 
 impl Model for Links {
     ghost use Rattle.std.specs.Prelude.{List, vec_capacity, ◌≤◌};
+    ghost use Rattle.as_of_index.specs.Places.{max_lists};
     ghost use Rattle.associations.specs.Edges.{Edges};
 
     ghost Value = { List Edges };
 
     ghost view = { λ a. a.lists.items };
 
-    ghost invariant = { λ a. 128 ≤ vec_capacity a.lists };
+    ghost invariant = { λ a. max_lists ≤ vec_capacity a.lists };
 }
 
 impl Links {
-    /// No lists, with room for the 128 that there may be.
+    /// No lists, with room for all that there may be.
     pub fn new(alloc: Global) -> Result<Links, AllocError>
         ensures { IfOk result (λ links. links ≡ []) }
     {
-        let lists = Vec::with_capacity(alloc, MOST_LISTS)?;
+        let lists = Vec::with_capacity(alloc, MAX_LISTS)?;
         Ok(Links { lists })
     }
 
@@ -44,7 +44,7 @@ impl Links {
 
     /// Adds a list as the last. It takes no memory.
     pub fn add(&mut self, list: Sealed)
-        requires { length self.old < 128 }
+        requires { length self.old < max_lists }
         ensures { self.new ≡ self.old ++ list ∷ [] }
     {
         let Ok(()) = self.lists.push(list) else {

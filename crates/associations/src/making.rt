@@ -1,19 +1,12 @@
 //! Rows, and indexes and postings of them, for tests.
 
-ghost use Rattle.std.specs.Prelude.{◌≡◌, ◌↔◌, ◌++◌, ◌∷◌, [], All, IsTrue};
-ghost use Rattle.std.specs.declared.cmp.Ordering.TheVariants.{Less};
-ghost use Rattle.history_model.specs.InOrder.{IsAscending};
-ghost use Rattle.as_of_index.specs.Places.{place_cmp, ArePlaces};
-
 use crate::{Links, Postings, Sealed};
-use as_of_index::{Index, Listed, ReadFault, RowReader};
+use as_of_index::{Index, Listed, MAX_LISTS, ReadFault, RowReader};
 use fault_counts::raised;
 use history_model::StampedRow;
 use rf2_values::{Association, Body, Concept, EffectiveTime, Relationship, Row, Sctid};
 use segment::Posted;
 use std::alloc::Global;
-use std::cmp::Ordering;
-use std::process::Abort;
 use std::test::Fail;
 
 const CORE: u64 = 900_000_000_000_207_008;
@@ -97,15 +90,20 @@ pub(crate) fn association(
     row(member, time, active, body)
 }
 
-/// The id of a relationship, by a number from 100 on.
-pub(crate) fn relationship_id(number: u32) -> Result<u128, Fail> {
-    let front = u64::from(number) * 1000 + 20;
+/// The id of a concept (0) or a relationship (2), by a number from 100 on.
+pub(crate) fn numbered(number: u32, partition: u8) -> Result<u64, Fail> {
+    let front = u64::from(number) * 1000 + u64::from(partition) * 10;
     for digit in 0..10u64 {
         if let Some(id) = Sctid::of(front + digit) {
-            return Ok(u128::from(id.value()));
+            return Ok(id.value());
         }
     }
     Err(Fail::from("no check digit"))
+}
+
+/// The id of a relationship, by a number from 100 on.
+pub(crate) fn relationship_id(number: u32) -> Result<u128, Fail> {
+    Ok(u128::from(numbered(number, 2)?))
 }
 
 /// The rows that some of the imports brought, as a list.
@@ -125,7 +123,7 @@ pub(crate) fn brought(
 }
 
 /// Where the rows of a list stand.
-fn places_of(alloc: Global, rows: &[StampedRow]) -> Result<Vec<Posted>, Fail> {
+pub(crate) fn places_of(alloc: Global, rows: &[StampedRow]) -> Result<Vec<Posted>, Fail> {
     let mut places = Vec::new(alloc);
     let mut at = 0u32;
     for stamped in rows {
@@ -136,82 +134,23 @@ fn places_of(alloc: Global, rows: &[StampedRow]) -> Result<Vec<Posted>, Fail> {
     Ok(places)
 }
 
-fn is_lower(a: &Posted, b: &Posted) -> bool
-    ensures { IsTrue result ↔ (place_cmp a.now b.now ≡ Less) }
-{
-    match a.key.compare(&b.key) {
-        Ordering::Less => true,
-        Ordering::Equal | Ordering::Greater => false,
+fn add_places(index: &mut Index, places: Vec<Posted>) -> Result<(), Fail> {
+    if !Listed::may_list(&places) {
+        return Err(Fail::from("not in order"));
     }
-}
-
-fn are_lower(places: &[Posted], place: &Posted) -> bool
-    ensures { IsTrue result ↔ All (λ p. place_cmp p place.now ≡ Less) places.now }
-{
-    places.iter().all(|p| is_lower(p, place))
-}
-
-/// Whether the places ascend.
-fn are_ascending(places: &[Posted]) -> bool
-    ensures { IsTrue result → IsAscending place_cmp places.now }
-{
-    for (i, place) in places.iter().enumerate() {
-        if !are_lower(&places[..i], place) {
-            return false;
-        }
-    }
-    true
-}
-
-fn differ(a: &Posted, b: &Posted) -> bool
-    ensures { IsTrue result ↔ (a.now.key ≡ b.now.key → ⊥) }
-{
-    a.key != b.key
-}
-
-fn is_apart(place: &Posted, others: &[Posted]) -> bool
-    ensures { IsTrue result ↔ All (λ q. place.now.key ≡ q.key → ⊥) others.now }
-{
-    others.iter().all(|other| differ(place, other))
-}
-
-/// Whether no key is in both.
-fn share_no_key(a: &[Posted], b: &[Posted]) -> bool
-    ensures { IsTrue result ↔ All (λ p. All (λ q. p.key ≡ q.key → ⊥) b.now) a.now }
-{
-    a.iter().all(|place| is_apart(place, b))
-}
-
-/// Whether no key of the list is in the index.
-fn fits(index: &Index, list: &Listed) -> bool
-    ensures { IsTrue result → ArePlaces (index.now ++ list.now ∷ []) }
-{
-    let new = list.places();
-    for i in 0..index.lists() {
-        if !share_no_key(index.list(i), new) {
-            return false;
-        }
-    }
-    true
-}
-
-fn add_places(rt: &impl Abort, index: &mut Index, places: Vec<Posted>) {
-    assert!(rt; index.lists() < 128);
-    assert!(rt; are_ascending(&places));
     let list = Listed::new(places);
-    assert!(rt; fits(index, &list));
+    if !index.may_add(&list) {
+        return Err(Fail::from("no room, or listed twice"));
+    }
     index.add(list);
+    Ok(())
 }
 
 /// The index of some lists of rows.
-pub(crate) fn index_of(
-    rt: &impl Abort,
-    alloc: Global,
-    lists: &[Vec<StampedRow>],
-) -> Result<Index, Fail> {
+pub(crate) fn index_of(alloc: Global, lists: &[Vec<StampedRow>]) -> Result<Index, Fail> {
     let mut index = Index::new(alloc)?;
     for rows in lists {
-        add_places(rt, &mut index, places_of(alloc, rows)?);
+        add_places(&mut index, places_of(alloc, rows)?)?;
     }
     Ok(index)
 }
@@ -226,20 +165,19 @@ pub(crate) fn postings_of(alloc: Global, rows: &[StampedRow]) -> Result<Postings
     Ok(postings)
 }
 
-fn add_list(rt: &impl Abort, links: &mut Links, list: Sealed) {
-    assert!(rt; links.lists() < 128);
+fn add_list(links: &mut Links, list: Sealed) -> Result<(), Fail> {
+    if links.lists() >= MAX_LISTS {
+        return Err(Fail::from("no room"));
+    }
     links.add(list);
+    Ok(())
 }
 
 /// The postings of some lists of rows.
-pub(crate) fn links_of(
-    rt: &impl Abort,
-    alloc: Global,
-    lists: &[Vec<StampedRow>],
-) -> Result<Links, Fail> {
+pub(crate) fn links_of(alloc: Global, lists: &[Vec<StampedRow>]) -> Result<Links, Fail> {
     let mut links = Links::new(alloc)?;
     for rows in lists {
-        add_list(rt, &mut links, postings_of(alloc, rows)?.seal());
+        add_list(&mut links, postings_of(alloc, rows)?.seal())?;
     }
     Ok(links)
 }

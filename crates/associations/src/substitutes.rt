@@ -1,10 +1,10 @@
 //! What stands in the place of a component, as the posted associations say.
 
-ghost use Rattle.std.specs.Prelude.{◌≡◌, ◌≢◌, ◌↔◌, ◌≤◌, List, length, IfOk, IfErr, OnOk};
+ghost use Rattle.std.specs.Prelude.{◌≡◌, ◌≢◌, ◌↔◌, List, IfOk, IfErr, OnOk};
 ghost use Rattle.std.specs.List.Sorted.{IsNonDecreasingBy};
+ghost use Rattle.std.specs.Ordering.{eq_by_cmp};
 ghost use Rattle.history_model.specs.declared.stamped.StampedRow.{StampedRow};
-ghost use Rattle.history_model.specs.InOrder.{Has, IsAscending, put};
-ghost use Rattle.history_model.specs.Searches.{IsPlace};
+ghost use Rattle.history_model.specs.InOrder.{Has};
 ghost use Rattle.history_model.specs.History.{rows_at};
 ghost use Rattle.history_model.specs.Lists.{listed};
 ghost use Rattle.as_of_index.specs.Places.{Lists};
@@ -15,7 +15,7 @@ ghost use Rattle.as_of_index.specs.Reader.{CountsDiskFault, CountsDamage};
 ghost use Rattle.as_of_index.specs.declared.reader.ReadFault.TheVariants as readfault;
 ghost use Rattle.associations.specs.Edges.{references_in};
 ghost use Rattle.associations.specs.Replacements.{PostsReferences, reference_keys, replacements_among};
-ghost use Rattle.associations.specs.Collecting.{ranked, TakesReferences, AreRanked};
+ghost use Rattle.associations.specs.Collecting.{ranked, TakesReferences, AreOnce, AreRanked};
 
 use crate::links::Links;
 use crate::postings::{Reference, Sealed};
@@ -53,22 +53,18 @@ fn rank(a: &Chosen, b: &Chosen) -> Ordering
     a.refset.cmp(&b.refset).then(a.target.cmp(&b.target).then(a.at.key.id.cmp(&b.at.key.id)))
 }
 
-/// Where one of the same rank stands, or else the place at which it is to be inserted.
-fn place_for(kept: &[Chosen], k: &Chosen) -> Result<usize, usize>
-    ensures within { IfErr result (λ place. place ≤ length kept.now) }
-    ensures found { IsAscending ranked_cmp kept.now → IsPlace ranked_cmp k.now kept.now result }
+fn is_same_rank(a: &Chosen, b: &Chosen) -> bool
+    ensures { result ≡ eq_by_cmp ranked_cmp a.now b.now }
 {
-    kept.binary_search_by(|other| rank(other, k))
+    rank(a, b).is_eq()
 }
 
-fn put(kept: &mut Vec<Chosen>, segment: usize, r: &Reference) -> Result<(), AllocError>
-    ensures { OnOk result (IsAscending ranked_cmp kept.old.items
-        → kept.new.items ≡ put ranked_cmp (ranked segment r.now) kept.old.items) }
+/// One of each rank, ascending. It takes no memory.
+fn sort_once(kept: &mut Vec<Chosen>)
+    ensures { AreOnce ranked_cmp kept.old.items kept.new.items }
 {
-    if let Err(place) = place_for(kept, &chosen(segment, r)) {
-        kept.insert(place, chosen(segment, r))?;
-    }
-    Ok(())
+    kept.sort_unstable_by(|a, b| rank(a, b));
+    kept.dedup_by(|a, b| is_same_rank(a, b));
 }
 
 /// Adds those that are current.
@@ -81,12 +77,11 @@ fn add_references(
     pin: u32,
 ) -> Result<(), AllocError>
     ensures { OnOk result ((lists : List (List StampedRow)) → Lists index.now lists
-        → IsAscending ranked_cmp kept.old.items
         → TakesReferences lists time pin segment references.now kept.old.items kept.new.items) }
 {
     for r in references {
         if index.is_current(segment, r.at, time, pin) {
-            put(kept, segment, r)?;
+            kept.push(chosen(segment, r))?;
         }
     }
     Ok(())
@@ -109,6 +104,7 @@ fn chosen_all(
         let those = references_to(list.references(), referenced);
         add_references(&mut kept, those, segment, index, time, pin)?;
     }
+    sort_once(&mut kept);
     Ok(kept)
 }
 

@@ -1,11 +1,12 @@
 //! Answers that are known from outside, made histories beside the plain program, and readers that
 //! fail.
 
-ghost use Rattle.std.specs.Prelude.{◌<◌};
+ghost use Rattle.std.specs.Prelude.{◌<◌, ◌≤◌};
 
 use crate::making::{
     FINDING_SITE, IS_A, OTHER, REPLACED_BY, ROOT, SAME_AS, STREET, THIRD, Watched, association,
-    brought, concept, day, index_of, links_of, postings_of, relationship, relationship_id, sctid,
+    brought, concept, day, index_of, links_of, numbered, places_of, postings_of, relationship,
+    relationship_id, sctid,
 };
 use crate::{EdgeCount, Links, Postings, children, replacements};
 use as_of_index::{Index, KeptRows, ReadFault};
@@ -68,9 +69,9 @@ fn a_street_is_a_child_while_a_relationship_says_so(rt: HostRuntime) -> Result<(
     let alloc = rt.alloc();
     let lists = three_lists(alloc)?;
     assert!(rt; lists.len() == 3);
-    let index = index_of(&rt, alloc, &lists)?;
-    let posted = links_of(&rt, alloc, &lists)?;
-    let first = links_of(&rt, alloc, &lists[..1])?;
+    let index = index_of(alloc, &lists)?;
+    let posted = links_of(alloc, &lists)?;
+    let first = links_of(alloc, &lists[..1])?;
     let none = Links::new(alloc)?;
     for (links, pin, date, concept, want) in [
         (&posted, 0, 20_200_131, ROOT, None),
@@ -123,8 +124,8 @@ fn a_street_is_replaced_once_an_association_says_so(rt: HostRuntime) -> Result<(
     let alloc = rt.alloc();
     let lists = three_lists(alloc)?;
     assert!(rt; lists.len() == 3);
-    let index = index_of(&rt, alloc, &lists)?;
-    let posted = links_of(&rt, alloc, &lists)?;
+    let index = index_of(alloc, &lists)?;
+    let posted = links_of(alloc, &lists)?;
     let none = Links::new(alloc)?;
     for (links, asked, want) in [
         (&posted, (STREET, 20_210_131, 2), Some(MEMBER)),
@@ -159,8 +160,8 @@ fn replacements_stand_by_refset_then_target_then_member(rt: HostRuntime) -> Resu
     release.push(association(4, 20_210_131, true, SAME_AS, (OTHER, STREET))?)?;
     let rows = plain::after_release(alloc, 0, &[], &release)?;
     let lists = vec![in alloc; rows]?;
-    let index = index_of(&rt, alloc, &lists)?;
-    let links = links_of(&rt, alloc, &lists)?;
+    let index = index_of(alloc, &lists)?;
+    let links = links_of(alloc, &lists)?;
     let found = members(alloc, &links, &index, &lists, (STREET, LAST_DAY, 1))?;
     assert!(rt; found == vec![in alloc; 6, 2, 5, 9, 1, 7]?);
     Ok(())
@@ -226,8 +227,8 @@ fn compare(
     rows: &[StampedRow],
     lists: &[Vec<StampedRow>],
 ) -> Result<(usize, usize), Fail> {
-    let index = index_of(rt, alloc, lists)?;
-    let links = links_of(rt, alloc, lists)?;
+    let index = index_of(alloc, lists)?;
+    let links = links_of(alloc, lists)?;
     let mut below = 0usize;
     let mut instead = 0usize;
     for pin in 0..7u32 {
@@ -277,6 +278,71 @@ fn made_histories_in_several_lists(rt: HostRuntime) -> Result<(), Fail> {
     Ok(())
 }
 
+const CHILDREN: u32 = 3_000;
+
+/// A relationship to the root from each of many concepts, the greatest first.
+fn family(alloc: Global, first: u32) -> Result<Vec<StampedRow>, Fail>
+    requires { first ≤ 4000 }
+{
+    let mut rows = Vec::new(alloc);
+    for number in 0..CHILDREN {
+        let source = numbered(100 + CHILDREN - number, 0)?;
+        let id = relationship_id(first + number)?;
+        let row = relationship(id, 20_200_131, true, (source, ROOT), IS_A)?;
+        rows.push(StampedRow { row, import: 1 })?;
+    }
+    Ok(rows)
+}
+
+#[test]
+fn thousands_of_children_each_of_two_relationships(rt: HostRuntime) -> Result<(), Fail> {
+    let alloc = rt.alloc();
+    let lists = vec![in alloc; family(alloc, 100)?, family(alloc, 4_000)?]?;
+    let index = index_of(alloc, &lists)?;
+    let links = links_of(alloc, &lists)?;
+    let mut wanted = Vec::new(alloc);
+    for number in 1..=CHILDREN {
+        wanted.push(numbered(100 + number, 0)?)?;
+    }
+    let found = children(alloc, &links, &index, sctid(ROOT)?, day(LAST_DAY)?, 1)?;
+    assert!(rt; found == wanted);
+    Ok(())
+}
+
+/// The links and references of a list of rows, each of them posted twice.
+fn posted_twice(alloc: Global, rows: &[StampedRow]) -> Result<Links, Fail> {
+    let mut postings = Postings::new(alloc);
+    let places = places_of(alloc, rows)?;
+    for (stamped, place) in rows.iter().zip(places.iter()) {
+        postings.push(stamped, *place)?;
+        postings.push(stamped, *place)?;
+    }
+    let mut links = Links::new(alloc)?;
+    links.add(postings.seal());
+    Ok(links)
+}
+
+#[test]
+fn what_is_posted_twice_counts_once(rt: HostRuntime) -> Result<(), Fail> {
+    let alloc = rt.alloc();
+    let rows = made_rows(alloc)?;
+    let lists = vec![in alloc; rows]?;
+    assert!(rt; lists.len() == 1);
+    let index = index_of(alloc, &lists)?;
+    let once = links_of(alloc, &lists)?;
+    let twice = posted_twice(alloc, &lists[0])?;
+    for concept in CONCEPTS {
+        let id = sctid(concept)?;
+        let wanted = children(alloc, &once, &index, id, day(LAST_DAY)?, 6)?;
+        let found = children(alloc, &twice, &index, id, day(LAST_DAY)?, 6)?;
+        assert!(rt; found == wanted);
+        let asked = (concept, LAST_DAY, 6);
+        let wanted = members(alloc, &once, &index, &lists, asked)?;
+        assert!(rt; members(alloc, &twice, &index, &lists, asked)? == wanted);
+    }
+    Ok(())
+}
+
 #[test]
 fn as_many_lists_as_may_be(rt: HostRuntime) -> Result<(), Fail> {
     let alloc = rt.alloc();
@@ -287,9 +353,9 @@ fn as_many_lists_as_may_be(rt: HostRuntime) -> Result<(), Fail> {
         let row = relationship(id, 20_200_131, true, (source, ROOT), IS_A)?;
         lists.push(vec![in alloc; StampedRow { row, import: 1 }]?)?;
     }
-    let mut links = links_of(&rt, alloc, &lists)?;
+    let mut links = links_of(alloc, &lists)?;
     assert!(rt; lists.len() == 128 && links.lists() == 128);
-    let index = index_of(&rt, alloc, &lists)?;
+    let index = index_of(alloc, &lists)?;
     let found = children(alloc, &links, &index, sctid(ROOT)?, day(LAST_DAY)?, 1)?;
     assert!(rt; found == vec![in alloc; STREET, OTHER, THIRD]?);
 
@@ -306,7 +372,7 @@ fn postings_grow_and_are_cut(rt: HostRuntime) -> Result<(), Fail> {
     let alloc = rt.alloc();
     let lists = three_lists(alloc)?;
     assert!(rt; lists.len() == 3);
-    let index = index_of(&rt, alloc, &lists)?;
+    let index = index_of(alloc, &lists)?;
     let mut postings = postings_of(alloc, &lists[0])?;
     let none = EdgeCount {
         links: 0,
@@ -360,8 +426,8 @@ fn a_row_is_read_only_where_it_is_answered(rt: HostRuntime) -> Result<(), Fail> 
     let alloc = rt.alloc();
     let rows = made_rows(alloc)?;
     let lists = vec![in alloc; brought(alloc, &rows, 1, 3)?, brought(alloc, &rows, 4, 6)?]?;
-    let index = index_of(&rt, alloc, &lists)?;
-    let links = links_of(&rt, alloc, &lists)?;
+    let index = index_of(alloc, &lists)?;
+    let links = links_of(alloc, &lists)?;
     let there = members(alloc, &links, &index, &lists, (ROOT, LAST_DAY, 6))?.len() as u64;
     assert!(rt; there > 2, "{there} members");
     for (failing, fault) in [
@@ -401,9 +467,9 @@ fn what_does_not_fit_is_answered_or_refused(rt: HostRuntime) -> Result<(), Fail>
     let alloc = rt.alloc();
     let lists = three_lists(alloc)?;
     assert!(rt; lists.len() == 3);
-    let index = index_of(&rt, alloc, &lists)?;
-    let posted = links_of(&rt, alloc, &lists)?;
-    let shifted = links_of(&rt, alloc, &lists[1..])?;
+    let index = index_of(alloc, &lists)?;
+    let posted = links_of(alloc, &lists)?;
+    let shifted = links_of(alloc, &lists[1..])?;
     for (links, lists, want) in [
         (&posted, lists.as_slice(), Ok(1)),
         (&posted, &lists[..1], Err(ReadFault::Damaged)),

@@ -1,6 +1,10 @@
 //! Does one piece of work on a store in a file, for a driver that measures it (bench/measure.py). Without words it does nothing.
 #![tactic(auto)]
 
+mod decoding;
+mod merging;
+
+use crate::merging::{merge, merge_and_look_up, write_alike};
 use disk_model::FileDisk;
 use history_store::Store;
 use release_folder::read_folder;
@@ -9,11 +13,11 @@ use std::process::ExitCode;
 use std::rt::HostRuntime;
 use std::{env, fs};
 
-/// The store in a file.
-fn opened(rt: &HostRuntime, path: &str) -> Option<Store<FileDisk>> {
+/// The store in a file. It is boxed, so that a function which lets it go is proved without what a store is made of.
+fn opened(rt: &HostRuntime, path: &str) -> Option<Box<Store<FileDisk>>> {
     let disk = FileDisk::open(rt, path).ok()?;
     match Store::open(rt.alloc(), disk) {
-        Ok(store) => Some(store),
+        Ok(store) => Box::new(rt.alloc(), store).ok(),
         Err(_) => None,
     }
 }
@@ -132,10 +136,19 @@ fn run(rt: &HostRuntime) -> Option<()> {
             words.next()?.as_str(),
         )?,
         "open" => opened(rt, path.as_str())?.row_count(),
+        "decode" => decoding::open_and_decode(rt, path.as_str())?,
         "pages" => turn_pages(rt, path.as_str(), words.next()?.as_str())?,
         "terms" => search_terms(rt, path.as_str(), words.next()?.as_str())?,
         "children" => ask_children(rt, path.as_str(), words.next()?.as_str())?,
         "lookups" => look_up(rt, path.as_str(), words.next()?.as_str())?,
+        "merge" => merge(rt, path.as_str())?,
+        "beside" => merge_and_look_up(rt, path.as_str(), words.next()?.as_str())?,
+        "write" => write_alike(
+            rt,
+            path.as_str(),
+            words.next()?.as_str(),
+            words.next()?.as_str(),
+        )?,
         _ => return None,
     };
     println!(rt; "{count}").ok()

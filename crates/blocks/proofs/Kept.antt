@@ -6,7 +6,7 @@ use Rattle.std.proofs.lemmas.Bool.{eqb-true}
 use Rattle.std.proofs.Math.ListN.{drop_of_length-le}
 use Rattle.lru.specs.LruCache.{LruCache, lru_cache, promoted, put_entries}
 use Rattle.lru.proofs.CallerLemmas.{Contains-lookup_entry}
-use Rattle.blocks.specs.Cache.{block_of, count_of, kept_of, AgreesWith}
+use Rattle.blocks.specs.Cache.{block_of, count_of, kept_of, AgreesWith, KeepsRead}
 
 pub by_answer : {P : Type 0} (b : Bool) → (b ≡ true → P) → (b ≡ false → P) → P
 by_answer true p q = p refl
@@ -89,6 +89,10 @@ agrees_put (Ok x) file c d b v ok err agrees is = λ q w kept. elim (found-put c
   | inr was ↦ agrees q w was
 ]
 agrees_put (Err x) file c d b v ok err agrees is = subst (λ k. AgreesWith k file) (sym err) agrees
+
+pub put_keeps : {T E : Type 0} (r : Result T E) (c d : LruCache ℕ (List ℕ)) (b n : ℕ) (v : List ℕ) → OnOk r (d ≡ lru_cache (put_entries nat_eq c b v) c.cap) → OnErr r (d ≡ c) → n ≡ 4096 → KeepsRead b v n c d
+put_keeps (Ok x) c d b n v ok err whole = inr (whole, ok)
+put_keeps (Err x) c d b n v ok err whole = inl err
 
 -- ---- what a read of a block gives
 

@@ -35,11 +35,13 @@ pub record IsFit (blocks : ℕ) (extents : List Extent) (first : ℕ) : Type 0 w
 
 -- the fit is the least place that is free
 abbrev pub FitIsLeast : Type 0
-FitIsLeast = (blocks : ℕ) (live : List Entry) (reserved : Option Extent) (first : ℕ) → (fit blocks live reserved ≡ Some first) ↔ IsFit blocks (taken live reserved) first
+FitIsLeast = (blocks : ℕ) (live : List Entry) (reserved : Option Extent) (first : ℕ)
+    → (fit blocks live reserved ≡ Some first) ↔ IsFit blocks (taken live reserved) first
 
 -- there is no fit exactly where no place is free
 abbrev pub NoFitIsFull : Type 0
-NoFitIsFull = (blocks : ℕ) (live : List Entry) (reserved : Option Extent) → (fit blocks live reserved ≡ None) ↔ ((first : ℕ) → IsFree blocks (taken live reserved) first → ⊥)
+NoFitIsFull = (blocks : ℕ) (live : List Entry) (reserved : Option Extent)
+    → (fit blocks live reserved ≡ None) ↔ ((first : ℕ) → IsFree blocks (taken live reserved) first → ⊥)
 
 -- an extent at the fit for its blocks shares no block and no byte with one that is taken
 abbrev pub FitIsApart : Type 0

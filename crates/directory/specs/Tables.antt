@@ -1,4 +1,4 @@
--- Entries one behind the other.
+-- Entries one behind the other: a word of the private functions that read a content block.
 use Rattle.std.specs.Prelude.{◌≡◌, ℕ, List, ◌++◌, length}
 use Rattle.std.specs.List.{AllByRecursion, flat_map}
 use Rattle.directory.specs.declared.entry.Entry.{Entry}

@@ -48,7 +48,8 @@ pub(crate) struct Header {
 /// The header in front of a content block, and the bytes behind it.
 pub(crate) fn split_header(block: &[u8]) -> Option<(Header, &[u8])>
     requires { 32 ≤ length block.now }
-    ensures found { IfSome result (λ r. block.now ≡ header_bytes r.0.epoch r.0.imports r.0.count ++ r.1.now) }
+    ensures found { IfSome result (λ r. block.now
+        ≡ header_bytes r.0.epoch r.0.imports r.0.count ++ r.1.now) }
     ensures epoch { IfSome result (λ r. 1 ≤ r.0.epoch) }
     ensures epoch_fits { IfSome result (λ r. r.0.epoch < 2 ^ 64) }
     ensures imports_fit { IfSome result (λ r. r.0.imports < 2 ^ 32) }
@@ -79,7 +80,8 @@ fn split_entry(bytes: &[u8]) -> Option<(Entry, &[u8])>
     requires { 16 ≤ length bytes.now }
     ensures found { IfSome result (λ r. bytes.now ≡ entry_bytes r.0 ++ r.1.now) }
     ensures allowed { IfSome result (λ r. IsEntry r.0) }
-    ensures only { IfNone result ((entry : Entry) (rest : List ℕ) → IsEntry entry → bytes.now ≡ entry_bytes entry ++ rest → ⊥) }
+    ensures only { IfNone result ((entry : Entry) (rest : List ℕ) → IsEntry entry
+        → bytes.now ≡ entry_bytes entry ++ rest → ⊥) }
 {
     let (first, rest) = split_u32(bytes);
     let (bytes, rest) = split_u32(rest);
@@ -103,7 +105,8 @@ pub(crate) fn read_entries(
     requires there { 16 * count ≤ length bytes.now }
     ensures found { IfOk result (λ entries. IsTable bytes.now count entries.items) }
     ensures room { IfOk result (λ entries. most_entries ≤ vec_capacity entries) }
-    ensures only { IsErrOf result DirectoryFault.BadDirectory → (entries : List Entry) → IsTable bytes.now count entries → ⊥ }
+    ensures only { IsErrOf result DirectoryFault.BadDirectory → (entries : List Entry)
+        → IsTable bytes.now count entries → ⊥ }
 {
     let mut entries = Vec::with_capacity(alloc, MOST_ENTRIES)?;
     let mut rest = bytes;

@@ -1,4 +1,4 @@
-ghost use Rattle.std.specs.Prelude.{◌≡◌, ◌↔◌, ◌<◌, ◌^◌};
+ghost use Rattle.std.specs.Prelude.{◌≡◌, ◌↔◌};
 
 use blocks::{BLOCK_LIMIT, Extent};
 
@@ -38,16 +38,6 @@ impl Entry {
         self.first >= DATA_START
             && self.bytes > 0
             && self.rows > 0
-            && end_of(self.extent()) <= u64::from(BLOCK_LIMIT)
+            && self.extent().end() <= u64::from(BLOCK_LIMIT)
     }
-}
-
-ghost use Rattle.directory.specs.Places.{end_block};
-
-/// The block behind an extent's last one.
-pub(crate) fn end_of(extent: Extent) -> u64
-    ensures end { result ≡ end_block extent }
-    ensures fits { result < 2 ^ 33 }
-{
-    u64::from(extent.first) + u64::from(extent.blocks())
 }

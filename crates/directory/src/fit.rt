@@ -3,7 +3,7 @@ ghost use Rattle.std.specs.List.{find};
 ghost use Rattle.directory.specs.Places.{taken};
 ghost use Rattle.directory.specs.Fit.{fit, meets, IsFit, IsFree};
 
-use crate::entry::{DATA_START, Entry, end_of};
+use crate::entry::{DATA_START, Entry};
 use blocks::{BLOCK_LIMIT, Extent};
 use thiserror::Error;
 
@@ -17,7 +17,7 @@ fn is_met(first: u64, blocks: u64, extent: Extent) -> bool
     requires { first + blocks < 2 ^ 64 }
     ensures { result ≡ meets first blocks extent }
 {
-    first.max(u64::from(extent.first)) < (first + blocks).min(end_of(extent))
+    first.max(u64::from(extent.first)) < (first + blocks).min(extent.end())
 }
 
 /// An extent that is taken and has one of so many blocks from `first` on.
@@ -44,15 +44,18 @@ pub(crate) fn extent_met(
 
 /// The least place where a segment of so many blocks shares no block with those that are live or reserved.
 pub fn first_fit(blocks: u32, live: &[Entry], reserved: Option<Extent>) -> Result<u32, Full>
-    ensures fit { MatchResult result (λ first. fit blocks live.now reserved ≡ Some first) (λ _. fit blocks live.now reserved ≡ None) }
+    ensures fit { MatchResult result
+        (λ first. fit blocks live.now reserved ≡ Some first)
+        (λ _. fit blocks live.now reserved ≡ None) }
     ensures least { IfOk result (IsFit blocks (taken live.now reserved)) }
-    ensures full { IsErr result ↔ ((first : ℕ) → IsFree blocks (taken live.now reserved) first → ⊥) }
+    ensures full { IsErr result
+        ↔ ((first : ℕ) → IsFree blocks (taken live.now reserved) first → ⊥) }
 {
     let count = u64::from(blocks);
     let mut first = u64::from(DATA_START);
     // Each round passes the end of an extent that it never meets again.
     'jumps: while let Some(extent) = extent_met(first, count, live, reserved) {
-        first = end_of(extent);
+        first = extent.end();
     }
     if first + count <= u64::from(BLOCK_LIMIT) {
         Ok(first as u32)

@@ -27,7 +27,10 @@ impl Model for Directory {
 
     ghost view = { λ d. record { epoch = d.epoch; imports = d.imports; entries = d.entries.items } };
 
-    ghost invariant = { λ d. record { is : IsListing (record { epoch = d.epoch; imports = d.imports; entries = d.entries.items }); room : most_entries ≤ vec_capacity d.entries } };
+    ghost invariant = { λ d. record {
+      is : IsListing (record { epoch = d.epoch; imports = d.imports; entries = d.entries.items });
+      room : most_entries ≤ vec_capacity d.entries;
+    } };
 }
 
 /// Why a content block gives no directory.
@@ -35,6 +38,8 @@ impl Model for Directory {
 pub enum DirectoryFault {
     #[error("out of memory")]
     OutOfMemory,
+    /// Epoch 0, another mark, another byte where zeros stand, more entries than there may be, an entry of no bytes or
+    /// no rows, one among the slots or above the last block, or two that share a block.
     #[error("the block lists no directory")]
     BadDirectory,
 }
@@ -84,7 +89,8 @@ impl Directory {
     pub fn decode(alloc: Global, block: &[u8; 4096]) -> Result<Directory, DirectoryFault>
         ensures found { IfOk result (λ d. Lists block.now d) }
         // A block that lists something is never refused as bad.
-        ensures only { (d : Listing) → Lists block.now d → MatchResult result (λ found. found ≡ d) (λ e. e ≡ faults.OutOfMemory) }
+        ensures only { (d : Listing) → Lists block.now d
+            → MatchResult result (λ found. found ≡ d) (λ e. e ≡ faults.OutOfMemory) }
     {
         let Some((header, rest)) = split_header(block) else {
             return Err(DirectoryFault::BadDirectory);
@@ -100,7 +106,8 @@ impl Directory {
     /// Writes the content block that lists it.
     pub fn encode(&self, block: &mut [u8; 4096])
         ensures lists { Lists block.new self.now }
-        ensures bytes { block.new ≡ listing_bytes self.now ++ replicate (4096 - length (listing_bytes self.now)) 0 }
+        ensures bytes { block.new ≡ listing_bytes self.now
+            ++ replicate (4096 - length (listing_bytes self.now)) 0 }
     {
         block.fill(0);
         write_header(block, self.epoch, self.imports, self.entries.len() as u32);

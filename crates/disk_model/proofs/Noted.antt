@@ -42,6 +42,13 @@ failed (Err e) (Ok y) first first_2 first_3 old mid new (FateFails part) change 
     let s = (replayed (made first) old).state in
     inr (after_change s (change (FateFails part)), may s part (memory_image first old), one_more first first_3 old new (change (FateFails part)) (same.0 ∙ firsts) (same.1 ∙ is))
 
+-- a call that wasn't to fail and did so for want of memory
+pub unmade : {T E T_2 E_2 : Type 0} (result : Result T E) (noted : Result T_2 E_2) (old mid new : List Change) (fate : Fate)
+    → OnErr result (IsOk noted → ¬ (fate ≡ Passes)) → OnErr noted (mid ≡ old) → new ≡ mid → fate ≡ Passes → OnErr result (new ≡ old)
+unmade (Ok x) noted old mid new fate why stays same passes = tt
+unmade (Err e) (Err y) old mid new fate why stays same passes = same ∙ stays
+unmade (Err e) (Ok y) old mid new fate why stays same passes = absurd (why refl passes)
+
 pub write_may_fail : (at : ℕ) (bytes : List ℕ) (s : DiskState) (part : ℕ) → IsImage s s.now → HasFailed s (after_write s at bytes) (after_change s (FailedWrite at bytes part))
 write_may_fail at bytes s part now = record { account = inr refl; image = change_image s (FailedWrite at bytes part) now }
 

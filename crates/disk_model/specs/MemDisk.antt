@@ -45,7 +45,8 @@ KeepsRoom old new = (end calls bytes : ℕ) → HasRoomFor old end calls bytes �
 
 -- after calls that use so much of the room, the rest of it is there
 abbrev pub UsesRoom : MemDisk → MemDisk → ℕ → ℕ → Type 0
-UsesRoom old new used_calls used_bytes = (end calls bytes : ℕ) → HasRoomFor old end (calls + used_calls) (bytes + used_bytes) → HasRoomFor new end calls bytes
+UsesRoom old new used_calls used_bytes = (end calls bytes : ℕ)
+    → HasRoomFor old end (calls + used_calls) (bytes + used_bytes) → HasRoomFor new end calls bytes
 
 -- how often its calls have failed
 abbrev pub failure_count : MemDisk → ℕ

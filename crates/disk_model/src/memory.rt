@@ -1,4 +1,5 @@
-ghost use Rattle.std.specs.Prelude.{◌≡◌, ℕ, ◌+◌, ◌-◌, ◌≤◌, ◌++◌, [], ◌∷◌, Some, length, take, drop, min, ◌↔◌, IsTrue, IsOk, IfOk, IsErr, OnOk, OnErr, Contains};
+ghost use Rattle.std.specs.Prelude.{◌≡◌, ◌↔◌, ℕ, ◌+◌, ◌-◌, ◌≤◌, ◌++◌, [], ◌∷◌, Some, length, take, drop, min};
+ghost use Rattle.std.specs.Prelude.{IsTrue, IsOk, IfOk, IsErr, OnOk, OnErr, Contains};
 ghost use Rattle.disk_model.specs.Disk.{IsImage, Fails, followed_by, settled, after_write, after_cut};
 ghost use Rattle.fault_counts.specs.Counting.{CountsEach};
 ghost use Rattle.disk_model.specs.Change.{made, replayed};
@@ -36,7 +37,8 @@ pub struct MemDisk {
 }
 
 impl MemDisk {
-    ghost use Rattle.disk_model.specs.MemDisk.{memory_moments, first_bytes, record_of, faults_of, changes_of, state_after, failure_count, SameRecord, HasRoomFor, KeepsRoom, UsesRoom};
+    ghost use Rattle.disk_model.specs.MemDisk.{memory_moments, first_bytes, record_of, faults_of, changes_of, state_after};
+    ghost use Rattle.disk_model.specs.MemDisk.{failure_count, SameRecord, HasRoomFor, KeepsRoom, UsesRoom};
     ghost use Rattle.disk_model.specs.Faults.{no_faults, written_as, cut_as, synced_as};
 
     /// An empty disk.
@@ -80,7 +82,8 @@ impl MemDisk {
     /// A write that fails so leaves its first `part` bytes written, and a cut is made where `part` isn't 0.
     /// Both count as made for what a stop may leave. A sync that fails changes nothing.
     pub fn set_break(&mut self, calls: u64, part: u64)
-        ensures fails { faults_of self.new ≡ record (faults_of self.old) { change_break = Some (calls, part) } }
+        ensures fails { faults_of self.new
+            ≡ record (faults_of self.old) { change_break = Some (calls, part) } }
         ensures kept { SameRecord self.old self.new }
         ensures failures { failure_count self.new ≡ failure_count self.old }
         ensures room { KeepsRoom self.old self.new }
@@ -90,7 +93,8 @@ impl MemDisk {
 
     /// So many calls of `len` and `read_at` more pass, and the next one fails; later ones pass.
     pub fn set_read_break(&mut self, calls: u64)
-        ensures fails { faults_of self.new ≡ record (faults_of self.old) { read_break = Some calls } }
+        ensures fails { faults_of self.new
+            ≡ record (faults_of self.old) { read_break = Some calls } }
         ensures kept { SameRecord self.old self.new }
         ensures failures { failure_count self.new ≡ failure_count self.old }
         ensures room { KeepsRoom self.old self.new }
@@ -98,13 +102,16 @@ impl MemDisk {
         self.faults.read_break = Some(calls);
     }
 
-    /// Takes all the memory for a disk of so many bytes, and for so many changing calls more that write no more bytes together.
+    /// Takes all the memory for a disk of so many bytes, and for so many changing calls more that write no
+    /// more bytes together.
     /// Until either is passed no call fails for want of memory. An `Err` changes neither the bytes nor the record.
     pub fn reserve(&mut self, bytes: u64, calls: u32) -> Result<(), AllocError>
         ensures room { OnOk result (HasRoomFor self.new bytes calls bytes) }
         ensures kept { SameRecord self.old self.new }
         ensures failures { failure_count self.new ≡ failure_count self.old }
         ensures faults { faults_of self.new ≡ faults_of self.old }
+        // Whatever it answers.
+        ensures keeps { KeepsRoom self.old self.new }
     {
         let len = bytes as usize;
         self.contents.make_room(self.alloc, len)?;
@@ -125,13 +132,17 @@ impl MemDisk {
         self.contents.bytes()
     }
 
-    /// An image of the moment right after the changing call of this number among those that answered Ok; for 0, of the moment when
-    /// it was made. Writes and cuts that failed before it count as made. It only fails for want of memory.
+    /// An image of the moment right after the changing call of this number among those that answered Ok; for
+    /// 0, of the moment when it was made. Writes and cuts that failed before it count as made. It only fails
+    /// for want of memory.
     pub fn image(&self, after: u64, choice: Choice) -> Result<Vec<u8>, AllocError>
         requires { after ≤ changes_of self.now }
-        ensures chosen { IfOk result (λ image. IsChosen (state_after self.now after) choice image.items) }
+        ensures chosen { IfOk result
+            (λ image. IsChosen (state_after self.now after) choice image.items) }
         ensures image { IfOk result (λ image. IsImage (state_after self.now after) image.items) }
-        ensures moment { Contains ((memory_moments self.now).state ∷ (memory_moments self.now).past) (state_after self.now after) }
+        ensures moment { Contains
+            ((memory_moments self.now).state ∷ (memory_moments self.now).past)
+            (state_after self.now after) }
     {
         let count = self.calls.place_of(after);
         let moment = Replay::of(self.alloc, &self.contents.first, &self.calls, count)?;
@@ -140,7 +151,8 @@ impl MemDisk {
 
     /// An image of the present moment. It only fails for want of memory.
     pub fn image_now(&self, choice: Choice) -> Result<Vec<u8>, AllocError>
-        ensures chosen { IfOk result (λ image. IsChosen (memory_moments self.now).state choice image.items) }
+        ensures chosen { IfOk result
+            (λ image. IsChosen (memory_moments self.now).state choice image.items) }
         ensures image { IfOk result (λ image. IsImage (memory_moments self.now).state image.items) }
     {
         let count = self.calls.len();
@@ -151,12 +163,14 @@ impl MemDisk {
     /// Notes a write, and makes as much of it as its fate says; or changes nothing.
     fn note_write(&mut self, at: u64, bytes: &[u8], fate: Fate) -> Result<(), AllocError>
         requires { at + length bytes.now ≤ MAX_END }
-        ensures ok { OnOk result (record_of self.new ≡ record_of self.old ++ written_as fate at bytes.now ∷ []) }
+        ensures ok { OnOk result
+            (record_of self.new ≡ record_of self.old ++ written_as fate at bytes.now ∷ []) }
         ensures err { OnErr result (record_of self.new ≡ record_of self.old) }
         ensures first { first_bytes self.new ≡ first_bytes self.old }
         ensures failures { failure_count self.new ≡ failure_count self.old }
         ensures faults { faults_of self.new ≡ faults_of self.old }
-        ensures succeeds { HasRoomFor self.old (at + length bytes.now) 1 (length bytes.now) → IsOk result }
+        ensures succeeds { HasRoomFor self.old (at + length bytes.now) 1 (length bytes.now)
+            → IsOk result }
         ensures room { UsesRoom self.old self.new 1 (length bytes.now) }
     {
         let end = if bytes.is_empty() {
@@ -234,7 +248,8 @@ impl MemDisk {
 }
 
 impl Disk for MemDisk {
-    ghost use Rattle.disk_model.specs.MemDisk.{memory_moments, first_bytes, record_of, faults_of, failure_count, SameRecord, HasRoomFor, KeepsRoom, UsesRoom};
+    ghost use Rattle.disk_model.specs.MemDisk.{memory_moments, first_bytes, record_of, faults_of, failure_count};
+    ghost use Rattle.disk_model.specs.MemDisk.{SameRecord, HasRoomFor, KeepsRoom, UsesRoom};
     ghost use Rattle.disk_model.specs.Change.{Write, Cut, Sync};
     ghost use Rattle.disk_model.specs.Faults.{fate_of, after_change_call, passes_read, after_read_call, written_as, cut_as, synced_as};
 
@@ -263,8 +278,10 @@ impl Disk for MemDisk {
 
     fn read_at(&mut self, at: u64, into: &mut [u8]) -> Result<usize, DiskFault>
         ensures within { IfOk result (λ n. n ≤ length into.old) }
-        ensures count { IfOk result (λ n. n ≡ min (length into.old) (length (memory_moments self.old).state.now - at)) }
-        ensures bytes { IfOk result (λ n. into.new ≡ take n (drop at (memory_moments self.old).state.now) ++ drop n into.old) }
+        ensures count { IfOk result
+            (λ n. n ≡ min (length into.old) (length (memory_moments self.old).state.now - at)) }
+        ensures bytes { IfOk result (λ n. into.new
+            ≡ take n (drop at (memory_moments self.old).state.now) ++ drop n into.old) }
         ensures moments { memory_moments self.new ≡ memory_moments self.old }
         ensures kept { SameRecord self.old self.new }
         ensures failures { CountsEach result (failure_count self.old) (failure_count self.new) }
@@ -284,15 +301,24 @@ impl Disk for MemDisk {
 
     fn write_at(&mut self, at: u64, bytes: &[u8]) -> Result<(), DiskFault>
         requires { at + length bytes.now ≤ MAX_END }
-        ensures made { OnOk result (memory_moments self.new ≡ followed_by (memory_moments self.old) (after_write (memory_moments self.old).state at bytes.now)) }
-        ensures failed { OnErr result (Fails (memory_moments self.old) (after_write (memory_moments self.old).state at bytes.now) (memory_moments self.new)) }
+        ensures made { OnOk result (memory_moments self.new ≡ followed_by (memory_moments self.old)
+            (after_write (memory_moments self.old).state at bytes.now)) }
+        ensures failed { OnErr result (Fails (memory_moments self.old)
+            (after_write (memory_moments self.old).state at bytes.now) (memory_moments self.new)) }
         ensures failures { CountsEach result (failure_count self.old) (failure_count self.new) }
         ensures passes { IsOk result → fate_of (faults_of self.old) ≡ Passes }
         ensures faults { faults_of self.new ≡ after_change_call (faults_of self.old) }
-        ensures succeeds { HasRoomFor self.old (at + length bytes.now) 1 (length bytes.now) → fate_of (faults_of self.old) ≡ Passes → IsOk result }
+        ensures succeeds { HasRoomFor self.old (at + length bytes.now) 1 (length bytes.now)
+            → fate_of (faults_of self.old) ≡ Passes → IsOk result }
         ensures first { first_bytes self.new ≡ first_bytes self.old }
-        ensures noted { OnOk result (record_of self.new ≡ record_of self.old ++ Write at bytes.now ∷ []) }
-        ensures traced { HasRoomFor self.old (at + length bytes.now) 1 (length bytes.now) → record_of self.new ≡ record_of self.old ++ written_as (fate_of (faults_of self.old)) at bytes.now ∷ [] }
+        // Want of memory leaves the record as it was, and with it what a stop may leave.
+        ensures unmade { fate_of (faults_of self.old) ≡ Passes
+            → OnErr result (record_of self.new ≡ record_of self.old) }
+        ensures noted { OnOk result
+            (record_of self.new ≡ record_of self.old ++ Write at bytes.now ∷ []) }
+        ensures traced { HasRoomFor self.old (at + length bytes.now) 1 (length bytes.now)
+            → record_of self.new
+            ≡ record_of self.old ++ written_as (fate_of (faults_of self.old)) at bytes.now ∷ [] }
         ensures room { UsesRoom self.old self.new 1 (length bytes.now) }
     {
         let fate = self.faults.of_change();
@@ -301,15 +327,22 @@ impl Disk for MemDisk {
     }
 
     fn cut(&mut self, len: u64) -> Result<(), DiskFault>
-        ensures made { OnOk result (memory_moments self.new ≡ followed_by (memory_moments self.old) (after_cut (memory_moments self.old).state len)) }
-        ensures failed { OnErr result (Fails (memory_moments self.old) (after_cut (memory_moments self.old).state len) (memory_moments self.new)) }
+        ensures made { OnOk result (memory_moments self.new
+            ≡ followed_by (memory_moments self.old) (after_cut (memory_moments self.old).state len)) }
+        ensures failed { OnErr result (Fails (memory_moments self.old)
+            (after_cut (memory_moments self.old).state len) (memory_moments self.new)) }
         ensures failures { CountsEach result (failure_count self.old) (failure_count self.new) }
         ensures passes { IsOk result → fate_of (faults_of self.old) ≡ Passes }
         ensures faults { faults_of self.new ≡ after_change_call (faults_of self.old) }
-        ensures succeeds { HasRoomFor self.old 0 1 0 → fate_of (faults_of self.old) ≡ Passes → IsOk result }
+        ensures succeeds { HasRoomFor self.old 0 1 0
+            → fate_of (faults_of self.old) ≡ Passes → IsOk result }
         ensures first { first_bytes self.new ≡ first_bytes self.old }
+        // Want of memory leaves the record as it was, and with it what a stop may leave.
+        ensures unmade { fate_of (faults_of self.old) ≡ Passes
+            → OnErr result (record_of self.new ≡ record_of self.old) }
         ensures noted { OnOk result (record_of self.new ≡ record_of self.old ++ Cut len ∷ []) }
-        ensures traced { HasRoomFor self.old 0 1 0 → record_of self.new ≡ record_of self.old ++ cut_as (fate_of (faults_of self.old)) len ∷ [] }
+        ensures traced { HasRoomFor self.old 0 1 0 → record_of self.new
+            ≡ record_of self.old ++ cut_as (fate_of (faults_of self.old)) len ∷ [] }
         ensures room { UsesRoom self.old self.new 1 0 }
     {
         let fate = self.faults.of_change();
@@ -318,15 +351,18 @@ impl Disk for MemDisk {
     }
 
     fn sync(&mut self) -> Result<(), DiskFault>
-        ensures made { OnOk result (memory_moments self.new ≡ followed_by (memory_moments self.old) (settled (memory_moments self.old).state.now)) }
+        ensures made { OnOk result (memory_moments self.new
+            ≡ followed_by (memory_moments self.old) (settled (memory_moments self.old).state.now)) }
         ensures failed { OnErr result (memory_moments self.new ≡ memory_moments self.old) }
         ensures failures { CountsEach result (failure_count self.old) (failure_count self.new) }
         ensures passes { IsOk result → fate_of (faults_of self.old) ≡ Passes }
         ensures faults { faults_of self.new ≡ after_change_call (faults_of self.old) }
-        ensures succeeds { HasRoomFor self.old 0 1 0 → fate_of (faults_of self.old) ≡ Passes → IsOk result }
+        ensures succeeds { HasRoomFor self.old 0 1 0
+            → fate_of (faults_of self.old) ≡ Passes → IsOk result }
         ensures first { first_bytes self.new ≡ first_bytes self.old }
         ensures noted { OnOk result (record_of self.new ≡ record_of self.old ++ Sync ∷ []) }
-        ensures traced { HasRoomFor self.old 0 1 0 → record_of self.new ≡ record_of self.old ++ synced_as (fate_of (faults_of self.old)) }
+        ensures traced { HasRoomFor self.old 0 1 0 → record_of self.new
+            ≡ record_of self.old ++ synced_as (fate_of (faults_of self.old)) }
         ensures room { UsesRoom self.old self.new 1 0 }
     {
         let fate = self.faults.of_change();

@@ -1,11 +1,13 @@
 //! A count of faults: one word for how it rises, for every crate whose calls count theirs.
 #![tactic(auto)]
 
+ghost use Rattle.std.specs.Prelude.{◌≡◌, ◌+◌, ◌-◌, ◌^◌, min};
 ghost use Rattle.fault_counts.specs.Counting.{HasRisen};
 
 /// The count after one fault more. At its last value it stays.
 pub fn raised(count: u64) -> u64
-    ensures { HasRisen count result }
+    ensures one_more { result ≡ min (count + 1) (2 ^ 64 - 1) }
+    ensures risen { HasRisen count result }
 {
     count.saturating_add(1)
 }

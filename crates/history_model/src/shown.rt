@@ -1,6 +1,6 @@
 //! Rows that only clauses see.
 
-ghost use Rattle.std.specs.Prelude.{◌≡◌, ◌++◌, ◌∷◌, [], OnOk, OnErr};
+ghost use Rattle.std.specs.Prelude.{◌≡◌, ◌++◌, ◌∷◌, [], length, take, OnOk, OnErr};
 
 use crate::stamped::StampedRow;
 use std::alloc::{AllocError, Global};
@@ -23,6 +23,7 @@ impl Model for Shown {
 }
 
 impl Shown {
+    /// No rows.
     pub fn new(alloc: Global) -> Shown
         ensures { result ≡ [] }
     {
@@ -40,5 +41,19 @@ impl Shown {
             Ok(()) => Ok(()),
             Err(_) => Err(AllocError),
         }
+    }
+
+    /// How many rows there are.
+    pub fn len(&self) -> usize
+        ensures { result ≡ length self.now }
+    {
+        self.rows.len()
+    }
+
+    /// Takes away all rows from a place on: what `len` answered once is left.
+    pub fn cut_to(&mut self, len: usize)
+        ensures { self.new ≡ take len self.old }
+    {
+        self.rows.truncate(len);
     }
 }

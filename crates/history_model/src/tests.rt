@@ -308,6 +308,9 @@ fn shown_rows_take_rows_and_no_memory(rt: HostRuntime) -> Result<(), Fail> {
     for row in first_release(alloc)? {
         assert!(rt; shown.push(&StampedRow { row, import: 1 }).is_ok());
     }
+    let all = shown.len();
+    shown.cut_to(2);
+    assert_eq!(rt; (all, shown.len()), (6, 2));
     assert_eq!(rt; size_of::<Snapshot<StampedRow>>(), 0);
     Ok(())
 }

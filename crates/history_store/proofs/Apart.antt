@@ -1,12 +1,9 @@
 -- New rows that ascend, none of whose keys is known, go with a history.
-use Rattle.std.proofs.Common.{◌≡◌, ℕ, ◌+◌, ◌≤◌, List, [], ◌∷◌, ◌++◌, map, refl, sym, ap, subst, inl, inr, ◌∙◌, arith}
-use Rattle.std.specs.List.{AllByRecursion}
-use Rattle.std.specs.declared.cmp.Ordering.TheVariants.{Less}
+use Rattle.std.proofs.Common.{◌≡◌, ℕ, ◌+◌, ◌≤◌, List, [], ◌∷◌, ◌++◌, sym, ap, subst, inl, inr, ◌∙◌, arith}
 use Rattle.rf2_values.specs.Row.{Version}
-use Rattle.rf2_values.specs.Key.{key_of}
 use Rattle.history_model.specs.declared.stamped.StampedRow.{StampedRow}
-use Rattle.history_model.specs.InOrder.{Has, IsAscending}
-use Rattle.history_model.specs.History.{History, IsHistory, full, stamped, row_cmp, stamped_cmp}
+use Rattle.history_model.specs.InOrder.{Has}
+use Rattle.history_model.specs.History.{History, IsHistory, full, stamped}
 use Rattle.history_model.specs.Lists.{listed, AreLists, ShareNoKey}
 use Rattle.history_model.proofs.InOrder.{Has-all, all_from_has, Has-append_cases}
 use Rattle.history_model.proofs.Filtered.{Has-map_from}
@@ -49,7 +46,7 @@ fresh_history h fresh is =
 
 -- what is prepared goes with the store
 pub prepared_for : {D : Type 0} (v s : Stored D) (old : History) (fresh : List Version) (p : Prepared) → v ≡ s → IsHistory v.history → s.history ≡ old → IsApart (full old) fresh
-    → IsPrepared (record { epoch = v.shelf.epoch; imports = v.history.imports; entries = v.shelf.entries }) (stamped (v.history.imports + 1) fresh) p → IsPreparedFor s p
+    → IsPrepared (record { epoch = v.shelf.epoch; imports = v.history.imports; entries = v.shelf.entries }) v.shelf.merge (stamped (v.history.imports + 1) fresh) p → IsPreparedFor s p
 prepared_for {D} v s old fresh p same is history apart prepared =
     let P : Stored D → Type 0 = λ x. IsPreparedFor x p in
     let own : IsApart (full v.history) fresh = subst (λ (h : History). IsApart (full h) fresh) (sym (ap (λ (x : Stored D). x.history) same ∙ history)) apart in
@@ -57,5 +54,5 @@ prepared_for {D} v s old fresh p same is history apart prepared =
     subst P same (record {
       apart = subst (λ (l : List StampedRow). AreLists (v.history.rows ∷ l ∷ [])) (sym rows) (fresh_lists v.history fresh is own);
       history = subst (λ (l : List StampedRow). IsHistory (with_rows v.history l)) (sym rows) (fresh_history v.history fresh is);
-      prepared = subst (λ (l : List StampedRow). IsPrepared (record { epoch = v.shelf.epoch; imports = v.history.imports; entries = v.shelf.entries }) l p) (sym rows) prepared;
+      prepared = subst (λ (l : List StampedRow). IsPrepared (record { epoch = v.shelf.epoch; imports = v.history.imports; entries = v.shelf.entries }) v.shelf.merge l p) (sym rows) prepared;
     })

@@ -1,5 +1,5 @@
 -- What a store keeps in memory, and what of it is on the disk.
-use Rattle.std.proofs.Common.{◌≡◌, ◌≢◌, ◌⊎◌, ℕ, suc, ◌+◌, ◌≤◌, Bool, true, false, List, [], ◌∷◌, ◌++◌, length, map, refl, sym, ap, subst, ◌∙◌, arith}
+use Rattle.std.proofs.Common.{◌≡◌, ◌⊎◌, ℕ, suc, ◌+◌, ◌≤◌, Bool, true, false, List, [], ◌∷◌, ◌++◌, length, map, refl, sym, ap, subst, ◌∙◌, arith}
 use Rattle.std.specs.List.{AllByRecursion}
 use Rattle.std.proofs.lemmas.List.{map-append}
 use Rattle.disk_model.specs.Disk.{DiskState, Moments, IsImage, EachImage, LeavesOnly}
@@ -137,7 +137,7 @@ kept_repeated d e lists kept next =
 abbrev pub Publishes : Type 0 → DiskState → DiskState → Slot → Listing → Type 0
 Publishes honest old new slot e = honest → (given : Listing) (lists others : List (List StampedRow)) → IsOnDisk old slot given lists → IsNext given e others → EachImage old (HoldsAll (pieces_of e.entries others)) → IsOnDisk new (other slot) e others
 
-slot_beside : (slot : Slot) (mid after : LruCache ℕ (List ℕ)) → Forgets (is_in (slot_extent slot)) mid after → KeepsBeside (slot_range slot ∷ []) mid after
+pub slot_beside : (slot : Slot) (mid after : LruCache ℕ (List ℕ)) → Forgets (is_in (slot_extent slot)) mid after → KeepsBeside (slot_range slot ∷ []) mid after
 slot_beside A mid after forgets = forgets_beside (slot_extent A) mid after forgets
 slot_beside B mid after forgets = forgets_beside (slot_extent B) mid after forgets
 

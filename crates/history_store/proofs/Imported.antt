@@ -1,11 +1,10 @@
 -- What an import answers, and what it leaves.
-use Rattle.std.proofs.Common.{◌≡◌, ◌⊎◌, inl, inr, ℕ, ◌+◌, ◌≤◌, Bool, false, List, [], ◌∷◌, length, refl, sym, ap, subst, ◌∙◌, arith}
+use Rattle.std.proofs.Common.{◌≡◌, ◌⊎◌, inl, inr, ℕ, ◌+◌, ◌≤◌, false, List, [], ◌∷◌, length, refl, sym, ap, subst, ◌∙◌, arith}
 use Rattle.disk_model.specs.Disk.{Moments, LeavesOnly}
 use Rattle.disk_model.proofs.MomentSteps.{weaker}
 use Rattle.rf2_values.specs.Row.{Version}
 use Rattle.history_model.specs.declared.stamped.StampedRow.{StampedRow}
 use Rattle.history_model.specs.History.{History, IsHistory, full, stamped, after_release, ReceiptOf}
-use Rattle.history_model.specs.declared.receipt.Receipt.{Receipt}
 use Rattle.history_model.specs.Lists.{listed, AreLists, new_rows}
 use Rattle.history_model.proofs.Listings.{release_is_one_list}
 use Rattle.store_image.specs.Images.{StandsForHistory}
@@ -162,6 +161,10 @@ not_prepared {D} old v mid release fresh e same still at why =
       each refusals.TooManySegments lacks = (still.open_before, before_reading old mid release refusals.TooManySegments still (unplaced mid release fresh HasNoEntry at lacks))
       each refusals.NotAStore lacks = absurd lacks
       each refusals.Damaged lacks = absurd lacks
+      each refusals.NothingToMerge lacks = absurd lacks
+      each refusals.MergeBusy lacks = absurd lacks
+      each refusals.NoMerge lacks = absurd lacks
+      each refusals.MergeUnfinished lacks = absurd lacks
       each refusals.CountSpent lacks = absurd lacks
       each (refusals.Line file line fault) lacks = absurd lacks
       each (refusals.Contradiction file line) lacks = absurd lacks
@@ -175,6 +178,10 @@ lacking s release rows refusals.Full still room read lacks = (still, room, read,
 lacking s release rows refusals.TooManySegments still room read lacks = (still, room, read, lacks.all_taken)
 lacking s release rows refusals.NotAStore still room read lacks = absurd lacks
 lacking s release rows refusals.Damaged still room read lacks = absurd lacks
+lacking s release rows refusals.NothingToMerge still room read lacks = absurd lacks
+lacking s release rows refusals.MergeBusy still room read lacks = absurd lacks
+lacking s release rows refusals.NoMerge still room read lacks = absurd lacks
+lacking s release rows refusals.MergeUnfinished still room read lacks = absurd lacks
 lacking s release rows refusals.CountSpent still room read lacks = absurd lacks
 lacking s release rows (refusals.Line file line fault) still room read lacks = absurd lacks
 lacking s release rows (refusals.Contradiction file line) still room read lacks = absurd lacks
@@ -236,11 +243,11 @@ pub none_after : (rows : List Version) (k : ℕ) (shelf next : Shelf) → rows �
 none_after rows k shelf next none same = subst (λ (l : List Version). IsShelfAfter (stamped k l) shelf next) (sym none) same
 
 -- the shelf that was prepared is that after an import of the new rows
-pub extended_shelf : {D : Type 0} (v s : Stored D) (fresh : Fresh) (p : Prepared) → v ≡ s → IsPlaced (stamped (v.history.imports + 1) fresh.rows.items) v.shelf (shelf_of p.directory) → 1 ≤ length fresh.rows.items → IsShelfAfter (stamped (s.history.imports + 1) fresh.rows.items) s.shelf (shelf_of p.directory)
+pub extended_shelf : {D : Type 0} (v s : Stored D) (fresh : Fresh) (p : Prepared) → v ≡ s → IsPlaced (stamped (v.history.imports + 1) fresh.rows.items) v.shelf (shelf_of p.directory v.shelf.merge) → 1 ≤ length fresh.rows.items → IsShelfAfter (stamped (s.history.imports + 1) fresh.rows.items) s.shelf (shelf_of p.directory s.shelf.merge)
 extended_shelf {D} v s fresh p same placed some =
-    let P : Stored D → Type 0 = λ x. IsPlaced (stamped (x.history.imports + 1) fresh.rows.items) x.shelf (shelf_of p.directory) in
+    let P : Stored D → Type 0 = λ x. IsPlaced (stamped (x.history.imports + 1) fresh.rows.items) x.shelf (shelf_of p.directory x.shelf.merge) in
     let long = length-stamped (s.history.imports + 1) fresh.rows.items in
-    placed_after (stamped (s.history.imports + 1) fresh.rows.items) s.shelf (shelf_of p.directory) (subst P same placed) (omega arith)
+    placed_after (stamped (s.history.imports + 1) fresh.rows.items) s.shelf (shelf_of p.directory s.shelf.merge) (subst P same placed) (omega arith)
 
 taken_at : {D : Type 0} (s : Stored D) (release : Release) (fresh : Fresh) (after : History) (next : Shelf) (number new : ℕ) → IsAt s release fresh → after ≡ after_release s.history fresh.rows.items
     → IsShelfAfter (stamped (s.history.imports + 1) fresh.rows.items) s.shelf next → number ≡ s.history.imports + 1 → new ≡ length fresh.rows.items
@@ -268,8 +275,8 @@ taken old s release fresh after next number new still at same shelf number_is co
     (subst (λ (x : Shelf). IsTaken s.history after x next release (record { number = number; new = new; repeated = fresh.repeated })) still.shelf (taken_at s release fresh after next number new at same shelf number_is count))
 
 pub extended : {D : Type 0} (old v s : Stored D) (release : Release) (fresh : Fresh) (p : Prepared) (after : History) (next : Shelf) (number new : ℕ) → v ≡ s → IsStill old s → IsAt s release fresh
-    → p.shown ≡ stamped (v.history.imports + 1) fresh.rows.items → IsPlaced (stamped (v.history.imports + 1) fresh.rows.items) v.shelf (shelf_of p.directory) → 1 ≤ length fresh.rows.items
-    → after ≡ with_rows s.history p.shown → next ≡ shelf_of p.directory → number ≡ v.history.imports + 1 → new ≡ length fresh.rows.items
+    → p.shown ≡ stamped (v.history.imports + 1) fresh.rows.items → IsPlaced (stamped (v.history.imports + 1) fresh.rows.items) v.shelf (shelf_of p.directory v.shelf.merge) → 1 ≤ length fresh.rows.items
+    → after ≡ with_rows s.history p.shown → next ≡ shelf_of p.directory s.shelf.merge → number ≡ v.history.imports + 1 → new ≡ length fresh.rows.items
     → IsTaken old.history after old.shelf next release (record { number = number; new = new; repeated = fresh.repeated })
 extended {D} old v s release fresh p after next number new same still at shown placed some history shelf number_is count =
     taken old s release fresh after next number new still at

@@ -1,6 +1,6 @@
 -- A segment of new rows.
 use Rattle.std.proofs.Common.{◌≡◌, ℕ, suc, ◌+◌, ◌≤◌, List, [], ◌∷◌, ◌++◌, length, refl, sym, ap, subst, ◌∙◌, arith, length-append}
-use Rattle.std.specs.Prelude.{Some, None}
+use Rattle.std.specs.Prelude.{Option, Some}
 use Rattle.std.specs.Int.{div_ceil}
 use Rattle.std.specs.List.{AllByRecursion}
 use Rattle.std.specs.declared.cmp.Ordering.TheVariants.{Less}
@@ -15,7 +15,7 @@ use Rattle.store_image.specs.Says.{IsSegmentOf}
 use Rattle.history_store.specs.declared.preparing.Prepared.{Prepared}
 use Rattle.term_prefix.specs.Pushed.{IsPosted}
 use Rattle.associations.specs.Laws.{ArePostingsOf}
-use Rattle.history_store.specs.Shelf.{shelf_of}
+use Rattle.history_store.specs.Shelf.{Merge, shelf_of, reserved_by}
 use Rattle.history_store.specs.Prepared.{IsNotSpent, IsPlacedAt, IsPrepared}
 use Rattle.segment.specs.Standing.{places_of}
 use Rattle.history_store.proofs.Held.{repeated_listing}
@@ -60,19 +60,19 @@ next_listing d is spent =
     let one = is.epoch in
     record { epoch = omega arith; epoch_fits = omega arith; imports = omega arith; count = is.count; entries = is.entries; apart = is.apart }
 
-pub added_listing : (d e : Listing) (rows : List StampedRow) (entry : Entry) → IsListing d → IsNotSpent d.imports d.epoch → 1 ≤ length rows → IsPlacedAt d rows entry → e ≡ repeated_listing d → IsListing (with_entry e entry)
-added_listing d e rows entry is spent some placed same =
+pub added_listing : (d e : Listing) (merge : Option Merge) (rows : List StampedRow) (entry : Entry) → IsListing d → IsNotSpent d.imports d.epoch → 1 ≤ length rows → IsPlacedAt d merge rows entry → e ≡ repeated_listing d → IsListing (with_entry e entry)
+added_listing d e merge rows entry is spent some placed same =
     let P : Listing → Type 0 = λ l. IsListing (with_entry l entry) in
     let many = rows_below rows in
     let short = placed.short in
     let bytes : entry.bytes ≡ length (segment_of rows) = ap (λ (x : Entry). x.bytes) placed.entry_is in
     let count : entry.rows ≡ length rows = ap (λ (x : Entry). x.rows) placed.entry_is in
-    let place : fit (block_count (extent_of entry)) d.entries None ≡ Some entry.first = ap (λ n. fit (div_ceil n 4096) d.entries None) bytes ∙ placed.place in
-    subst P (sym same) (fit_may_be_added (repeated_listing d) entry None (next_listing d is spent) placed.few (omega arith) (omega arith) (omega arith) (omega arith) place)
+    let place : fit (block_count (extent_of entry)) d.entries (reserved_by merge) ≡ Some entry.first = ap (λ n. fit (div_ceil n 4096) d.entries (reserved_by merge)) bytes ∙ placed.place in
+    subst P (sym same) (fit_may_be_added (repeated_listing d) entry (reserved_by merge) (next_listing d is spent) placed.few (omega arith) (omega arith) (omega arith) (omega arith) place)
 
 -- the entry's segment is that of the rows
-pub segment_is : (d : Listing) (rows : List StampedRow) (entry : Entry) (bytes : List ℕ) → IsPlacedAt d rows entry → IsSegment rows bytes → IsSegmentOf entry rows
-segment_is d rows entry bytes placed is = record {
+pub segment_is : (d : Listing) (merge : Option Merge) (rows : List StampedRow) (entry : Entry) (bytes : List ℕ) → IsPlacedAt d merge rows entry → IsSegment rows bytes → IsSegmentOf entry rows
+segment_is d merge rows entry bytes placed is = record {
   is = subst (λ b. IsSegment rows b) is.bytes_are is;
   bytes = sym (ap (λ (x : Entry). x.bytes) placed.entry_is);
   count = sym (ap (λ (x : Entry). x.rows) placed.entry_is);
@@ -82,8 +82,8 @@ last_all : (P : Entry → Type 0) (entries : List Entry) (entry : Entry) → All
 last_all P [] entry all = all.0
 last_all P (e ∷ entries) entry all = last_all P entries entry all.1
 
-pub prepared_is : (d : Listing) (rows : List StampedRow) (p : Prepared) (next : Listing) → IsListing (with_entry next p.entry) → IsPlacedAt d rows p.entry → next ≡ repeated_listing d → p.directory ≡ with_entry next p.entry → p.shown ≡ rows → p.places ≡ places_of rows → IsPosted rows p.terms → ArePostingsOf rows p.edges → IsSegment rows p.bytes.items → IsPrepared d rows p
-prepared_is d rows p next is placed same directory shown places terms edges segment =
+pub prepared_is : (d : Listing) (merge : Option Merge) (rows : List StampedRow) (p : Prepared) (next : Listing) → IsListing (with_entry next p.entry) → IsPlacedAt d merge rows p.entry → next ≡ repeated_listing d → p.directory ≡ with_entry next p.entry → p.shown ≡ rows → p.places ≡ places_of rows → IsPosted rows p.terms → ArePostingsOf rows p.edges → IsSegment rows p.bytes.items → IsPrepared d merge rows p
+prepared_is d merge rows p next is placed same directory shown places terms edges segment =
     let all : p.directory ≡ record { epoch = d.epoch + 1; imports = d.imports + 1; entries = d.entries ++ p.entry ∷ [] } = directory ∙ ap (λ (l : Listing). with_entry l p.entry) same in
     record {
       shown_is = shown;
@@ -92,7 +92,7 @@ prepared_is d rows p next is placed same directory shown places terms edges segm
       edges_are = edges;
       bytes_are = segment.bytes_are;
       entry_is = last_all IsEntry next.entries p.entry is.entries;
-      segment = segment_is d rows p.entry p.bytes.items placed segment;
+      segment = segment_is d merge rows p.entry p.bytes.items placed segment;
       listing = subst IsListing (sym directory) is;
       directory_is = all;
       placed = record {
@@ -100,8 +100,9 @@ prepared_is d rows p next is placed same directory shown places terms edges segm
         short = placed.short;
         first = p.entry.first;
         place = placed.place;
-        next_is = ap shelf_of all ∙ (λ i. record { epoch = d.epoch + 1; entries = d.entries ++ placed.entry_is i ∷ []; merge = None });
+        next_is = ap (λ (l : Listing). shelf_of l merge) all ∙ (λ i. record { epoch = d.epoch + 1; entries = d.entries ++ placed.entry_is i ∷ []; merge = merge });
       };
+      at_fit = placed;
     }
 
 pub length-stamped : (k : ℕ) (rows : List Version) → length (stamped k rows) ≡ length rows

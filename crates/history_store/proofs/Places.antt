@@ -1,12 +1,12 @@
 -- Rows, their places, and lists of them.
-use Rattle.std.proofs.Common.{◌≡◌, ℕ, zero, suc, ◌+◌, ◌≤◌, List, [], ◌∷◌, ◌++◌, length, take, map, refl, sym, ap, subst, ◌∙◌, arith, length-append}
+use Rattle.std.proofs.Common.{◌≡◌, ℕ, zero, suc, ◌+◌, ◌≤◌, List, [], ◌∷◌, ◌++◌, length, take, map, refl, ap, ◌∙◌, arith, length-append, append-nil}
 use Rattle.std.specs.List.{AllByRecursion}
 use Rattle.std.proofs.lemmas.List.{map-append}
 use Rattle.history_model.specs.declared.stamped.StampedRow.{StampedRow}
 use Rattle.history_model.specs.InOrder.{IsAscending}
 use Rattle.history_model.specs.History.{stamped_cmp}
-use Rattle.history_model.specs.Lists.{AreLists}
 use Rattle.segment.specs.Records.{record_of, segment_of}
+use Rattle.segment.proofs.SegmentLaws.{pieces_join}
 use Rattle.segment.specs.Standing.{record_len, posted, with_places, places_of}
 use Rattle.segment.specs.declared.place.Posted.{Posted}
 use Rattle.as_of_index.specs.Places.{place_cmp, ShareNoKey, EachApart, ArePlaces}
@@ -72,3 +72,19 @@ segment_within (suc n) (r ∷ rows) =
     let some = length-append (record_of r) (segment_of (take n rows)) in
     let all = length-append (record_of r) (segment_of rows) in
     omega (arith, rest, some, all)
+
+-- ---- rows that are taken one after the other
+
+pub one_record : (s : StampedRow) → segment_of (s ∷ []) ≡ record_of s
+unfolding segment_of
+one_record s = append-nil (record_of s)
+
+-- the first of some rows have no more bytes than all of them
+pub segment_begins : (rows done left : List StampedRow) → rows ≡ done ++ left → length (segment_of done) ≤ length (segment_of rows)
+segment_begins rows done left split =
+    let both = ap (λ (l : List StampedRow). length (segment_of l)) split ∙ ap length (pieces_join done left) ∙ length-append (segment_of done) (segment_of left) in
+    omega (arith, both)
+
+pub middle_all : {X : Type 0} (P : X → Type 0) (xs : List X) (x : X) (ys : List X) → AllByRecursion P (xs ++ x ∷ ys) → P x
+middle_all P [] x ys all = all.0
+middle_all P (y ∷ xs) x ys all = middle_all P xs x ys all.1

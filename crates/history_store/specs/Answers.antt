@@ -15,6 +15,7 @@ use Rattle.import_check.specs.Release.{IsReleaseOf, IsFaultOfRelease, HasContrad
 use Rattle.import_check.specs.declared.fault.ImportFault.{ImportFault}
 use Rattle.import_check.specs.Fresh.{IsRead, IsRefusal}
 use Rattle.history_store.specs.Refusals.{refusal_of}
+use Rattle.store_image.specs.Answers.{synced}
 use Rattle.store_image.specs.Images.{StandsFor, StandsForHistory, IsStore}
 use Rattle.history_store.specs.declared.refusal.Refusal.{Refusal}
 use Rattle.history_store.specs.declared.refusal.Refusal.TheVariants as refusals
@@ -57,6 +58,11 @@ pub record IsNew {D : Type 0} (s : Stored D) : Type 0 where
 abbrev pub HandsBack : {D : Type 0} → (D → Moments) → Result (Stored D) (Refusal × D) → D → Type 0
 HandsBack moments (Ok store) disk = Unit {0}
 HandsBack moments (Err e) disk = e.0 ≢ refusals.DiskFault → moments e.1 ≡ moments disk
+
+-- one sync changed the disk and nothing else did; where the device failed, maybe not even that
+abbrev pub SyncsOnce : {D : Type 0} → (D → Moments) → Result (Stored D) (Refusal × D) → D → Type 0
+SyncsOnce moments (Ok store) disk = moments store.disk ≡ synced (moments disk)
+SyncsOnce moments (Err e) disk = (moments e.1 ≡ synced (moments disk)) ⊎ ((e.0 ≡ refusals.DiskFault) × (moments e.1 ≡ moments disk))
 
 -- a store is made on an empty disk alone
 abbrev pub IsMakingOf : {D : Type 0} → Result (Stored D) (Refusal × D) → List ℕ → Type 0
@@ -196,6 +202,10 @@ IsRefusalAtAll refusals.Full s release = (s.needs_reopen ≡ false) × IsNotSpen
 IsRefusalAtAll refusals.TooManySegments s release = (s.needs_reopen ≡ false) × IsNotSpent s.history.imports s.shelf.epoch × IsRead release × (length s.shelf.entries ≡ 128)
 IsRefusalAtAll refusals.NotAStore s release = ⊥
 IsRefusalAtAll refusals.Damaged s release = (s.needs_reopen ≡ false) × IsNotSpent s.history.imports s.shelf.epoch × IsRead release
+IsRefusalAtAll refusals.NothingToMerge s release = ⊥
+IsRefusalAtAll refusals.MergeBusy s release = ⊥
+IsRefusalAtAll refusals.NoMerge s release = ⊥
+IsRefusalAtAll refusals.MergeUnfinished s release = ⊥
 IsRefusalAtAll refusals.CountSpent s release = (s.needs_reopen ≡ false) × ((s.history.imports ≡ last_import) ⊎ (s.shelf.epoch ≡ last_epoch))
 IsRefusalAtAll (refusals.Line file line fault) s release = (s.needs_reopen ≡ false) × IsNotSpent s.history.imports s.shelf.epoch × IsFaultOfRelease release file line fault
 IsRefusalAtAll (refusals.Contradiction file line) s release = (s.needs_reopen ≡ false) × IsNotSpent s.history.imports s.shelf.epoch × IsRead release

@@ -4,16 +4,22 @@
 //! each row. Rows are read where they are listed, through a cache of blocks.
 #![tactic(auto)]
 
+mod beginning;
 mod counting;
 mod known;
 pub mod laws;
+mod merge_calls;
+mod ongoing;
 mod placing;
 mod posting;
 mod preparing;
+mod publishing;
 mod reading;
 mod refusal;
 mod starting;
+mod stepping;
 mod store;
+mod taken_blocks;
 
 pub use history_model::Receipt;
 pub use refusal::Refusal;

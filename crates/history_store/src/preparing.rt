@@ -6,17 +6,21 @@ ghost use Rattle.history_model.specs.History.{row_cmp, stamped};
 ghost use Rattle.directory.specs.Listings.{Listing, IsListing};
 ghost use Rattle.history_store.specs.Stored.{last_import, last_epoch};
 ghost use Rattle.history_store.specs.Shelf.{shelf_of};
+ghost use Rattle.history_store.specs.Ongoing.{merge_of};
 ghost use Rattle.history_store.specs.Prepared.{IsNotSpent, IsPlacedAt, IsPrepared, IsUnprepared};
 
-use crate::placing::place_all;
+use crate::ongoing::Ongoing;
+use crate::placing::{Placed, place_all};
 use crate::posting::Posting;
 use crate::refusal::Refusal;
+use crate::taken_blocks::reserved;
 use as_of_index::Listed;
 use blocks::Extent;
 use directory::{Directory, Entry, MOST_ENTRIES, first_fit};
 use history_model::{Shown, StampedRow};
 use rf2_values::Row;
-use segment::{encode, encoded_len};
+use segment::encoded_len;
+use shrinking_list::ShrinkingList;
 use std::alloc::{AllocError, Global};
 
 /// A segment of new rows, its places, what is posted of its rows, and the directory that lists it.
@@ -36,7 +40,7 @@ fn stamp(alloc: Global, rows: Vec<Row>, import: u32) -> Result<Vec<StampedRow>, 
     ensures { IfOk result (λ list. list.items ≡ stamped import rows.items) }
 {
     let mut list = Vec::with_capacity(alloc, rows.len())?;
-    for row in rows {
+    for row in ShrinkingList::new(rows) {
         list.push(StampedRow { row, import })?;
     }
     Ok(list)
@@ -67,10 +71,15 @@ pub(crate) fn repeated(alloc: Global, directory: &Directory) -> Result<Directory
 }
 
 /// The entry of a segment of so many rows and bytes, at the first place where it finds room.
-fn place(directory: &Directory, rows: &[StampedRow]) -> Result<Entry, Refusal>
+fn place(
+    directory: &Directory,
+    merge: &Option<Ongoing>,
+    rows: &[StampedRow],
+) -> Result<Entry, Refusal>
     requires { 1 ≤ length rows.now }
-    ensures placed { IfOk result (IsPlacedAt directory.now rows.now) }
-    ensures refused { IfErr result (λ e. IsUnprepared e rows.now (shelf_of directory.now)) }
+    ensures placed { IfOk result (IsPlacedAt directory.now (merge_of merge.now) rows.now) }
+    ensures refused { IfErr result (λ e. IsUnprepared e rows.now (shelf_of directory.now
+        (merge_of merge.now))) }
     ensures listing { IsListing directory.now }
 {
     if directory.entries().len() == MOST_ENTRIES {
@@ -80,7 +89,7 @@ fn place(directory: &Directory, rows: &[StampedRow]) -> Result<Entry, Refusal>
         return Err(Refusal::Full);
     };
     let wanted = Extent { first: 0, bytes };
-    let first = first_fit(wanted.blocks(), directory.entries(), None)?;
+    let first = first_fit(wanted.blocks(), directory.entries(), reserved(merge))?;
     Ok(Entry {
         first,
         bytes,
@@ -92,21 +101,26 @@ fn place(directory: &Directory, rows: &[StampedRow]) -> Result<Entry, Refusal>
 pub(crate) fn prepare(
     alloc: Global,
     directory: &Directory,
+    merge: &Option<Ongoing>,
     fresh: Vec<Row>,
 ) -> Result<Prepared, Refusal>
     requires not_spent { IsNotSpent directory.now.imports directory.now.epoch }
     requires some { 1 ≤ length fresh.items }
     requires ascending { IsAscending row_cmp fresh.items }
-    ensures prepared { IfOk result (IsPrepared directory.now (stamped
+    ensures prepared { IfOk result (IsPrepared directory.now (merge_of merge.now) (stamped
         (directory.now.imports + 1) fresh.items)) }
     ensures refused { IfErr result (λ e. IsUnprepared e (stamped
-        (directory.now.imports + 1) fresh.items) (shelf_of directory.now)) }
+        (directory.now.imports + 1) fresh.items) (shelf_of directory.now (merge_of merge.now))) }
 {
     let list = stamp(alloc, fresh, directory.imports() + 1)?;
-    let entry = place(directory, &list)?;
-    let bytes = encode(alloc, &list)?;
+    let entry = place(directory, merge, &list)?;
     let mut posting = Posting::new(alloc);
-    let (places, shown) = place_all(alloc, &list, &mut posting)?;
+    let placed = place_all(alloc, list, entry.bytes, &mut posting)?;
+    let Placed {
+        bytes,
+        places,
+        shown,
+    } = placed;
     let Posting { terms, edges, .. } = posting;
     let mut next = repeated(alloc, directory)?;
     next.add(entry);

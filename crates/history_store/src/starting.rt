@@ -4,7 +4,7 @@ ghost use Rattle.std.specs.Prelude.{◌≡◌, ◌≢◌, ◌↔◌, ◌<◌, �
 ghost use Rattle.lru.specs.LruCache.{lru_cache};
 ghost use Rattle.as_of_index.specs.Places.{ArePlaces};
 ghost use Rattle.store_image.specs.Shown.{IsOnDisk};
-ghost use Rattle.store_image.specs.Answers.{empty_listing};
+ghost use Rattle.store_image.specs.Answers.{empty_listing, IsNewStore};
 ghost use Rattle.history_store.specs.Answers.{Counts, IsNotMade};
 ghost use Rattle.history_store.specs.declared.refusal.Refusal.TheVariants as refusals;
 
@@ -90,6 +90,9 @@ pub(crate) fn start<D: Disk>(alloc: Global, disk: &mut D) -> Result<Started, Ref
     ensures made { D.is_honest disk.old → OnOk result (length (D.moments disk.old).state.now ≡ 0) }
     ensures on_disk { D.is_honest disk.old
         → IfOk result (λ s. IsOnDisk (D.moments disk.new).state s.slot s.directory []) }
+    ensures bytes { D.is_honest disk.old → OnOk result (IsNewStore (D.moments disk.new).state.now) }
+    ensures untouched { D.is_honest disk.old → 1 ≤ length (D.moments disk.old).state.now
+        → D.moments disk.new ≡ D.moments disk.old }
     ensures why { D.is_honest disk.old
         → IfErr result (λ e. IsNotMade e (D.moments disk.old).state.now) }
     ensures refused { D.is_honest disk.old → IfErr result (λ e. e ≢ refusals.DiskFault

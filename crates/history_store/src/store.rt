@@ -1,10 +1,11 @@
 //! The store: its calls.
 
-ghost use Rattle.std.specs.Prelude.{◌≡◌, ◌≢◌, ◌⊎◌, ◌↔◌, ◌+◌, ◌≤◌, ℕ, List, length, IfOk, IfErr, OnOk, OnErr, true, false};
+ghost use Rattle.std.specs.Prelude.{◌≡◌, ◌≢◌, ◌⊎◌, ◌↔◌, ◌+◌, ◌≤◌, ◌∷◌, ℕ, List, length, IfOk, IfErr, OnOk, OnErr, true, false};
 ghost use Rattle.disk_model.specs.Disk.{EachImage, IsImage, LeavesOnly};
 
 use crate::counting::row_count;
 use crate::known::fresh_rows;
+use crate::ongoing::Ongoing;
 use crate::posting::Posting;
 use crate::preparing::{Prepared, is_spent, prepare, repeated};
 use crate::reading::DiskRows;
@@ -26,25 +27,28 @@ use term_prefix::{Terms, find};
 /// The release history of a terminology, on a disk.
 #[derive(Drop)]
 pub struct Store<D: Disk> {
-    alloc: Global,
-    disk: D,
-    cache: BlockCache,
-    slot: Slot,
-    directory: Directory,
+    pub(crate) alloc: Global,
+    pub(crate) disk: D,
+    pub(crate) cache: BlockCache,
+    pub(crate) slot: Slot,
+    pub(crate) directory: Directory,
     /// Where the rows of each segment lie, in the directory's order.
-    index: Index,
+    pub(crate) index: Index,
     /// What is posted of the rows of each segment.
-    terms: Terms,
-    links: Links,
+    pub(crate) terms: Terms,
+    pub(crate) links: Links,
     /// The rows of each segment, which only clauses read.
-    shown: Vec<Shown>,
-    needs_reopen: bool,
+    pub(crate) shown: Vec<Shown>,
+    /// The merge that goes on.
+    pub(crate) merge: Option<Ongoing>,
+    pub(crate) needs_reopen: bool,
 }
 
 impl<D: Disk> Model for Store<D> {
     ghost use Rattle.history_model.specs.Lists.{listed};
     ghost use Rattle.history_store.specs.Shelf.{shelf_of};
     ghost use Rattle.history_store.specs.Stored.{Stored, IsHeld};
+    ghost use Rattle.history_store.specs.Ongoing.{merge_of, HasMerge};
     ghost use Rattle.term_prefix.specs.Pushed.{ArePosted};
     ghost use Rattle.associations.specs.Laws.{EachPosted};
 
@@ -53,11 +57,11 @@ impl<D: Disk> Model for Store<D> {
     ghost view = { λ s. record {
       disk = s.disk;
       history = record { imports = s.directory.imports; rows = listed s.shown.items };
-      shelf = shelf_of s.directory;
+      shelf = shelf_of s.directory (merge_of s.merge);
       needs_reopen = s.needs_reopen;
     } };
 
-    ghost invariant = { λ s. IsHeld (D.is_honest s.disk) (D.moments s.disk).state s.cache s.slot s.directory s.index s.shown.items s.needs_reopen × ArePosted s.shown.items s.terms × EachPosted s.shown.items s.links };
+    ghost invariant = { λ s. IsHeld (D.is_honest s.disk) (D.moments s.disk).state s.cache s.slot s.directory s.index s.shown.items s.needs_reopen × ArePosted s.shown.items s.terms × EachPosted s.shown.items s.links × HasMerge (D.is_honest s.disk) (D.moments s.disk).state.now s.directory s.shown.items s.merge s.needs_reopen };
 }
 
 impl<D: Disk> Store<D> {
@@ -70,7 +74,11 @@ impl<D: Disk> Store<D> {
     ghost use Rattle.history_store.specs.Shelf.{shelf_of};
     ghost use Rattle.history_store.specs.Stored.{Stored, IsAcknowledged, with_rows};
     ghost use Rattle.history_store.specs.Prepared.{IsNotSpent, IsPreparedFor};
-    ghost use Rattle.history_store.specs.Answers.{Counts, IsStep, device_of, CountsOpening, IsMakingOf, IsOpeningOf, IsReadingOf, IsStill, IsRefused, IsNotFresh, IsImportOf, IsImportAtAll, IsBeforeOrAfter, HandsBack, KeepsMoments};
+    ghost use Rattle.blocks.specs.Outside.{SameOutside};
+    ghost use Rattle.blocks.specs.Slots.{slots_range};
+    ghost use Rattle.store_image.specs.Answers.{IsNewStore};
+    ghost use Rattle.history_store.specs.Written.{added_ranges};
+    ghost use Rattle.history_store.specs.Answers.{Counts, IsStep, device_of, CountsOpening, IsMakingOf, IsOpeningOf, SyncsOnce, IsReadingOf, IsStill, IsRefused, IsNotFresh, IsImportOf, IsImportAtAll, IsBeforeOrAfter, HandsBack, KeepsMoments};
     ghost use Rattle.history_store.specs.declared.refusal.Refusal.TheVariants as refusals;
 
     /// Makes a store on an empty disk. The length of the disk is looked at first, then all memory is taken, then the disk is written.
@@ -78,6 +86,12 @@ impl<D: Disk> Store<D> {
         ensures made { D.is_honest disk → IsMakingOf result (D.moments disk).state.now }
         // Refused for any other reason than the device, it leaves whatever a stop may leave as it was.
         ensures refused { D.is_honest disk → HandsBack D.moments result disk }
+        // A disk with a byte stays as it is, whatever the answer: where the device fails, too.
+        ensures untouched { D.is_honest disk → 1 ≤ length (D.moments disk).state.now
+            → D.moments (device_of result) ≡ D.moments disk }
+        // A read of a new store gives its two slots, and nothing behind them.
+        ensures bytes { D.is_honest disk
+            → IfOk result (λ s. IsNewStore (D.moments s.disk).state.now) }
         // Whatever a stop leaves from now on stands for the empty history.
         ensures acknowledged { D.is_honest disk → IfOk result (IsAcknowledged D.moments) }
         ensures honesty { D.is_honest disk ↔ D.is_honest (device_of result) }
@@ -104,6 +118,7 @@ impl<D: Disk> Store<D> {
                 terms,
                 links,
                 shown: Vec::new(alloc),
+                merge: None,
                 needs_reopen: false,
             }),
             Err(refusal) => Err((refusal, disk)),
@@ -117,6 +132,8 @@ impl<D: Disk> Store<D> {
         ensures any_moment { D.is_honest disk
             → LeavesOnly (D.moments disk) (D.moments (device_of result)) (IsImage
             (D.moments disk).state) }
+        // It syncs once and changes nothing else, whatever it answers.
+        ensures synced { D.is_honest disk → SyncsOnce D.moments result disk }
         // Whatever it answers, a read gives what it gave before.
         ensures read { D.is_honest disk
             → (D.moments (device_of result)).state.now ≡ (D.moments disk).state.now }
@@ -158,6 +175,7 @@ impl<D: Disk> Store<D> {
                 terms,
                 links,
                 shown,
+                merge: None,
                 needs_reopen: false,
             }),
             Err(error) => Err((Refusal::from(error), disk)),
@@ -267,6 +285,9 @@ impl<D: Disk> Store<D> {
             (record { imports = self.old.history.imports + 1; rows = self.old.history.rows }) c) }
         ensures refused { D.is_honest self.old.disk
             → KeepsMoments D.moments result self.old self.new }
+        ensures elsewhere { D.is_honest self.old.disk → OnOk result
+            (SameOutside (slots_range ∷ added_ranges self.old.shelf self.new.shelf)
+            (D.moments self.old.disk).state.now (D.moments self.new.disk).state.now) }
         ensures acknowledged { D.is_honest self.old.disk → self.new.needs_reopen ≡ false
             → IsAcknowledged D.moments self.new }
         ensures honesty { D.is_honest self.old.disk ↔ D.is_honest self.new.disk }
@@ -291,13 +312,16 @@ impl<D: Disk> Store<D> {
         requires still { self.old.needs_reopen ≡ false }
         requires prepared { IsPreparedFor self.old prepared }
         ensures step { IsStep result self.old self.new
-            (with_rows self.old.history prepared.shown) (shelf_of prepared.directory) }
+            (with_rows self.old.history prepared.shown) (shelf_of prepared.directory self.old.shelf.merge) }
         ensures any_moment { D.is_honest self.old.disk
             → LeavesOnly (D.moments self.old.disk) (D.moments self.new.disk)
             (λ c. StandsForHistory self.old.history c ⊎ StandsForHistory
             (with_rows self.old.history prepared.shown) c) }
         ensures refused { D.is_honest self.old.disk
             → KeepsMoments D.moments result self.old self.new }
+        ensures elsewhere { D.is_honest self.old.disk → OnOk result
+            (SameOutside (slots_range ∷ added_ranges self.old.shelf self.new.shelf)
+            (D.moments self.old.disk).state.now (D.moments self.new.disk).state.now) }
         ensures acknowledged { D.is_honest self.old.disk → self.new.needs_reopen ≡ false
             → IsAcknowledged D.moments self.new }
         ensures honesty { D.is_honest self.old.disk ↔ D.is_honest self.new.disk }
@@ -350,6 +374,10 @@ impl<D: Disk> Store<D> {
         // Refused for any other reason than the device, it leaves whatever a stop may leave as it was.
         ensures refused { D.is_honest self.old.disk
             → KeepsMoments D.moments result self.old self.new }
+        // After Ok a read gives the same outside the slots and the segment that was added.
+        ensures elsewhere { D.is_honest self.old.disk → OnOk result
+            (SameOutside (slots_range ∷ added_ranges self.old.shelf self.new.shelf)
+            (D.moments self.old.disk).state.now (D.moments self.new.disk).state.now) }
         // A store that has to be opened again leaves everything as it is.
         ensures closed { self.old.needs_reopen ≡ true → self.new ≡ self.old }
         ensures honesty { D.is_honest self.old.disk ↔ D.is_honest self.new.disk }
@@ -371,7 +399,7 @@ impl<D: Disk> Store<D> {
             let next = repeated(self.alloc, &self.directory)?;
             self.repeat(next)?;
         } else {
-            let prepared = prepare(self.alloc, &self.directory, fresh.rows)?;
+            let prepared = prepare(self.alloc, &self.directory, &self.merge, fresh.rows)?;
             self.extend(prepared)?;
         }
         Ok(receipt)

@@ -47,7 +47,8 @@ abbrev pub IsRefusal : (honest : Type 0) → List Version → Release → Import
 IsRefusal honest known release importfault.OutOfMemory = ⊤
 IsRefusal honest known release (importfault.Known fault) = IsRead release × (honest → fault ≢ knownfault.Damaged)
 IsRefusal honest known release (importfault.Row file line fault) = IsFaultOfRelease release file line fault
-IsRefusal honest known release (importfault.Contradiction file line key) = IsRead release × (honest → HasContradiction known release file line key)
+IsRefusal honest known release (importfault.Contradiction file line key) =
+    IsRead release × (honest → HasContradiction known release file line key)
 
 -- the count of answers `DiskFault` of what is known goes up with that answer, and else stays
 abbrev pub CountsAnyDiskFault : ImportFault → ℕ → ℕ → Type 0

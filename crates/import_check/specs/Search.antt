@@ -22,4 +22,5 @@ StandsAtKey rows key place = (place < length rows) × HoldsAt (λ s. key_of s.ro
 
 -- the place of the row with the key, or where it would stand
 abbrev pub IsPlaceOf : List StampedRow → Key → Result ℕ ℕ → Type 0
-IsPlaceOf rows key found = MatchResult found (StandsAtKey rows key) (λ place. IsAscending stamped_cmp rows → IsUnknown (map (λ s. s.row) rows) key)
+IsPlaceOf rows key found = MatchResult found (StandsAtKey rows key)
+    (λ place. IsAscending stamped_cmp rows → IsUnknown (map (λ s. s.row) rows) key)

@@ -1,5 +1,6 @@
 -- What a pass over lines in key order has found so far. No clause of a public function cites these words.
-use Rattle.std.specs.Prelude.{◌≡◌, ◌≢◌, ℕ, ◌-◌, ◌≤◌, ◌<◌, ◌⊎◌, false, List, [], ◌∷◌, ◌++◌, length, slice_get, Option, Some, None, MatchOption, IfSome, Result, Err, IsOkAnd, ⊤}
+use Rattle.std.specs.Prelude.{◌≡◌, ◌≢◌, ℕ, ◌-◌, ◌≤◌, ◌<◌, ◌⊎◌, false, List, [], ◌∷◌, ◌++◌, length, slice_get}
+use Rattle.std.specs.Prelude.{Option, Some, None, MatchOption, IfSome, Result, Err, IsOkAnd, ⊤}
 use Rattle.std.specs.List.{AllByRecursion}
 use Rattle.std.specs.Ordering.{nat_cmp, ordering_then, is_gt}
 use Rattle.std.specs.declared.cmp.Ordering.{Ordering}
@@ -39,7 +40,8 @@ IsRising cmp (x ∷ xs) = AllByRecursion (λ y. is_gt (cmp x y) ≡ false) xs ×
 -- no line with its key stands before it
 pub record IsEarliest (lines : List PlacedLine) (first : PlacedLine) : Type 0 where
   pub there : Has lines first
-  pub least : (line : PlacedLine) → Has lines line → key_of line.row ≡ key_of first.row → StandsBy first.file first.line line.file line.line
+  pub least : (line : PlacedLine) → Has lines line → key_of line.row ≡ key_of first.row
+      → StandsBy first.file first.line line.file line.line
 
 -- the row of the earliest line with a key that no known row has
 pub record IsNewRow (known : List Version) (lines : List PlacedLine) (row : Version) : Type 0 where
@@ -87,13 +89,15 @@ pub record IsLast (known : List Version) (lines done : List PlacedLine) (row : V
   pub at : (line : PlacedLine) × Has done line × (key_of line.row ≡ key_of row)
 
 -- of all these lines, so many have been taken and so many judged
-pub record Swept (known : List Version) (lines judged done : List PlacedLine) (known_row : Option Version) (fresh : List Version) (first : Option Contradiction) : Type 0 where
+pub record Swept (known : List Version) (lines judged done : List PlacedLine)
+    (known_row : Option Version) (fresh : List Version) (first : Option Contradiction) : Type 0 where
   pub standing : MatchOption (standing_row known_row fresh) (done ≡ []) (IsLast known lines done)
   pub each_judged : (line : PlacedLine) → Has judged line → IsJudged known lines first line
   pub contradiction : IfSome first (IsContradiction known lines)
   pub fresh_new : (row : Version) → Has fresh row → IsNewRow known lines row
   pub fresh_done : (row : Version) → Has fresh row → (line : PlacedLine) × Has done line × (line.row ≡ row)
-  pub each_kept : (line : PlacedLine) → Has done line → (row : Version) × (key_of row ≡ key_of line.row) × (Has known row ⊎ Has fresh row)
+  pub each_kept : (line : PlacedLine) → Has done line
+      → (row : Version) × (key_of row ≡ key_of line.row) × (Has known row ⊎ Has fresh row)
   pub ascending : IsAscending row_cmp fresh
 
 abbrev pub standing_of : Sweep → Option Version

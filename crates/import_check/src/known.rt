@@ -98,7 +98,8 @@ impl Known for KnownRows<'_> {
 
     ghost stays_on = { λ a b c ab bc. bc ∙ ab };
 
-    ghost consistent = { λ known up. IsConsistent-from_ascending (map (λ s. s.row) known.rows.now) (IsAscending-map (λ s. s.row) row_cmp known.rows.now up) };
+    ghost consistent = { λ known up. IsConsistent-from_ascending (map (λ s. s.row) known.rows.now)
+        (IsAscending-map (λ s. s.row) row_cmp known.rows.now up) };
 
     fn row(&mut self, alloc: Global, key: &Key) -> Result<Option<Row>, KnownFault> {
         match place_near(self.rows, self.near, *key) {

@@ -1,6 +1,7 @@
 //! One pass over the lines of a release in key order.
 
-ghost use Rattle.std.specs.Prelude.{◌≡◌, ◌+◌, ◌≤◌, ◌<◌, ◌⊎◌, ◌++◌, ◌↔◌, [], ◌∷◌, List, length, IsTrue, Some, IsSomeAnd, OnOk, IfOk, IfErr, MatchResult, option_copied};
+ghost use Rattle.std.specs.Prelude.{◌≡◌, ◌+◌, ◌≤◌, ◌<◌, ◌⊎◌, ◌++◌, ◌↔◌, [], ◌∷◌, List, length};
+ghost use Rattle.std.specs.Prelude.{IsTrue, Some, IsSomeAnd, OnOk, IfOk, IfErr, MatchResult, option_copied};
 ghost use Rattle.history_model.specs.InOrder.{IsAscending};
 ghost use Rattle.rf2_values.specs.Row.{Version};
 ghost use Rattle.rf2_values.specs.Key.{key_of};
@@ -8,7 +9,8 @@ ghost use Rattle.import_check.specs.declared.release.PlacedLine.{PlacedLine};
 ghost use Rattle.fault_counts.specs.Counting.{Counts};
 ghost use Rattle.import_check.specs.Fresh.{IsTaken, IsApart, CountsAnyDiskFault, CountsAnyDamage};
 ghost use Rattle.import_check.specs.Release.{rows_of};
-ghost use Rattle.import_check.specs.Sweep.{StandsBy, IsEarlierOf, IsVerdict, standing_of, IsSwept, TakesLine, IsOutcome, KeepsApart, IsCutShort, IsRefusalOf, IsRising, place_cmp, rank_cmp};
+ghost use Rattle.import_check.specs.Sweep.{StandsBy, IsEarlierOf, IsVerdict, standing_of, IsSwept, TakesLine, IsOutcome};
+ghost use Rattle.import_check.specs.Sweep.{KeepsApart, IsCutShort, IsRefusalOf, IsRising, place_cmp, rank_cmp};
 
 use crate::fault::ImportFault;
 use crate::fresh::Fresh;
@@ -16,6 +18,7 @@ use crate::known::Known;
 use crate::order::sort;
 use crate::release::PlacedLine;
 use rf2_values::{Key, Row};
+use shrinking_list::ShrinkingList;
 use std::alloc::Global;
 
 /// A line whose row differs from the one that stands for its key.
@@ -26,7 +29,8 @@ pub(crate) struct Contradiction {
     pub(crate) key: Key,
 }
 
-/// What a pass over lines in key order has found so far. For the key of the last line stands the row that is known, or else the last of the new rows.
+/// What a pass over lines in key order has found so far. For the key of the last line stands the row that is known, or
+/// else the last of the new rows.
 #[derive(Drop)]
 pub(crate) struct Sweep {
     known_row: Option<Row>,
@@ -195,7 +199,7 @@ impl Sweep {
     }
 }
 
-/// Takes all lines, in key order.
+/// Takes all lines, in key order. The room of those that are taken is given back on the way.
 fn take_all<K: Known>(
     alloc: Global,
     lines: Vec<PlacedLine>,
@@ -217,7 +221,7 @@ fn take_all<K: Known>(
         (K.damages known.old) (K.damages known.new) }
 {
     let mut sweep = Sweep::new(alloc);
-    for line in lines {
+    for line in ShrinkingList::new(lines) {
         sweep.take(alloc, line, known)?;
     }
     Ok(sweep)

@@ -1,6 +1,6 @@
 -- Which files of a folder are release files, by their names.
 use Rattle.std.specs.Prelude.{◌≡◌, ◌⊎◌, ◌≤◌, ◌-◌, ℕ, Bool, List, ◌++◌, length, codes, string_bytes}
-use Rattle.std.specs.List.Sorted.{IsSortedBy}
+use Rattle.std.specs.List.Sorted.{IsPermutation, IsSortedBy}
 use Rattle.std.specs.Ordering.{is_lt}
 use Rattle.std.specs.String.{string_cmp}
 use Rattle.memchr.specs.Find.{OccursAt}
@@ -38,3 +38,16 @@ pub record AreInOrder (files : List ReleaseFile) : Type 0 where
   pub files_are : files ≡ first ++ second
   pub first_sorted : IsSortedBy has_lesser_name first
   pub second_sorted : IsSortedBy has_lesser_name second
+
+-- the same files, in the order of names
+pub record AreSorted (files sorted : List ReleaseFile) : Type 0 where
+  pub permutation : IsPermutation files sorted
+  pub in_order : IsSortedBy has_lesser_name sorted
+
+-- the files of Terminology and then those of Refset/Content, each in the order of names
+pub record AreOfParts (terminology content files : List ReleaseFile) : Type 0 where
+  pub first : List ReleaseFile
+  pub second : List ReleaseFile
+  pub files_are : files ≡ first ++ second
+  pub first_sorted : AreSorted terminology first
+  pub second_sorted : AreSorted content second

@@ -1,5 +1,8 @@
 //! Why a folder could not be read.
 
+ghost use Rattle.std.specs.Prelude.{◌≡◌};
+ghost use Rattle.release_folder.specs.declared.fault.FolderFault.TheVariants.{OutOfMemory};
+
 use std::alloc::{AllocError, AllocFailed};
 use std::io::{self, ErrorKind};
 use thiserror::Error;
@@ -16,18 +19,26 @@ pub enum FolderFault {
 }
 
 impl From<AllocError> for FolderFault {
+    ghost from_gives = { λ _ e. e ≡ OutOfMemory };
+
     fn from(_: AllocError) -> FolderFault {
         FolderFault::OutOfMemory
     }
 }
 
 impl<T: Drop> From<AllocFailed<T>> for FolderFault {
+    ghost from_gives = { λ _ e. e ≡ OutOfMemory };
+
     fn from(_: AllocFailed<T>) -> FolderFault {
         FolderFault::OutOfMemory
     }
 }
 
 impl From<io::Error> for FolderFault {
+    ghost use Rattle.release_folder.specs.Faults.{IsFaultOf};
+
+    ghost from_gives = { λ error fault. IsFaultOf error fault };
+
     fn from(error: io::Error) -> FolderFault {
         match error.kind() {
             ErrorKind::OutOfMemory => FolderFault::OutOfMemory,

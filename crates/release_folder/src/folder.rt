@@ -1,8 +1,9 @@
 //! Reading a folder.
 
-ghost use Rattle.std.specs.Prelude.{◌≢◌, ◌≤◌, [], length, All, IfOk, OnOk};
+ghost use Rattle.std.specs.Prelude.{◌≡◌, ◌≢◌, ◌≤◌, [], length, All, IfOk, OnOk, IsErrOf};
 ghost use Rattle.std.specs.List.Sorted.{IsPermutation, IsSortedBy};
-ghost use Rattle.release_folder.specs.Names.{IsTakenFile, AreInOrder, has_lesser_name};
+ghost use Rattle.release_folder.specs.Names.{IsTakenFile, AreInOrder, AreOfParts, has_lesser_name};
+ghost use Rattle.release_folder.specs.declared.fault.FolderFault.TheVariants.{NoFolder};
 
 use crate::fault::FolderFault;
 use crate::names::kind_to_take;
@@ -21,7 +22,8 @@ const TERMINOLOGY: &str = "Terminology";
 const CONTENT: &str = "Refset/Content";
 
 /// The release in the folder `name` below `dir`: the files of the folders Terminology and then Refset/Content, the names
-/// of each in byte order, as far as their names are those of concept, description, relationship or association files of a Delta or a Full release.
+/// of each in byte order, as far as their names are those of concept, description, relationship or association files of
+/// a Delta or a Full release.
 pub fn read_folder<R: Files<File = File> + AllocGlobal + Clone + Drop>(
     rt: &R,
     alloc: Global,
@@ -31,36 +33,56 @@ pub fn read_folder<R: Files<File = File> + AllocGlobal + Clone + Drop>(
     // Each file has a name to take and isn't too large, and there is one. What a folder holds no clause can say.
     ensures taken { IfOk result (λ release. All IsTakenFile release.files.items) }
     ensures some { IfOk result (λ release. release.files.items ≢ []) }
-    // Those of Terminology stand before those of Refset/Content, each part in the byte order of names.
+    // The files of one folder stand before those of the other, each part in the byte order of names; `release_of`
+    // says which come first.
     ensures in_order { IfOk result (λ release. AreInOrder release.files.items) }
 {
     let root = format!(in alloc; "{dir}/{name}")?;
     if !fs::metadata(rt, root.as_str())?.is_dir() {
         return Err(FolderFault::NoFolder);
     }
-    let mut files = files_of(rt, alloc, &root, TERMINOLOGY)?;
-    let mut content = files_of(rt, alloc, &root, CONTENT)?;
-    files.append(&mut content)?;
-    if files.is_empty() {
-        return Err(FolderFault::NoFolder);
-    }
-    Ok(Release { files })
+    let terminology = files_of(rt, alloc, &root, TERMINOLOGY)?;
+    let content = files_of(rt, alloc, &root, CONTENT)?;
+    release_of(terminology, content)
 }
 
-/// The release files of one folder of a release, in the byte order of their names.
+/// The release of the files of its two folders: those of Terminology and then those of Refset/Content, each in the
+/// byte order of their names. With no file there is no release.
+pub fn release_of(
+    terminology: Vec<ReleaseFile>,
+    content: Vec<ReleaseFile>,
+) -> Result<Release, FolderFault>
+    ensures in_order { IfOk result
+        (λ release. AreOfParts terminology.items content.items release.files.items) }
+    ensures some { IfOk result (λ release. release.files.items ≢ []) }
+    ensures none { IsErrOf result NoFolder
+        → (terminology.items ≡ []) × (content.items ≡ []) }
+{
+    let mut files = terminology;
+    let mut later = content;
+    sort_by_name(&mut files);
+    sort_by_name(&mut later);
+    if files.is_empty() && later.is_empty() {
+        return Err(FolderFault::NoFolder);
+    }
+    match files.append(&mut later) {
+        Ok(()) => Ok(Release { files }),
+        Err(_) => Err(FolderFault::OutOfMemory),
+    }
+}
+
+/// The release files of one folder of a release.
 fn files_of<R: Files<File = File> + AllocGlobal + Clone + Drop>(
     rt: &R,
     alloc: Global,
     root: &str,
     part: &str,
 ) -> Result<Vec<ReleaseFile>, FolderFault>
-    ensures taken { IfOk result (λ files. All IsTakenFile files.items) }
-    ensures sorted { IfOk result (λ files. IsSortedBy has_lesser_name files.items) }
+    ensures { IfOk result (λ files. All IsTakenFile files.items) }
 {
     let folder = format!(in alloc; "{root}/{part}")?;
     let mut files = Vec::new(alloc);
     add_files(rt, alloc, &folder, &mut files)?;
-    sort_by_name(&mut files);
     Ok(files)
 }
 

@@ -6,7 +6,7 @@ mod folder;
 mod names;
 
 pub use fault::FolderFault;
-pub use folder::read_folder;
+pub use folder::{read_folder, release_of};
 pub use names::kind_to_take;
 
 #[cfg(test)]

@@ -33,7 +33,9 @@ fn is_taken(kind: Kind, name: &[u8]) -> bool
 
 /// The kind of the file with this name, if it is one to take: a text of a Delta or a Full release. Names are compared byte by byte.
 pub fn kind_to_take(name: &[u8]) -> Option<Kind>
-    ensures { MatchOption result ((kind : Kind) → IsTaken kind name.now → ⊥) (λ kind. IsTaken kind name.now) }
+    ensures { MatchOption result
+        ((kind : Kind) → IsTaken kind name.now → ⊥)
+        (λ kind. IsTaken kind name.now) }
 {
     if is_taken(Kind::Concept, name) {
         Some(Kind::Concept)

@@ -62,7 +62,8 @@ fn a_release_is_read_in_the_order_of_its_names(rt: HostRuntime) -> Result<(), Fa
 
 #[test]
 fn what_is_no_release_is_no_folder(rt: HostRuntime) -> Result<(), Fail> {
-    // Nothing there; a file in the folder's place; no file to take; a file in the place of a part; a folder with the name of a file to take.
+    // Nothing there; a file in the folder's place; no file to take; a file in the place of a part; a folder with the
+    // name of a file to take.
     fs::create_dir_all(&rt, "releases/empty/Terminology")?;
     fs::write(&rt, "releases/file", b"no folder".as_slice())?;
     fs::create_dir_all(&rt, "releases/part")?;

@@ -18,7 +18,7 @@ NoCr text = get_or text (length text - 1) 0 ≢ 13
 pub free_at : (c : ℕ) (text : List ℕ) (k : ℕ) → IsFree c text → k < length text → get_or text k 0 ≢ c
 free_at c text k free lt is = false≢true (sym (free k 0 lt) ∙ eq-eqb (get_or text k 0) c is)
 
-last_pushed : (xs : List ℕ) (b : ℕ) → get_or (xs ++ b ∷ []) (length (xs ++ b ∷ []) - 1) 0 ≡ b
+pub last_pushed : (xs : List ℕ) (b : ℕ) → get_or (xs ++ b ∷ []) (length (xs ++ b ∷ []) - 1) 0 ≡ b
 last_pushed xs b = get_or_at xs b [] 0 (length (xs ++ b ∷ []) - 1) (omega (arith, length-append xs (b ∷ [])))
 
 front_pushed : (xs : List ℕ) (b : ℕ) → take (length (xs ++ b ∷ []) - 1) (xs ++ b ∷ []) ≡ xs
@@ -31,7 +31,7 @@ last_split xs some =
 
 -- ---- a line's text
 
-feed_off : (xs : List ℕ) → without_terminator (xs ++ 10 ∷ []) ≡ no_cr xs
+pub feed_off : (xs : List ℕ) → without_terminator (xs ++ 10 ∷ []) ≡ no_cr xs
 feed_off xs =
     let long = length-append xs (10 ∷ []) in
     cond-true _ _ _ (and_from _ _ (lt-ltb 0 (length (xs ++ 10 ∷ [])) (omega arith)) (eq-eqb _ 10 (last_pushed xs 10))) ∙ ap no_cr (front_pushed xs 10)
@@ -44,7 +44,7 @@ return_off xs =
 no_return : (xs : List ℕ) → NoCr xs → no_cr xs ≡ xs
 no_return xs other = cond-false _ _ _ (and_right _ _ (ne_eqb _ 13 other))
 
-no_feed : (xs : List ℕ) → IsFree 10 xs → without_terminator xs ≡ xs
+pub no_feed : (xs : List ℕ) → IsFree 10 xs → without_terminator xs ≡ xs
 no_feed [] free = refl
 no_feed (x ∷ xs) free = cond-false _ _ _ (and_right _ _ (ne_eqb _ 10 (free_at 10 (x ∷ xs) (length (x ∷ xs) - 1) free (omega arith))))
 
@@ -80,13 +80,13 @@ first_feed (b ∷ bs) =
     ]
 
 -- a line that LF ends, and those of what follows
-lines_ended : (xs rest : List ℕ) → IsFree 10 xs → lines_of (xs ++ 10 ∷ rest) ≡ (xs ++ 10 ∷ []) ∷ lines_of rest
+pub lines_ended : (xs rest : List ℕ) → IsFree 10 xs → lines_of (xs ++ 10 ∷ rest) ≡ (xs ++ 10 ∷ []) ∷ lines_of rest
 lines_ended xs rest free =
     let long = length-append xs (10 ∷ []) in
     let one : lines_of (xs ++ 10 ∷ []) ≡ (xs ++ 10 ∷ []) ∷ [] = lines-one (xs ++ 10 ∷ []) (omega arith) (λ k lt. subst (λ (b : ℕ). b ≢ 10) (sym (get_or_append_left xs (10 ∷ []) 0 k (omega arith))) (free_at 10 xs k free (omega arith))) in
     ap lines_of (sym (append_assoc xs (10 ∷ []) rest)) ∙ lines-append (length (xs ++ 10 ∷ [])) (xs ++ 10 ∷ []) rest (omega arith) (inr (last_pushed xs 10)) ∙ ap (λ (ls : List (List ℕ)). ls ++ lines_of rest) one
 
-lines_unended : (bs : List ℕ) → 0 < length bs → IsFree 10 bs → lines_of bs ≡ bs ∷ []
+pub lines_unended : (bs : List ℕ) → 0 < length bs → IsFree 10 bs → lines_of bs ≡ bs ∷ []
 lines_unended bs some free = lines-one bs some (λ k lt. free_at 10 bs k free (omega arith))
 
 -- ---- the lines are lines with ends

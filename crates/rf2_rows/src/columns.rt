@@ -5,7 +5,8 @@ ghost use Rattle.rf2_values.specs.declared.row.Kind.TheVariants as kind;
 ghost use Rattle.rf2_values.specs.Time.{IsTime};
 ghost use Rattle.rf2_values.specs.Text.{IsText};
 ghost use Rattle.rf2_values.specs.Row.{IsOfClass, IsConcept, IsComponent, IsIdOf, SpellsId, flag};
-ghost use Rattle.rf2_rows.specs.Line.{Identifier, Time, Active, ConceptReference, ComponentReference, Number, Text as ColumnText, IsLineFaultThat, HasClassFault, HasFault, columns_of};
+ghost use Rattle.rf2_rows.specs.Line.{Identifier, Time, Active, ConceptReference, ComponentReference, Number, Text as ColumnText};
+ghost use Rattle.rf2_rows.specs.Line.{IsLineFaultThat, HasClassFault, HasFault, columns_of};
 ghost use Rattle.rf2_rows.specs.Private.{texts};
 
 use crate::fault::{LineFault, RowFault};

@@ -5,7 +5,8 @@ ghost use Rattle.rf2_values.specs.Row.{Version};
 ghost use Rattle.rf2_rows.specs.declared.fault.LineFault.{LineFault};
 ghost use Rattle.rf2_rows.specs.declared.fault.FileFault.TheVariants as filefault;
 ghost use Rattle.rf2_rows.specs.Line.{header};
-ghost use Rattle.rf2_rows.specs.File.{without_mark as bytes_without_mark, lines_in, IsFirstLineFault, IsReleaseFile, SpellsEach, IsFaultOfRows, IsFaultOfFile, IsFaultThat};
+ghost use Rattle.rf2_rows.specs.File.{without_mark as bytes_without_mark, lines_in, IsReleaseFile, SpellsEach};
+ghost use Rattle.rf2_rows.specs.File.{IsFirstLineFault, IsFaultOfRows, IsFaultOfFile, IsFaultThat};
 
 use crate::fault::{FileFault, LineFault};
 use crate::line::{LINE_LIMIT, read_line};

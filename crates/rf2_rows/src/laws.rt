@@ -1,6 +1,8 @@
 //! Laws of the definitions. The functions do nothing: each has its law for a contract.
 
-ghost use Rattle.rf2_rows.specs.Laws.{SpellsOneRow, CanonicalSpells, OneFaultOfLine, RowHasNoFault, RowOrFault, OneList, OneFaultOfFile, ReleaseFileHasNoFault, FileOrFault, BytesAreTheirLines, LinesAreFound};
+ghost use Rattle.rf2_rows.specs.Laws.{SpellsOneRow, CanonicalSpells, OneFaultOfLine, RowHasNoFault, RowOrFault};
+ghost use Rattle.rf2_rows.specs.Laws.{OneList, OneFaultOfFile, ReleaseFileHasNoFault, FileOrFault};
+ghost use Rattle.rf2_rows.specs.Laws.{BytesAreTheirLines, LinesAreFound};
 
 /// A text spells at most one row of a kind.
 pub fn spells_one_row()

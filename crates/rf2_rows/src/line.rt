@@ -5,7 +5,8 @@ ghost use Rattle.rf2_values.specs.declared.row.Kind.TheVariants as kind;
 ghost use Rattle.rf2_rows.specs.declared.fault.LineFault.{LineFault};
 ghost use Rattle.rf2_rows.specs.declared.fault.RowFault.TheVariants as rowfault;
 ghost use Rattle.rf2_values.specs.Time.{IsTime};
-ghost use Rattle.rf2_values.specs.Row.{Version, IsVersion, Spells, IsBody, kind_of_body, body_columns, IsConcept, IsIdOf, SpellsId, SpellsColumns, kind_of, flag as flag_text, line_of};
+ghost use Rattle.rf2_values.specs.Row.{Version, IsVersion, IsBody, IsConcept, IsIdOf, kind_of, kind_of_body, body_columns};
+ghost use Rattle.rf2_values.specs.Row.{Spells, SpellsId, SpellsColumns, flag as flag_text, line_of};
 ghost use Rattle.rf2_rows.specs.Line.{IsLineFaultThat, FirstFault, columns_in, common_layout, own_layout, IsFaultOfColumns, IsFaultOf};
 ghost use Rattle.rf2_rows.specs.Private.{texts, IsLineReading};
 

@@ -1,5 +1,6 @@
 -- Which numbers are SNOMED CT identifiers.
-use Rattle.std.specs.Prelude.{◌≡◌, ℕ, ◌+◌, ◌%◌, ◌≤◌, ◌<◌, ◌^◌, List, [], ◌∷◌, reverse, slice_index, slice_index_or, ◌/◌, ◌==◌, ◌||◌, Option, Some, None, if◌then◌else◌}
+use Rattle.std.specs.Prelude.{◌≡◌, ℕ, ◌+◌, ◌/◌, ◌%◌, ◌≤◌, ◌<◌, ◌^◌, ◌==◌, ◌||◌, if◌then◌else◌}
+use Rattle.std.specs.Prelude.{List, [], ◌∷◌, reverse, slice_index, slice_index_or, Option, Some, None}
 use Rattle.rf2_values.specs.declared.sctid.Class.{Class}
 use Rattle.rf2_values.specs.declared.sctid.Class.TheVariants.{Concept, Description, Relationship}
 use Rattle.std.specs.Int.Digits.{digits_of}

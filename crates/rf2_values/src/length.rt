@@ -100,7 +100,8 @@ pub fn is_short(id: u128, time: EffectiveTime, active: bool, module_id: Sctid, b
     requires time { IsTime time }
     requires module_id { IsConcept module_id }
     requires body { IsBody body.now }
-    ensures { IsTrue result ↔ (length (canonical (version id time active module_id body.now)) ≤ 65535) }
+    ensures { IsTrue result
+        ↔ (length (canonical (version id time active module_id body.now)) ≤ 65535) }
 {
     texts_len(body) <= 65_000 || line_len(id, time, active, module_id, body) <= 65_535
 }

@@ -53,6 +53,7 @@ impl Member {
         }
     }
 
+    /// Its 32 hexadecimal digits as one number, the first digit the highest.
     pub fn value(self) -> u128
         ensures { result ≡ self }
     {

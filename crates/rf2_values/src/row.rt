@@ -85,6 +85,7 @@ pub enum Body {
 }
 
 impl Body {
+    /// The kind whose columns they are.
     pub fn kind(&self) -> Kind
         ensures { result ≡ kind_of_body self.now }
     {
@@ -151,7 +152,8 @@ impl Row {
         module_id: Sctid,
         body: Body,
     ) -> Option<Row>
-        ensures { let row = version id time active module_id body in SomeIff result (IsVersion row) row }
+        ensures { let row = version id time active module_id body in
+            SomeIff result (IsVersion row) row }
     {
         let may_stand = allowed::is_id_of(body.kind(), id)
             && allowed::is_concept(module_id)
@@ -178,6 +180,7 @@ impl Row {
         }
     }
 
+    /// What the row is a version of.
     pub fn kind(&self) -> Kind
         ensures kind { result ≡ kind_of self.now }
         ensures is_row { IsVersion self.now }

@@ -107,6 +107,7 @@ impl Sctid {
         }
     }
 
+    /// Its digits as a number, the check digit among them.
     pub fn value(self) -> u64
         ensures value { result ≡ self }
         ensures is_sctid { IsSctid result }

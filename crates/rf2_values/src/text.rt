@@ -31,7 +31,7 @@ fn is_text(bytes: &[u8]) -> bool
 }
 
 impl Text {
-    /// The text of these bytes.
+    /// The text of these bytes, if they are one.
     pub fn of(alloc: Global, bytes: &[u8]) -> Result<Option<Text>, AllocError>
         ensures { IfOk result
             (λ found. MatchOption found (IsText bytes.now → ⊥) (λ t. (t ≡ bytes.now) × IsText t)) }
@@ -44,6 +44,7 @@ impl Text {
         }))
     }
 
+    /// Its bytes, which are UTF-8.
     pub fn as_bytes(&self) -> &[u8]
         ensures bytes { result.now ≡ self.now }
         ensures is_text { IsText self.now }

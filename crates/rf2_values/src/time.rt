@@ -43,6 +43,7 @@ impl EffectiveTime {
         EffectiveTime::of(u32::try_from(number::parse(text)?).ok()?)
     }
 
+    /// Year, month and day as one number of eight digits, as 20200131.
     pub fn value(self) -> u32
         ensures value { result ≡ self }
         ensures is_time { IsTime result }

@@ -1,22 +1,47 @@
-//! `sctd`: for now, the demonstration alone, whatever its words are.
+//! `sctd` keeps the release history of a SNOMED CT terminology in a file, and answers what each component said on any past date.
 #![tactic(auto)]
 
-mod demo;
-mod reply;
-
-use std::io::Write;
+use command_line::run;
+use std::fs::{self, File};
+use std::io::ErrorKind;
 use std::process::ExitCode;
+use std::rt::HostRuntime;
+use std::{env, io};
+
+/// Opens the root folder three times. A stream that the program was started without has its number taken so, and no file that is opened from then on,
+/// as that of a store, stands in its place and takes the replies: it can be neither read nor written.
+fn places_of_streams(rt: &HostRuntime) -> io::Result<[File; 3]> {
+    Ok([fs::open(rt, "/")?, fs::open(rt, "/")?, fs::open(rt, "/")?])
+}
+
+/// The words of the command line, of which the first is the program's name.
+fn words_of(rt: &HostRuntime) -> io::Result<Vec<String>> {
+    Ok(env::args(rt)?.collect(rt.alloc())?)
+}
 
 fn main(rt: HostRuntime) -> ExitCode {
-    let shown = match demo::demo(rt.alloc()) {
-        Ok(lines) => rt.stdout().write_all(&lines),
-        Err(refusal) => {
-            let _ = println!(rt; "ERR {}", refusal.code());
+    let Ok(_places) = places_of_streams(&rt) else {
+        return ExitCode::FAILURE;
+    };
+    let words = match words_of(&rt) {
+        Ok(words) => words,
+        Err(error) if error.kind() == ErrorKind::OutOfMemory => {
+            let _ = eprintln!(rt; "ERR 1 OutOfMemory");
             return ExitCode::FAILURE;
         }
+        Err(_) => {
+            let _ = eprintln!(rt; "error: a word of the command line isn't UTF-8");
+            return ExitCode::from(2);
+        }
     };
-    match shown {
-        Ok(()) => ExitCode::SUCCESS,
-        Err(_) => ExitCode::FAILURE,
-    }
+    let (mut input, mut output, mut faults) = (rt.stdin(), rt.stdout(), rt.stderr());
+    let status = run(
+        &rt,
+        rt.alloc(),
+        &words,
+        &mut input,
+        &mut output,
+        &mut faults,
+    );
+    ExitCode::from(status)
 }

@@ -7,3 +7,4 @@ pub mod Ascending
 pub mod Places
 pub mod Decoded
 pub mod Posting
+pub mod Unions

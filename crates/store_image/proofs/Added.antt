@@ -1,10 +1,8 @@
 -- A segment more.
 use Rattle.std.specs.Prelude.{All, Result, Ok, Err, OnOk}
-use Rattle.std.proofs.Common.{◌≡◌, ◌⊎◌, inl, inr, ℕ, ◌+◌, ◌*◌, ◌≤◌, List, [], ◌∷◌, ◌++◌, length, refl, sym, ◌∙◌, ap, subst, arith}
-use Rattle.std.specs.List.{AllByRecursion}
+use Rattle.std.proofs.Common.{◌≡◌, ◌⊎◌, inl, ℕ, ◌+◌, ◌*◌, ◌≤◌, List, [], ◌∷◌, ◌++◌, length, refl, sym, ◌∙◌, ap, subst, arith}
 use Rattle.std.specs.Int.{div_ceil}
-use Rattle.std.proofs.lemmas.Bool.{cases_lt}
-use Rattle.std.proofs.lemmas.List.Elements.{All-nil, All-cons, All-push}
+use Rattle.std.proofs.lemmas.List.Elements.{All-push}
 use Rattle.disk_model.specs.Disk.{Moments, IsImage, EachImage, LeavesOnly, after_write, settled}
 use Rattle.disk_model.proofs.MomentSteps.{weaker, at_end}
 use Rattle.blocks.specs.declared.slots.Slot.{Slot}
@@ -16,7 +14,7 @@ use Rattle.history_model.specs.declared.stamped.StampedRow.{StampedRow}
 use Rattle.history_model.specs.Lists.{listed}
 use Rattle.history_model.proofs.InOrder.{Has-all, all_from_has}
 use Rattle.directory.specs.declared.entry.Entry.{Entry}
-use Rattle.directory.specs.Places.{AreApart, AreBeside, end_block, extent_of, extents_of}
+use Rattle.directory.specs.Places.{AreApart, extent_of, extents_of}
 use Rattle.directory.specs.Listings.{Listing, IsEntry}
 use Rattle.segment.specs.Records.{segment_of}
 use Rattle.store_image.specs.Stands.{Holds, HoldsAll, Stands}
@@ -25,6 +23,7 @@ use Rattle.store_image.specs.Images.{StandsForHistory}
 use Rattle.store_image.specs.Shown.{IsOnDisk, current_of}
 use Rattle.store_image.specs.Next.{IsAdded, AddedIsNext, RepeatedIsNext}
 use Rattle.store_image.proofs.Frames.{IsFree, write_step, written_piece}
+use Rattle.store_image.proofs.Beside.{blocks_cover, all_free, last_apart}
 use Rattle.store_image.proofs.Published.{shown_for_history}
 
 pub AreSegments-push : (entries : List Entry) (lists : List (List StampedRow)) (entry : Entry) (rows : List StampedRow) → AreSegments entries lists → IsSegmentOf entry rows → AreSegments (entries ++ entry ∷ []) (lists ++ rows ∷ [])
@@ -74,44 +73,6 @@ repeated_is_next state slot d e lists on repeated =
 pieces_added : (d e : Listing) (lists : List (List StampedRow)) (entry : Entry) (rows : List StampedRow) → IsKept d lists → IsAdded d e lists entry rows → pieces_of e.entries (lists ++ rows ∷ []) ≡ pieces_of d.entries lists ++ (start_of (extent_of entry), segment_of rows) ∷ []
 pieces_added d e lists entry rows kept added = ap (λ (l : List Entry). pieces_of l (lists ++ rows ∷ [])) added.entries ∙ pieces_of-push d.entries lists entry rows kept.segments
 
--- the blocks of so many bytes have room for them
-blocks_cover : (bytes : ℕ) → bytes ≤ 4096 * div_ceil bytes 4096
-blocks_cover bytes = omega arith
-
--- two extents of some bytes that share no block: one ends before the other begins
-beside_ends : (a b : Entry) → IsEntry a → IsEntry b → AreBeside (extent_of a) (extent_of b) → (end_block (extent_of a) ≤ b.first) ⊎ (end_block (extent_of b) ≤ a.first)
-beside_ends a b is_a is_b beside = elim (cases_lt b.first (end_block (extent_of a))) [
-  | inr above ↦ inl above
-  | inl below ↦ elim (cases_lt a.first (end_block (extent_of b))) [
-    | inr above ↦ inr above
-    | inl under ↦ elim (cases_lt a.first b.first) [
-      | inl first ↦ absurd (beside b.first (omega arith, below) (omega arith, omega (arith, blocks_cover b.bytes, is_b.bytes)))
-      | inr second ↦ absurd (beside a.first (omega arith, omega (arith, blocks_cover a.bytes, is_a.bytes)) (second, under))
-    ]
-  ]
-]
-
-last_beside : (entries : List Entry) (a entry : Entry) → AllByRecursion (AreBeside (extent_of a)) (extents_of (entries ++ entry ∷ [])) → AreBeside (extent_of a) (extent_of entry)
-last_beside [] a entry h = h.0
-last_beside (e ∷ es) a entry h = last_beside es a entry h.1
-
-one_free : (e entry : Entry) (x rows : List StampedRow) → IsEntry e → IsEntry entry → AreBeside (extent_of e) (extent_of entry) → IsSegmentOf e x → (n : ℕ) → n ≡ entry.bytes
-    → IsFree (start_of (extent_of entry)) (start_of (extent_of entry) + n) (start_of (extent_of e), segment_of x)
-one_free e entry x rows is_e is_entry beside is n len = elim (beside_ends e entry is_e is_entry beside) [
-  | inl below ↦ inr (omega (arith, below, is.bytes, blocks_cover e.bytes))
-  | inr above ↦ inl (omega (arith, above, len, blocks_cover entry.bytes))
-]
-
--- an extent beside those of all entries is free of their segments
-all_free : (entries : List Entry) (lists : List (List StampedRow)) (entry : Entry) (n : ℕ) → AllByRecursion IsEntry entries → IsEntry entry → AreSegments entries lists → AreApart (extents_of (entries ++ entry ∷ [])) → n ≡ entry.bytes
-    → All (IsFree (start_of (extent_of entry)) (start_of (extent_of entry) + n)) (pieces_of entries lists)
-all_free [] lists entry n each is are apart len = All-nil (IsFree (start_of (extent_of entry)) (start_of (extent_of entry) + n))
-all_free (e ∷ es) [] entry n each is are apart len = absurd are
-all_free (e ∷ es) (x ∷ xs) entry n each is are apart len =
-    All-cons (IsFree (start_of (extent_of entry)) (start_of (extent_of entry) + n)) (start_of (extent_of e), segment_of x) (pieces_of es xs)
-    (one_free e entry x x each.0 is (last_beside es e entry apart.0) are.0 n len)
-    (all_free es xs entry n each.1 is are.1 apart.1 len)
-
 -- a write of its bytes ends below the last place
 pub entry_fits : (entry : Entry) (at n : ℕ) → IsEntry entry → at ≡ start_of (extent_of entry) → n ≡ entry.bytes → at + n ≤ 17179869184
 entry_fits entry at n is same len =
@@ -124,7 +85,9 @@ module _ (old mid : Moments) (slot : Slot) (d e : Listing) (lists : List (List S
   free : All (IsFree at (at + length bytes)) (pieces_of d.entries lists)
   free =
       let P : ℕ → Type 0 = λ n. All (IsFree n (n + length bytes)) (pieces_of d.entries lists) in
-      subst P (sym place) (all_free d.entries lists entry (length bytes) on.1.kept.listing.entries is on.1.kept.segments (subst (λ (l : List Entry). AreApart (extents_of l)) added.entries added.listing.apart) len)
+      let start = start_of (extent_of entry) in
+      let apart = subst (λ (l : List Entry). AreApart (extents_of l)) added.entries added.listing.apart in
+      subst P (sym place) (all_free (extent_of entry) start (start + length bytes) is.bytes (omega arith) (omega (arith, len)) d.entries lists on.1.kept.listing.entries (last_apart d.entries entry apart) on.1.kept.segments)
 
   stays : LeavesOnly old mid (Stands (current_of slot d) on.0 (pieces_of d.entries lists))
   stays = weaker old mid (Either at bytes old.state) (Stands (current_of slot d) on.0 (pieces_of d.entries lists))

@@ -1,9 +1,10 @@
 -- A store that was made.
-use Rattle.std.proofs.Common.{◌≡◌, ℕ, List, [], refl, sym, ◌∙◌, ap, subst}
-use Rattle.std.proofs.lemmas.List.Elements.{All-nil}
-use Rattle.disk_model.specs.Disk.{DiskState, EachImage}
+use Rattle.std.proofs.Common.{◌≡◌, ℕ, ◌≤◌, List, [], ◌∷◌, length, refl, sym, ◌∙◌, ap, subst, arith}
+use Rattle.std.proofs.lemmas.List.Elements.{All-nil, All-cons}
+use Rattle.disk_model.specs.Disk.{DiskState, IsImage, EachImage}
 use Rattle.blocks.specs.declared.slots.Current.{Current}
-use Rattle.blocks.specs.Slots.{first_current, epoch_of, IsFresh}
+use Rattle.blocks.specs.Outside.{SameOutside}
+use Rattle.blocks.specs.Slots.{first_current, slots_range, epoch_of, IsFresh}
 use Rattle.history_model.specs.History.{no_history, IsHistory}
 use Rattle.history_model.specs.Lists.{listed}
 use Rattle.directory.specs.Listings.{Listing}
@@ -12,7 +13,7 @@ use Rattle.store_image.specs.Stands.{Holds}
 use Rattle.store_image.specs.Says.{Says, history_of}
 use Rattle.store_image.specs.Images.{StandsFor}
 use Rattle.store_image.specs.Shown.{IsOnDisk}
-use Rattle.store_image.specs.Answers.{empty_listing}
+use Rattle.store_image.specs.Answers.{empty_listing, IsNewStore}
 use Rattle.store_image.proofs.Listed.{listed_epoch}
 
 listed_none : listed [] ≡ []
@@ -36,3 +37,13 @@ pub empty_stands : (state : DiskState) (content : List ℕ) (d : Listing) (curre
 empty_stands state content d current same lists is fresh c image =
     let on = empty_on_disk state content empty_listing first_current refl (subst (Lists content) same lists) refl fresh in
     record { slot = first_current.slot; content = on.0; lists = []; stands = on.2 c image; says = on.1; rows = sym listed_none }
+
+-- a read of a disk of no bytes gives the two slots, once they are made anew
+pub new_bytes : (old : List ℕ) (state : DiskState) (content : List ℕ) (d : Listing) → length old ≡ 0 → d ≡ empty_listing → Lists content d → IsImage state state.now
+    → EachImage state (IsFresh content) → SameOutside (slots_range ∷ []) old state.now → IsNewStore state.now
+new_bytes old state content d none same lists image fresh elsewhere =
+    let file = fresh state.now image in
+    let whole = file.current.0.whole in
+    let fits = All-cons (λ range. range.1 ≤ 16384) slots_range [] (omega arith) (All-nil (λ range. range.1 ≤ 16384)) in
+    let short = elsewhere.no_longer 16384 (omega (arith, none)) fits in
+    record { content = content; lists_it = subst (Lists content) same lists; fresh = file; size = omega (arith, whole, short) }

@@ -1,8 +1,7 @@
 -- Lists in which each key stands once.
-use Rattle.std.proofs.Common.{◌≡◌, ◌↔◌, inl, inr, ℕ, zero, suc, ◌+◌, ◌-◌, ◌<◌, ◌≤◌, ◌++◌, List, [], ◌∷◌, length, get_or, map, take, drop, true, false, refl, sym, ap, subst, ◌∙◌, arith, append_assoc, length-append, Vec, Global}
+use Rattle.std.proofs.Common.{◌≡◌, ◌↔◌, inl, inr, ℕ, zero, suc, ◌+◌, ◌<◌, ◌++◌, List, [], ◌∷◌, length, get_or, map, take, drop, true, false, refl, sym, ap, subst, ◌∙◌, arith, append_assoc, Vec, Global}
 use Rattle.std.specs.Prelude.{vec_items}
 use Rattle.std.specs.List.{AllByRecursion}
-use Rattle.std.specs.declared.cmp.Ordering.{Ordering}
 use Rattle.std.specs.declared.cmp.Ordering.TheVariants.{Less}
 use Rattle.std.proofs.lemmas.List.{append-nil, take-append-drop, drop_more, get_or-map, length-map}
 use Rattle.rf2_values.specs.declared.key.Key.{Key}
@@ -12,7 +11,7 @@ use Rattle.history_model.proofs.InOrder.{Has-all, all_from_has, not_both}
 use Rattle.rf2_values.specs.Key.{keys_total}
 use Rattle.segment.specs.declared.place.Posted.{Posted}
 use Rattle.store_image.specs.declared.apart.Rest.{Rest}
-use Rattle.store_image.specs.Keys.{keys_of, AreDisjoint, EachKeyOnce, keys_in, keys_left, first_cmp, AreOpen, Opens}
+use Rattle.store_image.specs.Keys.{keys_of, AreDisjoint, EachKeyOnce, keys_in, first_cmp, AreOpen, Opens}
 
 -- ---- one element between others
 

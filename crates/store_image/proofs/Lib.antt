@@ -2,6 +2,7 @@ pub mod Listed
 pub mod Frames
 pub mod Standing
 pub mod Published
+pub mod Beside
 pub mod Added
 pub mod Empty
 pub mod Windowed
@@ -10,3 +11,6 @@ pub mod Segments
 pub mod KeyLists
 pub mod KeysOnce
 pub mod Opened
+pub mod Unlisted
+pub mod Trimmed
+pub mod Merged

@@ -1,15 +1,9 @@
 -- The rows of a segment, read one after the other.
-use Rattle.std.proofs.Common.{◌≡◌, ◌⊎◌, inl, inr, ℕ, zero, suc, ◌+◌, ◌-◌, ◌*◌, ◌<◌, ◌≤◌, ◌++◌, List, [], ◌∷◌, length, get_or, map, min, take, drop, refl, sym, ap, ◌∙◌, subst, arith, length-take, length-drop, length-append}
+use Rattle.std.proofs.Common.{◌≡◌, ℕ, ◌+◌, ◌-◌, ◌<◌, ◌≤◌, ◌++◌, List, [], ◌∷◌, length, get_or, map, take, drop, refl, sym, ap, ◌∙◌, subst, arith, length-append}
 use Rattle.std.specs.List.{AllByRecursion}
-use Rattle.std.specs.declared.cmp.Ordering.{Ordering}
 use Rattle.std.specs.declared.cmp.Ordering.TheVariants.{Less}
-use Rattle.std.proofs.lemmas.List.{take_at, drop_at, take-append-drop, append-nil, get_or-map, get_or_default, length-map}
+use Rattle.std.proofs.lemmas.List.{take_at, drop_at, take-append-drop, get_or-map, get_or_default, length-map}
 use Rattle.std.proofs.lemmas.List.Elements.{All-push, recursion_from_All}
-use Rattle.blocks.specs.Extents.{start_of, bytes_of}
-use Rattle.directory.specs.declared.entry.Entry.{Entry}
-use Rattle.directory.specs.Listings.{IsEntry}
-use Rattle.directory.specs.Places.{extent_of}
-use Rattle.rf2_values.specs.declared.key.Key.{Key}
 use Rattle.rf2_values.specs.Key.{key_of, key_cmp}
 use Rattle.history_model.specs.declared.stamped.StampedRow.{StampedRow}
 use Rattle.history_model.specs.InOrder.{IsAscending}
@@ -24,10 +18,7 @@ use Rattle.segment.proofs.RecordLaws.{same_records}
 use Rattle.segment.proofs.SegmentLaws.{segment_push, all_push, no_rows, goes_on}
 use Rattle.store_image.specs.declared.fault.ImageFault.{ImageFault}
 use Rattle.store_image.specs.declared.fault.ImageFault.TheVariants as faults
-use Rattle.store_image.specs.Stands.{Holds}
-use Rattle.store_image.specs.Says.{IsSegmentOf}
-use Rattle.store_image.specs.Reading.{HasRecord, IsNoRecord, AreReadTo, AreNumbered, BeginsWith, IsNotNext, IsAt, IsNotReadAt}
-use Rattle.store_image.proofs.Windowed.{record_least}
+use Rattle.store_image.specs.Reading.{HasRecord, IsNoRecord, AreReadTo, BeginsWith, IsNotNext}
 
 -- ---- places
 

@@ -1,7 +1,7 @@
 -- Segments, as their entries say.
-use Rattle.std.proofs.Common.{◌≡◌, ◌≢◌, ◌⊎◌, ℕ, zero, suc, ◌+◌, ◌-◌, ◌*◌, ◌<◌, ◌≤◌, ◌++◌, List, [], ◌∷◌, length, get_or, map, min, take, drop, refl, sym, ap, ◌∙◌, subst, arith, length-take, length-drop, length-append, append_assoc}
+use Rattle.std.proofs.Common.{◌≡◌, ℕ, zero, suc, ◌+◌, ◌*◌, ◌<◌, ◌≤◌, ◌++◌, List, [], ◌∷◌, length, get_or, map, take, drop, refl, sym, ap, ◌∙◌, subst, arith, length-take, length-drop, length-append, append_assoc}
 use Rattle.std.specs.List.{AllByRecursion}
-use Rattle.std.proofs.lemmas.List.{append-nil, take_more, take_all}
+use Rattle.std.proofs.lemmas.List.{append-nil, take_more}
 use Rattle.std.proofs.lemmas.List.Elements.{All-nil, All-push, All-head, All-tail}
 use Rattle.blocks.specs.Extents.{start_of, bytes_of}
 use Rattle.directory.specs.declared.entry.Entry.{Entry}
@@ -10,14 +10,14 @@ use Rattle.directory.specs.Places.{extent_of}
 use Rattle.history_model.specs.declared.stamped.StampedRow.{StampedRow}
 use Rattle.history_model.specs.Lists.{AreLists}
 use Rattle.segment.specs.declared.place.Posted.{Posted}
-use Rattle.segment.specs.Records.{record_of, segment_of, IsStamped, IsSegment}
-use Rattle.segment.specs.Standing.{with_places, places_of}
+use Rattle.segment.specs.Records.{record_of, segment_of, IsSegment}
+use Rattle.segment.specs.Standing.{with_places}
 use Rattle.segment.proofs.SegmentLaws.{no_rows, goes_on, one_segment}
 use Rattle.store_image.specs.declared.fault.ImageFault.{ImageFault}
 use Rattle.store_image.specs.declared.fault.ImageFault.TheVariants as faults
 use Rattle.store_image.specs.Stands.{Holds, HoldsAll}
 use Rattle.store_image.specs.Says.{IsSegmentOf, AreSegments, pieces_of}
-use Rattle.store_image.specs.Reading.{AreReadTo, AreNumbered, BeginsWith, IsNotNext, IsAt, IsNotReadAt, AreRead, AreNotRead}
+use Rattle.store_image.specs.Reading.{AreReadTo, AreNumbered, BeginsWith, IsNotNext, IsAt, IsNotReadAt, AreNotRead}
 use Rattle.store_image.proofs.Added.{AreSegments-push, pieces_of-push}
 use Rattle.store_image.proofs.Standing.{same_segments}
 use Rattle.store_image.proofs.Windowed.{record_least}

@@ -7,10 +7,11 @@ use Rattle.blocks.specs.declared.slots.SlotFault.{SlotFault}
 use Rattle.blocks.specs.declared.slots.SlotFault.TheVariants as slots
 use Rattle.blocks.specs.declared.extent.ExtentFault.{ExtentFault}
 use Rattle.blocks.specs.declared.extent.ExtentFault.TheVariants as extents
-use Rattle.blocks.specs.Slots.{IsOpen, IsClosed}
+use Rattle.blocks.specs.Slots.{IsOpen, IsClosed, IsFresh}
 use Rattle.directory.specs.declared.entry.Entry.{Entry}
 use Rattle.directory.specs.declared.listing.DirectoryFault.{DirectoryFault}
 use Rattle.directory.specs.declared.listing.DirectoryFault.TheVariants as directories
+use Rattle.directory.specs.Content.{Lists}
 use Rattle.directory.specs.Listings.{Listing}
 use Rattle.segment.specs.declared.fault.SegmentFault.{SegmentFault}
 use Rattle.segment.specs.declared.fault.SegmentFault.TheVariants as segments
@@ -22,6 +23,13 @@ use Rattle.store_image.specs.Images.{StandsFor, IsStore}
 -- the directory of a new store
 abbrev pub empty_listing : Listing
 empty_listing = record { epoch = 1; imports = 0; entries = [] }
+
+-- the bytes of a new store: the two slots and nothing behind them. Slot A is the current one and lists the empty directory; beside its gate and its content all is zero.
+pub record IsNewStore (file : List ℕ) : Type 0 where
+  pub content : List ℕ
+  pub lists_it : Lists content empty_listing
+  pub fresh : IsFresh content file
+  pub size : length file ≡ 16384
 
 -- a store is made exactly on a disk of no bytes, unless memory or the device fails
 abbrev pub IsMade : {T : Type 0} → Result T ImageFault → List ℕ → Type 0

@@ -6,6 +6,8 @@ pub mod Next
 pub mod Reading
 pub mod Keys
 pub mod Answers
+pub mod Ahead
+pub mod Trimmed
 pub use Rattle.disk_model.specs.Disk
 pub use Rattle.blocks.specs.Extents
 pub use Rattle.blocks.specs.Outside

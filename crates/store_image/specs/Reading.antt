@@ -5,7 +5,6 @@ use Rattle.history_model.specs.declared.stamped.StampedRow.{StampedRow}
 use Rattle.history_model.specs.InOrder.{IsAscending}
 use Rattle.history_model.specs.History.{stamped_cmp}
 use Rattle.history_model.specs.Lists.{AreLists}
-use Rattle.blocks.specs.declared.extent.Extent.{Extent}
 use Rattle.blocks.specs.Extents.{start_of, bytes_of}
 use Rattle.directory.specs.declared.entry.Entry.{Entry}
 use Rattle.directory.specs.Places.{extent_of}

@@ -1,10 +1,10 @@
 //! The two ways of writing the next directory: behind the slots with a segment first, or alone.
 
-ghost use Rattle.std.specs.Prelude.{◌≡◌, ◌⊎◌, ◌↔◌, ◌++◌, ◌∷◌, [], List, length, IfOk, OnOk};
+ghost use Rattle.std.specs.Prelude.{◌≡◌, ◌⊎◌, ◌↔◌, ◌+◌, ◌++◌, ◌∷◌, [], List, length, IfOk, OnOk};
 ghost use Rattle.disk_model.specs.Disk.{EachImage, LeavesOnly};
 ghost use Rattle.fault_counts.specs.Counting.{CountsEach};
 ghost use Rattle.blocks.specs.Extents.{byte_range};
-ghost use Rattle.blocks.specs.Outside.{SameOutside};
+ghost use Rattle.blocks.specs.Outside.{SameOutside, StemsWithin};
 ghost use Rattle.blocks.specs.Slots.{other, slot_range};
 ghost use Rattle.history_model.specs.declared.stamped.StampedRow.{StampedRow};
 ghost use Rattle.directory.specs.Listings.{Listing, IsEntry};
@@ -35,6 +35,11 @@ pub fn publish_listing<D: Disk>(
     ensures on_disk { D.is_honest disk.old → (d : Listing) (lists others : List (List StampedRow)) → IsOnDisk (D.moments disk.old).state slot d lists
         → IsNext d next.now others → EachImage (D.moments disk.old).state (HoldsAll (pieces_of next.now.entries others))
         → OnOk result (IsOnDisk (D.moments disk.new).state (other slot) next.now others) }
+    // What a stop leaves changes within the other slot alone.
+    ensures one_slot { D.is_honest disk.old → (d : Listing) (lists : List (List StampedRow))
+        → IsOnDisk (D.moments disk.old).state slot d lists → next.now.epoch ≡ d.epoch + 1
+        → LeavesOnly (D.moments disk.old) (D.moments disk.new)
+        (StemsWithin (D.moments disk.old).state (slot_range (other slot))) }
     ensures elsewhere { D.is_honest disk.old → OnOk result (SameOutside (slot_range (other slot) ∷ []) (D.moments disk.old).state.now (D.moments disk.new).state.now) }
     ensures next { IfOk result (λ published. published ≡ other slot) }
     ensures honesty { D.is_honest disk.old ↔ D.is_honest disk.new }

@@ -2,7 +2,7 @@
 
 ghost use Rattle.store_image.specs.Images.{StandsForOne};
 ghost use Rattle.store_image.specs.Shown.{ShownStands, OnDiskStands};
-ghost use Rattle.store_image.specs.Next.{AddedIsNext, RepeatedIsNext};
+ghost use Rattle.store_image.specs.Next.{AddedIsNext, RepeatedIsNext, MergedIsNext, MergedIsHeld};
 ghost use Rattle.store_image.specs.Answers.{StandingIsOpened};
 
 /// Bytes stand for one history, epoch and list of entries at most.
@@ -33,4 +33,14 @@ pub fn added_is_next()
 /// A directory with one import more, that brought no row, comes next, and its segments are on the disk.
 pub fn repeated_is_next()
     ensures { RepeatedIsNext }
+{}
+
+/// A directory with the segment of both in the place of two comes next, and lists the same history.
+pub fn merged_is_next()
+    ensures { MergedIsNext }
+{}
+
+/// Bytes that hold the segments from before and the new one hold all that it lists.
+pub fn merged_is_held()
+    ensures { MergedIsHeld }
 {}

@@ -1,12 +1,12 @@
 //! Making an empty store.
 
-ghost use Rattle.std.specs.Prelude.{◌≡◌, ◌⊎◌, ◌↔◌, [], IfOk, IfErr, OnOk};
+ghost use Rattle.std.specs.Prelude.{◌≡◌, ◌⊎◌, ◌↔◌, ◌≤◌, [], length, IfOk, IfErr, OnOk};
 ghost use Rattle.disk_model.specs.Disk.{EachImage};
 ghost use Rattle.history_model.specs.History.{no_history};
 ghost use Rattle.store_image.specs.declared.fault.ImageFault.TheVariants as faults;
 ghost use Rattle.store_image.specs.Images.{StandsFor};
 ghost use Rattle.store_image.specs.Shown.{IsOnDisk};
-ghost use Rattle.store_image.specs.Answers.{empty_listing, IsLookedAt, IsMade, CountsFault, StaysIfRefused};
+ghost use Rattle.store_image.specs.Answers.{empty_listing, IsLookedAt, IsMade, IsNewStore, CountsFault, StaysIfRefused};
 
 use crate::content::content_of;
 use crate::fault::ImageFault;
@@ -44,7 +44,12 @@ pub fn make<D: Disk>(alloc: Global, disk: &mut D) -> Result<Made, ImageFault>
     ensures on_disk { D.is_honest disk.old → IfOk result (λ made. IsOnDisk (D.moments disk.new).state made.slot made.directory []) }
     // Whatever a stop leaves stands for the empty history.
     ensures stands { D.is_honest disk.old → OnOk result (EachImage (D.moments disk.new).state (λ c. StandsFor c no_history 1 [])) }
+    // A read then gives the two slots, and nothing behind them.
+    ensures bytes { D.is_honest disk.old → OnOk result (IsNewStore (D.moments disk.new).state.now) }
     ensures refused { D.is_honest disk.old → StaysIfRefused result (D.moments disk.old) (D.moments disk.new) }
+    // A disk with a byte stays as it is, whatever the answer: where the device fails, too.
+    ensures untouched { D.is_honest disk.old → 1 ≤ length (D.moments disk.old).state.now
+        → D.moments disk.new ≡ D.moments disk.old }
     ensures honesty { D.is_honest disk.old ↔ D.is_honest disk.new }
     ensures failures { CountsFault result (D.failures disk.old) (D.failures disk.new) }
 {

@@ -1,9 +1,12 @@
 //! A store byte for byte, and each way in which an image is damaged.
 
+ghost use Rattle.std.specs.Prelude.{◌≤◌};
+ghost use Rattle.disk_model.specs.MemDisk.{changes_of};
+
 use crate::*;
 use blocks::Slot;
 use directory::{Directory, Entry};
-use disk_model::{Disk, MemDisk};
+use disk_model::{Choice, Disk, DiskFault, MemDisk};
 use history_model::StampedRow;
 use segment::Posted;
 use std::alloc::{AllocError, Global};
@@ -79,8 +82,23 @@ const SECOND: Entry = Entry {
     rows: 1,
 };
 
+/// The segment of the rows of both.
+const BOTH: Entry = Entry {
+    first: 6,
+    bytes: 92,
+    rows: 2,
+};
+
+/// A store after two imports, and the directory that lists one segment in the place of both.
+#[derive(Drop)]
+struct Unmerged {
+    disk: MemDisk,
+    slot: Slot,
+    merged: Directory,
+}
+
 /// A store after two imports, the second one with these bytes as its segment. Slot A is the current one.
-fn two_imports(alloc: Global, second: &[u8; 46]) -> Result<MemDisk, Fail> {
+fn imported(alloc: Global, second: &[u8; 46]) -> Result<Unmerged, Fail> {
     let mut disk = MemDisk::new(alloc);
     let Made {
         slot,
@@ -91,8 +109,34 @@ fn two_imports(alloc: Global, second: &[u8; 46]) -> Result<MemDisk, Fail> {
     let slot = add_segment(&mut disk, slot, &directory, FIRST, &ROOT)?;
     directory.advance(2);
     directory.add(SECOND);
-    let _slot = add_segment(&mut disk, slot, &directory, SECOND, second)?;
+    let slot = add_segment(&mut disk, slot, &directory, SECOND, second)?;
+    directory.replace_two(0, 1, BOTH);
+    directory.advance(2);
+    Ok(Unmerged {
+        disk,
+        slot,
+        merged: directory,
+    })
+}
+
+/// The disk alone.
+fn two_imports(alloc: Global, second: &[u8; 46]) -> Result<MemDisk, Fail> {
+    let Unmerged { disk, .. } = imported(alloc, second)?;
     Ok(disk)
+}
+
+/// Writes the segment of both, in key order, by two parts.
+fn write_both(disk: &mut MemDisk) -> Result<(), DiskFault> {
+    write_ahead(disk, BOTH.extent(), 0, &OTHER)?;
+    write_ahead(disk, BOTH.extent(), 46, &ROOT)
+}
+
+/// How many segments are read after a stop.
+fn segments_after(alloc: Global, disk: &MemDisk, after: u64, choice: Choice) -> Result<usize, Fail>
+    requires { after ≤ changes_of disk.now }
+{
+    let mut stopped = MemDisk::from_bytes(alloc, disk.image(after, choice)?);
+    Ok(loaded(alloc, &mut stopped)?.places.len())
 }
 
 /// The disk with another byte at a place.
@@ -120,6 +164,20 @@ fn an_empty_store(rt: HostRuntime) -> Result<(), Fail> {
     assert_eq!(rt; check_empty(&mut disk), Err(ImageFault::NotEmpty));
     let again = make(rt.alloc(), &mut disk);
     assert_eq!(rt; again.err(), Some(ImageFault::NotEmpty));
+    Ok(())
+}
+
+#[test]
+fn a_disk_that_cannot_be_looked_at_stays(rt: HostRuntime) -> Result<(), Fail> {
+    let alloc = rt.alloc();
+    let mut disk = MemDisk::from_bytes(alloc, vec![in alloc; 1, 2, 3]?);
+    disk.set_read_break(0);
+    let refused = make(alloc, &mut disk);
+    assert_eq!(rt; refused.err(), Some(ImageFault::DiskFault));
+    assert_eq!(rt; disk.changes(), 0);
+    assert_eq!(rt; disk.bytes(), [1, 2, 3].as_slice());
+    let refused = make(alloc, &mut disk);
+    assert_eq!(rt; refused.err(), Some(ImageFault::NotEmpty));
     Ok(())
 }
 
@@ -211,5 +269,132 @@ fn each_way_in_which_an_image_is_damaged(rt: HostRuntime) -> Result<(), Fail> {
         loaded(rt.alloc(), &mut good).err(),
         Some(ImageFault::DiskFault)
     );
+    Ok(())
+}
+
+#[test]
+fn a_segment_that_was_written_ahead_is_published(rt: HostRuntime) -> Result<(), Fail> {
+    let Unmerged {
+        mut disk,
+        slot,
+        merged,
+    } = imported(rt.alloc(), &OTHER)?;
+    write_both(&mut disk)?;
+    assert_eq!(rt; disk.bytes().len(), 24668);
+    assert_eq!(rt; loaded(rt.alloc(), &mut disk)?.places.len(), 2);
+    assert_eq!(rt; publish_written(&mut disk, slot, &merged)?, Slot::B);
+    assert_eq!(rt; disk.bytes().len(), 24668);
+    let mut seen = Seen::new(rt.alloc());
+    let store = load(rt.alloc(), &mut disk, &mut seen)?;
+    assert_eq!(rt; store.directory.epoch(), 4);
+    assert_eq!(rt; store.directory.imports(), 2);
+    assert_eq!(rt; seen.segments, 1);
+    assert_eq!(rt;
+        seen.rows.as_slice(),
+        [(1_000_004, 2, 0, 0), (138_875_005, 1, 46, 0)].as_slice()
+    );
+    Ok(())
+}
+
+/// Two writes ahead, one sync and the six changing calls of a publication.
+#[test]
+fn a_stop_leaves_two_segments_or_the_one_of_both(rt: HostRuntime) -> Result<(), Fail> {
+    let Unmerged {
+        mut disk,
+        slot,
+        merged,
+    } = imported(rt.alloc(), &OTHER)?;
+    assert_eq!(rt; disk.changes(), 25);
+    write_both(&mut disk)?;
+    let _ = publish_written(&mut disk, slot, &merged)?;
+    assert_eq!(rt; disk.changes(), 34);
+    for (after, closed, opened) in [
+        (25, 2, 2),
+        (26, 2, 2),
+        (27, 2, 2),
+        (28, 2, 2),
+        (29, 2, 2),
+        (30, 2, 2),
+        (31, 2, 2),
+        (32, 2, 2),
+        (33, 2, 1),
+        (34, 1, 1),
+    ] {
+        for (choice, segments) in [
+            (Choice::Lost, closed),
+            (Choice::Filled(0), closed),
+            (Choice::Kept, opened),
+            (Choice::Filled(0xa5), opened),
+        ] {
+            assert!(rt; after <= disk.changes());
+            let found = segments_after(rt.alloc(), &disk, after, choice)?;
+            assert_eq!(rt; found, segments, "after {after}");
+        }
+    }
+    Ok(())
+}
+
+/// Each changing call of the publication fails once; the last one is the sync of the opened gate.
+#[test]
+fn a_publication_that_failed_leaves_one_of_the_two(rt: HostRuntime) -> Result<(), Fail> {
+    for (calls, segments) in [(0, 2), (1, 2), (2, 2), (3, 2), (4, 2), (5, 2), (6, 1)] {
+        let Unmerged {
+            mut disk,
+            slot,
+            merged,
+        } = imported(rt.alloc(), &OTHER)?;
+        write_both(&mut disk)?;
+        disk.set_break(calls, 0);
+        assert_eq!(rt; publish_written(&mut disk, slot, &merged), Err(DiskFault));
+        let found = loaded(rt.alloc(), &mut disk)?.places.len();
+        assert_eq!(rt; found, segments, "after {calls}");
+    }
+    Ok(())
+}
+
+#[test]
+fn a_write_ahead_that_failed_leaves_what_is_listed(rt: HostRuntime) -> Result<(), Fail> {
+    let mut disk = two_imports(rt.alloc(), &OTHER)?;
+    disk.set_break(1, 10);
+    assert_eq!(rt; write_both(&mut disk), Err(DiskFault));
+    assert_eq!(rt; disk.bytes().len(), 24632);
+    for choice in [Choice::Lost, Choice::Kept, Choice::Filled(9)] {
+        let mut stopped = MemDisk::from_bytes(rt.alloc(), disk.image_now(choice)?);
+        assert_eq!(rt; loaded(rt.alloc(), &mut stopped)?.places.len(), 2);
+    }
+    Ok(())
+}
+
+#[test]
+fn what_no_segment_needs_is_cut_off(rt: HostRuntime) -> Result<(), Fail> {
+    let mut disk = two_imports(rt.alloc(), &OTHER)?;
+    write_both(&mut disk)?;
+    assert_eq!(rt; trim(&mut disk, 28672), Ok(0));
+    assert_eq!(rt; trim(&mut disk, 24668), Ok(0));
+    assert_eq!(rt; disk.changes(), 27);
+    assert_eq!(rt; trim(&mut disk, 24576), Ok(92));
+    assert_eq!(rt; disk.changes(), 29);
+    assert_eq!(rt; disk.bytes().len(), 24576);
+    for after in [27, 28, 29] {
+        for choice in [Choice::Lost, Choice::Kept, Choice::Filled(9)] {
+            assert!(rt; after <= disk.changes());
+            let found = segments_after(rt.alloc(), &disk, after, choice)?;
+            assert_eq!(rt; found, 2, "after {after}");
+        }
+    }
+    Ok(())
+}
+
+/// The cut fails, and then the sync.
+#[test]
+fn a_trim_that_failed_leaves_what_is_listed(rt: HostRuntime) -> Result<(), Fail> {
+    for (calls, len) in [(0, 24668), (1, 24576)] {
+        let mut disk = two_imports(rt.alloc(), &OTHER)?;
+        write_both(&mut disk)?;
+        disk.set_break(calls, 0);
+        assert_eq!(rt; trim(&mut disk, 24576), Err(DiskFault));
+        assert_eq!(rt; disk.bytes().len(), len);
+        assert_eq!(rt; loaded(rt.alloc(), &mut disk)?.places.len(), 2);
+    }
     Ok(())
 }

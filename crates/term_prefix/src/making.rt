@@ -7,7 +7,7 @@ ghost use Rattle.history_model.specs.Lists.{AreLists};
 ghost use Rattle.as_of_index.specs.Places.{place_cmp, ShareNoKey, ArePlaces};
 
 use crate::{Postings, Sealed, Terms};
-use as_of_index::{Index, Listed, ReadFault, RowReader};
+use as_of_index::{Index, Listed, MAX_LISTS, ReadFault, RowReader};
 use fault_counts::raised;
 use history_model::StampedRow;
 use rf2_values::{Body, Concept, Description, EffectiveTime, Row, Sctid, Text};
@@ -168,7 +168,7 @@ fn fits(index: &Index, list: &[Posted]) -> bool
 }
 
 fn add_places(index: &mut Index, places: Vec<Posted>) -> Result<(), Fail> {
-    if index.lists() >= 128 {
+    if index.lists() >= MAX_LISTS {
         return Err(Fail::from("no room"));
     }
     if !are_ascending(&places) {
@@ -201,7 +201,7 @@ pub(crate) fn postings_of(alloc: Global, rows: &[StampedRow]) -> Result<Postings
 }
 
 fn add_terms(terms: &mut Terms, list: Sealed) -> Result<(), Fail> {
-    if terms.lists() >= 128 {
+    if terms.lists() >= MAX_LISTS {
         return Err(Fail::from("no room"));
     }
     terms.add(list);

@@ -1,8 +1,10 @@
 //! The terms of several lists of rows.
 
 ghost use Rattle.std.specs.Prelude.{◌≡◌, ◌<◌, ◌++◌, ◌∷◌, [], length, IfOk, remove, slice_set};
+ghost use Rattle.as_of_index.specs.Places.{max_lists};
 
 use crate::sealed::Sealed;
+use as_of_index::MAX_LISTS;
 use std::alloc::{AllocError, Global};
 use std::marker::Model;
 
@@ -14,13 +16,14 @@ pub struct Terms {
 
 impl Model for Terms {
     ghost use Rattle.std.specs.Prelude.{List, vec_capacity, ◌≤◌};
+    ghost use Rattle.as_of_index.specs.Places.{max_lists};
     ghost use Rattle.term_prefix.specs.Terms.{TermAt};
 
     ghost Value = { List (List TermAt) };
 
     ghost view = { λ a. a.lists.items };
 
-    ghost invariant = { λ a. 128 ≤ vec_capacity a.lists };
+    ghost invariant = { λ a. max_lists ≤ vec_capacity a.lists };
 }
 
 impl Terms {
@@ -28,7 +31,7 @@ impl Terms {
     pub fn new(alloc: Global) -> Result<Terms, AllocError>
         ensures { IfOk result (λ terms. terms ≡ []) }
     {
-        let lists = Vec::with_capacity(alloc, 128)?;
+        let lists = Vec::with_capacity(alloc, MAX_LISTS)?;
         Ok(Terms { lists })
     }
 
@@ -41,7 +44,7 @@ impl Terms {
 
     /// Adds a list as the last. It takes no memory.
     pub fn add(&mut self, list: Sealed)
-        requires { length self.old < 128 }
+        requires { length self.old < max_lists }
         ensures { self.new ≡ self.old ++ list ∷ [] }
     {
         let Ok(()) = self.lists.push(list) else {

@@ -104,7 +104,8 @@ pub(crate) fn overwrite(file: &mut Vec<u8>, at: u64, bytes: &[u8]) -> Result<(),
 
 /// Adds zeros up to a length, where the file is shorter.
 fn reach(file: &mut Vec<u8>, end: usize) -> Result<(), AllocError>
-    ensures ok { OnOk result (file.new.items ≡ file.old.items ++ replicate (end - length file.old.items) 0) }
+    ensures ok { OnOk result (file.new.items
+        ≡ file.old.items ++ replicate (end - length file.old.items) 0) }
     ensures err { OnErr result (file.new.items ≡ file.old.items) }
     ensures succeeds { end ≤ vec_capacity file.old → IsOk result }
     ensures keeps { vec_capacity file.old ≤ vec_capacity file.new }
@@ -117,7 +118,8 @@ fn reach(file: &mut Vec<u8>, end: usize) -> Result<(), AllocError>
 
 fn paste(file: &mut [u8], from: usize, bytes: &[u8])
     requires { from + length bytes.now ≤ length file.old }
-    ensures { file.new ≡ take from file.old ++ bytes.now ++ drop (from + length bytes.now) file.old }
+    ensures { file.new ≡ take from file.old ++ bytes.now
+        ++ drop (from + length bytes.now) file.old }
 {
     file[from..from + bytes.len()].copy_from_slice(bytes);
 }

@@ -78,8 +78,10 @@ impl Record {
     pub(crate) fn note_write(&mut self, at: u64, bytes: &[u8], fate: Fate)
         requires limit { at + length bytes.now ≤ MAX_END }
         requires room { HasRoomFor self.old 1 (length bytes.now) }
-        ensures changes { changes_in self.new ≡ changes_in self.old ++ written_as fate at bytes.now ∷ [] }
-        ensures uses { (n m : ℕ) → HasRoomFor self.old (n + 1) (m + length bytes.now) → HasRoomFor self.new n m }
+        ensures changes { changes_in self.new
+            ≡ changes_in self.old ++ written_as fate at bytes.now ∷ [] }
+        ensures uses { (n m : ℕ) → HasRoomFor self.old (n + 1) (m + length bytes.now)
+            → HasRoomFor self.new n m }
     {
         let from = self.bytes.len();
         let Ok(()) = self.bytes.extend_from_slice(bytes) else {

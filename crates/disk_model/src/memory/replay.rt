@@ -33,7 +33,8 @@ impl Replay {
         count: usize,
     ) -> Result<Replay, AllocError>
         requires { count ≤ length (changes_in calls.now) }
-        ensures { IfOk result (λ r. Shows r (replayed (made first.now) (take count (changes_in calls.now))).state) }
+        ensures { IfOk result (λ r. Shows r
+            (replayed (made first.now) (take count (changes_in calls.now))).state) }
     {
         let mut moment = Replay::new(alloc, first)?;
         let bytes = &*calls.bytes;
@@ -56,7 +57,8 @@ impl Replay {
 
     fn advance(&mut self, alloc: Global, entry: Entry, bytes: &[u8]) -> Result<(), AllocError>
         requires { IsWithin (length bytes.now) entry }
-        ensures { OnOk result ((s : DiskState) → Shows self.old s → Shows self.new (after_change s (change_of bytes.now entry))) }
+        ensures { OnOk result ((s : DiskState) → Shows self.old s
+            → Shows self.new (after_change s (change_of bytes.now entry))) }
     {
         match entry {
             Entry::Written { at, from, end } => self.write(at, &bytes[from..end], end - from),
@@ -81,7 +83,8 @@ impl Replay {
     /// A write of which so many bytes were written.
     fn write(&mut self, at: u64, bytes: &[u8], part: usize) -> Result<(), AllocError>
         requires { at + length bytes.now ≤ MAX_END }
-        ensures { OnOk result ((s : DiskState) → Shows self.old s → Shows self.new (reading (after_write s at bytes.now) (written s.now at (take part bytes.now)))) }
+        ensures { OnOk result ((s : DiskState) → Shows self.old s → Shows self.new
+            (reading (after_write s at bytes.now) (written s.now at (take part bytes.now)))) }
     {
         let count = bytes.len().min(part);
         overwrite(&mut self.now, at, &bytes[..count])?;
@@ -94,7 +97,8 @@ impl Replay {
 
     /// A cut that was made, or wasn't.
     fn cut(&mut self, len: u64, is_made: bool)
-        ensures { (s : DiskState) → Shows self.old s → Shows self.new (reading (after_cut s len) (if is_made then take len s.now else s.now)) }
+        ensures { (s : DiskState) → Shows self.old s → Shows self.new
+            (reading (after_cut s len) (if is_made then take len s.now else s.now)) }
     {
         let len = len as usize;
         if len < self.now.len() {
@@ -106,7 +110,8 @@ impl Replay {
     }
 
     fn settle(&mut self, alloc: Global) -> Result<(), AllocError>
-        ensures { OnOk result ((s : DiskState) → Shows self.old s → Shows self.new (settled s.now)) }
+        ensures { OnOk result ((s : DiskState) → Shows self.old s
+            → Shows self.new (settled s.now)) }
     {
         self.base = self.now.to_vec(alloc)?;
         self.least = self.now.len();
@@ -140,8 +145,10 @@ impl Replay {
 
 /// Writes the byte to each position in one of the ranges, and to each from `least` on.
 fn fill_loose(image: &mut [u8], least: usize, ranges: &[(usize, usize)], byte: u8)
-    ensures loose { (i : ℕ) → i < length image.old → (¬ (All (IsOutside i) ranges.now)) ⊎ (least ≤ i) → slice_index image.new i ≡ byte }
-    ensures fixed { (i : ℕ) → i < least → All (IsOutside i) ranges.now → slice_index image.new i ≡ slice_index image.old i }
+    ensures loose { (i : ℕ) → i < length image.old
+        → (¬ (All (IsOutside i) ranges.now)) ⊎ (least ≤ i) → slice_index image.new i ≡ byte }
+    ensures fixed { (i : ℕ) → i < least → All (IsOutside i) ranges.now
+        → slice_index image.new i ≡ slice_index image.old i }
 {
     fill_all(image, ranges, byte);
     let len = image.len();
@@ -158,8 +165,10 @@ fn fill_all(image: &mut [u8], ranges: &[(usize, usize)], byte: u8)
 }
 
 fn fill_range(image: &mut [u8], from: usize, end: usize, byte: u8)
-    ensures inside { (i : ℕ) → from ≤ i → i < end → i < length image.old → slice_index image.new i ≡ byte }
-    ensures outside { (i : ℕ) → (i < from) ⊎ (end ≤ i) → slice_index image.new i ≡ slice_index image.old i }
+    ensures inside { (i : ℕ) → from ≤ i → i < end → i < length image.old
+        → slice_index image.new i ≡ byte }
+    ensures outside { (i : ℕ) → (i < from) ⊎ (end ≤ i)
+        → slice_index image.new i ≡ slice_index image.old i }
 {
     let end = end.min(image.len());
     if from < end {

@@ -1,35 +1,33 @@
 use Rattle.std.proofs.Common.{ℕ, [], ◌∷◌, ◌++◌, sym, ap, subst, ◌∙◌, take, take_all}
-use Rattle.std.specs.Ordering.{nat_cmp}
-use Rattle.std.specs.Cmp.{nat_cmp_total}
 use Rattle.associations.specs.declared.postings.Link.{Link}
 use Rattle.associations.specs.Collecting.{TakesLinks}
-use Rattle.associations.proofs.Numbering.{one_more}
+use Rattle.as_of_index.proofs.Apart.{one_more}
 use Rattle.associations.proofs.Collected.{takes_nothing, takes_current, takes_other}
 use Rattle.associations.proofs.hierarchy.add_sources.Goals as goal
-use Rattle.associations.proofs.hierarchy.add_sources.Goals.{then-is_current+in_ok-put, else-is_current}
+use Rattle.associations.proofs.hierarchy.add_sources.Goals.{then-is_current+in_ok-push, else-is_current}
 
 pub loop-link-init : goal.loop-link-init
-loop-link-init c = λ lists listed_so up. takes_nothing nat_cmp nat_cmp_total (λ (x : Link). x.at) (λ (n : ℕ) (x : Link). x.source) lists c.args.time c.args.pin c.args.segment c.args.ids.now.items up
+loop-link-init c = λ lists listed_so. takes_nothing (λ (x : Link). x.at) (λ (n : ℕ) (x : Link). x.source) lists c.args.time c.args.pin c.args.segment c.args.ids.now.items
 
 pub loop-link-preserved : goal.loop-link-preserved
-loop-link-preserved c = λ lists listed_so up.
+loop-link-preserved c = λ lists listed_so.
     let a = c.args in
     let i = c.loop-link.link-index in
     let x = c.link-item.result in
     let now = c.is_current.ensures lists listed_so in
-    let so_far = c.loop-link.invariant lists listed_so up in
+    let so_far = c.loop-link.invariant lists listed_so in
     rw (one_more a.links.now i x c.loop-link-test.true c.link-item.is) (elim c.if-is_current.branch [
-      | then-is_current+in_ok-put w ↦
+      | then-is_current+in_ok-push w ↦
           subst (λ ys. TakesLinks lists a.time a.pin a.segment (take i a.links.now ++ x ∷ []) a.ids.now.items ys)
-          (sym (ap (λ v. v.items) w.ids-is ∙ w.in_ok-put.ensures so_far.ascending))
-          (takes_current nat_cmp nat_cmp_total (λ (x : Link). x.at) (λ (n : ℕ) (x : Link). x.source) lists a.time a.pin a.segment (take i a.links.now) x a.ids.now.items c.loop-link.ids.items so_far (now.0 w.if-is_current.true))
+          (sym (ap (λ v. v.items) w.ids-is ∙ w.in_ok-push.ensures.items))
+          (takes_current (λ (x : Link). x.at) (λ (n : ℕ) (x : Link). x.source) lists a.time a.pin a.segment (take i a.links.now) x a.ids.now.items c.loop-link.ids.items so_far (now.0 w.if-is_current.true))
       | else-is_current w ↦
           subst (λ ys. TakesLinks lists a.time a.pin a.segment (take i a.links.now ++ x ∷ []) a.ids.now.items ys)
           (sym (ap (λ v. v.items) w.ids-is))
-          (takes_other nat_cmp nat_cmp_total (λ (x : Link). x.at) (λ (n : ℕ) (x : Link). x.source) lists a.time a.pin a.segment (take i a.links.now) x a.ids.now.items c.loop-link.ids.items so_far (λ k. absurd (let yes = now.1 k in let no = w.if-is_current.false in cc)))
+          (takes_other (λ (x : Link). x.at) (λ (n : ℕ) (x : Link). x.source) lists a.time a.pin a.segment (take i a.links.now) x a.ids.now.items c.loop-link.ids.items so_far (λ k. absurd (let yes = now.1 k in let no = w.if-is_current.false in cc)))
     ])
 
 pub returns : goal.returns
-returns c = λ lists listed_so up.
+returns c = λ lists listed_so.
     let a = c.args in
-    subst (λ xs. TakesLinks lists a.time a.pin a.segment xs a.ids.now.items c.loop-link.ids.items) (take_all c.loop-link.link-index a.links.now c.loop-link-test.false) (c.loop-link.invariant lists listed_so up)
+    subst (λ xs. TakesLinks lists a.time a.pin a.segment xs a.ids.now.items c.loop-link.ids.items) (take_all c.loop-link.link-index a.links.now c.loop-link-test.false) (c.loop-link.invariant lists listed_so)

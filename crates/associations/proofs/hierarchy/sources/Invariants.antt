@@ -3,8 +3,8 @@ use Rattle.history_model.specs.declared.stamped.StampedRow.{StampedRow}
 use Rattle.as_of_index.specs.Places.{Lists}
 use Rattle.as_of_index.specs.Postings.{numbered}
 use Rattle.associations.specs.Edges.{links_in}
-use Rattle.associations.specs.Collecting.{AreSources}
+use Rattle.associations.specs.Collecting.{AreSourcesTaken}
 use Rattle.associations.proofs.hierarchy.sources.Given as goal
 
 abbrev pub invariant-loop-segment : goal.invariant-loop-segment
-invariant-loop-segment l = (lists : List (List StampedRow)) → Lists l.index lists → AreSources lists l.time l.pin l.destination (numbered 0 (links_in (take l.segment l.links))) l.ids.items
+invariant-loop-segment l = (lists : List (List StampedRow)) → Lists l.index lists → AreSourcesTaken lists l.time l.pin l.destination (numbered 0 (links_in (take l.segment l.links))) l.ids.items

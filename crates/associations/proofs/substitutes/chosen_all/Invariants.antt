@@ -3,8 +3,8 @@ use Rattle.history_model.specs.declared.stamped.StampedRow.{StampedRow}
 use Rattle.as_of_index.specs.Places.{Lists}
 use Rattle.as_of_index.specs.Postings.{numbered}
 use Rattle.associations.specs.Edges.{references_in}
-use Rattle.associations.specs.Collecting.{AreRanked}
+use Rattle.associations.specs.Collecting.{AreRankedTaken}
 use Rattle.associations.proofs.substitutes.chosen_all.Given as goal
 
 abbrev pub invariant-loop-segment : goal.invariant-loop-segment
-invariant-loop-segment l = (lists : List (List StampedRow)) → Lists l.index lists → AreRanked lists l.time l.pin l.referenced (numbered 0 (references_in (take l.segment l.links))) l.kept.items
+invariant-loop-segment l = (lists : List (List StampedRow)) → Lists l.index lists → AreRankedTaken lists l.time l.pin l.referenced (numbered 0 (references_in (take l.segment l.links))) l.kept.items

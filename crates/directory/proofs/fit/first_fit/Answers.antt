@@ -8,14 +8,14 @@ use Rattle.directory.proofs.fit.first_fit.Goals as goal
 pub jumps-smaller : goal.jumps-smaller
 jumps-smaller c =
     let P : ℕ → Type 0 = λ place. ahead place (taken c.args.live.now c.args.reserved) < ahead c.jumps.first (taken c.args.live.now c.args.reserved) in
-    subst P (sym c.end_of-first.ensures.end) (ahead_falls c.jumps.first c.from-count.result (taken c.args.live.now c.args.reserved) c.in-Some.extent (sym c.extent_met.ensures ∙ c.in-Some.is))
+    subst P (sym c.end-first.ensures.end) (ahead_falls c.jumps.first c.from-count.result (taken c.args.live.now c.args.reserved) c.in-Some.extent (sym c.extent_met.ensures ∙ c.in-Some.is))
 
 pub jumps-preserved : goal.jumps-preserved
 jumps-preserved c =
-    let end_is = c.end_of-first.ensures.end in
+    let end_is = c.end-first.ensures.end in
     subst (IsTried c.from-count.result (taken c.args.live.now c.args.reserved)) (sym end_is)
     (jumped c.from-count.result (taken c.args.live.now c.args.reserved) c.jumps.first c.in-Some.extent c.jumps.invariant (sym c.extent_met.ensures ∙ c.in-Some.is)
-    (let P : ℕ → Type 0 = λ place. place < 2 ^ 33 in subst P end_is c.end_of-first.ensures.fits))
+    (let P : ℕ → Type 0 = λ place. place < 2 ^ 33 in subst P end_is c.end-first.ensures.fits))
 
 found : (c : goal.Then-first-count) → fit c.args.blocks c.args.live.now c.args.reserved ≡ Some c.jumps.first
 found c =

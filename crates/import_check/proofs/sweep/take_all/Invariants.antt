@@ -1,5 +1,4 @@
 use Rattle.std.proofs.Common.{◌≡◌, ◌+◌, ◌≤◌, length, List, ◌++◌}
-use Rattle.std.specs.Vec.Iter.{into_iter_items}
 use Rattle.import_check.specs.declared.release.PlacedLine.{PlacedLine}
 use Rattle.import_check.specs.Sweep.{IsSwept, IsOwn, IsRising, rank_cmp}
 use Rattle.import_check.proofs.sweep.take_all.Given as goal
@@ -7,10 +6,10 @@ use Rattle.import_check.proofs.sweep.take_all.Given as goal
 abbrev pub invariant-loop-line : goal.invariant-loop-line
 invariant-loop-line g l = record {
   swept : g.K.Known.is_honest l.fn.known → IsRising rank_cmp l.fn.lines.items →
-      (done : List PlacedLine) × (l.fn.lines.items ≡ done ++ into_iter_items l.line-iterator) × IsSwept (g.K.Known.rows l.fn.known) l.fn.lines.items done l.sweep;
-  apart : g.K.Known.is_sound l.fn.known → IsRising rank_cmp l.fn.lines.items → IsOwn (g.K.Known.rows l.fn.known) (into_iter_items l.line-iterator) l.sweep × IsRising rank_cmp (into_iter_items l.line-iterator);
+      (done : List PlacedLine) × (l.fn.lines.items ≡ done ++ l.line-iterator) × IsSwept (g.K.Known.rows l.fn.known) l.fn.lines.items done l.sweep;
+  apart : g.K.Known.is_sound l.fn.known → IsRising rank_cmp l.fn.lines.items → IsOwn (g.K.Known.rows l.fn.known) l.line-iterator l.sweep × IsRising rank_cmp l.line-iterator;
   soundness : g.K.Known.is_sound l.fn.known → g.K.Known.is_sound l.known;
-  few : length l.sweep.fresh.items + length (into_iter_items l.line-iterator) ≤ length l.fn.lines.items;
+  few : length l.sweep.fresh.items + length l.line-iterator ≤ length l.fn.lines.items;
   rows : g.K.Known.rows l.known ≡ g.K.Known.rows l.fn.known;
   honesty : g.K.Known.is_honest l.fn.known → g.K.Known.is_honest l.known;
   stays : g.K.Known.stays l.fn.known l.known;

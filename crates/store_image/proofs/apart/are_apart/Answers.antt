@@ -1,11 +1,8 @@
 use Rattle.std.specs.Prelude.{vec_items}
-use Rattle.std.specs.List.{AllByRecursion}
-use Rattle.std.proofs.Common.{◌≡◌, ◌+◌, ◌<◌, Bool, true, false, List, [], ◌∷◌, ◌++◌, get_or, length, map, refl, sym, ap, subst, ◌∙◌, arith, Vec, Global}
-use Rattle.std.proofs.lemmas.List.{get_or-map, length-map}
+use Rattle.std.proofs.Common.{Bool, true, false, List, [], map, sym, subst}
 use Rattle.history_model.specs.InOrder.{IsAscending}
 use Rattle.rf2_values.specs.declared.key.Key.{Key}
 use Rattle.rf2_values.specs.Key.{key_cmp}
-use Rattle.segment.specs.declared.place.Posted.{Posted}
 use Rattle.store_image.specs.Keys.{Opens, keys_of, keys_in}
 use Rattle.store_image.proofs.KeysOnce.{all_index, as_many_lists, list_keys, list_opens, list_fails}
 use Rattle.store_image.proofs.apart.are_apart.Goals as goal

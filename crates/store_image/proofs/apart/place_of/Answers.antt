@@ -1,9 +1,6 @@
-use Rattle.std.proofs.Common.{◌≡◌, ◌+◌, ◌-◌, ◌/◌, ◌<◌, length, get_or, sym, ap, subst, ◌∙◌, arith}
-use Rattle.std.specs.declared.cmp.Ordering.TheVariants.{Less}
-use Rattle.rf2_values.specs.Key.{key_cmp}
+use Rattle.std.proofs.Common.{◌+◌, ◌-◌, ◌/◌, ◌<◌, length, get_or, sym, arith}
 use Rattle.history_model.proofs.InOrder.{above}
 use Rattle.rf2_values.specs.Key.{keys_total}
-use Rattle.store_image.specs.declared.apart.Rest.{Rest}
 use Rattle.store_image.proofs.KeysOnce.{above_before, below_after}
 use Rattle.store_image.proofs.apart.place_of.Goals as goal
 

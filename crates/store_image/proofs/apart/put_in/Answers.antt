@@ -1,8 +1,6 @@
-use Rattle.std.proofs.Common.{◌≡◌, List, ◌∷◌, map, take, drop, refl, sym, ap, subst, ◌∙◌}
+use Rattle.std.proofs.Common.{List, map, ap, subst}
 use Rattle.std.specs.Prelude.{Ok, Err}
-use Rattle.std.specs.declared.cmp.Ordering.TheVariants.{Less}
 use Rattle.history_model.specs.InOrder.{IsAscending}
-use Rattle.rf2_values.specs.declared.key.Key.{Key}
 use Rattle.rf2_values.specs.Key.{key_cmp}
 use Rattle.store_image.specs.declared.apart.Rest.{Rest}
 use Rattle.store_image.specs.Keys.{keys_of, keys_in, IsPlaceOf}

@@ -1,7 +1,4 @@
-use Rattle.std.proofs.Common.{◌≡◌, Bool, true, false, List, [], ◌∷◌, ◌++◌, map, refl, sym, ap, subst, ◌∙◌}
-use Rattle.std.specs.Option.{option_to_list}
-use Rattle.rf2_values.specs.declared.key.Key.{Key}
-use Rattle.store_image.specs.declared.apart.Rest.{Rest}
+use Rattle.std.proofs.Common.{Bool, map, subst}
 use Rattle.store_image.specs.Keys.{Opens, keys_of, keys_in}
 use Rattle.store_image.proofs.KeysOnce.{round_front, round_ascends, round_tells, round_fails}
 use Rattle.store_image.proofs.apart.run_out.Goals as goal

@@ -1,8 +1,9 @@
+use Rattle.std.proofs.Common.{◌∙◌}
 use Rattle.std.specs.Prelude.{nat_lt}
 use Rattle.disk_model.specs.Faults.{cut_as}
 use Rattle.disk_model.specs.MemDisk.{first_bytes, record_of}
 use Rattle.disk_model.specs.declared.memory.faults.Fate.{Fate}
-use Rattle.disk_model.proofs.Noted.{passed, failed, cut_may_fail}
+use Rattle.disk_model.proofs.Noted.{passed, failed, unmade, cut_may_fail}
 use Rattle.disk_model.proofs.memory.MemDiskDisk.cut.Goals as goal
 
 pub returns-clause-made : goal.returns-clause-made
@@ -24,3 +25,9 @@ returns-clause-failed c =
 
 pub returns-clause-room : goal.returns-clause-room
 returns-clause-room c = λ end calls bytes room. c.answer.ensures.room end calls bytes (c.note_cut-noted.ensures.room end calls bytes room)
+
+pub returns-clause-unmade : goal.returns-clause-unmade
+returns-clause-unmade c =
+    λ passes. unmade c.answer.result c.note_cut-noted.result (record_of c.args.self.now) (record_of c.note_cut-noted.new.self) (record_of c.answer.new.self)
+    c.of_change-fate.result
+    c.answer.ensures.failed c.note_cut-noted.ensures.err c.answer.ensures.kept.1 (c.of_change-fate.ensures.fate ∙ passes)

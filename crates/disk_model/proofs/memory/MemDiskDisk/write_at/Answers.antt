@@ -1,7 +1,8 @@
+use Rattle.std.proofs.Common.{◌∙◌}
 use Rattle.disk_model.specs.Faults.{written_as}
 use Rattle.disk_model.specs.MemDisk.{first_bytes, record_of}
 use Rattle.disk_model.specs.declared.memory.faults.Fate.{Fate}
-use Rattle.disk_model.proofs.Noted.{passed, failed, write_may_fail}
+use Rattle.disk_model.proofs.Noted.{passed, failed, unmade, write_may_fail}
 use Rattle.disk_model.proofs.memory.MemDiskDisk.write_at.Goals as goal
 
 pub returns-clause-made : goal.returns-clause-made
@@ -23,3 +24,9 @@ returns-clause-failed c =
 
 pub returns-clause-room : goal.returns-clause-room
 returns-clause-room c = λ end calls bytes room. c.answer.ensures.room end calls bytes (c.note_write-noted.ensures.room end calls bytes room)
+
+pub returns-clause-unmade : goal.returns-clause-unmade
+returns-clause-unmade c =
+    λ passes. unmade c.answer.result c.note_write-noted.result (record_of c.args.self.now) (record_of c.note_write-noted.new.self) (record_of c.answer.new.self)
+    c.of_change-fate.result
+    c.answer.ensures.failed c.note_write-noted.ensures.err c.answer.ensures.kept.1 (c.of_change-fate.ensures.fate ∙ passes)

@@ -1,8 +1,9 @@
-use Rattle.std.proofs.Common.{◌≡◌, List, map, sym, ap, ◌∙◌}
+use Rattle.std.proofs.Common.{map, sym, ap, ◌∙◌}
 use Rattle.history_model.specs.History.{rows_at}
 use Rattle.history_model.specs.Lists.{listed}
 use Rattle.history_model.specs.Queries.{versions}
 use Rattle.segment.specs.Standing.{places_of}
+use Rattle.history_store.proofs.GoingOn.{merge_read}
 use Rattle.history_store.proofs.Held.{held_read, lent_honest}
 use Rattle.history_store.proofs.Refusing.{read_undamaged}
 use Rattle.history_store.proofs.store.Store.history.Goals as goal
@@ -13,6 +14,7 @@ invariant_of-self g c = (
       (λ up still. (c.history.ensures.honesty (lent_honest _ _ _ _ _ _ _ _ c.self.invariant.0 c.entries.result.now c.as_slice.result.now c.entries.ensures.entries c.as_slice.ensures.value up still (g.met.D.Disk.now_is_image c.self.inside.disk up))).1),
   c.self.invariant.1,
   c.self.invariant.2,
+  merge_read _ _ (g.D.Disk.moments c.self.inside.disk) (g.D.Disk.moments c.history.new.reader.disk.now) c.self.inside.directory c.self.inside.shown.items c.self.inside.merge c.self.inside.needs_reopen c.self.invariant.3 c.history.ensures.stays.0,
 )
 
 pub invariant_of-self-else-matches : goal.invariant_of-self-else-matches
@@ -21,6 +23,7 @@ invariant_of-self-else-matches g c = (
       (λ up still. (c.history.ensures.honesty (lent_honest _ _ _ _ _ _ _ _ c.self.invariant.0 c.entries.result.now c.as_slice.result.now c.entries.ensures.entries c.as_slice.ensures.value up still (g.met.D.Disk.now_is_image c.self.inside.disk up))).1),
   c.self.invariant.1,
   c.self.invariant.2,
+  merge_read _ _ (g.D.Disk.moments c.self.inside.disk) (g.D.Disk.moments c.history.new.reader.disk.now) c.self.inside.directory c.self.inside.shown.items c.self.inside.merge c.self.inside.needs_reopen c.self.invariant.3 c.history.ensures.stays.0,
 )
 
 pub returns-in-Ok-clause-found : goal.returns-in-Ok-clause-found

@@ -1,4 +1,4 @@
-use Rattle.std.proofs.Common.{◌≡◌, ◌≤◌, Global, List, [], length, map, sym, ap, subst, ◌∙◌, arith}
+use Rattle.std.proofs.Common.{Global, [], length, sym, ap, subst, ◌∙◌, arith}
 use Rattle.std.proofs.lemmas.List.{length-map}
 use Rattle.std.specs.Prelude.{vec_items}
 use Rattle.segment.specs.declared.place.Posted.{Posted}
@@ -46,4 +46,5 @@ invariant_of-result g c =
       held_opened _ _ _ c.in-Ok.loaded.slot c.in-Ok.loaded.directory _ c.in-Ok.loaded.shown.items c.in-Ok.ensures.kept (c.in-Ok-room_for.ensures.index ∙ c.in-Ok.ensures.places) c.in-Ok-room_for.ensures.cache (λ up. c.in-Ok.ensures.on_disk (c.load.ensures.honesty.1 up)),
       subst (λ t. ArePosted c.in-Ok.loaded.shown.items t) (sym c.in-Ok-room_for.ensures.terms) (terms_posted _ _ taken.2),
       subst (λ e. EachPosted c.in-Ok.loaded.shown.items e) (sym c.in-Ok-room_for.ensures.links) (edges_posted _ _ taken.3),
+      record { merging = tt; written = λ up still. tt },
     )

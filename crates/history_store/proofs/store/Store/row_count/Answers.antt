@@ -1,4 +1,4 @@
-use Rattle.std.proofs.Common.{sym, ap, ◌∙◌}
+use Rattle.std.proofs.Common.{ap, ◌∙◌}
 use Rattle.std.specs.Prelude.{sum_by}
 use Rattle.directory.specs.declared.entry.Entry.{Entry}
 use Rattle.history_store.proofs.Counted.{rows_counted}

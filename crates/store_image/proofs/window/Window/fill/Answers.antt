@@ -1,4 +1,4 @@
-use Rattle.std.proofs.Common.{◌≡◌, ℕ, ◌+◌, ◌*◌, ◌-◌, min, length, ap, ◌∙◌, arith}
+use Rattle.std.proofs.Common.{◌≡◌, ◌+◌, ◌*◌, ◌-◌, min, length, ap, ◌∙◌, arith}
 use Rattle.store_image.proofs.Windowed.{window_kept}
 use Rattle.store_image.proofs.window.Window.fill.Goals as goal
 

@@ -1,4 +1,4 @@
-use Rattle.std.proofs.Common.{◌≡◌, ℕ, ◌+◌, ◌≤◌, arith}
+use Rattle.std.proofs.Common.{arith}
 use Rattle.store_image.proofs.Windowed.{record_ends}
 use Rattle.store_image.proofs.window.Window.row_in.Goals as goal
 

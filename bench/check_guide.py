@@ -1,0 +1,83 @@
+#!/usr/bin/env python3
+"""Runs the examples of docs/GUIDE.md and compares what they print.
+
+check_guide.py PROGRAM [GUIDE]
+
+PROGRAM is the built program sctd. Each line that begins with `$ ` in a ```console block of the
+guide, with the lines after it that begin with `> `, is run by bash in one fresh folder, in order;
+what it writes to standard output and standard error has to be the lines up to the next command,
+byte for byte. Standard library alone.
+"""
+
+import difflib
+import os
+import subprocess
+import sys
+import tempfile
+
+ROOT = os.path.dirname(os.path.dirname(os.path.abspath(__file__)))
+
+
+class Example:
+    """A command of the guide, the line it stands in, and what it has to print."""
+
+    def __init__(self, number, command):
+        self.number = number
+        self.command = command
+        self.wanted = ""
+
+
+def examples(text):
+    """The commands of all console blocks, in order."""
+    found = []
+    in_block = False
+    for number, line in enumerate(text.split("\n"), 1):
+        if line.startswith("```"):
+            in_block = not in_block and line == "```console"
+            continue
+        if not in_block:
+            continue
+        if line.startswith("$ "):
+            found.append(Example(number, line[2:]))
+        elif line.startswith("> ") and found and not found[-1].wanted:
+            found[-1].command += "\n" + line[2:]
+        elif found:
+            found[-1].wanted += line + "\n"
+        else:
+            raise SystemExit("line %d: no command before it" % number)
+    return found
+
+
+def main(words):
+    if len(words) not in (1, 2):
+        print(__doc__.strip(), file=sys.stderr)
+        return 2
+    guide = words[1] if len(words) == 2 else os.path.join(ROOT, "docs", "GUIDE.md")
+    with open(guide, encoding="utf-8", newline="") as file:
+        wanted = examples(file.read())
+    wrong = 0
+    with tempfile.TemporaryDirectory() as place:
+        tools, work = os.path.join(place, "tools"), os.path.join(place, "work")
+        os.mkdir(tools)
+        os.mkdir(work)
+        os.symlink(os.path.abspath(words[0]), os.path.join(tools, "sctd"))
+        around = dict(os.environ, SCTD=ROOT, PATH=tools + os.pathsep + os.environ["PATH"], LC_ALL="C")
+        for example in wanted:
+            run = subprocess.run(
+                ["bash", "-c", example.command], cwd=work, env=around,
+                stdin=subprocess.DEVNULL, stdout=subprocess.PIPE, stderr=subprocess.STDOUT, timeout=60,
+            )
+            printed = run.stdout.decode("utf-8", "backslashreplace")
+            if printed != example.wanted:
+                wrong += 1
+                print("line %d: %s" % (example.number, example.command.split("\n")[0]))
+                for line in difflib.unified_diff(
+                    example.wanted.splitlines(), printed.splitlines(), "guide", "printed", lineterm=""
+                ):
+                    print("    " + line)
+    print("%d commands, %d print something else" % (len(wanted), wrong))
+    return 1 if wrong or not wanted else 0
+
+
+if __name__ == "__main__":
+    sys.exit(main(sys.argv[1:]))

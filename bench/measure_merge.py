@@ -1,0 +1,100 @@
+#!/usr/bin/env python3
+"""Measures a merge of two segments in a file against writing the same bytes.
+
+measure_merge.py PROGRAM FOLDER [ROWS [TIMES]]
+
+PROGRAM is the built crate bench_store. Two releases of ROWS rows each (100000, if not given) that
+share no component are made in FOLDER and imported into a store, a segment each. Each piece of work
+is run TIMES times (5) on a copy of that store's file as a process of its own, and the least seconds
+of processor and of wall are taken. Standard library alone.
+"""
+
+import os
+import shutil
+import subprocess
+import sys
+
+from measure import HERE, Work, first_column, write_lines
+
+import random
+
+STEP = 1000
+
+
+def made(place, rows):
+    """Two releases of so many rows, a store that has imported both, and ids of concepts of both."""
+    ids = os.path.join(place, "ids")
+    if not os.path.isfile(ids):
+        chance = random.Random(7)
+        concepts = []
+        for seed in ("1", "2"):
+            release = os.path.join(place, seed)
+            maker = os.path.join(HERE, "make_release.py")
+            subprocess.check_call([sys.executable, maker, release, str(rows), seed])
+            folder = os.path.join(release, "full", "Terminology")
+            name = [name for name in os.listdir(folder) if name.startswith("sct2_Concept_")][0]
+            concepts += first_column(os.path.join(folder, name), rows * 2 // STEP * 25, chance)
+        chance.shuffle(concepts)
+        write_lines(ids, [columns[0] for columns in concepts])
+    return ids
+
+
+class Least:
+    """The least that several runs cost, and what the last one printed."""
+
+    def __init__(self, times, run):
+        runs = [run() for _ in range(times)]
+        self.processor = min(work.processor for work in runs)
+        self.wall = min(work.wall for work in runs)
+        self.text = runs[-1].text
+
+
+def show(title, work, less):
+    row = (title, work.processor - less.processor, work.wall - less.wall, work.text)
+    print("| %s | %.3f | %.3f | %s |" % row, flush=True)
+
+
+def measure(program, folder, rows, times):
+    place = os.path.join(folder, "merge-%d" % rows)
+    ids = made(place, rows)
+    before, store, copy = (os.path.join(place, name) for name in ("before", "store", "copy"))
+    if os.path.exists(before):
+        os.remove(before)
+    Work([program, "make", before])
+    for seed in ("1", "2"):
+        Work([program, "import", before, os.path.join(place, seed), "full"])
+    size = os.path.getsize(before) - 16384
+    print("%d rows in %d bytes, %d a step" % (2 * rows, size, STEP))
+    print("| Work | Processor seconds | Wall seconds | Count |")
+    print("|---|---|---|---|")
+
+    def run(what, *words):
+        shutil.copyfile(before, store)
+        return Work([program, what, store, *words])
+
+    def write():
+        if os.path.exists(copy):
+            os.remove(copy)
+        return Work([program, "write", before, copy, str(-(-size * STEP // (2 * rows)))])
+
+    nothing = Least(times, lambda: Work([program]))
+    opening = Least(times, lambda: run("open"))
+    merging = Least(times, lambda: run("merge"))
+    show("open", opening, nothing)
+    show("merge, in all", merging, opening)
+    show("read the file, and write as many bytes in as many writes", Least(times, write), nothing)
+    show("lookups without a merge", Least(times, lambda: run("lookups", ids)), opening)
+    show("lookups between the steps", Least(times, lambda: run("beside", ids)), merging)
+
+
+def main(words):
+    if len(words) not in (2, 3, 4):
+        print(__doc__.strip(), file=sys.stderr)
+        return 2
+    rows = int(words[2]) if len(words) > 2 else 100000
+    measure(os.path.abspath(words[0]), words[1], rows, int(words[3]) if len(words) > 3 else 5)
+    return 0
+
+
+if __name__ == "__main__":
+    sys.exit(main(sys.argv[1:]))

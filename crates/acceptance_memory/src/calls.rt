@@ -1,0 +1,119 @@
+//! Calls of the store, and what they answer.
+
+use acceptance_fixtures::{Example, lines};
+use history_store::{Receipt, Refusal};
+use import_check::Release;
+use rf2_rows::Kind;
+use std::alloc::{AllocError, Global};
+
+/// A call.
+#[derive(Clone, Copy, Debug)]
+pub enum Call {
+    /// The release at this place is imported.
+    Import(usize),
+    MergeBegin,
+    MergeStep(u32),
+    MergePublish,
+    MergeAbandon,
+    Trim,
+    /// The row of a component at a date, as the first so many imports show it.
+    Row(Kind, u128, u32, u32),
+    History(Kind, u128, u32),
+    Page(Kind, u32, u32),
+    Terms(&'static str, u32),
+    Children(u64, u32),
+    Replacements(u64, u32),
+}
+
+/// What a call answers.
+#[derive(Debug, Drop)]
+pub enum Answer {
+    Imported(Receipt),
+    /// A number, 0 where the call answers none.
+    Number(u64),
+    Lines(Vec<u8>),
+    Ids(Vec<u64>),
+}
+
+/// What a call is to answer.
+#[derive(Clone, Copy, Debug)]
+pub enum Wanted {
+    Imported(u32, u64, u64),
+    Number(u64),
+    Lines(&'static [&'static str]),
+    Ids(&'static [u64]),
+}
+
+/// The kinds of a call that take no memory.
+pub fn takes_none(call: Call) -> bool {
+    matches!(
+        call,
+        Call::MergeBegin | Call::MergePublish | Call::MergeAbandon | Call::Trim
+    )
+}
+
+/// Makes a call that may change the store.
+fn change(call: Call, releases: &[Release], store: &mut Example) -> Result<Answer, Refusal> {
+    let number = match call {
+        Call::Import(place) => match releases.get(place) {
+            Some(release) => return Ok(Answer::Imported(store.import(release)?)),
+            None => 0,
+        },
+        Call::MergeBegin => store.merge_begin()?,
+        Call::MergeStep(rows) => store.merge_step(rows)?,
+        Call::MergePublish => {
+            store.merge_publish()?;
+            0
+        }
+        Call::MergeAbandon => {
+            store.merge_abandon()?;
+            0
+        }
+        _ => store.trim()?,
+    };
+    Ok(Answer::Number(number))
+}
+
+/// Makes a call.
+pub fn make(call: Call, releases: &[Release], store: &mut Example) -> Result<Answer, Refusal> {
+    let pin = store.imports();
+    match call {
+        Call::Row(kind, id, date, pin) => Ok(Answer::Lines(store.line_at(kind, id, date, pin)?)),
+        Call::History(kind, id, pin) => Ok(Answer::Lines(store.history(kind, id, pin)?)),
+        Call::Page(kind, date, limit) => {
+            Ok(Answer::Lines(store.page(kind, date, pin, None, limit)?))
+        }
+        Call::Terms(prefix, date) => Ok(Answer::Lines(store.terms(prefix, date, pin, 10)?)),
+        Call::Children(id, date) => Ok(Answer::Ids(store.children(id, date, pin)?)),
+        Call::Replacements(id, date) => Ok(Answer::Lines(store.replacements(id, date, pin)?)),
+        _ => change(call, releases, store),
+    }
+}
+
+/// Whether the lines are these, with or without a last LF.
+fn are_lines(alloc: Global, found: &[u8], wanted: &[&str]) -> Result<bool, AllocError> {
+    let whole = lines(alloc, wanted)?;
+    let bare = match whole.as_slice() {
+        [front @ .., b'\n'] => front,
+        all => all,
+    };
+    Ok(found == whole.as_slice() || found == bare)
+}
+
+/// Whether an answer is the wanted one.
+pub fn is_wanted(alloc: Global, answer: &Answer, wanted: Wanted) -> Result<bool, AllocError> {
+    match (answer, wanted) {
+        (Answer::Imported(receipt), Wanted::Imported(number, new, repeated)) => {
+            let want = Receipt {
+                number,
+                new,
+                repeated,
+            };
+            Ok(*receipt == want)
+        }
+        (Answer::Number(found), Wanted::Number(number)) => Ok(*found == number),
+        (Answer::Lines(found), Wanted::Lines(rows)) => are_lines(alloc, found.as_slice(), rows),
+        (Answer::Ids(found), Wanted::Ids(ids)) => Ok(found.as_slice() == ids),
+        _ => Ok(false),
+    }
+}

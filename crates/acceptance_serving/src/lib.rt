@@ -1,0 +1,11 @@
+//! Lines that are answered and served with little memory, and overlong ones. It has no code of its own.
+#![tactic(auto)]
+
+#[cfg(test)]
+mod growths;
+#[cfg(test)]
+mod overlong;
+#[cfg(test)]
+mod script;
+#[cfg(test)]
+mod session;

@@ -1,0 +1,97 @@
+//! Lines and their replies.
+
+use std::alloc::{AllocError, Global};
+
+/// A line and the lines of its reply, in which a bar stands for a TAB.
+pub type Turn = (&'static str, &'static [&'static str]);
+
+/// Imports, a merge beside one of them, and questions of two sessions.
+pub const SCRIPT: [Turn; 26] = [
+    ("0 STATUS", &["OK 0 0 0 -"]),
+    ("0 GET C 138875005 20230131", &["END 0"]),
+    ("0 IMPORT r1", &["OK 1 6 0"]),
+    ("1 PIN", &["OK 1"]),
+    ("0 IMPORT r2", &["OK 2 4 0"]),
+    ("0 MERGE", &["OK 10"]),
+    ("0 STEP 1", &["OK 9"]),
+    ("1 IMPORT r3", &["OK 3 2 1"]),
+    ("0 STEP 100", &["OK 0"]),
+    ("0 PUBLISH", &["OK"]),
+    ("0 STATUS", &["OK 3 12 2 -"]),
+    (
+        "0 GET C 1000004 20200831",
+        &[
+            "ROW 1000004|20200731|0|900000000000207008|900000000000074008",
+            "END 1",
+        ],
+    ),
+    (
+        "1 GET C 1000004 20200831",
+        &[
+            "ROW 1000004|20200131|1|900000000000207008|900000000000074008",
+            "END 1",
+        ],
+    ),
+    (
+        "0 HISTORY C 1000004",
+        &[
+            "ROW 1000004|20200131|1|900000000000207008|900000000000074008",
+            "ROW 1000004|20200731|0|900000000000207008|900000000000074008",
+            "ROW 1000004|20210131|0|900000000000207008|900000000000074008",
+            "END 3",
+        ],
+    ),
+    ("0 CHILDREN 138875005 20210131", &["ID 1000004", "END 1"]),
+    (
+        "0 TERMS 20200131 10 STRASS",
+        &[
+            "ROW 1000015|20200131|1|900000000000207008|1000004|de|900000000000013009|Straße|900000000000448009",
+            "END 1",
+        ],
+    ),
+    ("0 TERMS 20210131 10 STRASS", &["END 0"]),
+    (
+        "0 REPLACED 1000004 20210131",
+        &[
+            "ROW 0b6a0c2e-5d0f-4c53-9f6e-8d9d2a7b1c01|20210131|1|900000000000207008|900000000000527005|1000004|2000001",
+            "END 1",
+        ],
+    ),
+    ("1 PIN 9", &["ERR 44 PinRange"]),
+    ("0 IMPORT r9", &["ERR 45 NoFolder"]),
+    ("1 UNPIN", &["OK"]),
+    ("64 STATUS", &["ERR 41 Session"]),
+    ("0 STATU", &["ERR 42 Command"]),
+    ("0 STEP 0", &["ERR 43 Arguments"]),
+    ("0 ABANDON", &["ERR 11 NoMerge"]),
+    ("0 TRIM", &["OK"]),
+];
+
+/// Whether a line is never refused for want of memory.
+pub fn takes_none(line: &str) -> bool {
+    let commands = [
+        " PIN", " UNPIN", " STATUS", " MERGE", " PUBLISH", " ABANDON", " TRIM",
+    ];
+    let refused = ["64 STATUS", "0 STATU", "0 STEP 0"];
+    commands.iter().any(|command| line.contains(*command)) || refused.contains(&line)
+}
+
+/// The bytes of all replies.
+pub fn script_replies(alloc: Global) -> Result<Vec<u8>, AllocError> {
+    let mut bytes = Vec::new(alloc);
+    for (_, lines) in &SCRIPT {
+        put_lines(&mut bytes, *lines)?;
+    }
+    Ok(bytes)
+}
+
+/// Appends lines, with TABs for bars.
+fn put_lines(bytes: &mut Vec<u8>, lines: &[&str]) -> Result<(), AllocError> {
+    for line in lines {
+        for byte in line.as_bytes() {
+            bytes.push(if *byte == b'|' { b'\t' } else { *byte })?;
+        }
+        bytes.push(b'\n')?;
+    }
+    Ok(())
+}

@@ -1,0 +1,74 @@
+//! An opening, and beside it the decoding of the same bytes with no store round it.
+
+use crate::opened;
+use blocks::{BLOCK, read_current};
+use directory::{Directory, Entry};
+use disk_model::FileDisk;
+use segment::decode;
+use std::fs;
+use std::rt::HostRuntime;
+use std::time::{CpuClock, Instant};
+
+/// A watch that was started.
+#[derive(Drop)]
+struct Watch {
+    wall: Instant,
+    processor: u128,
+}
+
+fn started(rt: &HostRuntime) -> Option<Watch> {
+    let processor = rt.process_cpu_time().ok()?.as_micros();
+    Some(Watch {
+        wall: Instant::now(rt).ok()?,
+        processor,
+    })
+}
+
+impl Watch {
+    /// Says what it took, in microseconds of the wall and of the processor.
+    fn tell(&self, rt: &HostRuntime, what: &str) -> Option<()> {
+        let wall = self.wall.elapsed(rt).ok()?.as_micros();
+        let processor = rt
+            .process_cpu_time()
+            .ok()?
+            .as_micros()
+            .saturating_sub(self.processor);
+        println!(rt; "{what}: {wall} us, {processor} us of the processor").ok()
+    }
+}
+
+/// The bytes of a segment, of those of the file.
+fn segment_in<'a>(bytes: &'a [u8], entry: &Entry) -> Option<&'a [u8]> {
+    let from = usize::try_from(BLOCK * u64::from(entry.first)).ok()?;
+    let (_, behind) = bytes.split_at_checked(from)?;
+    let (segment, _) = behind.split_at_checked(entry.bytes as usize)?;
+    Some(segment)
+}
+
+/// The directory of the store in a file.
+fn listed(rt: &HostRuntime, path: &str) -> Option<Directory> {
+    let mut disk = FileDisk::open(rt, path).ok()?;
+    let mut content = [0; 4096];
+    let _current = read_current(&mut disk, &mut content).ok()?;
+    Directory::decode(rt.alloc(), &content).ok()
+}
+
+/// Opens the store and decodes its segments, and says what each took. How many rows were decoded.
+pub(crate) fn open_and_decode(rt: &HostRuntime, path: &str) -> Option<u64> {
+    let reading = started(rt)?;
+    let bytes = fs::read(rt, path).ok()?;
+    reading.tell(rt, "read the file")?;
+    let opening = started(rt)?;
+    let store = opened(rt, path)?;
+    opening.tell(rt, "open")?;
+    drop(store);
+    let directory = listed(rt, path)?;
+    let decoding = started(rt)?;
+    let mut rows: u64 = 0;
+    for entry in directory.entries() {
+        let found = decode(rt.alloc(), segment_in(&bytes, entry)?).ok()?;
+        rows = rows.saturating_add(found.len() as u64);
+    }
+    decoding.tell(rt, "decode, and give the rows back")?;
+    Some(rows)
+}

@@ -1,0 +1,3 @@
+pub use Rattle.line_server.specs.Said
+pub use Rattle.line_server.specs.Turns
+pub mod Endings

@@ -1,0 +1,231 @@
+//! The program's statuses, its files and its demonstration.
+
+use super::*;
+use import_check::sample;
+use std::io::{Read, Write};
+use std::test::Fail;
+use std::{fs, io};
+
+/// What a run gave: its status, and what it wrote.
+#[derive(Drop)]
+struct Shown {
+    status: u8,
+    output: Vec<u8>,
+    faults: Vec<u8>,
+}
+
+/// Runs the program on the words of a line.
+fn run_words(rt: &HostRuntime, line: &str, input: &[u8]) -> Result<Shown, Fail> {
+    let mut words = Vec::new(rt.alloc());
+    for word in line.split(' ') {
+        words.push(String::from_str(rt.alloc(), word)?)?;
+    }
+    let mut input = input;
+    let mut output = Vec::new(rt.alloc());
+    let mut faults = Vec::new(rt.alloc());
+    let status = run(
+        rt,
+        rt.alloc(),
+        words.as_slice(),
+        &mut input,
+        &mut output,
+        &mut faults,
+    );
+    Ok(Shown {
+        status,
+        output,
+        faults,
+    })
+}
+
+const NO_COMMAND: &str = "error: 'sctd' requires a subcommand but one was not provided\n  \
+[subcommands: init, import, serve, demo, help]\n\n\
+Usage: sctd <COMMAND>\n\n\
+For more information, try '--help'.\n";
+
+const HELP: &str = "Imports the Full and Delta files of an unpacked RF2 release\n\n\
+Usage: sctd import --store <FILE> --releases <DIR> <NAME>\n\n\
+Arguments:\n  \
+<NAME>  The release's folder below DIR\n\n\
+Options:\n      \
+--store <FILE>    The file that holds the store\n      \
+--releases <DIR>  The folder that holds a folder for each unpacked release\n  \
+-h, --help            Print help\n";
+
+#[test]
+fn statuses(rt: HostRuntime) -> Result<(), Fail> {
+    fs::write(&rt, "zeros", b"\0\0\0".as_slice())?;
+    // The words, the status, the output, what is written of faults.
+    let cases = [
+        ("sctd", 2, "", NO_COMMAND),
+        ("sctd import --help", 0, HELP, ""),
+        ("sctd init --store new", 0, "OK\n", ""),
+        ("sctd init --store new", 1, "ERR 4 NotEmpty\n", ""),
+        ("sctd init --store none/new", 1, "ERR 2 DiskFault\n", ""),
+        (
+            "sctd serve --store absent --releases none",
+            1,
+            "ERR 2 DiskFault\n",
+            "",
+        ),
+        (
+            "sctd serve --store zeros --releases none",
+            1,
+            "ERR 7 NotAStore\n",
+            "",
+        ),
+        (
+            "sctd import --store zeros --releases none r1",
+            1,
+            "ERR 7 NotAStore\n",
+            "",
+        ),
+        (
+            "sctd import --store new --releases none r1",
+            1,
+            "ERR 45 NoFolder\n",
+            "",
+        ),
+        (
+            "sctd import --store new --releases none ..",
+            1,
+            "ERR 43 Arguments\n",
+            "",
+        ),
+        // A line that is refused within a session is no failure.
+        (
+            "sctd serve --store new --releases none",
+            0,
+            "ERR 41 Session\nOK 0 0 0 -\n",
+            "",
+        ),
+    ];
+    for (line, status, output, faults) in &cases {
+        let got = run_words(&rt, *line, b"\n0 STATUS")?;
+        assert_eq!(rt; got.status, *status, "{line}");
+        assert!(rt; got.output.as_slice() == output.as_bytes(), "{line}");
+        assert!(rt; got.faults.as_slice() == faults.as_bytes(), "{line}");
+    }
+    Ok(())
+}
+
+/// Writes the files of a sample release into a folder.
+fn write_release(rt: &HostRuntime, folder: &str, name: &str) -> Result<(), Fail> {
+    let release = sample(rt.alloc(), name)?.ok_or("a sample")?;
+    fs::create_dir_all(rt, folder)?;
+    for file in &release.files {
+        let path = format!(in rt.alloc(); "{folder}/{}", file.name)?;
+        fs::write(rt, path.as_str(), file.bytes.as_slice())?;
+    }
+    Ok(())
+}
+
+#[test]
+fn a_file_keeps_what_was_imported(rt: HostRuntime) -> Result<(), Fail> {
+    write_release(&rt, "releases/r1/Terminology", "r1")?;
+    write_release(&rt, "releases/2020/r3/Terminology", "r3")?;
+    let serve = "sctd serve --store file --releases releases";
+    // The words, the input, the output.
+    let steps = [
+        ("sctd init --store file", "", "OK\n"),
+        (
+            "sctd import --store file --releases releases r1",
+            "",
+            "OK 1 6 0\n",
+        ),
+        (
+            serve,
+            "0 STATUS\n1 PIN\n0 IMPORT 2020/r3\n",
+            "OK 1 6 1 -\nOK 1\nOK 2 2 1\n",
+        ),
+        (
+            serve,
+            "0 GET C 1000004 20200831\n0 CHILDREN 138875005 20200131\n",
+            "ROW 1000004\t20200731\t0\t900000000000207008\t900000000000074008\nEND 1\nID 1000004\nEND 1\n",
+        ),
+        (
+            "sctd import --store file --releases releases r1",
+            "",
+            "OK 3 0 6\n",
+        ),
+        (serve, "0 STATUS\n", "OK 3 8 2 -\n"),
+    ];
+    for (line, input, output) in &steps {
+        let got = run_words(&rt, *line, input.as_bytes())?;
+        assert_eq!(rt; got.status, 0, "{line}");
+        assert!(rt; got.output.as_slice() == output.as_bytes(), "{line}");
+        assert!(rt; got.faults.is_empty(), "{line}");
+    }
+    Ok(())
+}
+
+/// Gives nothing but failures.
+#[derive(Drop)]
+struct Broken;
+
+impl Read for Broken {
+    fn read(&mut self, _buf: &mut [u8]) -> io::Result<usize> {
+        Err(io::Error::from(io::ErrorKind::Interrupted))
+    }
+}
+
+/// Takes so many bytes, and goes out or doesn't.
+#[derive(Drop)]
+struct Narrow {
+    room: usize,
+    goes_out: bool,
+}
+
+impl Write for Narrow {
+    fn write(&mut self, buf: &[u8]) -> io::Result<usize> {
+        let n = buf.len().min(self.room);
+        self.room -= n;
+        Ok(n)
+    }
+
+    fn flush(&mut self) -> io::Result<()> {
+        if self.goes_out {
+            Ok(())
+        } else {
+            Err(io::Error::from(io::ErrorKind::Other))
+        }
+    }
+}
+
+#[test]
+fn streams_that_fail(rt: HostRuntime) -> Result<(), Fail> {
+    let made = run_words(&rt, "sctd init --store file", b"")?;
+    assert_eq!(rt; made.status, 0);
+    let serve = "sctd serve --store file --releases releases";
+    // The words, the room for the output and whether that goes out, the status, what is written of faults.
+    let cases: [(&str, usize, bool, u8, &[u8]); 6] = [
+        (serve, 4096, true, 1, b"ERR 50 Read\n"),
+        ("sctd demo", 4096, true, 0, b""),
+        ("sctd demo", 4096, false, 1, b"ERR 51 Write\n"),
+        ("sctd demo", 20, true, 1, b"ERR 51 Write\n"),
+        ("sctd init --store file", 8, true, 1, b"ERR 51 Write\n"),
+        ("sctd demo --help", 8, true, 1, b"ERR 51 Write\n"),
+    ];
+    for (line, room, goes_out, status, faults) in &cases {
+        let mut words = Vec::new(rt.alloc());
+        for word in line.split(' ') {
+            words.push(String::from_str(rt.alloc(), word)?)?;
+        }
+        let mut output = Narrow {
+            room: *room,
+            goes_out: *goes_out,
+        };
+        let mut written = Vec::new(rt.alloc());
+        let got = run(
+            &rt,
+            rt.alloc(),
+            words.as_slice(),
+            &mut Broken,
+            &mut output,
+            &mut written,
+        );
+        assert_eq!(rt; got, *status, "{line} {room}");
+        assert!(rt; written.as_slice() == *faults, "{line} {room}");
+    }
+    Ok(())
+}

@@ -1,0 +1,183 @@
+-- A merge that goes on, while other calls are made.
+use Rattle.std.specs.Prelude.{Option, Some, None, is_some, slice_get}
+use Rattle.std.specs.Int.{div_ceil}
+use Rattle.std.specs.List.{AllByRecursion}
+use Rattle.std.specs.Option.{option_to_list}
+use Rattle.std.proofs.Common.{◌≡◌, inl, inr, ℕ, zero, suc, ◌+◌, ◌<◌, ◌≤◌, Bool, true, false, List, [], ◌∷◌, ◌++◌, length, refl, sym, ap, subst, ◌∙◌, arith, length-append}
+use Rattle.std.proofs.lemmas.List.Elements.{All-nil, All-cons}
+use Rattle.disk_model.specs.Disk.{Moments, IsOutside}
+use Rattle.blocks.specs.declared.slots.Slot.{Slot}
+use Rattle.blocks.specs.declared.slots.Slot.TheVariants.{A, B}
+use Rattle.blocks.specs.declared.extent.Extent.{Extent}
+use Rattle.blocks.specs.Slots.{slot_range, content_at}
+use Rattle.blocks.specs.Extents.{start_of, byte_range, block_count}
+use Rattle.blocks.specs.Outside.{SameOutside}
+use Rattle.history_model.specs.declared.stamped.StampedRow.{StampedRow}
+use Rattle.history_model.specs.Lists.{union}
+use Rattle.directory.specs.declared.entry.Entry.{Entry}
+use Rattle.directory.specs.Listings.{Listing, IsEntry}
+use Rattle.directory.specs.Places.{AreBeside, extent_of, extents_of}
+use Rattle.directory.specs.Fit.{fit}
+use Rattle.directory.proofs.Fitting.{fit_is_apart}
+use Rattle.merge.specs.declared.Merging.{Merging}
+use Rattle.merge.specs.Merged.{rows_left}
+use Rattle.segment.specs.Records.{segment_of}
+use Rattle.segment.proofs.SegmentLaws.{pieces_join}
+use Rattle.store_image.proofs.Beside.{blocks_cover, one_ends}
+use Rattle.store_image.proofs.Unlisted.{begins_elsewhere}
+use Rattle.history_store.specs.declared.ongoing.Ongoing.{Ongoing}
+use Rattle.history_store.specs.Shelf.{reserved_by, shelf_of}
+use Rattle.history_store.specs.Merging.{GoesOn}
+use Rattle.history_store.specs.Reading.{MomentsStay}
+use Rattle.history_store.specs.Ongoing.{IsMergeOf, IsMergingOf, IsWritten, HasMerge, merge_of}
+use Rattle.history_store.specs.Prepared.{IsPlacedAt}
+use Rattle.history_store.proofs.Alike.{alike_bytes}
+
+module _ (honest : Type 0) (d : Listing) (lists : List (List StampedRow)) (i j : ℕ) (entry : Entry) (places : Merging) (rows : List StampedRow) (written : ℕ) (is : IsMergeOf honest d lists i j entry places rows written) where
+  -- what is written fits
+  pub written_fits : length (segment_of rows) ≤ entry.bytes
+  written_fits =
+      let whole = alike_bytes (rows ++ rows_left places is.a is.b) (union is.a is.b) is.alike in
+      let join = ap length (pieces_join rows (rows_left places is.a is.b)) in
+      let parts = length-append (segment_of rows) (segment_of (rows_left places is.a is.b)) in
+      omega (arith, whole, join, parts, is.segment.bytes)
+
+-- ---- what is written stays
+
+slot_below : (slot : Slot) → content_at slot + 4096 ≤ 16384
+slot_below A = omega arith
+slot_below B = omega arith
+
+outside_slot : (entry : Entry) (slot : Slot) (i : ℕ) → IsEntry entry → start_of (extent_of entry) ≤ i → IsOutside i (slot_range slot)
+outside_slot entry slot i is ge = inr (omega (arith, slot_below slot, is.first, ge))
+
+outside_entry : (entry other : Entry) (i : ℕ) → IsEntry entry → IsEntry other → AreBeside (extent_of entry) (extent_of other) → start_of (extent_of entry) ≤ i → i < start_of (extent_of entry) + entry.bytes → IsOutside i (byte_range (extent_of other))
+outside_entry entry other i is is_other beside ge lt = elim (one_ends (extent_of entry) (extent_of other) is.bytes is_other.bytes beside) [
+  | inl below ↦ inl (omega (arith, below, blocks_cover entry.bytes, lt))
+  | inr above ↦ inr (omega (arith, above, blocks_cover other.bytes, ge))
+]
+
+-- while a directory is published
+written_published : (honest : Type 0) (d : Listing) (lists : List (List StampedRow)) (merge : Option Ongoing) (slot : Slot) (old new : List ℕ) → IsMergingOf honest d lists merge → SameOutside (slot_range slot ∷ []) old new → IsWritten merge old → IsWritten merge new
+written_published honest d lists None slot old new is same written = tt
+written_published honest d lists (Some m) slot old new is same written =
+    begins_elsewhere (extent_of m.entry) (slot_range slot ∷ []) (segment_of m.shown) old new same
+    (λ i ge lt. All-cons (IsOutside i) (slot_range slot) [] (outside_slot m.entry slot i is.0.is_entry ge) (All-nil (IsOutside i))) written
+
+-- while a segment is added beside it
+written_added : (honest : Type 0) (d : Listing) (lists : List (List StampedRow)) (merge : Option Ongoing) (other : Entry) (slot : Slot) (old new : List ℕ) → IsMergingOf honest d lists merge → IsEntry other → ((m : Ongoing) → merge ≡ Some m → AreBeside (extent_of m.entry) (extent_of other))
+    → SameOutside (byte_range (extent_of other) ∷ slot_range slot ∷ []) old new → IsWritten merge old → IsWritten merge new
+written_added honest d lists None other slot old new is is_other beside same written = tt
+written_added honest d lists (Some m) other slot old new is is_other beside same written =
+    let fits = written_fits honest d lists m.i m.j m.entry m.places m.shown m.written is.0 in
+    begins_elsewhere (extent_of m.entry) (byte_range (extent_of other) ∷ slot_range slot ∷ []) (segment_of m.shown) old new same
+    (λ i ge lt. All-cons (IsOutside i) (byte_range (extent_of other)) (slot_range slot ∷ []) (outside_entry m.entry other i is.0.is_entry is_other (beside m refl) ge (omega (arith, lt, fits)))
+    (All-cons (IsOutside i) (slot_range slot) [] (outside_slot m.entry slot i is.0.is_entry ge) (All-nil (IsOutside i)))) written
+
+-- ---- it goes on beside the next directory
+
+pub merging_on : (before after : Type 0) (d e : Listing) (lists : List (List StampedRow)) (merge : Option Ongoing) → (after → before) → e.entries ≡ d.entries → IsMergingOf before d lists merge → IsMergingOf after e lists merge
+merging_on before after d e lists None back same is = tt
+merging_on before after d e lists (Some m) back same (is, kept) = (
+  record {
+    a = is.a;
+    b = is.b;
+    below = is.below;
+    within = subst (λ (l : List Entry). m.j < length l) (sym same) is.within;
+    a_is = is.a_is;
+    b_is = is.b_is;
+    lengths = is.lengths;
+    taken = λ up. is.taken (back up);
+    alike = is.alike;
+    each = is.each;
+    segment = is.segment;
+    is_entry = is.is_entry;
+    beside = subst (λ (l : List Entry). AllByRecursion (AreBeside (extent_of m.entry)) (extents_of l)) (sym same) is.beside;
+    written_is = is.written_is;
+  },
+  kept,
+)
+
+-- a new segment shares no block with the extent that the merge reserves
+beside_reserved : (d : Listing) (merge : Option Ongoing) (rows : List StampedRow) (other : Entry) → IsPlacedAt d (merge_of merge) rows other → (m : Ongoing) → merge ≡ Some m → AreBeside (extent_of m.entry) (extent_of other)
+beside_reserved d merge rows other placed m same block in_reserved in_other =
+    let bytes : other.bytes ≡ length (segment_of rows) = ap (λ (x : Entry). x.bytes) placed.entry_is in
+    let place : fit (block_count (extent_of other)) d.entries (reserved_by (merge_of merge)) ≡ Some other.first = ap (λ n. fit (div_ceil n 4096) d.entries (reserved_by (merge_of merge))) bytes ∙ placed.place in
+    let all = (fit_is_apart (extent_of other) d.entries (reserved_by (merge_of merge)) place).0 in
+    let P : Option Ongoing → Type 0 = λ o. AllByRecursion (AreBeside (extent_of other)) (extents_of d.entries ++ option_to_list (reserved_by (merge_of o))) in
+    last_extent (AreBeside (extent_of other)) (extents_of d.entries) (extent_of m.entry) (subst P same all) block in_other in_reserved
+  where
+    last_extent : (P : Extent → Type 0) (extents : List Extent) (extent : Extent) → AllByRecursion P (extents ++ extent ∷ []) → P extent
+    last_extent P [] extent all = all.0
+    last_extent P (e ∷ es) extent all = last_extent P es extent all.1
+
+get_pushed : {X : Type 0} (xs : List X) (x y : X) (i : ℕ) → slice_get xs i ≡ Some x → slice_get (xs ++ y ∷ []) i ≡ Some x
+get_pushed [] x y i is = absurd cc
+get_pushed (z ∷ xs) x y zero is = is
+get_pushed (z ∷ xs) x y (suc i) is = get_pushed xs x y i is
+
+all_pushed : (P : Extent → Type 0) (entries : List Entry) (other : Entry) → AllByRecursion P (extents_of entries) → P (extent_of other) → AllByRecursion P (extents_of (entries ++ other ∷ []))
+all_pushed P [] other all is = (is, tt)
+all_pushed P (e ∷ es) other all is = (all.0, all_pushed P es other all.1 is)
+
+merging_added : (before after : Type 0) (d e : Listing) (lists : List (List StampedRow)) (more : List StampedRow) (merge : Option Ongoing) (other : Entry) → (after → before) → e.entries ≡ d.entries ++ other ∷ [] → ((m : Ongoing) → merge ≡ Some m → AreBeside (extent_of m.entry) (extent_of other))
+    → IsMergingOf before d lists merge → IsMergingOf after e (lists ++ more ∷ []) merge
+merging_added before after d e lists more None other back same beside is = tt
+merging_added before after d e lists more (Some m) other back same beside (is, kept) = (
+  record {
+    a = is.a;
+    b = is.b;
+    below = is.below;
+    within = subst (λ (l : List Entry). m.j < length l) (sym same) (let long = length-append d.entries (other ∷ []) in omega (arith, long, is.within));
+    a_is = get_pushed lists is.a more m.i is.a_is;
+    b_is = get_pushed lists is.b more m.j is.b_is;
+    lengths = is.lengths;
+    taken = λ up. is.taken (back up);
+    alike = is.alike;
+    each = is.each;
+    segment = is.segment;
+    is_entry = is.is_entry;
+    beside = subst (λ (l : List Entry). AllByRecursion (AreBeside (extent_of m.entry)) (extents_of l)) (sym same) (all_pushed (AreBeside (extent_of m.entry)) d.entries other is.beside (beside m refl));
+    written_is = is.written_is;
+  },
+  kept,
+)
+
+-- ---- what a store holds of it
+
+-- after reads
+pub merge_read : (was is : Type 0) (old new : Moments) (d : Listing) (lists : List (List StampedRow)) (merge : Option Ongoing) (needs : Bool) → HasMerge was old.state.now d lists merge needs → MomentsStay was is old new → HasMerge is new.state.now d lists merge needs
+merge_read was is old new d lists merge needs held stays = record {
+  merging = merging_on was is d d lists merge stays.0.1 refl held.merging;
+  written = λ up still. let before = stays.0.1 up in subst (λ (m : Moments). IsWritten merge m.state.now) (sym (stays.1 before)) (held.written before still);
+}
+
+-- after the publication of the same entries
+pub merge_repeated : (before after : Type 0) (old new : List ℕ) (slot : Slot) (d e : Listing) (lists : List (List StampedRow)) (merge : Option Ongoing) (needs : Bool) → HasMerge before old d lists merge needs → (after → before)
+    → e.entries ≡ d.entries → (before → SameOutside (slot_range slot ∷ []) old new) → HasMerge after new e lists merge needs
+merge_repeated before after old new slot d e lists merge needs held back same elsewhere = record {
+  merging = merging_on before after d e lists merge back same held.merging;
+  written = λ up still. written_published before d lists merge slot old new held.merging (elsewhere (back up)) (held.written (back up) still);
+}
+
+-- after a segment was added beside it
+pub merge_added : (before after : Type 0) (old new : List ℕ) (slot : Slot) (d e : Listing) (entry : Entry) (lists nlists : List (List StampedRow)) (more : List StampedRow) (merge : Option Ongoing) (needs : Bool) → HasMerge before old d lists merge needs → (after → before)
+    → e.entries ≡ d.entries ++ entry ∷ [] → IsEntry entry → IsPlacedAt d (merge_of merge) more entry → (before → SameOutside (byte_range (extent_of entry) ∷ slot_range slot ∷ []) old new) → nlists ≡ lists ++ more ∷ [] → HasMerge after new e nlists merge needs
+merge_added before after old new slot d e entry lists nlists more merge needs held back entries is_entry placed elsewhere lists_are =
+    let beside = beside_reserved d merge more entry placed in
+    record {
+      merging = subst (λ l. IsMergingOf after e l merge) (sym lists_are) (merging_added before after d e lists more merge entry back entries beside held.merging);
+      written = λ up still. written_added before d lists merge entry slot old new held.merging is_entry beside (elsewhere (back up)) (held.written (back up) still);
+    }
+
+-- no merge goes on
+pub no_merge : (honest : Type 0) (now : List ℕ) (d : Listing) (lists : List (List StampedRow)) (merge : Option Ongoing) (needs : Bool) → merge ≡ None → HasMerge honest now d lists merge needs
+no_merge honest now d lists merge needs none = subst (λ (o : Option Ongoing). HasMerge honest now d lists o needs) (sym none) (record { merging = tt; written = λ up still. tt })
+
+pub goes_on : (d : Listing) (merge : Option Ongoing) → is_some merge ≡ true → GoesOn (shelf_of d (merge_of merge))
+goes_on d None some = absurd (cc)
+goes_on d (Some m) some = (_, refl)
+
+pub goes_not_on : (merge : Option Ongoing) → is_some merge ≡ false → merge ≡ None
+goes_not_on None none = refl
+goes_not_on (Some m) none = absurd (cc)

@@ -1,0 +1,69 @@
+-- Which bytes the calls of a store write.
+use Rattle.std.proofs.Common.{◌≡◌, inl, inr, ℕ, zero, suc, ◌≤◌, List, [], ◌∷◌, ◌++◌, length, drop, map, refl, sym, ap, subst, ◌∙◌, arith}
+use Rattle.std.proofs.lemmas.List.Elements.{All-nil, All-cons, All-head, All-tail}
+use Rattle.disk_model.specs.Disk.{Moments, IsOutside}
+use Rattle.blocks.specs.declared.slots.Slot.{Slot}
+use Rattle.blocks.specs.declared.slots.Slot.TheVariants.{A, B}
+use Rattle.blocks.specs.Extents.{byte_range}
+use Rattle.blocks.specs.Outside.{SameOutside}
+use Rattle.blocks.specs.Slots.{slot_range, slots_range}
+use Rattle.directory.specs.declared.entry.Entry.{Entry}
+use Rattle.directory.specs.Places.{extent_of, extents_of}
+use Rattle.history_store.specs.Shelf.{Shelf}
+
+slot_outside : (slot : Slot) (i : ℕ) → IsOutside i slots_range → IsOutside i (slot_range slot)
+slot_outside A i (inl below) = absurd (omega (arith, below))
+slot_outside A i (inr above) = inr (omega (arith, above))
+slot_outside B i (inl below) = absurd (omega (arith, below))
+slot_outside B i (inr above) = inr (omega (arith, above))
+
+slot_ends : (slot : Slot) (n : ℕ) → 16384 ≤ n → (slot_range slot).1 ≤ n
+slot_ends A n long = omega (arith, long)
+slot_ends B n long = omega (arith, long)
+
+-- one of the slots is written: the slots are
+pub in_slots : (slot : Slot) (old new : List ℕ) → SameOutside (slot_range slot ∷ []) old new → SameOutside (slots_range ∷ []) old new
+in_slots slot old new same =
+    let P : ℕ → ℕ × ℕ → Type 0 = λ n range. range.1 ≤ n in record {
+      no_shorter = same.no_shorter;
+      no_longer = λ n long ends. same.no_longer n long (All-cons (P n) (slot_range slot) [] (slot_ends slot n (All-head (P n) slots_range [] ends)) (All-nil (P n)));
+      same = λ i outside. same.same i (All-cons (IsOutside i) (slot_range slot) [] (slot_outside slot i (All-head (IsOutside i) slots_range [] outside)) (All-nil (IsOutside i)));
+    }
+
+-- and with a segment
+pub in_slots_and : (slot : Slot) (segment : ℕ × ℕ) (old new : List ℕ) → SameOutside (segment ∷ slot_range slot ∷ []) old new → SameOutside (slots_range ∷ segment ∷ []) old new
+in_slots_and slot segment old new same =
+    let P : ℕ → ℕ × ℕ → Type 0 = λ n range. range.1 ≤ n in record {
+      no_shorter = same.no_shorter;
+      no_longer = λ n long ends.
+          same.no_longer n long (All-cons (P n) segment (slot_range slot ∷ []) (All-head (P n) segment [] (All-tail (P n) slots_range (segment ∷ []) ends)) (All-cons (P n) (slot_range slot) [] (slot_ends slot n (All-head (P n) slots_range (segment ∷ []) ends)) (All-nil (P n))));
+      same = λ i outside.
+          same.same i (All-cons (IsOutside i) segment (slot_range slot ∷ []) (All-head (IsOutside i) segment [] (All-tail (IsOutside i) slots_range (segment ∷ []) outside)) (All-cons (IsOutside i) (slot_range slot) [] (slot_outside slot i (All-head (IsOutside i) slots_range (segment ∷ []) outside)) (All-nil (IsOutside i))));
+    }
+
+drop_all : (xs ys : List Entry) → drop (length xs) (xs ++ ys) ≡ ys
+drop_all [] ys = refl
+drop_all (x ∷ xs) ys = drop_all xs ys
+
+drop_whole : (xs : List Entry) → drop (length xs) xs ≡ []
+drop_whole [] = refl
+drop_whole (x ∷ xs) = drop_whole xs
+
+-- no segment is added
+pub none_added : (slot : Slot) (es fs : List Entry) (old new : List ℕ) → fs ≡ es → SameOutside (slot_range slot ∷ []) old new → SameOutside (slots_range ∷ map byte_range (extents_of (drop (length es) fs))) old new
+none_added slot es fs old new entries same =
+    let none : drop (length es) fs ≡ [] = ap (λ (xs : List Entry). drop (length es) xs) entries ∙ drop_whole es in
+    subst (λ (xs : List Entry). SameOutside (slots_range ∷ map byte_range (extents_of xs)) old new) (sym none) (in_slots slot old new same)
+
+-- one is added
+pub one_added : (slot : Slot) (entry : Entry) (es fs : List Entry) (old new : List ℕ) → fs ≡ es ++ entry ∷ [] → SameOutside (byte_range (extent_of entry) ∷ slot_range slot ∷ []) old new → SameOutside (slots_range ∷ map byte_range (extents_of (drop (length es) fs))) old new
+one_added slot entry es fs old new entries same =
+    let one : drop (length es) fs ≡ entry ∷ [] = ap (λ (xs : List Entry). drop (length es) xs) entries ∙ drop_all es (entry ∷ []) in
+    subst (λ (xs : List Entry). SameOutside (slots_range ∷ map byte_range (extents_of xs)) old new) (sym one) (in_slots_and slot (byte_range (extent_of entry)) old new same)
+
+-- from a store with the same shelf and moments
+pub from_same : (old mid : Moments) (s t : Shelf) (entries : List Entry) (file : List ℕ) → mid ≡ old → t ≡ s
+    → SameOutside (slots_range ∷ map byte_range (extents_of (drop (length t.entries) entries))) mid.state.now file → SameOutside (slots_range ∷ map byte_range (extents_of (drop (length s.entries) entries))) old.state.now file
+from_same old mid s t entries file moments shelf same =
+    let P : Shelf → List ℕ → Type 0 = λ x now. SameOutside (slots_range ∷ map byte_range (extents_of (drop (length x.entries) entries))) now file in
+    subst (λ (m : Moments). P s m.state.now) moments (subst (λ (x : Shelf). P x mid.state.now) shelf same)

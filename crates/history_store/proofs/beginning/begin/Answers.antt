@@ -1,0 +1,51 @@
+use Rattle.std.specs.Prelude.{None, Some, slice_get, get_or}
+use Rattle.std.specs.Int.{div_ceil}
+use Rattle.std.proofs.Common.{◌≡◌, ◌≤◌, List, inl, inr, refl, sym, ap, subst, ◌∙◌, arith}
+use Rattle.std.proofs.lemmas.Option.{slice_get-get_or}
+use Rattle.std.proofs.lemmas.Result.{err_from_is_err_and}
+use Rattle.directory.specs.declared.entry.Entry.{Entry}
+use Rattle.directory.specs.Fit.{fit}
+use Rattle.history_store.specs.Merging.{AreFewest}
+use Rattle.history_store.proofs.BegunMerge.{all_at, no_entry, lacks_output}
+use Rattle.history_store.proofs.beginning.begin.Goals as goal
+
+pub returns-in_default-checked_add-clause-refused : goal.returns-in_default-checked_add-clause-refused
+returns-in_default-checked_add-clause-refused c =
+    let over = c.in_default-checked_add.ensures in
+    lacks_output c.args.directory.now.entries c.entries-entries.result.now c.in-Some.i c.in-Some.j c.entries-entries.ensures.entries c.in-Some.ensures.found (inl (omega (arith, over)))
+
+pub returns-in_err-first-clause-refused : goal.returns-in_err-first-clause-refused
+returns-in_err-first-clause-refused c =
+    let p = err_from_is_err_and c.from_residual.result c.from_residual.ensures.1 in
+    let l = c.entries-entries.result.now in
+    rw (p.1, p.2) (lacks_output c.args.directory.now.entries l c.in-Some.i c.in-Some.j c.entries-entries.ensures.entries c.in-Some.ensures.found
+    (inr (ap (λ n. fit (div_ceil n 4096) l None) (sym c.in-Some-checked_add.ensures.1) ∙ ap (λ n. fit n l None) (sym c.blocks-2.ensures) ∙ c.in_err-first.ensures.fit)))
+
+pub returns-clause-begun : goal.returns-clause-begun
+returns-clause-begun c =
+    let same = c.entries-entries.ensures.entries in
+    let l = c.entries-entries.result.now in
+    let fewest = c.in-Some.ensures.found in
+    let a = get_or l c.in-Some.i no_entry in
+    let b = get_or l c.in-Some.j no_entry in
+    let a_is : slice_get c.args.directory.now.entries c.in-Some.i ≡ Some a = subst (λ (x : List Entry). slice_get x c.in-Some.i ≡ Some a) same (slice_get-get_or l c.in-Some.i no_entry (omega (arith, fewest.below, fewest.within))) in
+    let b_is : slice_get c.args.directory.now.entries c.in-Some.j ≡ Some b = subst (λ (x : List Entry). slice_get x c.in-Some.j ≡ Some b) same (slice_get-get_or l c.in-Some.j no_entry fewest.within) in
+    let sum = c.in-Some-checked_add.ensures in
+    record {
+      a = a;
+      b = b;
+      fewest = subst (λ (x : List Entry). AreFewest x c.in-Some.i c.in-Some.j) same fewest;
+      a_is = a_is;
+      b_is = b_is;
+      bytes = sum.1;
+      bytes_fit = omega (arith, sum.0, sum.1);
+      rows_are = refl;
+      rows_fit = omega (arith, sum.0, all_at (λ e. e.rows ≤ e.bytes) c.args.directory.now.entries c.in-Some.i a c.requires a_is, all_at (λ e. e.rows ≤ e.bytes) c.args.directory.now.entries c.in-Some.j b c.requires b_is);
+      place = ap (λ (x : List Entry). fit (div_ceil c.in-Some-checked_add.bytes 4096) x None) (sym same) ∙ ap (λ n. fit n l None) (sym c.blocks-2.ensures) ∙ c.in_ok-first.ensures.fit;
+      places = c.new.ensures;
+      none_listed = c.new-2.ensures.items;
+      none_shown = c.new-3.ensures;
+      no_term = c.new-4.ensures;
+      no_edge = c.new-5.ensures;
+      unwritten = refl;
+    }

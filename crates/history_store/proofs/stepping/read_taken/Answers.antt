@@ -1,0 +1,73 @@
+use Rattle.std.specs.List.{AllZip}
+use Rattle.std.proofs.Common.{◌+◌, ◌++◌, [], ◌∷◌, List, take, sym, ap, subst, ◌∙◌, add-one, rules}
+use Rattle.std.proofs.lemmas.List.{take_more, take_all}
+use Rattle.history_model.specs.declared.stamped.StampedRow.{StampedRow}
+use Rattle.segment.specs.Standing.{StandsAt}
+use Rattle.merge.specs.declared.Taken.{Taken}
+use Rattle.merge.proofs.Steps.{zip_push}
+use Rattle.blocks.specs.Cache.{AgreesWith}
+use Rattle.disk_model.specs.Disk.{Moments}
+use Rattle.history_store.specs.Reading.{AreThere}
+use Rattle.history_store.specs.Stepping.{StandsIn, IsReadAt}
+use Rattle.history_store.proofs.Likeness.{zip_at, zip_end}
+use Rattle.history_store.proofs.stepping.read_taken.Goals as goal
+
+pub loop-t-preserved : goal.loop-t-preserved
+loop-t-preserved g c =
+    let a = c.args in
+    let l = c.loop-t in
+    let so_far = l.invariant in
+    let t = c.t-item.result in
+    let row = c.in_ok-row.row in
+    let read = c.in_ok-row.ensures in
+    let items = c.in_ok-push.ensures.items in
+    record {
+      found = λ up agrees lists want there stand.
+          let w = zip_at (StandsIn lists a.i a.j) a.taken.now want l.t-index t stand c.loop-t-test.true c.t-item.is in
+          let stands = subst (λ n. StandsAt lists n t.posted w.0) (sym c.segment_of-segment.ensures) w.1 in
+          let agrees_still = subst (λ (m : Moments). AgreesWith l.cache m.state.now) (sym (so_far.moments up)) (so_far.agrees up agrees) in
+          let same = read.found (so_far.honesty.0 up) agrees_still lists w.0 (subst (λ (m : Moments). AreThere a.entries.now lists m.state.now) (sym (so_far.moments up)) there) stands in
+          items ∙ ap (λ (xs : List StampedRow). xs ++ row ∷ []) (so_far.found up agrees lists want there stand) ∙ ap (λ (s : StampedRow). take l.t-index want ++ s ∷ []) same
+          ∙ sym w.2 ∙ ap (λ k. take k want) (sym (add-one l.t-index));
+      read =
+          let more = take_more a.taken.now l.t-index t c.loop-t-test.true ∙ ap (λ (x : Taken). take l.t-index a.taken.now ++ x ∷ []) (sym c.t-item.is) in
+          subst (λ (r : List StampedRow). AllZip IsReadAt (take (l.t-index + 1) a.taken.now) r) (sym items)
+          (subst (λ (x : List Taken). AllZip IsReadAt x (l.rows.items ++ row ∷ [])) (sym more) (zip_push IsReadAt (take l.t-index a.taken.now) l.rows.items t row so_far.read read.of_place));
+      agrees = λ up agrees.
+          let agrees_still = subst (λ (m : Moments). AgreesWith l.cache m.state.now) (sym (so_far.moments up)) (so_far.agrees up agrees) in
+          subst (λ (m : Moments). AgreesWith c.read_row.new.cache m.state.now) (so_far.moments up) (read.agrees (so_far.honesty.0 up) agrees_still);
+      moments = λ up. read.moments (so_far.honesty.0 up) ∙ so_far.moments up;
+      honesty = (λ up. read.honesty.0 (so_far.honesty.0 up), λ down. so_far.honesty.1 (read.honesty.1 down));
+      failures = read.failures ∙ so_far.failures;
+    }
+
+pub returns-in_err-row-clause-found : goal.returns-in_err-row-clause-found
+returns-in_err-row-clause-found g c = λ up agrees lists want there stand.
+    let a = c.args in
+    let l = c.loop-t in
+    let so_far = l.invariant in
+    let t = c.t-item.result in
+    let w = zip_at (StandsIn lists a.i a.j) a.taken.now want l.t-index t stand c.loop-t-test.true c.t-item.is in
+    let stands = subst (λ n. StandsAt lists n t.posted w.0) (sym c.segment_of-segment.ensures) w.1 in
+    let agrees_still = subst (λ (m : Moments). AgreesWith l.cache m.state.now) (sym (so_far.moments up)) (so_far.agrees up agrees) in
+    let only = c.in_err-row.ensures.found (so_far.honesty.0 up) agrees_still lists w.0 (subst (λ (m : Moments). AreThere a.entries.now lists m.state.now) (sym (so_far.moments up)) there) stands in
+    search rules
+
+pub returns-clause-found : goal.returns-clause-found
+returns-clause-found g c = λ up agrees lists want there stand.
+    c.loop-t.invariant.found up agrees lists want there stand ∙ zip_end (StandsIn lists c.args.i c.args.j) c.args.taken.now want c.loop-t.t-index stand c.loop-t-test.false
+
+pub returns-clause-read : goal.returns-clause-read
+returns-clause-read g c = subst (λ (x : List Taken). AllZip IsReadAt x c.loop-t.rows.items) (take_all c.loop-t.t-index c.args.taken.now c.loop-t-test.false) c.loop-t.invariant.read
+
+pub returns-in_err-row-clause-agrees : goal.returns-in_err-row-clause-agrees
+returns-in_err-row-clause-agrees g c = λ up agrees.
+    let so_far = c.loop-t.invariant in
+    let agrees_still = subst (λ (m : Moments). AgreesWith c.loop-t.cache m.state.now) (sym (so_far.moments up)) (so_far.agrees up agrees) in
+    subst (λ (m : Moments). AgreesWith c.read_row.new.cache m.state.now) (so_far.moments up) (c.in_err-row.ensures.agrees (so_far.honesty.0 up) agrees_still)
+
+pub returns-in_err-push-clause-agrees : goal.returns-in_err-push-clause-agrees
+returns-in_err-push-clause-agrees g c = λ up agrees.
+    let so_far = c.loop-t.invariant in
+    let agrees_still = subst (λ (m : Moments). AgreesWith c.loop-t.cache m.state.now) (sym (so_far.moments up)) (so_far.agrees up agrees) in
+    subst (λ (m : Moments). AgreesWith c.read_row.new.cache m.state.now) (so_far.moments up) (c.in_ok-row.ensures.agrees (so_far.honesty.0 up) agrees_still)

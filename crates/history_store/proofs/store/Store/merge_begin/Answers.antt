@@ -1,0 +1,32 @@
+use Rattle.std.proofs.Common.{sym, ap, refl, ◌∙◌}
+use Rattle.std.proofs.lemmas.Result.{err_from_is_err_and}
+use Rattle.history_store.specs.Ongoing.{merge_of}
+use Rattle.history_store.proofs.GoingOn.{goes_on, goes_not_on}
+use Rattle.history_store.proofs.BegunMerge.{segments_long, begun_merge, is_begun, not_begun, unbegun_refused}
+use Rattle.history_store.proofs.store.Store.merge_begin.Goals as goal
+
+pub begin-requires : goal.begin-requires
+begin-requires g c = segments_long c.self.inside.directory.entries c.self.inside.shown.items c.self.invariant.0.kept.segments
+
+pub invariant_of-self : goal.invariant_of-self
+invariant_of-self g c = (
+  c.self.invariant.0,
+  c.self.invariant.1,
+  c.self.invariant.2,
+  begun_merge c.self.inside.directory c.in_ok-merge.merge c.in_ok-merge.ensures.begun _ _ _ _ c.self.invariant.0.kept,
+)
+
+pub returns-then-is_some-clause-answer : goal.returns-then-is_some-clause-answer
+returns-then-is_some-clause-answer g c =
+    rw (← c.self.view_is) ((c.if-self.false, goes_on c.self.inside.directory c.self.inside.merge (sym c.is_some.ensures ∙ c.if-is_some.true)), record { history = refl; shelf = refl; closed = λ is. absurd (cc); still = λ other. refl })
+
+pub returns-in_err-merge-clause-answer : goal.returns-in_err-merge-clause-answer
+returns-in_err-merge-clause-answer g c =
+    let p = err_from_is_err_and c.from_residual.result c.from_residual.ensures.1 in
+    let none = goes_not_on c.self.inside.merge (sym c.is_some.ensures ∙ c.if-is_some.false) in
+    rw (p.1, p.2, ← c.self.view_is) (not_begun _ _ c.if-self.false (ap merge_of none) c.in_err-merge.ensures.refused, unbegun_refused _ _ _ c.in_err-merge.ensures.refused)
+
+pub returns-clause-answer : goal.returns-clause-answer
+returns-clause-answer g c =
+    let none = goes_not_on c.self.inside.merge (sym c.is_some.ensures ∙ c.if-is_some.false) in
+    rw (← c.self.view_is) (is_begun c.self.inside.directory c.in_ok-merge.merge c.in_ok-merge.ensures.begun c.self.inside.merge c.left-left.result none c.left-left.ensures, record { history = refl; was_open = c.if-self.false; open_still = c.if-self.false })

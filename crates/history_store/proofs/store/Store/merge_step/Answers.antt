@@ -1,0 +1,83 @@
+use Rattle.std.specs.Prelude.{Option}
+use Rattle.std.specs.Option.{option_to_list}
+use Rattle.std.proofs.Common.{◌≡◌, ◌≢◌, map, refl, sym, subst, ◌∙◌}
+use Rattle.disk_model.proofs.MomentSteps.{stayed}
+use Rattle.history_store.specs.declared.refusal.Refusal.TheVariants as refusals
+use Rattle.blocks.specs.Extents.{byte_range}
+use Rattle.blocks.specs.Outside.{SameOutside}
+use Rattle.history_store.specs.declared.ongoing.Ongoing.{Ongoing}
+use Rattle.history_store.specs.Shelf.{reserved_by}
+use Rattle.history_store.specs.Ongoing.{merge_of}
+use Rattle.history_store.proofs.Held.{held_stands}
+use Rattle.history_store.proofs.SteppedStore.{held_lent, held_back, merge_back, no_fault, is_stepped, stepping_refused}
+use Rattle.history_store.proofs.store.Store.merge_step.Goals as goal
+use Rattle.history_store.proofs.store.Store.merge_step.Goals.{in-DiskFault, in_default-matches}
+
+pub returns-in_default-clause-any_moment : goal.returns-in_default-clause-any_moment
+returns-in_default-clause-any_moment g c =
+    rw (← c.self.view_is) (λ honest still. stayed _ _ _ refl (λ f image. (_, _, held_stands _ _ _ _ _ _ _ _ c.self.invariant.0 honest still f image)))
+
+pub returns-in_default-clause-acknowledged : goal.returns-in_default-clause-acknowledged
+returns-in_default-clause-acknowledged g c =
+    rw (← c.self.view_is) (λ honest still. record { open_still = still; each = held_stands _ _ _ _ _ _ _ _ c.self.invariant.0 honest still })
+
+pub invariant_of-self-in-Ok : goal.invariant_of-self-in-Ok
+invariant_of-self-in-Ok g c =
+    let s = c.self.inside in
+    let new = c.step-stepped.new in
+    let lent = held_lent (g.D.Disk.is_honest s.disk) (g.D.Disk.moments s.disk).state s.cache s.slot s.directory s.index s.shown.items c.as_slice.result.now s.needs_reopen c.self.invariant.0 c.if-self.false c.as_slice.ensures.value in (
+      held_back (g.D.Disk.is_honest new.disk) (g.D.Disk.moments new.disk).state new.cache s.slot s.directory s.index s.shown.items c.as_slice.result.now _ s.needs_reopen (c.in-Ok.ensures.held s.slot lent) c.as_slice.ensures.value (sym c.if-self.false),
+      c.self.invariant.1,
+      c.self.invariant.2,
+      merge_back (g.D.Disk.is_honest new.disk) (g.D.Disk.moments new.disk).state.now s.directory s.shown.items c.as_slice.result.now new.merge _ s.needs_reopen c.in-Ok.ensures.merge c.as_slice.ensures.value (sym c.if-self.false),
+    )
+
+pub invariant_of-self-else-matches : goal.invariant_of-self-else-matches
+invariant_of-self-else-matches g c =
+    let s = c.self.inside in
+    let new = c.step-stepped.new in
+    let other : c.in-Err.refusal ≢ refusals.DiskFault = elim c.match-matches.branch [ in-DiskFault w ↦ absurd (let off = c.if-matches.false in let on = w.matches-is in cc) | in_default-matches w ↦ λ is. w.in_default-matches.not-DiskFault is ] in
+    let open_still = no_fault c.in-Err.refusal c.in-Err.ensures.step.0 other ∙ sym c.if-self.false in
+    let lent = held_lent (g.D.Disk.is_honest s.disk) (g.D.Disk.moments s.disk).state s.cache s.slot s.directory s.index s.shown.items c.as_slice.result.now s.needs_reopen c.self.invariant.0 c.if-self.false c.as_slice.ensures.value in (
+      held_back (g.D.Disk.is_honest new.disk) (g.D.Disk.moments new.disk).state new.cache s.slot s.directory s.index s.shown.items c.as_slice.result.now _ s.needs_reopen (c.in-Err.ensures.held s.slot lent) c.as_slice.ensures.value open_still,
+      c.self.invariant.1,
+      c.self.invariant.2,
+      merge_back (g.D.Disk.is_honest new.disk) (g.D.Disk.moments new.disk).state.now s.directory s.shown.items c.as_slice.result.now new.merge _ s.needs_reopen c.in-Err.ensures.merge c.as_slice.ensures.value open_still,
+    )
+
+pub returns-in-Ok-clause-answer : goal.returns-in-Ok-clause-answer
+returns-in-Ok-clause-answer g c =
+    rw (← c.self.view_is) (is_stepped c.args.n c.left-left.result c.self.inside.directory c.self.inside.merge c.in-Some.merge c.step-stepped.new.merge c.in-Some.ensures.value c.left-left.ensures c.in-Ok.ensures.step, record { history = refl; was_open = c.if-self.false; open_still = c.if-self.false })
+
+pub returns-in-Ok-clause-acknowledged : goal.returns-in-Ok-clause-acknowledged
+returns-in-Ok-clause-acknowledged g c =
+    let s = c.self.inside in
+    let new = c.step-stepped.new in
+    let lent = held_lent (g.D.Disk.is_honest s.disk) (g.D.Disk.moments s.disk).state s.cache s.slot s.directory s.index s.shown.items c.as_slice.result.now s.needs_reopen c.self.invariant.0 c.if-self.false c.as_slice.ensures.value in
+    let held = held_back (g.D.Disk.is_honest new.disk) (g.D.Disk.moments new.disk).state new.cache s.slot s.directory s.index s.shown.items c.as_slice.result.now _ s.needs_reopen (c.in-Ok.ensures.held s.slot lent) c.as_slice.ensures.value (sym c.if-self.false) in
+    rw (← c.self.view_is) (λ honest still. record { open_still = still; each = held_stands _ _ _ _ _ _ _ _ held (c.step-stepped.ensures.honesty.0 honest) still })
+
+pub returns-then-matches-clause-answer : goal.returns-then-matches-clause-answer
+returns-then-matches-clause-answer g c =
+    let device : c.in-Err.refusal ≡ refusals.DiskFault = elim c.match-matches.branch [ in-DiskFault w ↦ w.in-DiskFault.is | in_default-matches w ↦ absurd (let on = c.if-matches.true in let off = w.matches-is in cc) ] in
+    rw (← c.self.view_is) (stepping_refused c.in-Err.refusal _ _ c.args.n c.self.inside.directory c.self.inside.merge c.in-Some.merge c.step-stepped.new.merge c.in-Some.ensures.value c.if-self.false refl refl refl c.in-Err.ensures.step (λ is. refl) (λ other. absurd (other device)))
+
+pub returns-else-matches-clause-answer : goal.returns-else-matches-clause-answer
+returns-else-matches-clause-answer g c =
+    let other : c.in-Err.refusal ≢ refusals.DiskFault = elim c.match-matches.branch [ in-DiskFault w ↦ absurd (let off = c.if-matches.false in let on = w.matches-is in cc) | in_default-matches w ↦ λ is. w.in_default-matches.not-DiskFault is ] in
+    rw (← c.self.view_is) (stepping_refused c.in-Err.refusal _ _ c.args.n c.self.inside.directory c.self.inside.merge c.in-Some.merge c.step-stepped.new.merge c.in-Some.ensures.value c.if-self.false refl refl refl c.in-Err.ensures.step (λ is. absurd (other is)) (λ still. refl))
+
+pub returns-else-matches-clause-acknowledged : goal.returns-else-matches-clause-acknowledged
+returns-else-matches-clause-acknowledged g c =
+    let s = c.self.inside in
+    let new = c.step-stepped.new in
+    let other : c.in-Err.refusal ≢ refusals.DiskFault = elim c.match-matches.branch [ in-DiskFault w ↦ absurd (let off = c.if-matches.false in let on = w.matches-is in cc) | in_default-matches w ↦ λ is. w.in_default-matches.not-DiskFault is ] in
+    let open_still = no_fault c.in-Err.refusal c.in-Err.ensures.step.0 other ∙ sym c.if-self.false in
+    let lent = held_lent (g.D.Disk.is_honest s.disk) (g.D.Disk.moments s.disk).state s.cache s.slot s.directory s.index s.shown.items c.as_slice.result.now s.needs_reopen c.self.invariant.0 c.if-self.false c.as_slice.ensures.value in
+    let held = held_back (g.D.Disk.is_honest new.disk) (g.D.Disk.moments new.disk).state new.cache s.slot s.directory s.index s.shown.items c.as_slice.result.now _ s.needs_reopen (c.in-Err.ensures.held s.slot lent) c.as_slice.ensures.value open_still in
+    rw (← c.self.view_is) (λ honest still. record { open_still = still; each = held_stands _ _ _ _ _ _ _ _ held (c.step-stepped.ensures.honesty.0 honest) still })
+
+pub returns-in-Ok-clause-elsewhere : goal.returns-in-Ok-clause-elsewhere
+returns-in-Ok-clause-elsewhere g c =
+    rw (← c.self.view_is) (λ honest. subst (λ (o : Option Ongoing). SameOutside (map byte_range (option_to_list (reserved_by (merge_of o)))) (g.D.Disk.moments c.self.inside.disk).state.now (g.D.Disk.moments c.step-stepped.new.disk).state.now)
+    c.in-Some.ensures.value (c.in-Ok.ensures.elsewhere honest))

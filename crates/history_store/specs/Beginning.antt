@@ -1,0 +1,42 @@
+-- What the parts of the beginning of a merge give. Only private functions cite these words.
+use Rattle.std.specs.Prelude.{◌≡◌, ◌+◌, ◌^◌, ◌<◌, ◌≤◌, List, [], length, Some, None, slice_get}
+use Rattle.std.specs.Int.{div_ceil}
+use Rattle.std.specs.List.{AllByRecursion}
+use Rattle.directory.specs.declared.entry.Entry.{Entry}
+use Rattle.directory.specs.Listings.{Listing}
+use Rattle.directory.specs.Fit.{fit}
+use Rattle.merge.specs.Merged.{IsNew}
+use Rattle.associations.specs.Edges.{no_edges}
+use Rattle.history_store.specs.declared.refusal.Refusal.{Refusal}
+use Rattle.history_store.specs.declared.refusal.Refusal.TheVariants as refusals
+use Rattle.history_store.specs.declared.ongoing.Ongoing.{Ongoing}
+use Rattle.history_store.specs.Merging.{AreFewest, HasNoOutput}
+
+-- no segment has more rows than bytes
+abbrev pub AreLong : List Entry → Type 0
+AreLong entries = AllByRecursion (λ (e : Entry). e.rows ≤ e.bytes) entries
+
+-- a merge of the two segments of fewest rows, of which nothing is taken
+pub record IsFresh (d : Listing) (m : Ongoing) : Type 0 where
+  pub a : Entry
+  pub b : Entry
+  pub fewest : AreFewest d.entries m.i m.j
+  pub a_is : slice_get d.entries m.i ≡ Some a
+  pub b_is : slice_get d.entries m.j ≡ Some b
+  pub bytes : m.entry.bytes ≡ a.bytes + b.bytes
+  pub bytes_fit : m.entry.bytes < 2 ^ 32
+  pub rows_are : m.entry.rows ≡ a.rows + b.rows
+  pub rows_fit : m.entry.rows < 2 ^ 32
+  pub place : fit (div_ceil m.entry.bytes 4096) d.entries None ≡ Some m.entry.first
+  pub places : IsNew m.places a.rows b.rows
+  pub none_listed : m.listed.items ≡ []
+  pub none_shown : m.shown ≡ []
+  pub no_term : m.terms ≡ []
+  pub no_edge : m.edges ≡ no_edges
+  pub unwritten : m.written ≡ 0
+
+-- why none begins
+abbrev pub IsUnbegun : Refusal → List Entry → Type 0
+IsUnbegun refusals.NothingToMerge entries = length entries < 2
+IsUnbegun refusals.Full entries = HasNoOutput entries
+IsUnbegun _ entries = ⊥

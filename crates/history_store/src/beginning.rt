@@ -1,0 +1,88 @@
+//! The beginning of a merge: which two segments it takes, and where its output is to lie.
+
+ghost use Rattle.std.specs.Prelude.{◌≡◌, ◌<◌, ◌≤◌, length, IfOk, IfErr, IfSome, IsNone, IsSome, nat_lt};
+ghost use Rattle.directory.specs.Listings.{IsListing};
+ghost use Rattle.history_store.specs.Merging.{AreFewest, rows_at_place};
+ghost use Rattle.history_store.specs.Beginning.{AreLong, IsFresh, IsUnbegun};
+
+use crate::ongoing::Ongoing;
+use crate::refusal::Refusal;
+use blocks::Extent;
+use directory::{Directory, Entry, first_fit};
+use history_model::Shown;
+use merge::Merging;
+use std::alloc::Global;
+
+/// Whether the segment at the one place has fewer rows than the one at the other.
+fn has_fewer(entries: &[Entry], a: usize, b: usize) -> bool
+    requires a { a < length entries.now }
+    requires b { b < length entries.now }
+    ensures { result ≡ nat_lt (rows_at_place entries.now a) (rows_at_place entries.now b) }
+{
+    entries[a].rows < entries[b].rows
+}
+
+/// The places of the two segments of fewest rows; of those with as many the first ones.
+fn fewest(entries: &[Entry]) -> Option<(usize, usize)>
+    ensures found { IfSome result (λ places. AreFewest entries.now places.0 places.1) }
+    ensures none { IsNone result → length entries.now < 2 }
+    ensures two { 2 ≤ length entries.now → IsSome result }
+{
+    if entries.len() < 2 {
+        return None;
+    }
+    let mut first = 0;
+    let mut second = 1;
+    if has_fewer(entries, 1, 0) {
+        first = 1;
+        second = 0;
+    }
+    for k in 2..entries.len() {
+        if has_fewer(entries, k, first) {
+            second = first;
+            first = k;
+        } else if has_fewer(entries, k, second) {
+            second = k;
+        }
+    }
+    if first < second {
+        Some((first, second))
+    } else {
+        Some((second, first))
+    }
+}
+
+/// A merge of the two segments of fewest rows, of which nothing is taken yet. It takes no memory.
+pub(crate) fn begin(alloc: Global, directory: &Directory) -> Result<Ongoing, Refusal>
+    requires { AreLong directory.now.entries }
+    ensures begun { IfOk result (IsFresh directory.now) }
+    ensures refused { IfErr result (λ e. IsUnbegun e directory.now.entries) }
+    ensures listing { IsListing directory.now }
+{
+    let entries = directory.entries();
+    let Some((i, j)) = fewest(entries) else {
+        return Err(Refusal::NothingToMerge);
+    };
+    let a = entries[i];
+    let b = entries[j];
+    let Some(bytes) = a.bytes.checked_add(b.bytes) else {
+        return Err(Refusal::Full);
+    };
+    let wanted = Extent { first: 0, bytes };
+    let first = first_fit(wanted.blocks(), entries, None)?;
+    Ok(Ongoing {
+        i,
+        j,
+        entry: Entry {
+            first,
+            bytes,
+            rows: a.rows + b.rows,
+        },
+        places: Merging::new(a.rows as usize, b.rows as usize),
+        listed: Vec::new(alloc),
+        shown: Shown::new(alloc),
+        terms: term_prefix::Postings::new(alloc),
+        edges: associations::Postings::new(alloc),
+        written: 0,
+    })
+}

@@ -1,0 +1,36 @@
+//! The blocks that no segment may be placed on.
+
+ghost use Rattle.std.specs.Prelude.{◌≡◌, ◌^◌, ◌<◌};
+ghost use Rattle.directory.specs.Places.{taken};
+ghost use Rattle.history_store.specs.Ongoing.{merge_of};
+ghost use Rattle.history_store.specs.Shelf.{reserved_by};
+ghost use Rattle.history_store.specs.Merging.{end_of_taken};
+
+use crate::ongoing::Ongoing;
+use blocks::Extent;
+use directory::Entry;
+
+/// The extent that a merge reserves.
+pub(crate) fn reserved(merge: &Option<Ongoing>) -> Option<Extent>
+    ensures { result ≡ reserved_by (merge_of merge.now) }
+{
+    match merge {
+        None => None,
+        Some(merge) => Some(merge.entry.extent()),
+    }
+}
+
+/// The first block behind all segments and the reserved extent, and at least the one behind the slots.
+pub(crate) fn end_of(entries: &[Entry], reserved: Option<Extent>) -> u64
+    ensures end { result ≡ end_of_taken (taken entries.now reserved) }
+    ensures fits { result < 2 ^ 33 }
+{
+    let mut end = 4;
+    for entry in entries {
+        end = entry.extent().end().max(end);
+    }
+    match reserved {
+        None => end,
+        Some(extent) => extent.end().max(end),
+    }
+}

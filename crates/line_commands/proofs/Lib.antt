@@ -1,0 +1,5 @@
+pub mod FirstWords
+pub mod Forms
+pub mod NameTexts
+pub mod Readings
+pub mod Refusing

@@ -1,0 +1,210 @@
+-- A line is read in one way.
+use Rattle.std.proofs.Common.{◌≡◌, ℕ, ◌<◌, ◌^◌, Option, Some, None, List, ◌∷◌, ◌++◌, refl, sym, ap, subst, ◌∙◌, arith, append_assoc}
+use Rattle.std.specs.Prelude.{decimal}
+use Rattle.std.specs.Int.{from_be_bytes, w128}
+use Rattle.std.specs.Str.{bytes_eq}
+use Rattle.std.proofs.lemmas.Bool.{false≢true}
+use Rattle.std.proofs.lemmas.Option.{same_Some}
+use Rattle.std.proofs.lemmas.Fmt.{decimal_injective}
+use Rattle.rf2_values.specs.declared.row.Kind.{Kind}
+use Rattle.rf2_values.specs.declared.row.Kind.TheVariants as kinds
+use Rattle.rf2_values.specs.Time.{IsTime}
+use Rattle.rf2_values.specs.Row.{IsIdOf, SpellsId, IsConcept, IsComponent}
+use Rattle.line_commands.specs.declared.unread.Unread.TheVariants as unread
+use Rattle.line_commands.specs.Commands.{Command, Import, Get, History, Children, Terms, Replaced, Page, Pin, Unpin, Merge, Step, Publish, Abandon, Trim, Status, word_of, letter, SpellsArguments, SpellsAfter}
+use Rattle.line_commands.specs.Requests.{with_rest, Asks, HasSession, HasCommand}
+use Rattle.line_commands.specs.Private.{IsWord, behind}
+use Rattle.line_commands.specs.Laws.{OneReading, AskedIsRead, OneRefusal}
+use Rattle.line_commands.proofs.FirstWords.{decimal_word, letter_word, command_is_word, none_word, id_word, peel, one_head, spaced_is, one_letter, not_dash}
+
+-- ---- one number, one identifier
+
+same_numbers : (m n : ℕ) → m < 2 ^ 64 → n < 2 ^ 64 → decimal m ≡ decimal n → m ≡ n
+same_numbers m n low high e = decimal_injective m n low high e
+
+pub time_below : (t : ℕ) → IsTime t → t < 2 ^ 64
+time_below t h = let to = h.year_to in omega arith
+
+same_times : (m n : ℕ) → IsTime m → IsTime n → decimal m ≡ decimal n → m ≡ n
+same_times m n h g e = decimal_injective m n (time_below m h) (time_below n g) e
+
+same_concepts : (m n : ℕ) → IsConcept m → IsConcept n → decimal m ≡ decimal n → m ≡ n
+same_concepts m n h g e =
+    let low = h.sctid.high in
+    let high = g.sctid.high in
+    decimal_injective m n (omega arith) (omega arith) e
+
+same_components : (m n : ℕ) → IsComponent m → IsComponent n → decimal m ≡ decimal n → m ≡ n
+same_components m n h g e =
+    let low = h.sctid.high in
+    let high = g.sctid.high in
+    decimal_injective m n (omega arith) (omega arith) e
+
+-- a text spells one identifier of a kind
+same_ids : (kind : Kind) (m n : ℕ) (text : List ℕ) → IsIdOf kind m → IsIdOf kind n → SpellsId kind m text → SpellsId kind n text → m ≡ n
+same_ids kinds.Concept m n text hm hn sm sn =
+    let low = hm.sctid.high in
+    let high = hn.sctid.high in
+    decimal_injective m n (omega arith) (omega arith) (sym sm ∙ sn)
+same_ids kinds.Description m n text hm hn sm sn =
+    let low = hm.sctid.high in
+    let high = hn.sctid.high in
+    decimal_injective m n (omega arith) (omega arith) (sym sm ∙ sn)
+same_ids kinds.Relationship m n text hm hn sm sn =
+    let low = hm.sctid.high in
+    let high = hn.sctid.high in
+    decimal_injective m n (omega arith) (omega arith) (sym sm ∙ sn)
+same_ids kinds.Association m n text hm hn sm sn =
+    let both : Some sm.value.0 ≡ Some sn.value.0 = sym sm.value.1 ∙ sn.value.1 in
+    let bytes : sm.value.0 ≡ sn.value.0 = cc in
+    sm.value.2 ∙ ap (from_be_bytes w128) bytes ∙ sym sn.value.2
+
+same_ids_of : (k l : Kind) (m n : ℕ) (t u : List ℕ) → k ≡ l → t ≡ u → IsIdOf k m → IsIdOf l n → SpellsId k m t → SpellsId l n u → m ≡ n
+same_ids_of k l m n t u kind text hm hn sm sn =
+    same_ids k m n t hm (subst (λ (x : Kind). IsIdOf x n) (sym kind) hn) sm (subst (λ (x : Kind). SpellsId x n t) (sym kind) (subst (λ (x : List ℕ). SpellsId l n x) (sym text) sn))
+
+-- ---- one command
+
+pub after_word : (k : Kind) (after : Option ℕ) (t : List ℕ) → SpellsAfter k after t → IsWord t
+after_word k None t h = subst IsWord (sym h) none_word
+after_word k (Some id) t h = id_word k id t h.0 h.1
+
+rest_same : (xs ys : List (List ℕ)) (x y : List (List ℕ)) → xs ≡ x → ys ≡ y → behind xs ≡ behind ys → behind x ≡ behind y
+rest_same xs ys x y e f same = sym (ap behind e) ∙ same ∙ ap behind f
+
+one_command : (c d : Command) (xs ys : List (List ℕ)) → word_of c ≡ word_of d → SpellsArguments c xs → SpellsArguments d ys → behind xs ≡ behind ys → c ≡ d
+one_command (Import name) (Import other) xs ys w s t same = ap (λ (n : List ℕ). Import n) (same_Some _ _ (rest_same xs ys _ _ s.1 t.1 same))
+one_command (Get k id date) (Get l jd day) xs ys w s t same =
+    let whole = same_Some _ _ (rest_same xs ys _ _ s.4 t.4 same) in
+    let first = peel (letter k) (letter l) _ _ (letter_word k) (letter_word l) whole in
+    let second = peel s.0 t.0 _ _ (id_word k id s.0 s.1 s.2) (id_word l jd t.0 t.1 t.2) first.1 in
+    let kind = one_letter k l first.0 in
+    let ids = same_ids_of k l id jd s.0 t.0 kind second.0 s.1 t.1 s.2 t.2 in
+    let days = same_times date day s.3 t.3 second.1 in
+    ap (λ (x : Kind). Get x id date) kind ∙ ap (λ (x : ℕ). Get l x date) ids ∙ ap (λ (x : ℕ). Get l jd x) days
+one_command (History k id) (History l jd) xs ys w s t same =
+    let whole = same_Some _ _ (rest_same xs ys _ _ s.3 t.3 same) in
+    let first = peel (letter k) (letter l) _ _ (letter_word k) (letter_word l) whole in
+    let kind = one_letter k l first.0 in
+    let ids = same_ids_of k l id jd s.0 t.0 kind first.1 s.1 t.1 s.2 t.2 in
+    ap (λ (x : Kind). History x id) kind ∙ ap (λ (x : ℕ). History l x) ids
+one_command (Children id date) (Children jd day) xs ys w s t same =
+    let whole = same_Some _ _ (rest_same xs ys _ _ s.2 t.2 same) in
+    let low = s.0.sctid.high in
+    let high = t.0.sctid.high in
+    let first = peel (decimal id) (decimal jd) _ _ (decimal_word id (omega arith)) (decimal_word jd (omega arith)) whole in
+    let ids = same_concepts id jd s.0 t.0 first.0 in
+    let days = same_times date day s.1 t.1 first.1 in
+    ap (λ (x : ℕ). Children x date) ids ∙ ap (λ (x : ℕ). Children jd x) days
+one_command (Terms date limit prefix) (Terms day most other) xs ys w s t same =
+    let whole = same_Some _ _ (rest_same xs ys _ _ s.5 t.5 same) in
+    let first = peel (decimal date) (decimal day) _ _ (decimal_word date (time_below date s.0)) (decimal_word day (time_below day t.0)) whole in
+    let low = s.2 in
+    let high = t.2 in
+    let second = peel (decimal limit) (decimal most) _ _ (decimal_word limit (omega arith)) (decimal_word most (omega arith)) first.1 in
+    let days = same_times date day s.0 t.0 first.0 in
+    let limits = same_numbers limit most (omega arith) (omega arith) second.0 in
+    ap (λ (x : ℕ). Terms x limit prefix) days ∙ ap (λ (x : ℕ). Terms day x prefix) limits ∙ ap (λ (x : List ℕ). Terms day most x) second.1
+one_command (Replaced id date) (Replaced jd day) xs ys w s t same =
+    let whole = same_Some _ _ (rest_same xs ys _ _ s.2 t.2 same) in
+    let low = s.0.sctid.high in
+    let high = t.0.sctid.high in
+    let first = peel (decimal id) (decimal jd) _ _ (decimal_word id (omega arith)) (decimal_word jd (omega arith)) whole in
+    let ids = same_components id jd s.0 t.0 first.0 in
+    let days = same_times date day s.1 t.1 first.1 in
+    ap (λ (x : ℕ). Replaced x date) ids ∙ ap (λ (x : ℕ). Replaced jd x) days
+one_command (Page k date after limit) (Page l day since most) xs ys w s t same =
+    let whole = same_Some _ _ (rest_same xs ys _ _ s.5 t.5 same) in
+    let first = peel (letter k) (letter l) _ _ (letter_word k) (letter_word l) whole in
+    let kind = one_letter k l first.0 in
+    let second = peel (decimal date) (decimal day) _ _ (decimal_word date (time_below date s.2)) (decimal_word day (time_below day t.2)) first.1 in
+    let days = same_times date day s.2 t.2 second.0 in
+    let third = peel s.0 t.0 _ _ (after_word k after s.0 s.1) (after_word l since t.0 t.1) second.1 in
+    let low = s.4 in
+    let high = t.4 in
+    let limits = same_numbers limit most (omega arith) (omega arith) third.1 in
+    let afters = same_after k l after since s.0 t.0 kind third.0 s.1 t.1 in
+    ap (λ (x : Kind). Page x date after limit) kind ∙ ap (λ (x : ℕ). Page l x after limit) days ∙ ap (λ (x : Option ℕ). Page l day x limit) afters ∙ ap (λ (x : ℕ). Page l day since x) limits
+  where
+    same_after : (k l : Kind) (a b : Option ℕ) (t u : List ℕ) → k ≡ l → t ≡ u → SpellsAfter k a t → SpellsAfter l b u → a ≡ b
+    same_after k l None None t u kind text s t' = refl
+    same_after k l None (Some id) t u kind text s h = absurd (not_dash l id u (sym text ∙ s) h.0 h.1)
+    same_after k l (Some id) None t u kind text s h = absurd (not_dash k id t (text ∙ h) s.0 s.1)
+    same_after k l (Some id) (Some jd) t u kind text s h = ap (λ (x : ℕ). Some x) (same_ids_of k l id jd t u kind text s.0 h.0 s.1 h.1)
+one_command (Pin None) (Pin None) xs ys w s t same = refl
+one_command (Pin None) (Pin (Some n)) xs ys w s t same = let e = rest_same xs ys _ _ s t.1 same in absurd cc
+one_command (Pin (Some n)) (Pin None) xs ys w s t same = let e = rest_same xs ys _ _ s.1 t same in absurd cc
+one_command (Pin (Some m)) (Pin (Some n)) xs ys w s t same =
+    let low = s.0 in
+    let high = t.0 in
+    ap (λ (x : ℕ). Pin (Some x)) (same_numbers m n (omega arith) (omega arith) (same_Some _ _ (rest_same xs ys _ _ s.1 t.1 same)))
+one_command (Step m) (Step n) xs ys w s t same =
+    let low = s.1 in
+    let high = t.1 in
+    ap (λ (x : ℕ). Step x) (same_numbers m n (omega arith) (omega arith) (same_Some _ _ (rest_same xs ys _ _ s.2 t.2 same)))
+one_command Unpin Unpin xs ys w s t same = refl
+one_command Merge Merge xs ys w s t same = refl
+one_command Publish Publish xs ys w s t same = refl
+one_command Abandon Abandon xs ys w s t same = refl
+one_command Trim Trim xs ys w s t same = refl
+one_command Status Status xs ys w s t same = refl
+one_command c d xs ys w s t same = absurd (false≢true (sym (ap (bytes_eq (word_of c)) w)))
+
+-- ---- one reading
+
+-- what a line begins with
+pub line_begins : (line : List ℕ) (session : ℕ) (command : Command) → (a : Asks line session command) → line ≡ with_rest (decimal session) (Some (with_rest (word_of command) (behind a.arguments)))
+line_begins line session command a = a.line_is ∙ ap (λ (t : List ℕ). decimal session ++ 32 ∷ t) (spaced_is (word_of command) a.arguments)
+
+pub session_word : (n : ℕ) → n < 64 → IsWord (decimal n)
+session_word n lt = decimal_word n (omega arith)
+
+pub one_session : (m n : ℕ) (r s : Option (List ℕ)) → m < 64 → n < 64 → with_rest (decimal m) r ≡ with_rest (decimal n) s → (m ≡ n) × (r ≡ s)
+one_session m n r s low high e =
+    let heads = one_head (decimal m) (decimal n) r s (session_word m low) (session_word n high) e in
+    (decimal_injective m n (omega arith) (omega arith) heads.0, heads.1)
+
+pub one_reading : OneReading
+one_reading line session other c d a b =
+    let first = one_session session other _ _ a.is_session b.is_session (sym (line_begins line session c a) ∙ line_begins line other d b) in
+    let second = one_head (word_of c) (word_of d) _ _ (command_is_word c) (command_is_word d) (same_Some _ _ first.1) in
+    (first.0, one_command c d a.arguments b.arguments second.0 a.spelled b.spelled second.1)
+
+-- ---- what asks something isn't refused, and has one refusal
+
+asks_session : (line : List ℕ) (session : ℕ) (command : Command) → Asks line session command → HasSession line
+asks_session line session command a = (session, a.is_session, (Some (with_rest (word_of command) (behind a.arguments)), line_begins line session command a))
+
+pub begun : (number word : List ℕ) (rest : Option (List ℕ)) → number ++ 32 ∷ with_rest word rest ≡ with_rest (number ++ 32 ∷ word) rest
+begun number word None = refl
+begun number word (Some rest) = sym (append_assoc number (32 ∷ word) (32 ∷ rest))
+
+pub asks_command : (line : List ℕ) (session : ℕ) (command : Command) → Asks line session command → HasCommand line
+asks_command line session command a = (session, command, a.is_session, (behind a.arguments, line_begins line session command a ∙ begun (decimal session) (word_of command) (behind a.arguments)))
+
+pub has_session : (line : List ℕ) → HasCommand line → HasSession line
+has_session line h = (h.0, h.2, (Some (with_rest (word_of h.1) h.3.0), h.3.1 ∙ sym (begun (decimal h.0) (word_of h.1) h.3.0)))
+
+pub asked_is_read : AskedIsRead
+asked_is_read line session command unread.Long a h = let short = a.short in omega arith
+asked_is_read line session command unread.Session a h = h.1 (asks_session line session command a)
+asked_is_read line session command unread.Command a h = h.2 (asks_command line session command a)
+asked_is_read line session command unread.Arguments a h = h.2 session command a
+
+pub one_refusal : OneRefusal
+one_refusal line unread.Long unread.Long h g = refl
+one_refusal line unread.Long unread.Session h g = let short = g.0 in absurd (omega arith)
+one_refusal line unread.Long unread.Command h g = let short = g.0 in absurd (omega arith)
+one_refusal line unread.Long unread.Arguments h g = let short = g.0 in absurd (omega arith)
+one_refusal line unread.Session unread.Long h g = let short = h.0 in absurd (omega arith)
+one_refusal line unread.Session unread.Session h g = refl
+one_refusal line unread.Session unread.Command h g = absurd (h.1 g.1)
+one_refusal line unread.Session unread.Arguments h g = absurd (h.1 (has_session line g.1))
+one_refusal line unread.Command unread.Long h g = let short = h.0 in absurd (omega arith)
+one_refusal line unread.Command unread.Session h g = absurd (g.1 h.1)
+one_refusal line unread.Command unread.Command h g = refl
+one_refusal line unread.Command unread.Arguments h g = absurd (h.2 g.1)
+one_refusal line unread.Arguments unread.Long h g = let short = h.0 in absurd (omega arith)
+one_refusal line unread.Arguments unread.Session h g = absurd (g.1 (has_session line h.1))
+one_refusal line unread.Arguments unread.Command h g = absurd (g.2 h.1)
+one_refusal line unread.Arguments unread.Arguments h g = refl

@@ -1,0 +1,72 @@
+-- Commands, and how they are spelled.
+use Rattle.std.specs.Prelude.{◌≡◌, ℕ, ◌≤◌, ◌<◌, ◌^◌, List, [], ◌∷◌, length, codes, decimal, Option, Some, None}
+use Rattle.std.specs.Str.{IsUtf8}
+use Rattle.rf2_values.specs.declared.row.Kind.{Kind}
+use Rattle.rf2_values.specs.declared.row.Kind.TheVariants as kinds
+use Rattle.rf2_values.specs.Row.{IsIdOf, SpellsId, IsConcept, IsComponent}
+use Rattle.rf2_values.specs.Time.{IsTime}
+use Rattle.line_commands.specs.Names.{IsName}
+
+pub data Command : Type 0 where
+  Import : (name : List ℕ) → Command
+  Get : (kind : Kind) (id date : ℕ) → Command
+  History : (kind : Kind) (id : ℕ) → Command
+  Children : (concept date : ℕ) → Command
+  Terms : (date limit : ℕ) (prefix : List ℕ) → Command
+  Replaced : (id date : ℕ) → Command
+  Page : (kind : Kind) (date : ℕ) (after : Option ℕ) (limit : ℕ) → Command
+  Pin : (number : Option ℕ) → Command
+  Unpin : Command
+  Merge : Command
+  Step : (rows : ℕ) → Command
+  Publish : Command
+  Abandon : Command
+  Trim : Command
+  Status : Command
+
+-- the word that stands for a command
+abbrev pub word_of : Command → List ℕ
+word_of (Import name) = codes "IMPORT"
+word_of (Get kind id date) = codes "GET"
+word_of (History kind id) = codes "HISTORY"
+word_of (Children concept date) = codes "CHILDREN"
+word_of (Terms date limit prefix) = codes "TERMS"
+word_of (Replaced id date) = codes "REPLACED"
+word_of (Page kind date after limit) = codes "PAGE"
+word_of (Pin number) = codes "PIN"
+word_of Unpin = codes "UNPIN"
+word_of Merge = codes "MERGE"
+word_of (Step rows) = codes "STEP"
+word_of Publish = codes "PUBLISH"
+word_of Abandon = codes "ABANDON"
+word_of Trim = codes "TRIM"
+word_of Status = codes "STATUS"
+
+-- the letter that stands for a kind
+abbrev pub letter : Kind → List ℕ
+letter kinds.Concept = codes "C"
+letter kinds.Description = codes "D"
+letter kinds.Relationship = codes "R"
+letter kinds.Association = codes "A"
+
+-- an identifier of the kind, or `-` for none
+abbrev pub SpellsAfter : Kind → Option ℕ → List ℕ → Type 0
+SpellsAfter kind None text = text ≡ codes "-"
+SpellsAfter kind (Some id) text = IsIdOf kind id × SpellsId kind id text
+
+-- How the arguments of a command are spelled. The last one of TERMS may hold spaces.
+abbrev pub SpellsArguments : Command → List (List ℕ) → Type 0
+SpellsArguments (Import name) texts = IsName name × (texts ≡ name ∷ [])
+SpellsArguments (Get kind id date) texts =
+    (text : List ℕ) × IsIdOf kind id × SpellsId kind id text × IsTime date × (texts ≡ letter kind ∷ text ∷ decimal date ∷ [])
+SpellsArguments (History kind id) texts = (text : List ℕ) × IsIdOf kind id × SpellsId kind id text × (texts ≡ letter kind ∷ text ∷ [])
+SpellsArguments (Children concept date) texts = IsConcept concept × IsTime date × (texts ≡ decimal concept ∷ decimal date ∷ [])
+SpellsArguments (Terms date limit prefix) texts =
+    IsTime date × (1 ≤ limit) × (limit ≤ 1000) × (1 ≤ length prefix) × IsUtf8 prefix × (texts ≡ decimal date ∷ decimal limit ∷ prefix ∷ [])
+SpellsArguments (Replaced id date) texts = IsComponent id × IsTime date × (texts ≡ decimal id ∷ decimal date ∷ [])
+SpellsArguments (Page kind date after limit) texts =
+    (text : List ℕ) × SpellsAfter kind after text × IsTime date × (1 ≤ limit) × (limit ≤ 1000) × (texts ≡ letter kind ∷ decimal date ∷ text ∷ decimal limit ∷ [])
+SpellsArguments (Pin None) texts = texts ≡ []
+SpellsArguments (Pin (Some number)) texts = (number < 2 ^ 32) × (texts ≡ decimal number ∷ [])
+SpellsArguments (Step rows) texts = (1 ≤ rows) × (rows ≤ 100000) × (texts ≡ decimal rows ∷ [])
+SpellsArguments command texts = texts ≡ []

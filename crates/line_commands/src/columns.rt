@@ -1,0 +1,123 @@
+//! Single arguments: each function gives the one value that a text spells, or none where it spells none.
+
+ghost use Rattle.std.specs.Prelude.{◌≡◌, ◌≢◌, ◌≤◌, ◌<◌, ◌^◌, ℕ, Option, MatchOption, decimal};
+ghost use Rattle.rf2_values.specs.Time.{IsTime};
+ghost use Rattle.rf2_values.specs.Member.{SpellsMember};
+ghost use Rattle.rf2_values.specs.Row.{IsOfClass, IsComponent, IsIdOf, SpellsId};
+ghost use Rattle.line_commands.specs.Commands.{letter, SpellsAfter};
+
+use rf2_values::{Class, EffectiveTime, Kind, Member, Sctid, number};
+
+/// A session's number.
+pub fn session(text: &[u8]) -> Option<u8>
+    ensures { MatchOption result ((n : ℕ) → n < 64 → text.now ≢ decimal n)
+        (λ n. (n < 64) × (text.now ≡ decimal n)) }
+{
+    match number::parse(text) {
+        Some(number) if number < 64 => u8::try_from(number).ok(),
+        _ => None,
+    }
+}
+
+/// The kind with this letter.
+pub fn kind(text: &[u8]) -> Option<Kind>
+    ensures { MatchOption result ((k : Kind) → text.now ≢ letter k) (λ k. text.now ≡ letter k) }
+{
+    match text {
+        b"C" => Some(Kind::Concept),
+        b"D" => Some(Kind::Description),
+        b"R" => Some(Kind::Relationship),
+        b"A" => Some(Kind::Association),
+        _ => None,
+    }
+}
+
+/// A number from 1 to a greatest one.
+pub fn limit(text: &[u8], most: u32) -> Option<u32>
+    ensures { MatchOption result ((n : ℕ) → 1 ≤ n → n ≤ most → text.now ≢ decimal n)
+        (λ n. (1 ≤ n) × (n ≤ most) × (text.now ≡ decimal n)) }
+{
+    match number::parse(text) {
+        Some(number) if number >= 1 && number <= u64::from(most) => u32::try_from(number).ok(),
+        _ => None,
+    }
+}
+
+/// The number of an import, given or not.
+pub fn import_number(text: &[u8]) -> Option<u32>
+    ensures { MatchOption result ((n : ℕ) → n < 2 ^ 32 → text.now ≢ decimal n)
+        (λ n. (n < 2 ^ 32) × (text.now ≡ decimal n)) }
+{
+    u32::try_from(number::parse(text)?).ok()
+}
+
+/// An SCTID of a class.
+pub fn sctid_of(text: &[u8], class: Class) -> Option<Sctid>
+    ensures { MatchOption result ((n : ℕ) → IsOfClass class n → text.now ≢ decimal n)
+        (λ n. IsOfClass class n × (text.now ≡ decimal n)) }
+{
+    let id = Sctid::parse(text)?;
+    if id.class() == Some(class) {
+        Some(id)
+    } else {
+        None
+    }
+}
+
+/// The identifier of a concept, a description or a relationship.
+pub fn component(text: &[u8]) -> Option<Sctid>
+    ensures { MatchOption result ((n : ℕ) → IsComponent n → text.now ≢ decimal n)
+        (λ n. IsComponent n × (text.now ≡ decimal n)) }
+{
+    let id = Sctid::parse(text)?;
+    if id.class().is_some() { Some(id) } else { None }
+}
+
+/// The id of a member of a reference set.
+fn member(text: &[u8]) -> Option<u128>
+    ensures { MatchOption result ((n : ℕ) → SpellsMember n text.now → ⊥)
+        (λ n. (n < 2 ^ 128) × SpellsMember n text.now) }
+{
+    match Member::parse(text) {
+        Some(member) => Some(member.value()),
+        None => None,
+    }
+}
+
+/// A date, as the column effectiveTime has it.
+pub fn date(text: &[u8]) -> Option<EffectiveTime>
+    ensures { MatchOption result ((t : ℕ) → IsTime t → text.now ≢ decimal t)
+        (λ t. IsTime t × (text.now ≡ decimal t)) }
+{
+    match EffectiveTime::parse(text) {
+        Some(date) => Some(date),
+        None => None,
+    }
+}
+
+/// An identifier of a kind.
+pub fn identifier(kind: Kind, text: &[u8]) -> Option<u128>
+    ensures { MatchOption result ((n : ℕ) → IsIdOf kind n → SpellsId kind n text.now → ⊥)
+        (λ n. IsIdOf kind n × SpellsId kind n text.now) }
+{
+    match kind {
+        Kind::Concept => Some(u128::from(sctid_of(text, Class::Concept)?.value())),
+        Kind::Description => Some(u128::from(sctid_of(text, Class::Description)?.value())),
+        Kind::Relationship => Some(u128::from(sctid_of(text, Class::Relationship)?.value())),
+        Kind::Association => member(text),
+    }
+}
+
+/// An identifier of a kind, or `-` for none.
+pub fn after(kind: Kind, text: &[u8]) -> Option<Option<u128>>
+    ensures { MatchOption result ((o : Option ℕ) → SpellsAfter kind o text.now → ⊥)
+        (λ o. SpellsAfter kind o text.now) }
+{
+    if text == b"-".as_slice() {
+        return Some(None);
+    }
+    match identifier(kind, text) {
+        Some(id) => Some(Some(id)),
+        None => None,
+    }
+}

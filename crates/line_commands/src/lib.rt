@@ -1,0 +1,17 @@
+//! What a line of the protocol asks: a session's number, a command's word and its arguments, parted by single spaces.
+#![tactic(auto)]
+
+mod arguments;
+mod columns;
+mod command;
+pub mod laws;
+mod names;
+mod parsing;
+#[cfg(test)]
+mod tests;
+mod unread;
+mod words;
+
+pub use command::{Command, Request};
+pub use parsing::parse;
+pub use unread::Unread;

@@ -1,0 +1,36 @@
+//! Names of releases.
+
+ghost use Rattle.std.specs.Prelude.{◌≡◌, ◌↔◌, ◌⊎◌, IsTrue};
+ghost use Rattle.std.specs.List.{All};
+ghost use Rattle.std.specs.Char.{IsAsciiAlphanumeric};
+ghost use Rattle.line_commands.specs.Names.{IsName, IsNamePart, IsNameByte};
+
+/// Whether the bytes are ASCII letters, digits, `_`, `-` and `.`.
+fn is_plain(part: &[u8]) -> bool
+    ensures { IsTrue result ↔ All IsNameByte part.now }
+{
+    part.iter().all(|b| b.is_ascii_alphanumeric() || *b == b'_' || *b == b'-' || *b == b'.')
+}
+
+/// Whether a text may stand between the slashes of a name.
+fn is_name_part(part: &[u8]) -> bool
+    ensures { IsTrue result ↔ IsNamePart part.now }
+{
+    if part == b".".as_slice() {
+        return false;
+    }
+    if part == b"..".as_slice() {
+        return false;
+    }
+    !part.is_empty() && is_plain(part)
+}
+
+/// Whether the text is a name of a release.
+pub fn is_name(text: &[u8]) -> bool
+    ensures { IsTrue result ↔ IsName text.now }
+{
+    if text.len() > 1024 {
+        return false;
+    }
+    text.split(|b| *b == b'/').all(|part| is_name_part(part))
+}

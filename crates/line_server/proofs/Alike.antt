@@ -1,0 +1,70 @@
+-- Lines that are too long are answered alike.
+use Rattle.std.proofs.Common.{◌≡◌, ℕ, ◌<◌, List, [], ◌∷◌, length, Option, Some, None, IfSome, Result, subst, arith, inl, inr}
+use Rattle.std.specs.List.{AllByRecursion}
+use Rattle.disk_model.specs.Disk.{Moments}
+use Rattle.import_check.specs.declared.release.Release.{Release}
+use Rattle.line_commands.specs.declared.unread.Unread.{Unread}
+use Rattle.line_commands.specs.declared.unread.Unread.TheVariants as unread
+use Rattle.line_commands.specs.Requests.{IsUnread}
+use Rattle.line_server.specs.declared.refusal.LineRefusal.{LineRefusal}
+use Rattle.line_server.specs.Sources.{Releases}
+use Rattle.line_server.specs.Said.{Answer}
+use Rattle.line_server.specs.Replies.{Desk, Replies}
+use Rattle.line_server.specs.Turns.{Turn, GoesBy, IsTurn, IsAskedFor}
+
+unread_alike : (x y : List ℕ) (reason : Unread) → 4096 < length x → 4096 < length y → IsUnread x reason → IsUnread y reason
+unread_alike x y unread.Long long other h = other
+unread_alike x y unread.Session long other h = let short = h.0 in absurd (omega arith)
+unread_alike x y unread.Command long other h = let short = h.0 in absurd (omega arith)
+unread_alike x y unread.Arguments long other h = let short = h.0 in absurd (omega arith)
+
+none_asked_for : (releases : Releases) (x : List ℕ) (release : Release) → 4096 < length x → IsAskedFor releases x release → ⊥
+none_asked_for releases x release long h = let short = h.2.short in absurd (omega arith)
+
+all_asked_for : (releases : Releases) (x y : List ℕ) (taken : List Release) → 4096 < length x → AllByRecursion (IsAskedFor releases x) taken → AllByRecursion (IsAskedFor releases y) taken
+all_asked_for releases x y [] long h = tt
+all_asked_for releases x y (release ∷ taken) long h = absurd (none_asked_for releases x release long h.0)
+
+some_asked_for : (releases : Releases) (x y : List ℕ) (failed : Option Release) → 4096 < length x → IfSome failed (IsAskedFor releases x) → IfSome failed (IsAskedFor releases y)
+some_asked_for releases x y None long h = tt
+some_asked_for releases x y (Some release) long h = absurd (none_asked_for releases x release long h)
+
+module _ {D : Type 0} (outcome : Result Answer LineRefusal) (taken : List Release) (failed : Option Release) (old new : Desk D) where
+  abbrev pub turn_of : List ℕ → Turn
+  turn_of line = record { line = line; outcome = outcome; releases = taken; failed = failed }
+
+  replies_alike : (honest : Type 0) (releases : Releases) (x y : List ℕ) → 4096 < length x → 4096 < length y → Replies honest releases x outcome old new → Replies honest releases y outcome old new
+  replies_alike honest releases x y long other (inl h) = let short = h.2.short in absurd (omega arith)
+  replies_alike honest releases x y long other (inr h) = inr (h.0, unread_alike x y h.0 long other h.1, h.2, h.3)
+
+  goes_alike : (honest : Type 0) (releases : Releases) (x y : List ℕ) → 4096 < length x → 4096 < length y → GoesBy honest releases old (turn_of x) new → GoesBy honest releases old (turn_of y) new
+  goes_alike honest releases x y long other g = record {
+    replies = replies_alike honest releases x y long other g.replies;
+    imported = all_asked_for releases x y taken long g.imported;
+    failed = some_asked_for releases x y failed long g.failed;
+  }
+
+  module _ (honest_source : Type 0) (has : Releases) (honest : D → Type 0) (moments : D → Moments) (failures : D → ℕ) where
+    pub turn_alike : (x y : List ℕ) → 4096 < length x → 4096 < length y → IsTurn honest_source has honest moments failures old (turn_of x) new → IsTurn honest_source has honest moments failures old (turn_of y) new
+    turn_alike x y long other t = record {
+      releases = t.releases;
+      goes = goes_alike (honest old.store.disk) t.releases x y long other t.goes;
+      own = λ h. goes_alike (honest old.store.disk) has x y long other (t.own h);
+      imports = t.imports;
+      one = t.one;
+      counts = t.counts;
+      disk = λ session command asks. let short = asks.short in absurd (omega (arith, short, other));
+    }
+
+    -- what was answered for the source as it is now was answered for the source as it was
+    pub turn_now : (source : Type 0) (now : Releases) (line : List ℕ) → (honest_source → source × (now ≡ has))
+        → IsTurn source now honest moments failures old (turn_of line) new → IsTurn honest_source has honest moments failures old (turn_of line) new
+    turn_now source now line same t = record {
+      releases = t.releases;
+      goes = t.goes;
+      own = λ h. subst (λ (r : Releases). GoesBy (honest old.store.disk) r old (turn_of line) new) (same h).1 (t.own (same h).0);
+      imports = t.imports;
+      one = t.one;
+      counts = t.counts;
+      disk = t.disk;
+    }

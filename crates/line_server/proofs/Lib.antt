@@ -1,0 +1,15 @@
+pub mod Imported
+pub mod Queried
+pub mod Responding
+pub mod Importing
+pub mod MergeTold
+pub mod MergesAlike
+pub mod Pinned
+pub mod Alike
+pub mod Cuts
+pub mod Progressing
+pub mod Sent
+pub mod OneImports
+pub mod AlikeReleases
+pub mod OneReplies
+pub mod Stopped

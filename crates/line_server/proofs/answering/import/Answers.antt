@@ -1,0 +1,25 @@
+use Rattle.std.proofs.lemmas.Result.{err_from_is_err_and}
+use Rattle.line_server.proofs.Importing.{lacking, missing, taking, refusing}
+use Rattle.line_server.proofs.answering.import.Goals as goal
+
+pub returns-in-Err-OutOfMemory-clause-response : goal.returns-in-Err-OutOfMemory-clause-response
+returns-in-Err-OutOfMemory-clause-response g c session pins =
+    lacking (g.S.Source.is_honest c.args.source.now) (g.S.Source.releases c.args.source.now) g.D.Disk.is_honest g.D.Disk.moments g.D.Disk.failures c.args.name.now session pins c.args.store.now
+
+pub returns-in-Err-NoFolder-clause-response : goal.returns-in-Err-NoFolder-clause-response
+returns-in-Err-NoFolder-clause-response g c session pins =
+    missing (g.S.Source.is_honest c.args.source.now) (g.S.Source.releases c.args.source.now) g.D.Disk.is_honest g.D.Disk.moments g.D.Disk.failures c.args.name.now session pins c.args.store.now
+    (λ h. let given = c.in-Err-NoFolder.ensures.given h in rw c.in-Err-NoFolder.field-0-is at given)
+
+pub returns-in_err-receipt-clause-response : goal.returns-in_err-receipt-clause-response
+returns-in_err-receipt-clause-response g c session pins =
+    let p = err_from_is_err_and c.from_residual.result c.from_residual.ensures.1 in
+    let e = c.in_err-receipt.ensures in
+    rw (p.1, p.2) (refusing (g.S.Source.is_honest c.args.source.now) (g.S.Source.releases c.args.source.now) g.D.Disk.is_honest g.D.Disk.moments g.D.Disk.failures c.args.name.now session pins c.args.store.now c.import.new.self c.in-Ok.release
+    (λ h. c.in-Ok.ensures.given h) e.any_moment e.acknowledged e.honesty c.in_err-receipt.field-0.0 e.kept e.answer e.failures e.closed e.refused)
+
+pub returns-clause-response : goal.returns-clause-response
+returns-clause-response g c session pins =
+    let e = c.in_ok-receipt.ensures in
+    taking (g.S.Source.is_honest c.args.source.now) (g.S.Source.releases c.args.source.now) g.D.Disk.is_honest g.D.Disk.moments g.D.Disk.failures c.args.name.now session pins c.args.store.now c.import.new.self c.in-Ok.release
+    (λ h. c.in-Ok.ensures.given h) e.any_moment e.acknowledged e.honesty c.in_ok-receipt.receipt c.received.result e.kept e.answer e.failures c.received.ensures

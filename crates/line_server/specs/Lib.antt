@@ -1,0 +1,17 @@
+pub use Rattle.history_store.specs.Stored
+pub use Rattle.history_store.specs.Answers
+pub use Rattle.history_model.specs.Queries
+pub use Rattle.rf2_rows.specs.File
+pub use Rattle.line_commands.specs.Commands
+pub use Rattle.line_commands.specs.Requests
+pub mod Sources
+pub mod Pins
+pub mod Said
+pub mod Replies
+pub mod Imports
+pub mod Turns
+pub mod Responses
+pub mod Laws
+pub mod Streams
+pub mod Serving
+pub mod Steps

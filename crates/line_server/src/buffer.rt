@@ -1,0 +1,72 @@
+//! The line that is coming in.
+
+ghost use Rattle.std.specs.Prelude.{◌≡◌, ◌++◌, [], ◌∷◌, IfOk};
+ghost use Rattle.bstr.specs.Text.{no_cr};
+ghost use Rattle.line_server.specs.Steps.{kept};
+
+use std::alloc::{AllocError, Global};
+use std::marker::Model;
+
+/// How many bytes of a line are kept: as many as tell a line of 4,096 bytes and a CR from a longer one.
+const ROOM: usize = 4098;
+
+/// The first bytes of the line that is coming in.
+#[derive(Drop)]
+pub struct LineBuffer {
+    bytes: Vec<u8>,
+}
+
+impl Model for LineBuffer {
+    ghost use Rattle.std.specs.Prelude.{ℕ, List, ◌≤◌, length, vec_capacity};
+    ghost use Rattle.line_server.specs.Steps.{room};
+
+    ghost Value = { List ℕ };
+
+    ghost view = { λ b. b.bytes.items };
+
+    ghost invariant = { λ b. (room ≤ vec_capacity b.bytes) × (length b.bytes.items ≤ room) };
+}
+
+impl LineBuffer {
+    /// An empty line. All memory is taken here.
+    pub fn new(alloc: Global) -> Result<LineBuffer, AllocError>
+        ensures { IfOk result (λ line. line ≡ []) }
+    {
+        let bytes = Vec::with_capacity(alloc, ROOM)?;
+        Ok(LineBuffer { bytes })
+    }
+
+    /// Takes the next byte of the line, and passes over what is past the room.
+    pub fn push(&mut self, byte: u8)
+        ensures { self.new ≡ kept (self.old ++ byte ∷ []) }
+    {
+        if self.bytes.len() < ROOM {
+            let Ok(()) = self.bytes.push(byte) else {
+                unreachable!()
+            };
+        }
+    }
+
+    /// What came of the line.
+    pub fn as_bytes(&self) -> &[u8]
+        ensures { result.now ≡ self.now }
+    {
+        &self.bytes
+    }
+
+    /// The line, where LF ends it: one CR before that is no part of it.
+    pub fn ended(&self) -> &[u8]
+        ensures { result.now ≡ no_cr self.now }
+    {
+        match self.bytes.as_slice() {
+            [front @ .., b'\r'] => front,
+            whole => whole,
+        }
+    }
+
+    pub fn clear(&mut self)
+        ensures { self.new ≡ [] }
+    {
+        self.bytes.clear();
+    }
+}

@@ -1,0 +1,55 @@
+//! The commands of a merge, and trimming: what the store says, as a reply.
+
+ghost use Rattle.line_commands.specs.Commands.{Merge, Step, Publish, Abandon, Trim};
+ghost use Rattle.line_server.specs.Responses.{IsCarriedOut};
+
+use crate::refusal::LineRefusal;
+use crate::reply::Reply;
+use crate::wording::{done, numbered};
+use disk_model::Disk;
+use history_store::Store;
+use std::alloc::Global;
+
+/// Begins a merge, and says how many rows are left to it.
+pub(crate) fn begun<D: Disk>(alloc: Global, store: &mut Store<D>) -> Result<Reply, LineRefusal>
+    ensures { IsCarriedOut result D.is_honest D.moments D.failures Merge store.old store.new }
+{
+    let left = store.merge_begin()?;
+    Ok(numbered(alloc, left))
+}
+
+/// Merges up to so many rows more, and says how many are left.
+pub(crate) fn stepped<D: Disk>(
+    alloc: Global,
+    rows: u32,
+    store: &mut Store<D>,
+) -> Result<Reply, LineRefusal>
+    ensures { IsCarriedOut result D.is_honest D.moments D.failures (Step rows) store.old store.new }
+{
+    let left = store.merge_step(rows)?;
+    Ok(numbered(alloc, left))
+}
+
+/// Puts the merged segment in the place of the two.
+pub(crate) fn published<D: Disk>(alloc: Global, store: &mut Store<D>) -> Result<Reply, LineRefusal>
+    ensures { IsCarriedOut result D.is_honest D.moments D.failures Publish store.old store.new }
+{
+    store.merge_publish()?;
+    Ok(done(alloc))
+}
+
+/// Gives the merge up.
+pub(crate) fn abandoned<D: Disk>(alloc: Global, store: &mut Store<D>) -> Result<Reply, LineRefusal>
+    ensures { IsCarriedOut result D.is_honest D.moments D.failures Abandon store.old store.new }
+{
+    store.merge_abandon()?;
+    Ok(done(alloc))
+}
+
+/// Cuts off what nothing uses at the end of the disk.
+pub(crate) fn trimmed<D: Disk>(alloc: Global, store: &mut Store<D>) -> Result<Reply, LineRefusal>
+    ensures { IsCarriedOut result D.is_honest D.moments D.failures Trim store.old store.new }
+{
+    let _bytes = store.trim()?;
+    Ok(done(alloc))
+}

@@ -1,0 +1,26 @@
+//! What goes out.
+
+ghost use Rattle.line_server.specs.Steps.{IsPut};
+
+use std::io::Write;
+use thiserror::Error;
+
+/// The writer failed, or took no byte.
+#[derive(Clone, Copy, Debug, PartialEq, Eq, Error)]
+#[error("the output can't be written")]
+pub struct WriteFault;
+
+/// Writes all of it. A write that takes no byte is a fault.
+pub fn put_all<W: Write>(writer: &mut W, bytes: &[u8]) -> Result<(), WriteFault>
+    ensures { IsPut result (W.contents writer.old) (W.contents writer.new) bytes.now }
+{
+    let mut done = 0;
+    while done < bytes.len() {
+        match writer.write(&bytes[done..]) {
+            Ok(0) => return Err(WriteFault),
+            Ok(n) => done += n,
+            Err(_) => return Err(WriteFault),
+        }
+    }
+    Ok(())
+}

@@ -1,0 +1,86 @@
+//! Why a line was refused.
+
+ghost use Rattle.std.specs.Prelude.{◌≡◌, ◌≤◌, Option, length, map, decimal};
+
+use history_store::Refusal;
+use line_commands::Unread;
+use std::alloc::AllocError;
+use thiserror::Error;
+
+/// Why a line was refused.
+#[derive(Clone, Copy, Debug, PartialEq, Eq, Error)]
+pub enum LineRefusal {
+    /// The line asks nothing.
+    #[error("{0}")]
+    Unread(Unread),
+    #[error("no import has this number")]
+    PinRange,
+    #[error("no folder has this name")]
+    NoFolder,
+    #[error("{0}")]
+    Store(Refusal),
+}
+
+impl From<Refusal> for LineRefusal {
+    ghost use Rattle.std.specs.Prelude.{◌≡◌};
+    ghost use Rattle.line_server.specs.declared.refusal.LineRefusal.TheVariants.{Store};
+
+    ghost from_gives = { λ refusal e. e ≡ Store refusal };
+
+    fn from(refusal: Refusal) -> LineRefusal {
+        LineRefusal::Store(refusal)
+    }
+}
+
+impl From<AllocError> for LineRefusal {
+    ghost use Rattle.std.specs.Prelude.{◌≡◌};
+    ghost use Rattle.history_store.specs.declared.refusal.Refusal.TheVariants.{OutOfMemory};
+    ghost use Rattle.line_server.specs.declared.refusal.LineRefusal.TheVariants.{Store};
+
+    ghost from_gives = { λ _ e. e ≡ Store OutOfMemory };
+
+    fn from(_: AllocError) -> LineRefusal {
+        LineRefusal::Store(Refusal::OutOfMemory)
+    }
+}
+
+impl LineRefusal {
+    ghost use Rattle.std.specs.Prelude.{◌≡◌, ◌≤◌, length};
+    ghost use Rattle.line_server.specs.Said.{number_of, name_of, place_of, place_words};
+
+    /// The number by which the protocol knows the refusal.
+    pub fn code(self) -> u8
+        ensures { result ≡ number_of self }
+    {
+        match self {
+            LineRefusal::Unread(reason) => reason.code(),
+            LineRefusal::PinRange => 44,
+            LineRefusal::NoFolder => 45,
+            LineRefusal::Store(refusal) => refusal.code(),
+        }
+    }
+
+    /// The name that stands behind the number.
+    pub fn name(self) -> &'static str
+        ensures name { result.now ≡ name_of self }
+        ensures short { length result.now ≤ 20 }
+    {
+        match self {
+            LineRefusal::Unread(reason) => reason.name(),
+            LineRefusal::PinRange => "PinRange",
+            LineRefusal::NoFolder => "NoFolder",
+            LineRefusal::Store(refusal) => refusal.name(),
+        }
+    }
+
+    /// The file and the line at which a release is refused.
+    pub fn place(self) -> Option<(usize, usize)>
+        ensures { place_words result ≡ place_of self }
+    {
+        match self {
+            LineRefusal::Store(Refusal::Line { file, line, .. }) => Some((file, line)),
+            LineRefusal::Store(Refusal::Contradiction { file, line }) => Some((file, line)),
+            _ => None,
+        }
+    }
+}

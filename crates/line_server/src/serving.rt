@@ -1,0 +1,115 @@
+//! Lines in, replies out.
+
+ghost use Rattle.std.specs.Prelude.{◌≡◌, IsErrOf};
+ghost use Rattle.line_server.specs.declared.serving.ServeFault.TheVariants.{OutOfMemory};
+ghost use Rattle.line_server.specs.Pins.{AreWithin};
+ghost use Rattle.line_server.specs.Serving.{IsServed};
+ghost use Rattle.line_server.specs.Steps.{IsLineServed};
+
+use crate::answering::answer;
+use crate::buffer::LineBuffer;
+use crate::outgoing::{WriteFault, put_all};
+use crate::pins::Pins;
+use crate::source::Source;
+use disk_model::Disk;
+use history_store::Store;
+use std::alloc::Global;
+use std::io::{Read, Write};
+use thiserror::Error;
+
+/// Why not all of the input was served.
+#[derive(Clone, Copy, Debug, PartialEq, Eq, Error)]
+pub enum ServeFault {
+    /// The one buffer wasn't had.
+    #[error("out of memory")]
+    OutOfMemory,
+    /// The reader failed. An interruption is a failure too.
+    #[error("the input can't be read")]
+    Read,
+    /// The writer failed, or took no byte.
+    #[error("the output can't be written")]
+    Write,
+    /// One read more would pass the number that is allowed.
+    #[error("too many reads")]
+    Reads,
+}
+
+/// Answers a line, and writes the reply.
+fn answer_line<W: Write, S: Source, D: Disk>(
+    alloc: Global,
+    line: &[u8],
+    pins: &mut Pins,
+    source: &mut S,
+    store: &mut Store<D>,
+    writer: &mut W,
+) -> Result<(), WriteFault>
+    requires { AreWithin store.old.history.imports pins.old }
+    ensures pins { AreWithin store.new.history.imports pins.new }
+    ensures served { IsLineServed result
+        (S.is_honest source.old) (S.releases source.old) D.is_honest D.moments D.failures
+        line.now pins.old store.old pins.new store.new
+        (W.contents writer.old) (W.contents writer.new) }
+    ensures source { S.is_honest source.old → S.is_honest source.new }
+    ensures stays { S.is_honest source.old → S.releases source.new ≡ S.releases source.old }
+{
+    let reply = answer(alloc, line, pins, source, store);
+    put_all(writer, reply.body())?;
+    put_all(writer, reply.last())
+}
+
+/// Answers the lines of the input in order, each before its reply is written, and answers their number. It makes at most `max_reads`
+/// reads, of up to 4,096 bytes each, and keeps up to 4,098 bytes of a line that is coming in.
+pub fn serve<R: Read, W: Write, S: Source, D: Disk>(
+    alloc: Global,
+    reader: &mut R,
+    writer: &mut W,
+    source: &mut S,
+    store: &mut Store<D>,
+    max_reads: u32,
+) -> Result<u64, ServeFault>
+    ensures served { IsServed result max_reads
+        (S.is_honest source.old) (S.releases source.old) D.is_honest D.moments D.failures
+        (R.remaining reader.old) (R.remaining reader.new)
+        (W.contents writer.old) (W.contents writer.new) store.old store.new }
+    // The buffer is made before anything else is done.
+    ensures memory { IsErrOf result OutOfMemory → (reader.new ≡ reader.old) × (writer.new ≡ writer.old)
+        × (source.new ≡ source.old) × (store.new ≡ store.old) }
+    ensures source { S.is_honest source.old → S.is_honest source.new }
+    ensures stays { S.is_honest source.old → S.releases source.new ≡ S.releases source.old }
+{
+    let Ok(mut line) = LineBuffer::new(alloc) else {
+        return Err(ServeFault::OutOfMemory);
+    };
+    let mut pins = Pins::new();
+    let mut piece = [0u8; 4096];
+    let mut served = 0u64;
+    for _reads in 0..max_reads {
+        let n = match reader.read(&mut piece) {
+            Ok(n) => n,
+            Err(_) => return Err(ServeFault::Read),
+        };
+        if n == 0 {
+            if line.as_bytes().is_empty() {
+                return Ok(served);
+            }
+            return match answer_line(alloc, line.as_bytes(), &mut pins, source, store, writer) {
+                Ok(()) => Ok(served.saturating_add(1)),
+                Err(_) => Err(ServeFault::Write),
+            };
+        }
+        let came = &piece[..n];
+        for &byte in came {
+            if byte == b'\n' {
+                match answer_line(alloc, line.ended(), &mut pins, source, store, writer) {
+                    Ok(()) => {}
+                    Err(_) => return Err(ServeFault::Write),
+                }
+                line.clear();
+                served = served.saturating_add(1);
+            } else {
+                line.push(byte);
+            }
+        }
+    }
+    Err(ServeFault::Reads)
+}

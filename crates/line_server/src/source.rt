@@ -1,0 +1,52 @@
+//! Where releases come from.
+
+ghost use Rattle.std.specs.Prelude.{◌≡◌, ℕ, List, Option};
+ghost use Rattle.rf2_values.specs.declared.row.Kind.{Kind};
+ghost use Rattle.line_server.specs.Sources.{Releases, IsGiven};
+
+use import_check::{Release, sample};
+use std::alloc::Global;
+use thiserror::Error;
+
+/// Why no release was had.
+#[derive(Clone, Copy, Debug, PartialEq, Eq, Error)]
+pub enum SourceFault {
+    #[error("out of memory")]
+    OutOfMemory,
+    #[error("no folder has this name")]
+    NoFolder,
+}
+
+/// What has releases by their names.
+pub trait Source {
+    /// It has the releases that it says it has, and they stay.
+    ghost is_honest: { Self → Type 0 };
+    /// The release under a name: its files, by their kinds and bytes.
+    ghost releases: { Self → Releases };
+
+    /// The release under a name.
+    fn release(&mut self, alloc: Global, name: &str) -> Result<Release, SourceFault>
+        ensures honesty { is_honest self.old → is_honest self.new }
+        ensures stays { is_honest self.old → releases self.new ≡ releases self.old }
+        ensures given { is_honest self.old → IsGiven result (releases self.old name.now) };
+}
+
+/// The sample releases.
+#[derive(Clone, Copy)]
+pub struct Sample;
+
+impl Source for Sample {
+    ghost use Rattle.std.specs.Prelude.{None};
+
+    ghost is_honest = { λ _. ⊥ };
+
+    ghost releases = { λ _ _. None };
+
+    fn release(&mut self, alloc: Global, name: &str) -> Result<Release, SourceFault> {
+        match sample(alloc, name) {
+            Ok(Some(release)) => Ok(release),
+            Ok(None) => Err(SourceFault::NoFolder),
+            Err(_) => Err(SourceFault::OutOfMemory),
+        }
+    }
+}

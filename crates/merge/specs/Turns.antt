@@ -1,0 +1,19 @@
+-- Which of two lists the next place comes from: words of a private function, which no public clause cites.
+use Rattle.std.specs.Prelude.{List, [], ◌∷◌, Option, Some, None, true, false, if◌then◌else◌}
+use Rattle.std.specs.Ordering.{is_lt}
+use Rattle.rf2_values.specs.Key.{key_cmp}
+use Rattle.segment.specs.declared.place.Posted.{Posted}
+use Rattle.merge.specs.declared.Taken.{Taken}
+
+abbrev pub of_a : Posted → Taken
+of_a p = record { second = false; posted = p }
+
+abbrev pub of_b : Posted → Taken
+of_b p = record { second = true; posted = p }
+
+-- the next place of what is left of two lists, in key order
+abbrev pub next_place : List Posted → List Posted → Option Taken
+next_place [] [] = None
+next_place (p ∷ a) [] = Some (of_a p)
+next_place [] (q ∷ b) = Some (of_b q)
+next_place (p ∷ a) (q ∷ b) = Some (if is_lt (key_cmp q.key p.key) then of_b q else of_a p)

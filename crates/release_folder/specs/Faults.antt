@@ -1,0 +1,13 @@
+-- What a failure of the system says of a folder.
+use Rattle.std.specs.Prelude.{◌≡◌, ◌≢◌, ◌⊎◌}
+use Rattle.std.specs.IoError.{error_kind}
+use Rattle.std.specs.declared.io.Error.{Error}
+use Rattle.std.specs.declared.io.ErrorKind.TheVariants as kinds
+use Rattle.release_folder.specs.declared.fault.FolderFault.{FolderFault}
+use Rattle.release_folder.specs.declared.fault.FolderFault.TheVariants as faults
+
+-- want of memory is named as that, and whatever else fails is no folder
+abbrev pub IsFaultOf : Error → FolderFault → Type 0
+IsFaultOf error fault =
+    ((error_kind error ≡ kinds.OutOfMemory) × (fault ≡ faults.OutOfMemory))
+    ⊎ ((error_kind error ≢ kinds.OutOfMemory) × (fault ≡ faults.NoFolder))

@@ -1,0 +1,119 @@
+//! A list that is taken item by item.
+
+ghost use Rattle.std.specs.Prelude.{◌≡◌, length};
+ghost use Rattle.std.specs.Iterator.{YieldsFirst, item_count};
+
+use std::marker::Model;
+
+/// So many items are idle at least before room is given back: each time the rest may have to be moved.
+const FEWEST_IDLE: usize = 1024;
+
+/// And one part of so many of the room.
+const PARTS: usize = 16;
+
+/// The items of a vector that are left, by value and in its order. As they are taken, their room is given back to the system.
+#[derive(Drop)]
+pub struct ShrinkingList<T> {
+    /// The last one first.
+    left: Vec<T>,
+}
+
+impl<T> Model for ShrinkingList<T> {
+    ghost use Rattle.std.specs.Prelude.{List, reverse};
+
+    ghost Value = { List T };
+
+    ghost view = { λ s. reverse s.left.items };
+}
+
+impl<T: Drop> ShrinkingList<T> {
+    /// All items of a vector.
+    pub fn new(items: Vec<T>) -> ShrinkingList<T>
+        ensures { result ≡ items.items }
+    {
+        let mut left = items;
+        left.reverse();
+        ShrinkingList { left }
+    }
+
+    /// How many items are left.
+    pub fn len(&self) -> usize
+        ensures { result ≡ length self.now }
+    {
+        self.left.len()
+    }
+
+    /// Whether so much of the room is idle that it is worth giving back.
+    fn is_roomy(&self) -> bool {
+        let room = self.left.capacity();
+        let idle = room.saturating_sub(self.left.len());
+        FEWEST_IDLE <= idle && room / PARTS <= idle
+    }
+}
+
+impl<T: Drop> Iterator for ShrinkingList<T> {
+    type Item = T;
+
+    ghost next_gives = { YieldsFirst (λ left. left) };
+
+    ghost remaining = { item_count (λ left. left) };
+
+    fn next(&mut self) -> Option<T> {
+        let first = self.left.pop();
+        if self.is_roomy() {
+            self.left.shrink_to_fit();
+        }
+        first
+    }
+
+    fn size_hint(&self) -> (usize, Option<usize>) {
+        (self.len(), Some(self.len()))
+    }
+}
+
+#[cfg(test)]
+mod tests {
+    use super::ShrinkingList;
+    use std::test::Fail;
+
+    /// So many numbers, ascending from 0.
+    fn numbers(rt: &HostRuntime, count: u32) -> Option<ShrinkingList<u32>> {
+        let items: Vec<u32> = (0..count).collect(rt.alloc()).ok()?;
+        Some(ShrinkingList::new(items))
+    }
+
+    #[test]
+    fn items_come_in_their_order(rt: HostRuntime) -> Result<(), Fail> {
+        let mut list = numbers(&rt, 5_000).expect(&rt, "memory");
+        assert_eq!(rt; list.len(), 5_000);
+        for wanted in 0..5_000 {
+            assert_eq!(rt; list.next(), Some(wanted));
+        }
+        assert_eq!(rt; list.next(), None);
+        Ok(())
+    }
+
+    #[test]
+    fn a_list_of_nothing_gives_nothing(rt: HostRuntime) -> Result<(), Fail> {
+        let mut list = numbers(&rt, 0).expect(&rt, "memory");
+        assert_eq!(rt; list.len(), 0);
+        assert_eq!(rt; list.next(), None);
+        assert_eq!(rt; list.next(), None);
+        Ok(())
+    }
+
+    #[test]
+    fn room_is_given_back(rt: HostRuntime) -> Result<(), Fail> {
+        let mut list = numbers(&rt, 100_000).expect(&rt, "memory");
+        for _ in 0..90_000 {
+            assert!(rt; list.next().is_some());
+        }
+        assert_eq!(rt; list.len(), 10_000);
+        assert!(rt; list.left.capacity() < 12_000);
+        for _ in 0..10_000 {
+            assert!(rt; list.next().is_some());
+        }
+        assert!(rt; list.left.capacity() < 2_000);
+        Ok(())
+    }
+}

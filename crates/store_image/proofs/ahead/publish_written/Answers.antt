@@ -1,0 +1,41 @@
+use Rattle.disk_model.proofs.MomentSteps.{joined}
+use Rattle.blocks.specs.Slots.{other, slot_range}
+use Rattle.store_image.specs.Images.{StandsForHistory}
+use Rattle.store_image.specs.Says.{history_of, pieces_of}
+use Rattle.store_image.proofs.Unlisted.{synced_moments, synced_on_disk, synced_held, slot_synced, slot_published, slot_elsewhere}
+use Rattle.store_image.proofs.ahead.publish_written.Goals as goal
+
+pub returns-in_err-sync-clause-any_moment : goal.returns-in_err-sync-clause-any_moment
+returns-in_err-sync-clause-any_moment g c honest d lists others on next held =
+    synced_moments _ _ c.args.slot d lists on (g.met.D.Disk.now_is_image c.args.disk.now honest) c.sync.result (StandsForHistory (history_of c.args.next.now others)) (c.sync.ensures.made honest) (c.sync.ensures.failed honest)
+
+pub returns-clause-any_moment : goal.returns-clause-any_moment
+returns-clause-any_moment g c honest d lists others on next held =
+    let now = g.met.D.Disk.now_is_image c.args.disk.now honest in
+    let still = c.sync.ensures.honesty.0 honest in
+    let made = c.in_ok-sync.ensures.made honest in
+    joined _ _ _ _
+    (synced_moments _ _ c.args.slot d lists on now c.sync.result (StandsForHistory (history_of c.args.next.now others)) (c.sync.ensures.made honest) (c.sync.ensures.failed honest))
+    (c.publish_listing.ensures.any_moment still d lists others (synced_on_disk _ _ c.args.slot d lists on now made) next (synced_held _ _ (pieces_of c.args.next.now.entries others) made held))
+
+pub returns-clause-on_disk : goal.returns-clause-on_disk
+returns-clause-on_disk g c honest d lists others on next held =
+    let now = g.met.D.Disk.now_is_image c.args.disk.now honest in
+    let made = c.in_ok-sync.ensures.made honest in
+    c.publish_listing.ensures.on_disk (c.sync.ensures.honesty.0 honest) d lists others (synced_on_disk _ _ c.args.slot d lists on now made) next (synced_held _ _ (pieces_of c.args.next.now.entries others) made held)
+
+pub returns-in_err-sync-clause-one_slot : goal.returns-in_err-sync-clause-one_slot
+returns-in_err-sync-clause-one_slot g c honest d lists on following =
+    slot_synced _ _ (slot_range (other c.args.slot)) c.sync.result (g.met.D.Disk.now_is_image c.args.disk.now honest) (c.sync.ensures.made honest) (c.sync.ensures.failed honest)
+
+pub returns-clause-one_slot : goal.returns-clause-one_slot
+returns-clause-one_slot g c honest d lists on following =
+    let now = g.met.D.Disk.now_is_image c.args.disk.now honest in
+    let made = c.in_ok-sync.ensures.made honest in
+    joined _ _ _ _
+    (slot_synced _ _ (slot_range (other c.args.slot)) c.sync.result now (c.sync.ensures.made honest) (c.sync.ensures.failed honest))
+    (slot_published _ _ (slot_range (other c.args.slot)) made _ (c.publish_listing.ensures.one_slot (c.sync.ensures.honesty.0 honest) d lists (synced_on_disk _ _ c.args.slot d lists on now made) following))
+
+pub returns-clause-elsewhere : goal.returns-clause-elsewhere
+returns-clause-elsewhere g c honest =
+    slot_elsewhere _ _ (slot_range (other c.args.slot)) (c.in_ok-sync.ensures.made honest) c.publish_listing.result _ (c.publish_listing.ensures.elsewhere (c.sync.ensures.honesty.0 honest))
