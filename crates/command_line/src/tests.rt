@@ -124,12 +124,12 @@ fn write_release(rt: &HostRuntime, folder: &str, name: &str) -> Result<(), Fail>
 fn a_file_keeps_what_was_imported(rt: HostRuntime) -> Result<(), Fail> {
     write_release(&rt, "releases/r1/Terminology", "r1")?;
     write_release(&rt, "releases/2020/r3/Terminology", "r3")?;
-    let serve = "sctd serve --store file --releases releases";
+    let serve = "sctd serve --store kept --releases releases";
     // The words, the input, the output.
     let steps = [
-        ("sctd init --store file", "", "OK\n"),
+        ("sctd init --store kept", "", "OK\n"),
         (
-            "sctd import --store file --releases releases r1",
+            "sctd import --store kept --releases releases r1",
             "",
             "OK 1 6 0\n",
         ),
@@ -144,7 +144,7 @@ fn a_file_keeps_what_was_imported(rt: HostRuntime) -> Result<(), Fail> {
             "ROW 1000004\t20200731\t0\t900000000000207008\t900000000000074008\nEND 1\nID 1000004\nEND 1\n",
         ),
         (
-            "sctd import --store file --releases releases r1",
+            "sctd import --store kept --releases releases r1",
             "",
             "OK 3 0 6\n",
         ),
@@ -194,16 +194,16 @@ impl Write for Narrow {
 
 #[test]
 fn streams_that_fail(rt: HostRuntime) -> Result<(), Fail> {
-    let made = run_words(&rt, "sctd init --store file", b"")?;
+    let made = run_words(&rt, "sctd init --store cut", b"")?;
     assert_eq!(rt; made.status, 0);
-    let serve = "sctd serve --store file --releases releases";
+    let serve = "sctd serve --store cut --releases releases";
     // The words, the room for the output and whether that goes out, the status, what is written of faults.
     let cases: [(&str, usize, bool, u8, &[u8]); 6] = [
         (serve, 4096, true, 1, b"ERR 50 Read\n"),
         ("sctd demo", 4096, true, 0, b""),
         ("sctd demo", 4096, false, 1, b"ERR 51 Write\n"),
         ("sctd demo", 20, true, 1, b"ERR 51 Write\n"),
-        ("sctd init --store file", 8, true, 1, b"ERR 51 Write\n"),
+        ("sctd init --store cut", 8, true, 1, b"ERR 51 Write\n"),
         ("sctd demo --help", 8, true, 1, b"ERR 51 Write\n"),
     ];
     for (line, room, goes_out, status, faults) in &cases {
