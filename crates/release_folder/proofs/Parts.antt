@@ -31,6 +31,9 @@ pub none_before : (files sorted : List ReleaseFile) → IsPermutation files sort
 none_before files sorted same none =
     nil_from_length files (sym (length_permutation files sorted same) ∙ ap (λ (l : List ReleaseFile). length l) none)
 
+pub none_after : (files sorted : List ReleaseFile) → IsPermutation files sorted → files ≡ [] → length sorted ≡ 0
+none_after files sorted same none = length_permutation files sorted same ∙ ap (λ (l : List ReleaseFile). length l) none
+
 pub in_order_if_read : {E : Type 0} (result : Result Release E) (terminology content : List ReleaseFile)
     → IfOk result (λ release. AreOfParts terminology content release.files.items)
     → IfOk result (λ release. AreInOrder release.files.items)

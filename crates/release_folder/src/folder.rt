@@ -1,6 +1,6 @@
 //! Reading a folder.
 
-ghost use Rattle.std.specs.Prelude.{◌≡◌, ◌≢◌, ◌≤◌, [], length, All, IfOk, OnOk, IsErrOf};
+ghost use Rattle.std.specs.Prelude.{◌≡◌, ◌≢◌, ◌≤◌, ◌↔◌, [], length, All, IfOk, OnOk, IsErrOf};
 ghost use Rattle.std.specs.List.Sorted.{IsPermutation, IsSortedBy};
 ghost use Rattle.release_folder.specs.Names.{IsTakenFile, AreInOrder, AreOfParts, has_lesser_name};
 ghost use Rattle.release_folder.specs.declared.fault.FolderFault.TheVariants.{NoFolder};
@@ -55,8 +55,9 @@ pub fn release_of(
     ensures in_order { IfOk result
         (λ release. AreOfParts terminology.items content.items release.files.items) }
     ensures some { IfOk result (λ release. release.files.items ≢ []) }
+    // Without a file memory isn't said to lack.
     ensures none { IsErrOf result NoFolder
-        → (terminology.items ≡ []) × (content.items ≡ []) }
+        ↔ ((terminology.items ≡ []) × (content.items ≡ [])) }
 {
     let mut files = terminology;
     let mut later = content;
