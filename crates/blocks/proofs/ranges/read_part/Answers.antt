@@ -1,6 +1,7 @@
 use Rattle.std.proofs.Common.{◌≡◌, ◌+◌, ◌*◌, ◌≤◌, ◌++◌, take, drop, ◌/◌, ◌%◌, List, ℕ, length, refl, sym, ap, subst, ◌∙◌, arith}
 use Rattle.disk_model.specs.Disk.{Moments}
 use Rattle.blocks.specs.Cache.{count_of, AgreesWith}
+use Rattle.blocks.proofs.PartsKept.{next_kept, used_keeps, keeps_on, count_in}
 use Rattle.blocks.proofs.PartsRead.{IsReadSoFar, all_read, more_read, short_read}
 use Rattle.blocks.proofs.ranges.read_part.Goals as goal
 
@@ -28,6 +29,21 @@ returns-then-count-skip-clause-agrees g c honest agrees =
     let same : (g.D.Disk.moments c.loop-done.disk).state.now ≡ file = ap (λ (m : Moments). m.state.now) (inv.3 honest) in
     subst (AgreesWith c.read.new.self) same (c.in_ok-count.ensures.agrees (inv.2.0 honest) (subst (AgreesWith c.loop-done.cache) (sym same) (inv.5 honest agrees).0))
 
+pub returns-in_err-count-clause-kept : goal.returns-in_err-count-clause-kept
+returns-in_err-count-clause-kept g c part =
+    let inv = c.loop-done.invariant in
+    let at = c.args.from + c.loop-done.done in
+    let here = next_kept c.args.cache.now c.loop-done.cache c.args.from (length c.args.into.now) c.loop-done.done at (at / 4096) (at % 4096) refl (omega arith) (omega arith) (omega (arith, inv.0, c.loop-done-test.true)) part (inv.7 part).1 in
+    let wrong = (c.in_err-count.ensures.kept here.0 here.1).0 in absurd cc
+
+pub returns-then-count-skip-clause-kept : goal.returns-then-count-skip-clause-kept
+returns-then-count-skip-clause-kept g c part =
+    let inv = c.loop-done.invariant in
+    let at = c.args.from + c.loop-done.done in
+    let here = next_kept c.args.cache.now c.loop-done.cache c.args.from (length c.args.into.now) c.loop-done.done at (at / 4096) (at % 4096) refl (omega arith) (omega arith) (omega (arith, inv.0, c.loop-done-test.true)) part (inv.7 part).1 in
+    let whole : c.in_ok-count.count ≡ 4096 = ap count_in (c.in_ok-count.ensures.kept here.0 here.1).0 in
+    absurd (omega (arith, whole, c.if-count-skip.true, c.min-taken.ensures))
+
 pub loop-done-preserved : goal.loop-done-preserved
 loop-done-preserved g c =
     let inv = c.loop-done.invariant in
@@ -49,4 +65,10 @@ loop-done-preserved g c =
                 c.loop-done.buffer c.read.new.into c.copy_part.new.into (c.in_ok-count.ensures.bytes (inv.2.0 honest) kept ∙ ap (λ (l : List ℕ). take c.in_ok-count.count (drop (4096 * (at / 4096)) l) ++ drop c.in_ok-count.count c.loop-done.buffer) same) c.if-count-skip.false c.read.array_long (omega (arith, c.min-taken.ensures)) room c.copy_part.ensures (inv.5 honest agrees).1,
           )),
       c.in_ok-count.ensures.capacity ∙ inv.6,
+      (λ part.
+          let still = inv.7 part in
+          let here = next_kept c.args.cache.now c.loop-done.cache c.args.from (length c.args.into.now) c.loop-done.done at (at / 4096) (at % 4096) refl (omega arith) (omega arith) (omega (arith, inv.0, c.loop-done-test.true)) part still.1 in (
+            (c.in_ok-count.ensures.kept here.0 here.1).2 ∙ still.0,
+            keeps_on c.args.cache.now c.loop-done.cache c.read.new.self still.1 (used_keeps c.loop-done.cache c.read.new.self (at / 4096) (c.in_ok-count.ensures.used here.0 here.1)),
+          )),
     )
