@@ -1,24 +1,38 @@
 #!/usr/bin/env python3
-"""Measures a merge of two segments in a file against writing the same bytes.
+"""Measures a merge of two segments in a file against writing the same bytes, and lookups beside it.
 
 measure_merge.py PROGRAM FOLDER [ROWS [TIMES]]
 
 PROGRAM is the built crate bench_store. Two releases of ROWS rows each (100000, if not given) that
 share no component are made in FOLDER and imported into a store, a segment each. Each piece of work
 is run TIMES times (5) on a copy of that store's file as a process of its own, and the least seconds
-of processor and of wall are taken. Standard library alone.
+of processor and of wall are taken.
+
+Then concepts are looked up, fifty for each step that the merge has, in groups of fifty: without a
+merge, with half of the rows of one taken, with a step before each group, and without a merge but
+with a page of as many rows as a step takes before each group. The program reads its processor's
+clock before and after each group, so that what stands between the groups is not in what the lookups
+took. The ways are run in turn, TIMES times each. Standard library alone.
 """
 
 import os
+import random
+import re
 import shutil
+import statistics
 import subprocess
 import sys
 
 from measure import HERE, Work, first_column, write_lines
 
-import random
-
 STEP = 1000
+GROUP = 50
+WAYS = {
+    "none": "without a merge",
+    "half": "with half of the rows of a merge taken",
+    "steps": "with a step before each group",
+    "pages": "without a merge, with a page before each group",
+}
 
 
 def made(place, rows):
@@ -33,7 +47,7 @@ def made(place, rows):
             subprocess.check_call([sys.executable, maker, release, str(rows), seed])
             folder = os.path.join(release, "full", "Terminology")
             name = [name for name in os.listdir(folder) if name.startswith("sct2_Concept_")][0]
-            concepts += first_column(os.path.join(folder, name), rows * 2 // STEP * 25, chance)
+            concepts += first_column(os.path.join(folder, name), rows * 2 // STEP * GROUP // 2, chance)
         chance.shuffle(concepts)
         write_lines(ids, [columns[0] for columns in concepts])
     return ids
@@ -52,6 +66,22 @@ class Least:
 def show(title, work, less):
     row = (title, work.processor - less.processor, work.wall - less.wall, work.text)
     print("| %s | %.3f | %.3f | %s |" % row, flush=True)
+
+
+def show_lookups(times, groups, run):
+    """Microseconds of a lookup and of what goes before a group, by the program's own clock."""
+    print("%d groups of %d lookups" % (groups, GROUP))
+    print("| Lookups | Microseconds each: median, least, most | Microseconds before a group: median | Found |")
+    print("|---|---|---|---|")
+    taken = {way: [] for way in WAYS}
+    for _ in range(times):
+        for way, works in taken.items():
+            works.append([int(number) for number in re.findall("[0-9]+", run(way).text)])
+    for way, works in taken.items():
+        asked = [work[0] / 1e3 / (groups * GROUP) for work in works]
+        step = statistics.median(work[1] / 1e3 / groups for work in works)
+        row = (WAYS[way], statistics.median(asked), min(asked), max(asked), step, works[0][2])
+        print("| %s | %.2f, %.2f, %.2f | %.0f | %d |" % row, flush=True)
 
 
 def measure(program, folder, rows, times):
@@ -83,8 +113,7 @@ def measure(program, folder, rows, times):
     show("open", opening, nothing)
     show("merge, in all", merging, opening)
     show("read the file, and write as many bytes in as many writes", Least(times, write), nothing)
-    show("lookups without a merge", Least(times, lambda: run("lookups", ids)), opening)
-    show("lookups between the steps", Least(times, lambda: run("beside", ids)), merging)
+    show_lookups(times, 2 * rows // STEP, lambda way: run("groups", ids, way))
 
 
 def main(words):

@@ -4,7 +4,7 @@
 mod decoding;
 mod merging;
 
-use crate::merging::{merge, merge_and_look_up, write_alike};
+use crate::merging::{look_up_in_groups, merge, write_alike};
 use disk_model::FileDisk;
 use history_store::Store;
 use release_folder::read_folder;
@@ -142,7 +142,12 @@ fn run(rt: &HostRuntime) -> Option<()> {
         "children" => ask_children(rt, path.as_str(), words.next()?.as_str())?,
         "lookups" => look_up(rt, path.as_str(), words.next()?.as_str())?,
         "merge" => merge(rt, path.as_str())?,
-        "beside" => merge_and_look_up(rt, path.as_str(), words.next()?.as_str())?,
+        "groups" => look_up_in_groups(
+            rt,
+            path.as_str(),
+            words.next()?.as_str(),
+            words.next()?.as_str(),
+        )?,
         "write" => write_alike(
             rt,
             path.as_str(),

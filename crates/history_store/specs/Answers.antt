@@ -10,6 +10,7 @@ use Rattle.history_model.specs.declared.stamped.StampedRow.{StampedRow}
 use Rattle.history_model.specs.declared.receipt.Receipt.{Receipt}
 use Rattle.history_model.specs.History.{History, Accepts, after_release, ReceiptOf, no_history, full}
 use Rattle.history_model.specs.Lists.{new_rows}
+use Rattle.directory.specs.Listings.{most_entries}
 use Rattle.import_check.specs.declared.release.Release.{Release}
 use Rattle.import_check.specs.Release.{IsReleaseOf, IsFaultOfRelease, HasContradiction}
 use Rattle.import_check.specs.declared.fault.ImportFault.{ImportFault}
@@ -62,7 +63,8 @@ HandsBack moments (Err e) disk = e.0 ≢ refusals.DiskFault → moments e.1 ≡ 
 -- one sync changed the disk and nothing else did; where the device failed, maybe not even that
 abbrev pub SyncsOnce : {D : Type 0} → (D → Moments) → Result (Stored D) (Refusal × D) → D → Type 0
 SyncsOnce moments (Ok store) disk = moments store.disk ≡ synced (moments disk)
-SyncsOnce moments (Err e) disk = (moments e.1 ≡ synced (moments disk)) ⊎ ((e.0 ≡ refusals.DiskFault) × (moments e.1 ≡ moments disk))
+SyncsOnce moments (Err e) disk = (moments e.1 ≡ synced (moments disk))
+    ⊎ ((e.0 ≡ refusals.DiskFault) × (moments e.1 ≡ moments disk))
 
 -- a store is made on an empty disk alone
 abbrev pub IsMakingOf : {D : Type 0} → Result (Stored D) (Refusal × D) → List ℕ → Type 0
@@ -88,7 +90,8 @@ abbrev pub IsOpeningOf : {D : Type 0} → Result (Stored D) (Refusal × D) → L
 IsOpeningOf (Ok store) bytes = IsOpened store bytes
 IsOpeningOf (Err e) bytes = IsNotOpened e.0 bytes
 
--- a release that is taken: each file is a release file, the union is consistent, the history goes on with its rows, and a segment of the new ones is added
+-- a release that is taken: each file is a release file, the union is consistent, the history goes on with its rows,
+-- and a segment of the new ones is added
 pub record IsTaken (h after : History) (shelf next : Shelf) (release : Release) (receipt : Receipt) : Type 0 where
   pub room : IsNotSpent h.imports shelf.epoch
   pub rows : List Version
@@ -115,7 +118,8 @@ pub record IsWelcome (h : History) (shelf : Shelf) (release : Release) : Type 0 
   pub next : Shelf
   pub shelf_is : IsShelfAfter (new_rows h rows) shelf next
 
--- where the device may fail: known rows are read once each file is a release file, and it is written to only for a release that would be taken
+-- where the device may fail: known rows are read once each file is a release file, and it is written to only for a release
+-- that would be taken
 abbrev pub IsAtDevice : History → Shelf → Release → Type 0
 IsAtDevice h shelf release = (IsNotSpent h.imports shelf.epoch × IsRead release) ⊎ IsWelcome h shelf release
 
@@ -125,7 +129,8 @@ IsNotTaken refusals.OutOfMemory h shelf release = IsNotSpent h.imports shelf.epo
 IsNotTaken refusals.DiskFault h shelf release = IsAtDevice h shelf release
 IsNotTaken refusals.CountSpent h shelf release = (h.imports ≡ last_import) ⊎ (shelf.epoch ≡ last_epoch)
 IsNotTaken (refusals.Line file line fault) h shelf release = IsNotSpent h.imports shelf.epoch × IsFaultOfRelease release file line fault
-IsNotTaken (refusals.Contradiction file line) h shelf release = IsNotSpent h.imports shelf.epoch × (key : Key) × HasContradiction (full h) release file line key
+IsNotTaken (refusals.Contradiction file line) h shelf release = IsNotSpent h.imports shelf.epoch
+    × (key : Key) × HasContradiction (full h) release file line key
 IsNotTaken refusals.TooManySegments h shelf release = IsUnplaced h shelf release HasNoEntry
 IsNotTaken refusals.Full h shelf release = IsUnplaced h shelf release HasNoPlace
 IsNotTaken _ h shelf release = ⊥
@@ -149,7 +154,8 @@ KeepsMoments moments (Err e) old new = e ≢ refusals.DiskFault → moments new.
 
 -- what an import answers, and the store after it
 abbrev pub IsImportOf : {D : Type 0} → Result Receipt Refusal → Stored D → Stored D → Release → Type 0
-IsImportOf (Ok receipt) old new release = IsTaken old.history new.history old.shelf new.shelf release receipt × (old.needs_reopen ≡ false) × (new.needs_reopen ≡ false)
+IsImportOf (Ok receipt) old new release = IsTaken old.history new.history old.shelf new.shelf release receipt
+    × (old.needs_reopen ≡ false) × (new.needs_reopen ≡ false)
 IsImportOf (Err e) old new release = IsImportRefusal e old release × IsRefused e old new
 
 -- the bytes stand for the history with an accepted release
@@ -192,25 +198,33 @@ IsReadingOf (Err e) old new = IsReadRefusal e old × IsRefused e old new
 abbrev pub IsNotFresh : Type 0 → Refusal → List Version → Release → Type 0
 IsNotFresh honest e known release = (fault : ImportFault) × (e ≡ refusal_of fault) × IsRefusal honest known release fault
 
--- Why an import is refused, on every disk: what the counts, the files and the directory say. Whether a row contradicts the known ones is said on an honest disk alone.
+-- Why an import is refused, on every disk: what the counts, the files and the directory say. Whether a row contradicts
+-- the known ones is said on an honest disk alone.
 abbrev pub IsRefusalAtAll : {D : Type 0} → Refusal → Stored D → Release → Type 0
 IsRefusalAtAll refusals.OutOfMemory s release = (s.needs_reopen ≡ false) × IsNotSpent s.history.imports s.shelf.epoch
 IsRefusalAtAll refusals.DiskFault s release = (s.needs_reopen ≡ false) × IsNotSpent s.history.imports s.shelf.epoch × IsRead release
 IsRefusalAtAll refusals.ReopenNeeded s release = s.needs_reopen ≡ true
 IsRefusalAtAll refusals.NotEmpty s release = ⊥
-IsRefusalAtAll refusals.Full s release = (s.needs_reopen ≡ false) × IsNotSpent s.history.imports s.shelf.epoch × IsRead release × (length s.shelf.entries < 128)
-IsRefusalAtAll refusals.TooManySegments s release = (s.needs_reopen ≡ false) × IsNotSpent s.history.imports s.shelf.epoch × IsRead release × (length s.shelf.entries ≡ 128)
+IsRefusalAtAll refusals.Full s release = (s.needs_reopen ≡ false) × IsNotSpent s.history.imports s.shelf.epoch
+    × IsRead release × (length s.shelf.entries < most_entries)
+IsRefusalAtAll refusals.TooManySegments s release = (s.needs_reopen ≡ false) × IsNotSpent s.history.imports s.shelf.epoch
+    × IsRead release × (length s.shelf.entries ≡ most_entries)
 IsRefusalAtAll refusals.NotAStore s release = ⊥
 IsRefusalAtAll refusals.Damaged s release = (s.needs_reopen ≡ false) × IsNotSpent s.history.imports s.shelf.epoch × IsRead release
 IsRefusalAtAll refusals.NothingToMerge s release = ⊥
 IsRefusalAtAll refusals.MergeBusy s release = ⊥
 IsRefusalAtAll refusals.NoMerge s release = ⊥
 IsRefusalAtAll refusals.MergeUnfinished s release = ⊥
-IsRefusalAtAll refusals.CountSpent s release = (s.needs_reopen ≡ false) × ((s.history.imports ≡ last_import) ⊎ (s.shelf.epoch ≡ last_epoch))
-IsRefusalAtAll (refusals.Line file line fault) s release = (s.needs_reopen ≡ false) × IsNotSpent s.history.imports s.shelf.epoch × IsFaultOfRelease release file line fault
-IsRefusalAtAll (refusals.Contradiction file line) s release = (s.needs_reopen ≡ false) × IsNotSpent s.history.imports s.shelf.epoch × IsRead release
+IsRefusalAtAll refusals.CountSpent s release = (s.needs_reopen ≡ false)
+    × ((s.history.imports ≡ last_import) ⊎ (s.shelf.epoch ≡ last_epoch))
+IsRefusalAtAll (refusals.Line file line fault) s release = (s.needs_reopen ≡ false)
+    × IsNotSpent s.history.imports s.shelf.epoch × IsFaultOfRelease release file line fault
+IsRefusalAtAll (refusals.Contradiction file line) s release = (s.needs_reopen ≡ false)
+    × IsNotSpent s.history.imports s.shelf.epoch × IsRead release
 
--- what an import answers on every disk, and the store after it: with one import more, or as it was; a failure of the device alone closes it
+-- what an import answers on every disk, and the store after it: with one import more, or as it was; a failure of the
+-- device alone closes it
 abbrev pub IsImportAtAll : {D : Type 0} → Result Receipt Refusal → Stored D → Stored D → Release → Type 0
-IsImportAtAll (Ok receipt) old new release = (new.history.imports ≡ old.history.imports + 1) × (receipt.number ≡ new.history.imports) × (old.needs_reopen ≡ false) × (new.needs_reopen ≡ false)
+IsImportAtAll (Ok receipt) old new release = (new.history.imports ≡ old.history.imports + 1)
+    × (receipt.number ≡ new.history.imports) × (old.needs_reopen ≡ false) × (new.needs_reopen ≡ false)
 IsImportAtAll (Err e) old new release = IsRefusalAtAll e old release × IsRefused e old new

@@ -50,7 +50,8 @@ IsNotPublished _ s = ⊥
 
 -- What the publication of a merge answers, and the store after it. It has as many imports; on an honest disk the whole history stays.
 abbrev pub IsPublishingOf : {D : Type 0} → Result (Unit {0}) Refusal → Stored D → Stored D → Type 0
-IsPublishingOf (Ok done) old new = IsPublished old.shelf new.shelf × (new.history.imports ≡ old.history.imports) × (old.needs_reopen ≡ false) × (new.needs_reopen ≡ false)
+IsPublishingOf (Ok done) old new = IsPublished old.shelf new.shelf × (new.history.imports ≡ old.history.imports)
+    × (old.needs_reopen ≡ false) × (new.needs_reopen ≡ false)
 IsPublishingOf (Err e) old new = IsNotPublished e old × IsRefused e old new
 
 -- why no merge is given up

@@ -1,5 +1,6 @@
 -- What the calls of a merge make of a shelf.
-use Rattle.std.specs.Prelude.{◌≡◌, ◌≢◌, ◌⊎◌, ℕ, ◌+◌, ◌-◌, ◌*◌, ◌^◌, ◌<◌, ◌≤◌, max, List, [], ◌∷◌, length, map, Some, None, slice_get, slice_set, slice_index, remove}
+use Rattle.std.specs.Prelude.{◌≡◌, ◌≢◌, ◌⊎◌, ℕ, ◌+◌, ◌-◌, ◌*◌, ◌^◌, ◌<◌, ◌≤◌, max, List, [], ◌∷◌, length, map}
+use Rattle.std.specs.Prelude.{Some, None, slice_get, slice_set, slice_index, remove}
 use Rattle.std.specs.Int.{div_ceil}
 use Rattle.directory.specs.declared.entry.Entry.{Entry}
 use Rattle.blocks.specs.declared.extent.Extent.{Extent}
@@ -13,7 +14,8 @@ rows_at_place entries place = slice_index (map (λ e. e.rows) entries) place
 
 -- the segment at p has fewer rows than the one at q, or as many and is listed before it
 abbrev pub ComesFirst : List Entry → ℕ → ℕ → Type 0
-ComesFirst entries p q = (rows_at_place entries p < rows_at_place entries q) ⊎ ((rows_at_place entries p ≡ rows_at_place entries q) × (p < q))
+ComesFirst entries p q = (rows_at_place entries p < rows_at_place entries q)
+    ⊎ ((rows_at_place entries p ≡ rows_at_place entries q) × (p < q))
 
 -- the two segments of fewest rows, of which the one at i is listed before the one at j
 pub record AreFewest (entries : List Entry) (i j : ℕ) : Type 0 where
@@ -44,7 +46,14 @@ pub record IsBegun (shelf next : Shelf) (left : ℕ) : Type 0 where
   pub short : inputs.a.bytes + inputs.b.bytes < 2 ^ 32
   pub place : fit (div_ceil (inputs.a.bytes + inputs.b.bytes) 4096) shelf.entries None ≡ Some first
   pub left_is : left ≡ inputs.a.rows + inputs.b.rows
-  pub next_is : next ≡ record shelf { merge = Some (record { i = inputs.i; j = inputs.j; output = record { first = first; bytes = inputs.a.bytes + inputs.b.bytes }; left = left }) }
+  pub next_is : next ≡ record shelf {
+    merge = Some (record {
+      i = inputs.i;
+      j = inputs.j;
+      output = record { first = first; bytes = inputs.a.bytes + inputs.b.bytes };
+      left = left;
+    });
+  }
 
 -- both are too long for one segment, or there is no place for it
 pub record HasNoOutput (entries : List Entry) : Type 0 where
@@ -84,7 +93,15 @@ pub record IsPublished (shelf next : Shelf) : Type 0 where
   pub b : Entry
   pub a_is : slice_get shelf.entries merge.i ≡ Some a
   pub b_is : slice_get shelf.entries merge.j ≡ Some b
-  pub next_is : next ≡ record { epoch = shelf.epoch + 1; entries = remove (slice_set shelf.entries merge.i (record { first = merge.output.first; bytes = merge.output.bytes; rows = a.rows + b.rows })) merge.j; merge = None }
+  pub next_is : next ≡ record {
+    epoch = shelf.epoch + 1;
+    entries = remove (slice_set shelf.entries merge.i (record {
+      first = merge.output.first;
+      bytes = merge.output.bytes;
+      rows = a.rows + b.rows;
+    })) merge.j;
+    merge = None;
+  }
 
 -- the greatest block behind a segment that is live or reserved, or the one behind the slots
 abbrev pub end_of_taken : List Extent → ℕ

@@ -1,5 +1,6 @@
 -- What the parts of a step of a merge give. Only private functions cite these words.
-use Rattle.std.specs.Prelude.{◌≡◌, ◌⊎◌, ℕ, ◌+◌, ◌-◌, ◌≤◌, Bool, true, false, List, ◌++◌, length, take, drop, Some, Result, Ok, Err, if◌then◌else◌}
+use Rattle.std.specs.Prelude.{◌≡◌, ◌⊎◌, ℕ, ◌+◌, ◌-◌, ◌≤◌, Bool, true, false, List, ◌++◌, length, take, drop}
+use Rattle.std.specs.Prelude.{Some, Result, Ok, Err, if◌then◌else◌}
 use Rattle.std.specs.List.{AllByRecursion, AllZip}
 use Rattle.disk_model.specs.Disk.{DiskState}
 use Rattle.lru.specs.LruCache.{LruCache}
@@ -30,12 +31,14 @@ abbrev pub IsReadAt : Taken → StampedRow → Type 0
 IsReadAt t s = IsOfPlace s t.posted
 
 -- a store that is open, in which this merge goes on
-pub record IsReady (honest : Type 0) (state : DiskState) (cache : LruCache ℕ (List ℕ)) (d : Listing) (index : List (List Posted)) (lists : List (List StampedRow)) (m : Ongoing) : Type 0 where
+pub record IsReady (honest : Type 0) (state : DiskState) (cache : LruCache ℕ (List ℕ)) (d : Listing)
+    (index : List (List Posted)) (lists : List (List StampedRow)) (m : Ongoing) : Type 0 where
   pub slot : Slot
   pub held : IsHeld honest state cache slot d index lists false
   pub merge : HasMerge honest state.now d lists (Some m) false
 
--- The next rows of two lists, up to n, and their records. On every disk they are alike in key, number and length; on an honest one they are the rows.
+-- The next rows of two lists, up to n, and their records. On every disk they are alike in key, number and length; on an
+-- honest one they are the rows.
 pub record IsPart (honest : Type 0) (a b : List StampedRow) (m : Ongoing) (n : ℕ) (p : Part) : Type 0 where
   pub lengths : IsOf p.places a b
   pub left : count_left p.places ≡ count_left m.places - n
@@ -117,5 +120,6 @@ UnlessFault _ P = P
 
 -- what a step makes of a merge
 abbrev pub IsStepOf : Result (Unit {0}) Refusal → Ongoing → Ongoing → ℕ → Type 0
-IsStepOf (Ok done) m next n = (next.i ≡ m.i) × (next.j ≡ m.j) × (next.entry ≡ m.entry) × (count_left next.places ≡ count_left m.places - n)
+IsStepOf (Ok done) m next n = (next.i ≡ m.i) × (next.j ≡ m.j) × (next.entry ≡ m.entry)
+    × (count_left next.places ≡ count_left m.places - n)
 IsStepOf (Err e) m next n = IsUnread e × (1 ≤ n) × (1 ≤ count_left m.places) × IsSame m next

@@ -1,6 +1,7 @@
 //! The calls of a merge, and trimming.
 
-ghost use Rattle.std.specs.Prelude.{◌≡◌, ◌≢◌, ◌↔◌, ◌-◌, ◌<◌, ◌≤◌, ◌∷◌, [], length, take, option_map, IfOk, IfErr, OnOk, true, false};
+ghost use Rattle.std.specs.Prelude.{◌≡◌, ◌≢◌, ◌↔◌, ◌-◌, ◌<◌, ◌≤◌, ◌∷◌, [], length, take, option_map};
+ghost use Rattle.std.specs.Prelude.{IfOk, IfErr, OnOk, true, false};
 ghost use Rattle.disk_model.specs.Disk.{LeavesOnly};
 
 use crate::beginning::begin;
@@ -25,7 +26,8 @@ impl<D: Disk> Store<D> {
     ghost use Rattle.history_store.specs.declared.refusal.Refusal.TheVariants as refusals;
     ghost use Rattle.history_store.specs.MergeAnswers.{IsBeginningOf, IsSteppingOf, IsPublishingOf, IsAbandoningOf, IsTrimmingOf};
 
-    /// Begins to merge the two segments of fewest rows, of those with as many the ones listed first, and answers how many rows they have. It writes nothing and takes no memory.
+    /// Begins to merge the two segments of fewest rows, of those with as many the ones listed first, and answers how many
+    /// rows they have. It writes nothing and takes no memory.
     pub fn merge_begin(&mut self) -> Result<u64, Refusal>
         ensures answer { IsBeginningOf result self.old self.new }
         ensures disk { self.new.disk ≡ self.old.disk }
@@ -46,7 +48,8 @@ impl<D: Disk> Store<D> {
         Ok(left)
     }
 
-    /// Takes up to `n` rows more of the merge that goes on, in key order, and answers how many are left. They are read, and their records are written by one write; all memory is taken before it.
+    /// Takes up to `n` rows more of the merge that goes on, in key order, and answers how many are left. They are read, and
+    /// their records are written by one write; all memory is taken before it.
     pub fn merge_step(&mut self, n: u32) -> Result<u64, Refusal>
         ensures answer { IsSteppingOf result self.old self.new n }
         ensures undamaged { D.is_honest self.old.disk → IfErr result (λ e. e ≢ refusals.Damaged) }

@@ -1,6 +1,7 @@
 //! What is posted of the rows of segments: the terms of descriptions, and what relationships and associations say.
 
 ghost use Rattle.std.specs.Prelude.{◌≡◌, ◌≤◌, [], length, IfOk};
+ghost use Rattle.as_of_index.specs.Places.{max_lists};
 ghost use Rattle.associations.specs.Edges.{no_edges};
 
 use associations::Links;
@@ -45,7 +46,9 @@ impl RowSink for Posting {
     ghost use Rattle.associations.specs.Edges.{posted_edges};
     ghost use Rattle.history_store.specs.Taken.{TermsTaken, EdgesTaken};
 
-    ghost has_taken = { λ s segments rows. (s.terms ≡ posted_all posted_term rows) × (s.edges ≡ posted_edges rows) × TermsTaken segments s.sealed_terms.items × EdgesTaken segments s.sealed_edges.items };
+    ghost has_taken = { λ s segments rows. (s.terms ≡ posted_all posted_term rows)
+        × (s.edges ≡ posted_edges rows) × TermsTaken segments s.sealed_terms.items
+        × EdgesTaken segments s.sealed_edges.items };
 
     fn take(&mut self, row: &StampedRow, at: Posted) -> Result<(), AllocError> {
         let same = at;
@@ -65,7 +68,7 @@ impl RowSink for Posting {
 
 /// The terms of several segments.
 pub(crate) fn terms_of(alloc: Global, lists: Vec<term_prefix::Sealed>) -> Result<Terms, AllocError>
-    requires { length lists.items ≤ 128 }
+    requires { length lists.items ≤ max_lists }
     ensures { IfOk result (λ terms. terms ≡ lists.items) }
 {
     let mut terms = Terms::new(alloc)?;
@@ -77,7 +80,7 @@ pub(crate) fn terms_of(alloc: Global, lists: Vec<term_prefix::Sealed>) -> Result
 
 /// The links of several segments.
 pub(crate) fn links_of(alloc: Global, lists: Vec<associations::Sealed>) -> Result<Links, AllocError>
-    requires { length lists.items ≤ 128 }
+    requires { length lists.items ≤ max_lists }
     ensures { IfOk result (λ links. links ≡ lists.items) }
 {
     let mut links = Links::new(alloc)?;

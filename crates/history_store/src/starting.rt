@@ -2,7 +2,7 @@
 
 ghost use Rattle.std.specs.Prelude.{◌≡◌, ◌≢◌, ◌↔◌, ◌<◌, ◌≤◌, [], length, map, vec_items, IfOk, IfErr, OnOk};
 ghost use Rattle.lru.specs.LruCache.{lru_cache};
-ghost use Rattle.as_of_index.specs.Places.{ArePlaces};
+ghost use Rattle.as_of_index.specs.Places.{ArePlaces, max_lists};
 ghost use Rattle.store_image.specs.Shown.{IsOnDisk};
 ghost use Rattle.store_image.specs.Answers.{empty_listing, IsNewStore};
 ghost use Rattle.history_store.specs.Answers.{Counts, IsNotMade};
@@ -44,7 +44,7 @@ pub(crate) struct Started {
 
 /// An index of these places.
 fn index_of(alloc: Global, places: Vec<Vec<Posted>>) -> Result<Index, AllocError>
-    requires few { length places.items ≤ 128 }
+    requires few { length places.items ≤ max_lists }
     requires places { ArePlaces (map vec_items places.items) }
     ensures { IfOk result (λ index. index ≡ map vec_items places.items) }
 {
@@ -62,9 +62,9 @@ pub(crate) fn room_for(
     terms: Vec<term_prefix::Sealed>,
     edges: Vec<associations::Sealed>,
 ) -> Result<Room, AllocError>
-    requires few { length places.items ≤ 128 }
-    requires few_terms { length terms.items ≤ 128 }
-    requires few_edges { length edges.items ≤ 128 }
+    requires few { length places.items ≤ max_lists }
+    requires few_terms { length terms.items ≤ max_lists }
+    requires few_edges { length edges.items ≤ max_lists }
     requires places { ArePlaces (map vec_items places.items) }
     ensures index { IfOk result (λ room. room.index ≡ map vec_items places.items) }
     ensures terms { IfOk result (λ room. room.terms ≡ terms.items) }

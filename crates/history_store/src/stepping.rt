@@ -1,6 +1,8 @@
 //! A step of a merge: rows that are taken, read, posted and written.
 
-ghost use Rattle.std.specs.Prelude.{◌≡◌, ◌≢◌, ◌⊎◌, ◌↔◌, ◌+◌, ◌++◌, ◌∷◌, [], ◌^◌, ◌<◌, ◌≤◌, ℕ, List, length, take, Some, IfOk, IfErr, OnOk, OnErr, MatchResult, slice_get, if◌then◌else◌, true, false};
+ghost use Rattle.std.specs.Prelude.{◌≡◌, ◌≢◌, ◌⊎◌, ◌↔◌, ◌+◌, ◌++◌, ◌∷◌, [], ◌^◌, ◌<◌, ◌≤◌, ℕ, List, length, take};
+ghost use Rattle.std.specs.Prelude.{Some, IfOk, IfErr, OnOk, OnErr, MatchResult, slice_get};
+ghost use Rattle.std.specs.Prelude.{if◌then◌else◌, true, false};
 ghost use Rattle.std.specs.List.{AllZip};
 ghost use Rattle.disk_model.specs.Disk.{LeavesOnly};
 ghost use Rattle.blocks.specs.declared.slots.Slot.{Slot};
@@ -23,7 +25,9 @@ ghost use Rattle.history_store.specs.Answers.{Counts};
 ghost use Rattle.history_store.specs.Reading.{AreThere};
 ghost use Rattle.history_store.specs.Stored.{IsHeld};
 ghost use Rattle.history_store.specs.Ongoing.{HasMerge};
-ghost use Rattle.history_store.specs.Stepping.{StandsIn, IsReadAt, IsReady, IsPart, IsUnread, IsUnwritten, AreLengths, IsLonger, IsSame, Keeps, IsGrown, HasRoom, UnlessFault, IsStepOf, is_fault};
+ghost use Rattle.history_store.specs.Stepping.{StandsIn, IsReadAt, IsReady, IsPart, IsUnread};
+ghost use Rattle.history_store.specs.Stepping.{IsUnwritten, AreLengths, IsLonger, IsSame, Keeps};
+ghost use Rattle.history_store.specs.Stepping.{IsGrown, HasRoom, UnlessFault, IsStepOf, is_fault};
 ghost use Rattle.history_store.specs.declared.refusal.Refusal.TheVariants as refusals;
 
 use crate::ongoing::Ongoing;

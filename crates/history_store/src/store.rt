@@ -1,6 +1,7 @@
 //! The store: its calls.
 
-ghost use Rattle.std.specs.Prelude.{◌≡◌, ◌≢◌, ◌⊎◌, ◌↔◌, ◌+◌, ◌≤◌, ◌∷◌, ℕ, List, length, IfOk, IfErr, OnOk, OnErr, true, false};
+ghost use Rattle.std.specs.Prelude.{◌≡◌, ◌≢◌, ◌⊎◌, ◌↔◌, ◌+◌, ◌≤◌, ◌∷◌, ℕ, List, length};
+ghost use Rattle.std.specs.Prelude.{IfOk, IfErr, OnOk, OnErr, true, false};
 ghost use Rattle.disk_model.specs.Disk.{EachImage, IsImage, LeavesOnly};
 
 use crate::counting::row_count;
@@ -61,7 +62,11 @@ impl<D: Disk> Model for Store<D> {
       needs_reopen = s.needs_reopen;
     } };
 
-    ghost invariant = { λ s. IsHeld (D.is_honest s.disk) (D.moments s.disk).state s.cache s.slot s.directory s.index s.shown.items s.needs_reopen × ArePosted s.shown.items s.terms × EachPosted s.shown.items s.links × HasMerge (D.is_honest s.disk) (D.moments s.disk).state.now s.directory s.shown.items s.merge s.needs_reopen };
+    ghost invariant = { λ s. IsHeld (D.is_honest s.disk) (D.moments s.disk).state
+        s.cache s.slot s.directory s.index s.shown.items s.needs_reopen
+        × ArePosted s.shown.items s.terms × EachPosted s.shown.items s.links
+        × HasMerge (D.is_honest s.disk) (D.moments s.disk).state.now
+        s.directory s.shown.items s.merge s.needs_reopen };
 }
 
 impl<D: Disk> Store<D> {
@@ -78,7 +83,10 @@ impl<D: Disk> Store<D> {
     ghost use Rattle.blocks.specs.Slots.{slots_range};
     ghost use Rattle.store_image.specs.Answers.{IsNewStore};
     ghost use Rattle.history_store.specs.Written.{added_ranges};
-    ghost use Rattle.history_store.specs.Answers.{Counts, IsStep, device_of, CountsOpening, IsMakingOf, IsOpeningOf, SyncsOnce, IsReadingOf, IsStill, IsRefused, IsNotFresh, IsImportOf, IsImportAtAll, IsBeforeOrAfter, HandsBack, KeepsMoments};
+    ghost use Rattle.history_store.specs.Answers.{Counts, IsStep, device_of, CountsOpening};
+    ghost use Rattle.history_store.specs.Answers.{IsMakingOf, IsOpeningOf, SyncsOnce, IsReadingOf};
+    ghost use Rattle.history_store.specs.Answers.{IsStill, IsRefused, IsNotFresh, IsImportOf};
+    ghost use Rattle.history_store.specs.Answers.{IsImportAtAll, IsBeforeOrAfter, HandsBack, KeepsMoments};
     ghost use Rattle.history_store.specs.declared.refusal.Refusal.TheVariants as refusals;
 
     /// Makes a store on an empty disk. The length of the disk is looked at first, then all memory is taken, then the disk is written.
