@@ -1,5 +1,5 @@
-//! Worked examples as lines that are served: releases and their refusals, questions of two sessions, merges, stops and openings, and the script of the demonstration through
-//! streams of all sorts. It has no code of its own.
+//! Worked examples as lines that are served, with stops and openings between them; the script of the demonstration through streams of all sorts; and the
+//! statuses of the program. It has no code of its own.
 #![tactic(auto)]
 
 #[cfg(test)]

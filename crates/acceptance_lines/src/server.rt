@@ -45,7 +45,10 @@ impl Server {
     fn boxed(alloc: Global, store: Store<MemDisk>) -> Result<Server, Refusal> {
         match Box::new(alloc, store) {
             Ok(store) => Ok(Server { alloc, store }),
-            Err(_) => Err(Refusal::OutOfMemory),
+            Err(failed) => {
+                drop(failed.value.close());
+                Err(Refusal::OutOfMemory)
+            }
         }
     }
 
