@@ -1,0 +1,53 @@
+//! The lines of the program's demonstration, and their replies.
+
+use crate::server::Turn;
+
+/// Imports of three releases, one of them while a merge goes on; what two sessions, of which one is pinned, are then told; and two refusals.
+pub const SCRIPT: [Turn; 20] = [
+    ("0 STATUS", &["OK 0 0 0 -"]),
+    ("0 GET C 138875005 20230131", &["END 0"]),
+    ("0 IMPORT r1", &["OK 1 6 0"]),
+    ("1 PIN", &["OK 1"]),
+    ("0 IMPORT r2", &["OK 2 4 0"]),
+    ("0 MERGE", &["OK 10"]),
+    ("0 STEP 1", &["OK 9"]),
+    ("1 IMPORT r3", &["OK 3 2 1"]),
+    ("0 STEP 100", &["OK 0"]),
+    ("0 PUBLISH", &["OK"]),
+    ("0 STATUS", &["OK 3 12 2 -"]),
+    (
+        "0 GET C 1000004 20200831",
+        &["ROW 1000004|20200731|0|CORE|PRIM", "END 1"],
+    ),
+    (
+        "1 GET C 1000004 20200831",
+        &["ROW 1000004|20200131|1|CORE|PRIM", "END 1"],
+    ),
+    (
+        "0 HISTORY C 1000004",
+        &[
+            "ROW 1000004|20200131|1|CORE|PRIM",
+            "ROW 1000004|20200731|0|CORE|PRIM",
+            "ROW 1000004|20210131|0|CORE|PRIM",
+            "END 3",
+        ],
+    ),
+    ("0 CHILDREN 138875005 20210131", &["ID 1000004", "END 1"]),
+    (
+        "0 TERMS 20200131 10 STRASS",
+        &[
+            "ROW 1000015|20200131|1|CORE|1000004|de|SYN|Straße|ECI",
+            "END 1",
+        ],
+    ),
+    ("0 TERMS 20210131 10 STRASS", &["END 0"]),
+    (
+        "0 REPLACED 1000004 20210131",
+        &[
+            "ROW 0b6a0c2e-5d0f-4c53-9f6e-8d9d2a7b1c01|20210131|1|CORE|900000000000527005|1000004|2000001",
+            "END 1",
+        ],
+    ),
+    ("1 PIN 9", &["ERR 44 PinRange"]),
+    ("0 IMPORT r9", &["ERR 45 NoFolder"]),
+];

@@ -1,0 +1,72 @@
+//! A merge beside an import, published, and stopped at each moment of its publication.
+
+use crate::server::{Server, Turn, after};
+use acceptance_fixtures::image_before_end;
+use disk_model::Choice;
+use std::test::Fail;
+
+const MERGED: [Turn; 7] = [
+    ("0 IMPORT r1", &["OK 1 6 0"]),
+    ("0 IMPORT r2", &["OK 2 4 0"]),
+    ("0 MERGE", &["OK 10"]),
+    ("0 STEP 1", &["OK 9"]),
+    ("1 IMPORT r3", &["OK 3 2 1"]),
+    ("0 STEP 100", &["OK 0"]),
+    ("0 PUBLISH", &["OK"]),
+];
+
+/// Three segments, as before the publication, and two, as behind it.
+const BEFORE: [Turn; 1] = [("0 STATUS", &["OK 3 12 3 -"])];
+
+const BEHIND: [Turn; 1] = [("0 STATUS", &["OK 3 12 2 -"])];
+
+/// The front of the content of epoch 5: the mark, three imports and two segments. The first has 638 bytes and 10 rows in block 6, the second 92 bytes and
+/// 2 rows in block 7.
+const CONTENT: [u8; 64] = [
+    0, 0, 0, 0, 0, 0, 0, 5, 0x53, 0x43, 0x54, 0x48, 0x49, 0x53, 0x54, 0x31, 0, 0, 0, 3, 0, 0, 0, 2,
+    0, 0, 0, 0, 0, 0, 0, 0, 0, 0, 0, 6, 0, 0, 2, 0x7e, 0, 0, 0, 10, 0, 0, 0, 0, 0, 0, 0, 7, 0, 0,
+    0, 92, 0, 0, 0, 2, 0, 0, 0, 0,
+];
+
+#[test]
+fn a_merge_is_published(rt: HostRuntime) -> Result<(), Fail> {
+    let mut server = after(rt.alloc(), &MERGED)?.ok_or("other replies")?;
+    assert!(rt; server.says(&BEHIND)?);
+    let disk = server.close();
+    assert_eq!(rt; disk.bytes().first(), Some(&0xa5));
+    let content = disk.bytes().get(4_096..4_160).ok_or("a content block")?;
+    assert!(rt; content == CONTENT.as_slice());
+    // The rest of the block lists nothing.
+    let rest = disk.bytes().get(4_160..8_192).ok_or("a content block")?;
+    assert!(rt; rest.iter().all(|byte| *byte == 0));
+    let mut server = Server::opened(rt.alloc(), disk)?;
+    assert!(rt; server.says(&BEHIND)?);
+    Ok(())
+}
+
+#[test]
+fn a_publication_is_stopped(rt: HostRuntime) -> Result<(), Fail> {
+    let server = after(rt.alloc(), &MERGED)?.ok_or("other replies")?;
+    let disk = server.close();
+    // A publication makes seven changing calls: the sixth opens the gate, and the last syncs it. Filled with 165 a gate that isn't synced reads as open,
+    // and filled with 0 as closed. The merge isn't there yet where so many calls are still to come.
+    let cases = [
+        (Choice::Kept, 2),
+        (Choice::Lost, 1),
+        (Choice::Filled(0), 1),
+        (Choice::Filled(165), 2),
+    ];
+    for (choice, unpublished) in &cases {
+        for left in 0..8 {
+            let image = image_before_end(&disk, left, *choice)?;
+            let mut server = Server::of_bytes(rt.alloc(), image.as_slice())?;
+            let want = if left < *unpublished {
+                &BEHIND
+            } else {
+                &BEFORE
+            };
+            assert!(rt; server.says(want)?, "{left} calls before the end");
+        }
+    }
+    Ok(())
+}

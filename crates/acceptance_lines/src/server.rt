@@ -1,0 +1,115 @@
+//! A store whose lines are served. Its calls have no clauses.
+
+use crate::releases::Examples;
+use acceptance_fixtures::lines;
+use disk_model::MemDisk;
+use history_store::{Refusal, Store};
+use line_server::{ServeFault, serve};
+use std::alloc::{AllocError, Global};
+use std::io::{Read, Write};
+
+/// The most reads that a run may make.
+const READS: u32 = 1_000_000;
+
+/// A line and the lines of its reply, in which a bar stands for a TAB and a name in capitals for an identifier.
+pub type Turn = (&'static str, &'static [&'static str]);
+
+/// The lines, each with an LF.
+pub fn input_of(alloc: Global, turns: &[Turn]) -> Result<Vec<u8>, AllocError> {
+    let mut input = Vec::new(alloc);
+    for (line, _) in turns {
+        input.extend_from_slice(line.as_bytes())?;
+        input.push(b'\n')?;
+    }
+    Ok(input)
+}
+
+/// The replies to the lines.
+pub fn replies_of(alloc: Global, turns: &[Turn]) -> Result<Vec<u8>, AllocError> {
+    let mut replies = Vec::new(alloc);
+    for (_, reply) in turns {
+        replies.extend_from_slice(lines(alloc, *reply)?.as_slice())?;
+    }
+    Ok(replies)
+}
+
+/// A store on a disk in memory that serves streams of lines. It is boxed, so that a test which lets it go is proved without what a store is made of.
+#[derive(Drop)]
+pub struct Server {
+    alloc: Global,
+    store: Box<Store<MemDisk>>,
+}
+
+impl Server {
+    /// The store in its box.
+    fn boxed(alloc: Global, store: Store<MemDisk>) -> Result<Server, Refusal> {
+        match Box::new(alloc, store) {
+            Ok(store) => Ok(Server { alloc, store }),
+            Err(failed) => {
+                drop(failed.value.close());
+                Err(Refusal::OutOfMemory)
+            }
+        }
+    }
+
+    /// A new store on an empty disk.
+    pub fn new(alloc: Global) -> Result<Server, Refusal> {
+        match Store::create(alloc, MemDisk::new(alloc)) {
+            Ok(store) => Server::boxed(alloc, store),
+            Err((refusal, _)) => Err(refusal),
+        }
+    }
+
+    /// The store that a disk stands for.
+    pub fn opened(alloc: Global, disk: MemDisk) -> Result<Server, Refusal> {
+        match Store::open(alloc, disk) {
+            Ok(store) => Server::boxed(alloc, store),
+            Err((refusal, _)) => Err(refusal),
+        }
+    }
+
+    /// The store that a disk of these bytes stands for.
+    pub fn of_bytes(alloc: Global, bytes: &[u8]) -> Result<Server, Refusal> {
+        Server::opened(alloc, MemDisk::from_bytes(alloc, bytes.to_vec(alloc)?))
+    }
+
+    /// Serves all lines of the input.
+    pub fn serve<R: Read, W: Write>(
+        &mut self,
+        input: &mut R,
+        output: &mut W,
+    ) -> Result<u64, ServeFault> {
+        serve(
+            self.alloc,
+            input,
+            output,
+            &mut Examples,
+            &mut self.store,
+            READS,
+        )
+    }
+
+    /// Serves the lines, and tells if their replies are these and nothing else is written.
+    pub fn says(&mut self, turns: &[Turn]) -> Result<bool, AllocError> {
+        let input = input_of(self.alloc, turns)?;
+        let want = replies_of(self.alloc, turns)?;
+        let mut output = Vec::new(self.alloc);
+        let served = self.serve(&mut input.as_slice(), &mut output);
+        Ok(served == Ok(turns.len() as u64) && output == want)
+    }
+
+    /// Gives the disk back.
+    pub fn close(self) -> MemDisk {
+        Box::into_inner(self.store).close()
+    }
+}
+
+/// A new store that served these lines, where their replies are these.
+pub fn after(alloc: Global, turns: &[Turn]) -> Result<Option<Server>, Refusal> {
+    let mut server = Server::new(alloc)?;
+    if server.says(turns)? {
+        Ok(Some(server))
+    } else {
+        Ok(None)
+    }
+}
