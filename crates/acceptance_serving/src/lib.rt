@@ -1,11 +1,10 @@
-//! Lines that are answered and served with little memory, and overlong ones. It has no code of its own.
+//! Lines that are served with little memory, and overlong ones. Its script is for other crates' tests too.
 #![tactic(auto)]
 
 #[cfg(test)]
 mod growths;
 #[cfg(test)]
 mod overlong;
-#[cfg(test)]
-mod script;
+pub mod script;
 #[cfg(test)]
 mod session;

@@ -86,7 +86,7 @@ pub fn script_replies(alloc: Global) -> Result<Vec<u8>, AllocError> {
 }
 
 /// Appends lines, with TABs for bars.
-fn put_lines(bytes: &mut Vec<u8>, lines: &[&str]) -> Result<(), AllocError> {
+pub fn put_lines(bytes: &mut Vec<u8>, lines: &[&str]) -> Result<(), AllocError> {
     for line in lines {
         for byte in line.as_bytes() {
             bytes.push(if *byte == b'|' { b'\t' } else { *byte })?;
