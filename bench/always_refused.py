@@ -1,0 +1,264 @@
+#!/usr/bin/env python3
+"""Tries, for each public call that may be refused for want of memory, a body that always is.
+
+always_refused.py [--rt COMMAND] [--only WORD] [--keep FOLDER]
+
+A contract allows such a refusal at any time, so such a body could be proved: a test has to fail.
+Each call of CALLS is made to give its refusal at once, in a copy of this repository; there the
+tests of a crate are run by `rt try --test`, which proves nothing and needs no library. A line for
+each call says which of them failed, and the one that CALLS names has to be among them. The last
+line counts the calls, and those that were not caught: the status is 1 where there are any.
+
+WORD takes the calls with this text in their crate and name. COMMAND is the kit's, `rt` where none
+is given. The copy lies in a temporary folder, or in FOLDER, and then it stays. A call takes about
+half a minute to a minute and a half of one processor. Standard library alone.
+"""
+
+import argparse
+import os
+import re
+import shlex
+import shutil
+import subprocess
+import sys
+import tempfile
+from collections import namedtuple
+
+TOP = os.path.dirname(os.path.dirname(os.path.abspath(__file__)))
+
+# A call's crate and name; the file in the crate's src/, and a text that stands in the call's head
+# there and nowhere else; the refusal that it is to give; the crate whose tests are run, and the one
+# of them that must fail.
+Call = namedtuple("Call", "crate name file head refusal tests must_fail")
+
+# The refusals.
+ALLOC = "Err(AllocError)"
+SEGMENT = "Err(SegmentFault::OutOfMemory)"
+IMAGE = "Err(ImageFault::OutOfMemory)"
+FOLDER = "Err(FolderFault::OutOfMemory)"
+READ = "Err(ReadFault::OutOfMemory)"
+STORE = "Err(Refusal::OutOfMemory)"
+BACK = "Err((Refusal::OutOfMemory, disk))"
+SOURCE = "Err(SourceFault::OutOfMemory)"
+
+CALLS = [
+    # Values and rows.
+    Call("rf2_values", "Text::of", "text.rt", "pub fn of(", ALLOC,
+         "rf2_values", "rows_of_columns"),
+    Call("rf2_values", "Text::try_clone", "text.rt", "pub fn try_clone(", ALLOC,
+         "rf2_rows", "read_and_written"),
+    Call("rf2_values", "Body::try_clone", "row.rt", "Result<Body, AllocError>", ALLOC,
+         "rf2_rows", "read_and_written"),
+    Call("rf2_values", "Row::try_clone", "row.rt", "Result<Row, AllocError>", ALLOC,
+         "rf2_rows", "read_and_written"),
+    Call("rf2_values", "Member::write", "member.rt", "pub fn write(", ALLOC,
+         "rf2_rows", "read_and_written"),
+    Call("rf2_rows", "parse_line", "line.rt",
+         "pub fn parse_line(", "Err(RowFault::OutOfMemory)", "rf2_rows", "faults_of_lines"),
+    Call("rf2_rows", "read_file", "file.rt", "pub fn read_file(", "Err(FileFault::OutOfMemory)",
+         "rf2_rows", "concept_files"),
+    Call("rf2_rows", "write_row", "write.rt", "pub fn write_row(", ALLOC,
+         "rf2_rows", "read_and_written"),
+    Call("history_model", "StampedRow::try_clone", "stamped.rt", "pub fn try_clone(", ALLOC,
+         "history_model", "receipts"),
+    Call("history_model", "Shown::push", "shown.rt", "pub fn push(", ALLOC,
+         "history_model", "shown_rows_take_rows_and_no_memory"),
+    Call("history_model", "plain::snapshot", "plain.rt", "pub fn snapshot(", ALLOC,
+         "history_model", "versions_and_snapshots"),
+    Call("history_model", "plain::versions", "plain.rt", "pub fn versions(", ALLOC,
+         "history_model", "versions_and_snapshots"),
+    Call("history_model", "plain::page", "plain.rt", "pub fn page(", ALLOC,
+         "history_model", "terms_and_pages"),
+    Call("history_model", "plain::terms", "plain.rt", "pub fn terms<", ALLOC,
+         "history_model", "terms_and_pages"),
+    Call("history_model", "plain::children", "plain.rt", "pub fn children(", ALLOC,
+         "history_model", "children_and_replacements"),
+    Call("history_model", "plain::replacements", "plain.rt", "pub fn replacements(", ALLOC,
+         "history_model", "children_and_replacements"),
+    Call("history_model", "plain::rows_at", "plain.rt", "pub fn rows_at(", ALLOC,
+         "history_model", "concepts_at_a_date_and_a_pin"),
+    Call("history_model", "plain::after_release", "plain.rt", "pub fn after_release(", ALLOC,
+         "history_model", "receipts"),
+    Call("history_model", "plain::receipt", "plain.rt", "pub fn receipt(", ALLOC,
+         "history_model", "receipts"),
+    # What lies on the disk.
+    Call("disk_model", "MemDisk::image", "memory.rt", "pub fn image(", ALLOC,
+         "disk_model", "images_after_each_call"),
+    Call("disk_model", "MemDisk::image_now", "memory.rt", "pub fn image_now(", ALLOC,
+         "disk_model", "a_fuse_and_a_break_of_reads"),
+    Call("disk_model", "MemDisk::reserve", "memory.rt", "pub fn reserve(", ALLOC,
+         "disk_model", "a_reservation_takes_the_room"),
+    Call("blocks", "BlockCache::new", "cache.rt", "pub fn new(", ALLOC,
+         "blocks", "a_record_is_read_through_a_cache"),
+    Call("directory", "Directory::new", "listing.rt", "pub fn new(", ALLOC,
+         "directory", "entries_go_last_and_close_up"),
+    Call("directory", "Directory::try_clone", "listing.rt", "pub fn try_clone(", ALLOC,
+         "acceptance_imports", "one_concept_is_found_from_its_day_on"),
+    Call("directory", "Directory::decode", "listing.rt",
+         "pub fn decode(", "Err(DirectoryFault::OutOfMemory)",
+         "directory", "each_way_in_which_a_block_is_bad"),
+    Call("segment", "encode", "encoding.rt", "pub fn encode(", ALLOC,
+         "segment", "a_record_of_each_kind"),
+    Call("segment", "decode", "decoding.rt", "pub fn decode(", SEGMENT,
+         "segment", "rows_out_of_order_are_refused"),
+    Call("segment", "record_at", "decoding.rt", "pub fn record_at(", SEGMENT,
+         "segment", "a_row_at_its_place"),
+    Call("store_image", "make", "making.rt", "pub fn make<", IMAGE,
+         "store_image", "an_empty_store"),
+    Call("store_image", "load", "opening.rt", "pub fn load<", IMAGE,
+         "store_image", "an_empty_store"),
+    # Releases.
+    Call("import_check", "sample", "samples.rt", "pub fn sample(", ALLOC,
+         "import_check", "samples_are_as_written"),
+    Call("import_check", "new_rows", "union.rt",
+         "pub fn new_rows<", "Err(ImportFault::OutOfMemory)",
+         "import_check", "files_that_end_early"),
+    Call("import_check", "KnownRows::row", "known.rt",
+         "Result<Option<Row>, KnownFault> {", "Err(KnownFault::OutOfMemory)",
+         "import_check", "releases_in_turn"),
+    Call("release_folder", "read_folder", "folder.rt", "pub fn read_folder<", FOLDER,
+         "release_folder", "a_release_is_read_in_the_order_of_its_names"),
+    Call("release_folder", "release_of", "folder.rt", "pub fn release_of(", FOLDER,
+         "release_folder", "files_of_one_kind_come_in_the_byte_order_of_their_names"),
+    # The index.
+    Call("merge", "Merging::take", "lib.rt", "pub fn take(", ALLOC,
+         "merge", "the_first_places_come_in_key_order"),
+    Call("as_of_index", "Index::new", "index.rt", "pub fn new(", ALLOC,
+         "as_of_index", "what_three_releases_say_at_a_date"),
+    Call("as_of_index", "Index::pick", "index.rt", "pub fn pick<", READ,
+         "as_of_index", "what_three_releases_say_at_a_date"),
+    Call("as_of_index", "Index::history", "index.rt", "pub fn history<", READ,
+         "as_of_index", "versions_and_pages_of_three_releases"),
+    Call("as_of_index", "Index::page", "index.rt", "pub fn page<", READ,
+         "as_of_index", "versions_and_pages_of_three_releases"),
+    Call("as_of_index", "KeptRows::row", "kept.rt", "fn row(&mut self,", READ,
+         "as_of_index", "what_three_releases_say_at_a_date"),
+    Call("as_of_index", "read_all", "chosen.rt", "pub fn read_all<", READ,
+         "associations", "a_street_is_replaced_once_an_association_says_so"),
+    Call("term_prefix", "Postings::push", "postings.rt", "pub fn push(", ALLOC,
+         "term_prefix", "postings_grow_and_are_cut"),
+    Call("term_prefix", "Terms::new", "terms.rt", "pub fn new(", ALLOC,
+         "term_prefix", "as_many_lists_as_may_be"),
+    Call("term_prefix", "find", "search.rt", "pub fn find<", READ,
+         "term_prefix", "streets_by_the_beginning_of_their_names"),
+    Call("associations", "Postings::push", "postings.rt", "pub fn push(", ALLOC,
+         "associations", "postings_grow_and_are_cut"),
+    Call("associations", "Links::new", "links.rt", "pub fn new(", ALLOC,
+         "associations", "as_many_lists_as_may_be"),
+    Call("associations", "children", "hierarchy.rt", "pub fn children(", ALLOC,
+         "associations", "a_street_is_a_child_while_a_relationship_says_so"),
+    Call("associations", "replacements", "substitutes.rt", "pub fn replacements<", READ,
+         "associations", "a_street_is_replaced_once_an_association_says_so"),
+    # The store.
+    Call("history_store", "Store::create", "store.rt", "pub fn create(", BACK,
+         "acceptance_queries", "nothing_is_found_in_an_empty_store"),
+    Call("history_store", "Store::open", "store.rt", "pub fn open(", BACK,
+         "acceptance_disk", "a_store_is_opened_as_it_was_closed"),
+    Call("history_store", "Store::import", "store.rt", "pub fn import(", STORE,
+         "acceptance_imports", "one_concept_is_found_from_its_day_on"),
+    Call("history_store", "Store::lookup", "store.rt", "pub fn lookup(", STORE,
+         "acceptance_queries", "a_pin_shows_the_imports_up_to_it"),
+    Call("history_store", "Store::history", "store.rt", "pub fn history(", STORE,
+         "acceptance_queries", "versions_ascend_by_time"),
+    Call("history_store", "Store::page", "store.rt", "pub fn page(", STORE,
+         "acceptance_queries", "pages_follow_one_another"),
+    Call("history_store", "Store::terms", "store.rt", "pub fn terms(", STORE,
+         "acceptance_queries", "terms_are_found_whatever_their_case"),
+    Call("history_store", "Store::children", "store.rt", "pub fn children(", STORE,
+         "acceptance_queries", "a_child_is_named_once"),
+    Call("history_store", "Store::replacements", "store.rt", "pub fn replacements(", STORE,
+         "acceptance_queries", "a_replacement_holds_from_its_day_on"),
+    Call("history_store", "Store::merge_step", "merge_calls.rt", "pub fn merge_step(", STORE,
+         "acceptance_merging", "a_merge_beside_an_import"),
+    # The server and the program.
+    Call("line_server", "Sample::release", "source.rt",
+         "Result<Release, SourceFault> {", SOURCE, "line_server", "pieces_play_no_part"),
+    Call("line_server", "answer", "answering.rt",
+         "pub fn answer<", "refused(alloc, LineRefusal::Store(Refusal::OutOfMemory))",
+         "line_server", "lines_are_answered"),
+    Call("line_server", "serve", "serving.rt", "pub fn serve<", "Err(ServeFault::OutOfMemory)",
+         "line_server", "pieces_play_no_part"),
+    Call("command_line", "FolderSource::release", "folders.rt", "fn release(", SOURCE,
+         "command_line", "a_file_keeps_what_was_imported"),
+    Call("command_line", "run", "running.rt",
+         "pub fn run<", "fail(ServeFault::OutOfMemory, faults)", "command_line", "statuses"),
+]
+
+
+def body_of(lines, head):
+    """The number of the first line of a body, below a head and its contract."""
+    places = [place for place, line in enumerate(lines) if head in line]
+    if len(places) != 1:
+        raise ValueError("%r stands %d times" % (head, len(places)))
+    depth = len(lines[places[0]]) - len(lines[places[0]].lstrip())
+    for place in range(places[0], len(lines)):
+        line = lines[place]
+        if line.endswith("{") and len(line) - len(line.lstrip()) == depth:
+            return place + 1
+    raise ValueError("%r has no body" % head)
+
+
+def planted(text, call):
+    """The text of a file in which the call always gives its refusal."""
+    lines = text.split("\n")
+    lines.insert(body_of(lines, call.head), "return %s;" % call.refusal)
+    return "\n".join(lines)
+
+
+def failed_tests(rt, folder):
+    """The names of the tests of a crate that fail, and how many tests it has; None without any."""
+    done = subprocess.run(
+        shlex.split(rt) + ["try", "--test"],
+        cwd=folder,
+        stdout=subprocess.PIPE,
+        stderr=subprocess.STDOUT,
+        check=False,
+    )
+    text = done.stdout.decode(errors="replace")
+    ends = re.findall(r"^test (\S+) \.\.\. (\w+)", text, re.MULTILINE)
+    if not ends:
+        print(text, file=sys.stderr)
+        return None
+    return [name.split("::")[-1] for name, end in ends if end != "ok"], len(ends)
+
+
+def is_caught(rt, top, call):
+    """Tries one call, and prints what came of it."""
+    path = os.path.join(top, "crates", call.crate, "src", call.file)
+    with open(path, encoding="utf-8") as file:
+        text = file.read()
+    with open(path, "w", encoding="utf-8") as file:
+        file.write(planted(text, call))
+    try:
+        found = failed_tests(rt, os.path.join(top, "crates", call.tests))
+    finally:
+        with open(path, "w", encoding="utf-8") as file:
+            file.write(text)
+    failed, count = found or ([], 0)
+    caught = call.must_fail in failed
+    print("%s %s: %s, %d of the %d tests of %s fail: %s" % (
+        call.crate, call.name, "caught" if caught else "NOT CAUGHT",
+        len(failed), count, call.tests, " ".join(failed)), flush=True)
+    return caught
+
+
+def main():
+    parser = argparse.ArgumentParser(description=__doc__.strip().split("\n", maxsplit=1)[0])
+    parser.add_argument("--rt", default="rt", help="the command of the kit")
+    parser.add_argument("--only", default="", help="the calls with this word in crate or name")
+    parser.add_argument("--keep", help="the folder of the copy, which stays")
+    asked = parser.parse_args()
+    calls = [call for call in CALLS if asked.only in call.crate + " " + call.name]
+    top = asked.keep or tempfile.mkdtemp(prefix="sctd-refused-")
+    try:
+        shutil.copytree(TOP, top, ignore=shutil.ignore_patterns(".git", "out"), dirs_exist_ok=True)
+        missed = sum(not is_caught(asked.rt, top, call) for call in calls)
+    finally:
+        if not asked.keep:
+            shutil.rmtree(top)
+    print("%d calls, %d not caught" % (len(calls), missed))
+    return 1 if missed else 0
+
+
+if __name__ == "__main__":
+    sys.exit(main())
