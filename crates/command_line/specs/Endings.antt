@@ -1,5 +1,5 @@
 -- How the program ends, and what it says of it.
-use Rattle.std.specs.Prelude.{◌≡◌, ℕ, List, [], ◌∷◌, ◌++◌, codes, decimal, Option, Result, Ok, Err, IsOk, IsErr}
+use Rattle.std.specs.Prelude.{◌≡◌, ℕ, List, [], ◌∷◌, codes, decimal, Option, Result, Ok, Err, IsOk, IsErr}
 use Rattle.std.specs.Io.KnownBytes.{Appends}
 use Rattle.line_server.specs.declared.refusal.LineRefusal.{LineRefusal}
 use Rattle.line_server.specs.declared.serving.ServeFault.{ServeFault}

@@ -1,3 +1,10 @@
 pub use Rattle.line_server.specs.Said
 pub use Rattle.line_server.specs.Turns
+pub use Rattle.line_server.specs.Serving
+pub use Rattle.line_server.specs.Imports
+pub use Rattle.history_store.specs.Stored
+pub use Rattle.history_store.specs.Answers
 pub mod Endings
+pub mod Words
+pub mod Tasks
+pub mod Runs

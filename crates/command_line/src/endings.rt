@@ -28,7 +28,7 @@ pub(crate) fn finish<O: Write, E: Write>(
     faults: &mut E,
 ) -> u8
     ensures status { result ≤ 1 }
-    ensures done { result ≡ 0 → ended ≡ Ok Done }
+    ensures done { result ≡ 0 → (ended ≡ Ok Done) × (faults.new ≡ faults.old) }
     ensures written { Keeps (O.contents output.old) (O.contents output.new) }
 {
     let flushed = output.flush();

@@ -1,31 +1,24 @@
 //! Releases in unpacked folders.
 
+use crate::places::Places;
 use import_check::Release;
 use line_server::{Source, SourceFault};
-use release_folder::{FolderFault, read_folder};
 use std::alloc::Global;
-use std::fs::{File, Files};
 
-/// Has the releases in the folders below one. It claims nothing of what they hold.
+/// Has the releases in the folders below one.
 #[derive(Drop)]
-pub struct FolderSource<'a, R: Files<File = File> + AllocGlobal + Clone + Drop> {
-    pub rt: &'a R,
+pub struct FolderSource<'a, P: Places> {
+    pub places: &'a P,
     /// The folder that the releases' folders lie in.
     pub dir: &'a str,
 }
 
-impl<R: Files<File = File> + AllocGlobal + Clone + Drop> Source for FolderSource<'_, R> {
-    ghost use Rattle.std.specs.Prelude.{None};
+impl<P: Places> Source for FolderSource<'_, P> {
+    ghost is_honest = { λ s. P.is_honest s.places.now };
 
-    ghost is_honest = { λ _. ⊥ };
-
-    ghost releases = { λ _ _. None };
+    ghost releases = { λ s. P.releases s.places.now s.dir.now };
 
     fn release(&mut self, alloc: Global, name: &str) -> Result<Release, SourceFault> {
-        match read_folder(self.rt, alloc, self.dir, name) {
-            Ok(release) => Ok(release),
-            Err(FolderFault::OutOfMemory) => Err(SourceFault::OutOfMemory),
-            Err(FolderFault::NoFolder) => Err(SourceFault::NoFolder),
-        }
+        self.places.release(alloc, self.dir, name)
     }
 }

@@ -4,9 +4,14 @@
 mod demonstration;
 mod endings;
 mod folders;
+mod importing;
+mod making;
+mod places;
 mod running;
+mod serving;
 #[cfg(test)]
 mod tests;
 mod words;
 
+pub use places::Places;
 pub use running::run;

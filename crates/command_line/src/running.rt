@@ -1,26 +1,27 @@
 //! How what the words ask for is done.
 
-ghost use Rattle.std.specs.Prelude.{◌≡◌, ◌≤◌, IfOk};
-ghost use Rattle.command_line.specs.Endings.{Tells, IsReply};
+ghost use Rattle.std.specs.Prelude.{◌≡◌, ◌≤◌, ◌⊎◌, map, string_bytes};
+ghost use Rattle.command_line.specs.Tasks.{IsMade, IsImport, IsServing};
+ghost use Rattle.command_line.specs.Runs.{IsDoneAt, IsMissing, IsDemonstrated, Does, IsRun, IsNoTask, IsExplained};
 
 use crate::demonstration::SCRIPT;
-use crate::endings::{Ending, fail, finish, refuse, tell, tell_done};
+use crate::endings::{Ending, fail, finish, refuse};
 use crate::folders::FolderSource;
+use crate::importing::import;
+use crate::making::init;
+use crate::places::Places;
+use crate::serving::{serve_device, serve_new};
 use crate::words::{Refused, Task, task_of};
-use disk_model::{FileDisk, MemDisk};
-use history_store::{Refusal, Store};
-use line_server::{Pins, Reply, Sample, ServeFault, answer, serve};
+use disk_model::MemDisk;
+use history_store::Refusal;
+use line_server::{Sample, ServeFault};
 use std::alloc::Global;
-use std::fs::{File, Files};
 use std::io::{Read, Write};
-
-/// How many reads of its input a server makes at most.
-const MOST_READS: u32 = 4_294_967_295;
 
 /// Does what the words ask for, of which the first is the program's name, and answers the status of the program: 0 where it was done; 1 where it was
 /// refused, or a stream or the memory failed; 2 where the words are no command.
-pub fn run<R: Files<File = File> + AllocGlobal + Clone + Drop, I: Read, O: Write, E: Write>(
-    rt: &R,
+pub fn run<P: Places, I: Read, O: Write, E: Write>(
+    places: &P,
     alloc: Global,
     words: &[String],
     input: &mut I,
@@ -30,28 +31,133 @@ pub fn run<R: Files<File = File> + AllocGlobal + Clone + Drop, I: Read, O: Write
     ensures status { result ≤ 2 }
     // Words that are no command do nothing but to be told.
     ensures no_command { result ≡ 2 → (input.new ≡ input.old) × (output.new ≡ output.old) }
+    ensures done { IsRun (P.gives places.now) (P.is_honest places.now) (P.releases places.now)
+        P.Device.is_honest P.Device.moments P.Device.failures SCRIPT.now
+        (map string_bytes words.now) result (I.remaining input.old) (I.remaining input.new)
+        (O.contents output.old) (O.contents output.new)
+        ⊎ IsNoTask (map string_bytes words.now) result
+        (I.remaining input.old) (I.remaining input.new)
+        (O.contents output.old) (O.contents output.new) }
 {
-    let task = match task_of(alloc, words) {
-        Ok(task) => task,
-        Err(refused) => return explain(&refused, output, faults),
-    };
-    let ended = match task {
-        Task::Init { store } => init(rt, alloc, store, output),
+    match task_of(alloc, words) {
+        Ok(task) => {
+            let ended = perform(places, alloc, &task, input, output);
+            finish(ended, output, faults)
+        }
+        Err(refused) => explain(&refused, output, faults),
+    }
+}
+
+/// Does a task.
+fn perform<P: Places, I: Read, O: Write>(
+    places: &P,
+    alloc: Global,
+    task: &Task<'_>,
+    input: &mut I,
+    output: &mut O,
+) -> Result<Ending, ServeFault>
+    ensures { Does (P.gives places.now) (P.is_honest places.now) (P.releases places.now)
+        P.Device.is_honest P.Device.moments P.Device.failures SCRIPT.now task.now result
+        (I.remaining input.old) (I.remaining input.new)
+        (O.contents output.old) (O.contents output.new) }
+{
+    match task {
+        Task::Init { store } => init_at(places, alloc, *store, output),
         Task::Import {
             store,
             releases,
             name,
-        } => import(rt, alloc, store, releases, name, output),
-        Task::Serve { store, releases } => serve_file(rt, alloc, store, releases, input, output),
+        } => import_at(places, alloc, *store, *releases, *name, output),
+        Task::Serve { store, releases } => {
+            serve_at(places, alloc, *store, *releases, input, output)
+        }
         Task::Demo => demo(alloc, output),
-    };
-    finish(ended, output, faults)
+    }
+}
+
+/// Makes a store under a name.
+fn init_at<P: Places, O: Write>(
+    places: &P,
+    alloc: Global,
+    path: &str,
+    output: &mut O,
+) -> Result<Ending, ServeFault>
+    ensures { IsDoneAt (P.gives places.now path.now)
+        (λ device. IsMade P.Device.is_honest P.Device.moments device result
+        (O.contents output.old) (O.contents output.new))
+        (IsMissing result (O.contents output.old) (O.contents output.new)) }
+{
+    match places.device_or_new(path) {
+        Ok(device) => init(alloc, device, output),
+        Err(_) => refuse(output, Refusal::DiskFault),
+    }
+}
+
+/// Imports a release into the store under a name.
+fn import_at<P: Places, O: Write>(
+    places: &P,
+    alloc: Global,
+    path: &str,
+    dir: &str,
+    name: &str,
+    output: &mut O,
+) -> Result<Ending, ServeFault>
+    ensures { IsDoneAt (P.gives places.now path.now)
+        (λ device. IsImport (P.is_honest places.now) (P.releases places.now dir.now)
+        P.Device.is_honest P.Device.moments P.Device.failures name.now device result
+        (O.contents output.old) (O.contents output.new))
+        (IsMissing result (O.contents output.old) (O.contents output.new)) }
+{
+    match places.device(path) {
+        Ok(device) => {
+            let mut source = FolderSource { places, dir };
+            import(alloc, device, name, &mut source, output)
+        }
+        Err(_) => refuse(output, Refusal::DiskFault),
+    }
+}
+
+/// Answers the lines of the input from the store under a name.
+fn serve_at<P: Places, I: Read, O: Write>(
+    places: &P,
+    alloc: Global,
+    path: &str,
+    dir: &str,
+    input: &mut I,
+    output: &mut O,
+) -> Result<Ending, ServeFault>
+    ensures { IsDoneAt (P.gives places.now path.now)
+        (λ device. IsServing (P.is_honest places.now) (P.releases places.now dir.now)
+        P.Device.is_honest P.Device.moments P.Device.failures device result
+        (I.remaining input.old) (I.remaining input.new)
+        (O.contents output.old) (O.contents output.new))
+        (IsMissing result (O.contents output.old) (O.contents output.new)
+        × (I.remaining input.new ≡ I.remaining input.old)) }
+{
+    match places.device(path) {
+        Ok(device) => {
+            let mut source = FolderSource { places, dir };
+            serve_device(alloc, device, &mut source, input, output)
+        }
+        Err(_) => refuse(output, Refusal::DiskFault),
+    }
+}
+
+/// Answers the lines of the script, on a store in memory.
+fn demo<O: Write>(alloc: Global, output: &mut O) -> Result<Ending, ServeFault>
+    ensures { IsDemonstrated SCRIPT.now result
+        (O.contents output.old) (O.contents output.new) }
+{
+    let mut script = SCRIPT;
+    serve_new(alloc, MemDisk::new(alloc), &mut Sample, &mut script, output)
 }
 
 /// Writes why the words give no task. A help that was asked for is no fault.
 fn explain<O: Write, E: Write>(refused: &Refused, output: &mut O, faults: &mut E) -> u8
     ensures status { result ≤ 2 }
     ensures no_command { result ≡ 2 → output.new ≡ output.old }
+    ensures explained { IsExplained refused.now result
+        (O.contents output.old) (O.contents output.new) }
 {
     match refused {
         Refused::OutOfMemory => fail(ServeFault::OutOfMemory, faults),
@@ -67,111 +173,4 @@ fn explain<O: Write, E: Write>(refused: &Refused, output: &mut O, faults: &mut E
             finish(ended, output, faults)
         }
     }
-}
-
-/// Makes a store in a file.
-fn made<R: Files<File = File>>(rt: &R, alloc: Global, path: &str) -> Result<(), Refusal> {
-    let disk = FileDisk::open_or_make(rt, path)?;
-    match Store::create(alloc, disk) {
-        Ok(_) => Ok(()),
-        Err((refusal, _)) => Err(refusal),
-    }
-}
-
-/// Makes a store in a file, and tells it.
-fn init<R: Files<File = File>, O: Write>(
-    rt: &R,
-    alloc: Global,
-    path: &str,
-    output: &mut O,
-) -> Result<Ending, ServeFault>
-    ensures { Tells result (O.contents output.old) (O.contents output.new) }
-{
-    match made(rt, alloc, path) {
-        Ok(()) => tell_done(output),
-        Err(refusal) => refuse(output, refusal),
-    }
-}
-
-/// The store in a file.
-fn opened<R: Files<File = File>>(
-    rt: &R,
-    alloc: Global,
-    path: &str,
-) -> Result<Store<FileDisk>, Refusal> {
-    let disk = FileDisk::open(rt, path)?;
-    match Store::open(alloc, disk) {
-        Ok(store) => Ok(store),
-        Err((refusal, _)) => Err(refusal),
-    }
-}
-
-/// The reply to the line that imports the release under a name.
-fn imported<R: Files<File = File> + AllocGlobal + Clone + Drop>(
-    rt: &R,
-    alloc: Global,
-    path: &str,
-    dir: &str,
-    name: &str,
-) -> Result<Reply, Refusal>
-    ensures { IfOk result IsReply }
-{
-    let mut store = opened(rt, alloc, path)?;
-    let line = format!(in alloc; "0 IMPORT {name}")?;
-    let mut pins = Pins::new();
-    let mut source = FolderSource { rt, dir };
-    Ok(answer(alloc, line.as_bytes(), &mut pins, &mut source, &mut store))
-}
-
-/// Imports a release of a folder, as the line of a session does.
-fn import<R: Files<File = File> + AllocGlobal + Clone + Drop, O: Write>(
-    rt: &R,
-    alloc: Global,
-    path: &str,
-    dir: &str,
-    name: &str,
-    output: &mut O,
-) -> Result<Ending, ServeFault>
-    ensures { Tells result (O.contents output.old) (O.contents output.new) }
-{
-    match imported(rt, alloc, path, dir, name) {
-        Ok(reply) => tell(output, &reply),
-        Err(refusal) => refuse(output, refusal),
-    }
-}
-
-/// Answers the lines of the input.
-fn serve_file<R: Files<File = File> + AllocGlobal + Clone + Drop, I: Read, O: Write>(
-    rt: &R,
-    alloc: Global,
-    path: &str,
-    dir: &str,
-    input: &mut I,
-    output: &mut O,
-) -> Result<Ending, ServeFault> {
-    let mut store = match opened(rt, alloc, path) {
-        Ok(store) => store,
-        Err(refusal) => return refuse(output, refusal),
-    };
-    let mut source = FolderSource { rt, dir };
-    serve(alloc, input, output, &mut source, &mut store, MOST_READS)?;
-    Ok(Ending::Done)
-}
-
-/// Answers the lines of the script, on a store in memory.
-fn demo<O: Write>(alloc: Global, output: &mut O) -> Result<Ending, ServeFault> {
-    let mut store = match Store::create(alloc, MemDisk::new(alloc)) {
-        Ok(store) => store,
-        Err((refusal, _)) => return refuse(output, refusal),
-    };
-    let mut script = SCRIPT;
-    serve(
-        alloc,
-        &mut script,
-        output,
-        &mut Sample,
-        &mut store,
-        MOST_READS,
-    )?;
-    Ok(Ending::Done)
 }

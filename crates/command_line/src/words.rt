@@ -1,5 +1,10 @@
 //! What the words of the command line ask for.
 
+ghost use Rattle.std.specs.Prelude.{◌≡◌, IfOk, IfErr, IfSome, map, codes, string_bytes};
+ghost use Rattle.clap.specs.Simple.{subcommand_rows_of};
+ghost use Rattle.command_line.specs.Words.{IsArgument, IsCommand, Reads, AskFor, AskForNone, wanted, option};
+ghost use Rattle.command_line.specs.Words.{init_command, import_command, serve_command, demo_command, empty_program, program};
+
 use clap::error::ErrorKind;
 use clap::{Arg, ArgAction, ArgMatches, Command, Error};
 use std::alloc::{AllocError, Global};
@@ -41,8 +46,14 @@ impl From<AllocError> for Refused {
 }
 
 /// What the words ask for, of which the first is the program's name.
-pub fn task_of<'a>(alloc: Global, words: &'a [String]) -> Result<Task<'a>, Refused> {
-    match commands(alloc)?.try_get_matches_from(words) {
+pub fn task_of<'a>(alloc: Global, words: &'a [String]) -> Result<Task<'a>, Refused>
+    ensures task { IfOk result (AskFor (map string_bytes words.now)) }
+    ensures refused { IfErr result (AskForNone (map string_bytes words.now)) }
+{
+    let Ok(commands) = commands(alloc) else {
+        return Err(Refused::OutOfMemory);
+    };
+    match commands.try_get_matches_from(words) {
         Ok(matches) => match named(&matches) {
             Some(task) => Ok(task),
             None => Err(Refused::OutOfMemory),
@@ -58,7 +69,9 @@ pub fn task_of<'a>(alloc: Global, words: &'a [String]) -> Result<Task<'a>, Refus
 }
 
 /// The option that names the file of a store.
-fn store<'a>(alloc: Global) -> Arg<'a> {
+fn store<'a>(alloc: Global) -> Arg<'a>
+    ensures { IsArgument (option (codes "store")) result }
+{
     Arg::new(alloc, "store")
         .long("store")
         .value_name("FILE")
@@ -68,7 +81,9 @@ fn store<'a>(alloc: Global) -> Arg<'a> {
 }
 
 /// The option that names the folder of releases.
-fn releases<'a>(alloc: Global) -> Arg<'a> {
+fn releases<'a>(alloc: Global) -> Arg<'a>
+    ensures { IsArgument (option (codes "releases")) result }
+{
     Arg::new(alloc, "releases")
         .long("releases")
         .value_name("DIR")
@@ -77,39 +92,76 @@ fn releases<'a>(alloc: Global) -> Arg<'a> {
         .action(ArgAction::Set)
 }
 
-/// All commands, with their helps.
-fn commands<'a>(alloc: Global) -> Result<Command<'a>, AllocError> {
-    let init = Command::new(alloc, "init")
-        .about("Makes a store in a new or empty file")
-        .arg(store(alloc))?;
-    let name = Arg::new(alloc, "name")
+/// The name of a release.
+fn name<'a>(alloc: Global) -> Arg<'a>
+    ensures { IsArgument (wanted (codes "name")) result }
+{
+    Arg::new(alloc, "name")
         .value_name("NAME")
         .help("The release's folder below DIR")
         .required(true)
-        .action(ArgAction::Set);
-    let import = Command::new(alloc, "import")
+        .action(ArgAction::Set)
+}
+
+fn init<'a>(alloc: Global) -> Result<Command<'a>, AllocError>
+    ensures { IfOk result (IsCommand init_command) }
+{
+    Command::new(alloc, "init")
+        .about("Makes a store in a new or empty file")
+        .arg(store(alloc))
+}
+
+fn import<'a>(alloc: Global) -> Result<Command<'a>, AllocError>
+    ensures { IfOk result (IsCommand import_command) }
+{
+    Command::new(alloc, "import")
         .about("Imports the Full and Delta files of an unpacked RF2 release")
         .arg(store(alloc))?
         .arg(releases(alloc))?
-        .arg(name)?;
-    let serve = Command::new(alloc, "serve")
+        .arg(name(alloc))
+}
+
+fn serve<'a>(alloc: Global) -> Result<Command<'a>, AllocError>
+    ensures { IfOk result (IsCommand serve_command) }
+{
+    Command::new(alloc, "serve")
         .about("Answers the lines of standard input on standard output")
         .arg(store(alloc))?
-        .arg(releases(alloc))?;
-    let demo = Command::new(alloc, "demo").about(
+        .arg(releases(alloc))
+}
+
+fn demo<'a>(alloc: Global) -> Command<'a>
+    ensures { IsCommand demo_command result }
+{
+    Command::new(alloc, "demo").about(
         "Answers a short script on a store in memory, from three made releases",
-    );
+    )
+}
+
+/// The program, without its commands.
+fn sctd<'a>(alloc: Global) -> Command<'a>
+    ensures { IsCommand empty_program result }
+{
     Command::new(alloc, "sctd")
         .about("Answers what each component of a SNOMED CT terminology said on any past date")
         .subcommand_required(true)
-        .subcommand(init)?
-        .subcommand(import)?
-        .subcommand(serve)?
-        .subcommand(demo)
+}
+
+/// All commands, with their helps.
+fn commands<'a>(alloc: Global) -> Result<Command<'a>, AllocError>
+    ensures { IfOk result (IsCommand program) }
+{
+    sctd(alloc)
+        .subcommand(init(alloc)?)?
+        .subcommand(import(alloc)?)?
+        .subcommand(serve(alloc)?)?
+        .subcommand(demo(alloc))
 }
 
 /// The task that the command has.
-fn named<'a>(matches: &ArgMatches<'a>) -> Option<Task<'a>> {
+fn named<'a>(matches: &ArgMatches<'a>) -> Option<Task<'a>>
+    ensures { IfSome result (Reads (subcommand_rows_of matches.now)) }
+{
     let (name, found) = matches.subcommand()?;
     match name {
         "init" => Some(Task::Init {

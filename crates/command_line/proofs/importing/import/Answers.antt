@@ -1,0 +1,19 @@
+use Rattle.command_line.proofs.importing.import.Goals as goal
+
+pub returns-in-Ok : goal.returns-in-Ok
+returns-in-Ok g c =
+    let opened = c.open.ensures in
+    record {
+      had = c.open.result;
+      opening = record { exact = opened.exact; any_moment = opened.any_moment; acknowledged = opened.acknowledged; honesty = opened.honesty };
+      imports = rw c.in-Ok.is c.import_into.ensures;
+    }
+
+pub returns : goal.returns
+returns g c =
+    let opened = c.open.ensures in
+    record {
+      had = c.open.result;
+      opening = record { exact = opened.exact; any_moment = opened.any_moment; acknowledged = opened.acknowledged; honesty = opened.honesty };
+      imports = rw c.in-Err.is c.refuse.ensures;
+    }

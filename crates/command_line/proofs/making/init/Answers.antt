@@ -1,0 +1,19 @@
+use Rattle.command_line.proofs.making.init.Goals as goal
+
+pub returns-in-Ok : goal.returns-in-Ok
+returns-in-Ok g c =
+    let made = c.create.ensures in
+    record {
+      had = c.create.result;
+      making = record { exact = made.made; acknowledged = made.acknowledged; honesty = made.honesty };
+      told = rw c.in-Ok.is c.tell_done.ensures;
+    }
+
+pub returns : goal.returns
+returns g c =
+    let made = c.create.ensures in
+    record {
+      had = c.create.result;
+      making = record { exact = made.made; acknowledged = made.acknowledged; honesty = made.honesty };
+      told = rw c.in-Err.is c.refuse.ensures;
+    }

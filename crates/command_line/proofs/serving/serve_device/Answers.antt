@@ -1,0 +1,20 @@
+use Rattle.std.proofs.Common.{refl}
+use Rattle.command_line.proofs.serving.serve_device.Goals as goal
+
+pub returns-in-Ok : goal.returns-in-Ok
+returns-in-Ok g c =
+    let opened = c.open.ensures in
+    record {
+      had = c.open.result;
+      opening = record { exact = opened.exact; any_moment = opened.any_moment; acknowledged = opened.acknowledged; honesty = opened.honesty };
+      serves = rw c.in-Ok.is c.serve_all.ensures;
+    }
+
+pub returns : goal.returns
+returns g c =
+    let opened = c.open.ensures in
+    record {
+      had = c.open.result;
+      opening = record { exact = opened.exact; any_moment = opened.any_moment; acknowledged = opened.acknowledged; honesty = opened.honesty };
+      serves = rw c.in-Err.is (c.refuse.ensures, refl);
+    }

@@ -1,0 +1,20 @@
+use Rattle.std.proofs.Common.{refl}
+use Rattle.command_line.proofs.serving.serve_new.Goals as goal
+
+pub returns-in-Ok : goal.returns-in-Ok
+returns-in-Ok g c =
+    let made = c.create.ensures in
+    record {
+      had = c.create.result;
+      making = record { exact = made.made; acknowledged = made.acknowledged; honesty = made.honesty };
+      serves = rw c.in-Ok.is c.serve_all.ensures;
+    }
+
+pub returns : goal.returns
+returns g c =
+    let made = c.create.ensures in
+    record {
+      had = c.create.result;
+      making = record { exact = made.made; acknowledged = made.acknowledged; honesty = made.honesty };
+      serves = rw c.in-Err.is (c.refuse.ensures, refl);
+    }

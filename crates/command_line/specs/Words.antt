@@ -1,0 +1,75 @@
+-- What the words of the command line ask for. They are read as clap reads words by these commands.
+use Rattle.std.specs.Prelude.{◌≡◌, true, List, codes, Option, Some, None}
+use Rattle.clap.specs.Walk.{Text, Row, Rule, rule_of, first_of}
+use Rattle.clap.specs.Simple.{App, new_rule, new_app, with_rule, with_subcommand, app_of, subcommand_of}
+use Rattle.clap.specs.Kinds.{IsAmong}
+use Rattle.clap.specs.Faults.{fault_of}
+use Rattle.clap.specs.Values.{kind_of}
+use Rattle.clap.specs.declared.builder.command.Command.TheViews.{out-Command}
+use Rattle.clap.specs.declared.builder.arg.Arg.{Arg}
+use Rattle.clap.specs.declared.builder.command.Command.{Command}
+use Rattle.clap.specs.declared.builder.action.ArgAction.TheVariants.{Set}
+use Rattle.std.specs.Prelude.{[], false}
+use Rattle.command_line.specs.declared.words.Task.{Task}
+use Rattle.command_line.specs.declared.words.Task.TheVariants as tasks
+use Rattle.command_line.specs.declared.words.Refused.{Refused}
+use Rattle.command_line.specs.declared.words.Refused.TheVariants as refusals
+
+-- ---- the commands
+
+-- a value that has to be given
+abbrev pub wanted : Text → Rule
+wanted id = record (new_rule id) { value_names = 1; action = Some Set; required = true }
+
+-- behind `--` and its name
+abbrev pub option : Text → Rule
+option id = record (wanted id) { long = Some id }
+
+abbrev pub init_command : App
+init_command = with_rule (new_app (codes "init")) (option (codes "store"))
+
+abbrev pub serve_command : App
+serve_command = with_rule (with_rule (new_app (codes "serve")) (option (codes "store"))) (option (codes "releases"))
+
+abbrev pub import_command : App
+import_command = with_rule (with_rule (with_rule (new_app (codes "import")) (option (codes "store"))) (option (codes "releases"))) (wanted (codes "name"))
+
+abbrev pub demo_command : App
+demo_command = new_app (codes "demo")
+
+-- the program, of which a command has to be given
+abbrev pub empty_program : App
+empty_program = record { top = record (new_app (codes "sctd")).top { subcommand_required = true }; subs = [] }
+
+abbrev pub program : App
+program = with_subcommand (with_subcommand (with_subcommand (with_subcommand empty_program init_command.top) import_command.top) serve_command.top) demo_command.top
+
+-- ---- what is built of them
+
+abbrev pub IsArgument : Rule → Arg → Type 0
+IsArgument rule arg = (rule_of arg ≡ rule) × (arg.global ≡ false)
+
+abbrev pub IsCommand : App → Command → Type 0
+IsCommand app command = (app_of command ≡ app) × ((out-Command command).has_globals ≡ false)
+
+-- ---- what is asked for
+
+-- a command was read with the values of this task
+abbrev pub Reads : Option (Text × List Row) → Task → Type 0
+Reads None task = ⊥
+Reads (Some read) (tasks.Init store) = (read.0 ≡ codes "init") × (first_of (codes "store") read.1 ≡ Some store.now)
+Reads (Some read) (tasks.Import store releases name) =
+    (read.0 ≡ codes "import") × (first_of (codes "store") read.1 ≡ Some store.now)
+    × (first_of (codes "releases") read.1 ≡ Some releases.now) × (first_of (codes "name") read.1 ≡ Some name.now)
+Reads (Some read) (tasks.Serve store releases) =
+    (read.0 ≡ codes "serve") × (first_of (codes "store") read.1 ≡ Some store.now) × (first_of (codes "releases") read.1 ≡ Some releases.now)
+Reads (Some read) tasks.Demo = read.0 ≡ codes "demo"
+
+-- the words, of which the first is the program's name, are in order and ask for the task
+abbrev pub AskFor : List Text → Task → Type 0
+AskFor words task = (fault_of program words ≡ []) × Reads (subcommand_of program words) task
+
+-- why they ask for none; memory may lack
+abbrev pub AskForNone : List Text → Refused → Type 0
+AskForNone words refusals.OutOfMemory = Unit {0}
+AskForNone words (refusals.Words error) = IsAmong (kind_of error) (fault_of program words)

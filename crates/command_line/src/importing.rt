@@ -1,0 +1,59 @@
+//! A release is imported.
+
+ghost use Rattle.std.specs.Prelude.{◌≡◌, IfOk, Ok, string_bytes};
+ghost use Rattle.command_line.specs.Tasks.{Imports, IsImport, import_line};
+
+use crate::endings::{Ending, refuse, tell};
+use disk_model::Disk;
+use history_store::{Refusal, Store};
+use line_server::{Pins, ServeFault, Source, answer};
+use std::alloc::{AllocError, Global};
+use std::io::Write;
+
+/// The line that imports the release under a name.
+fn line_of_import(alloc: Global, name: &str) -> Result<String, AllocError>
+    ensures { IfOk result (λ line. string_bytes line ≡ import_line name.now) }
+{
+    format!(in alloc; "0 IMPORT {name}")
+}
+
+/// Answers the line that imports a release, as a session of its own, and tells the reply.
+fn import_into<D: Disk + Drop, S: Source, O: Write>(
+    alloc: Global,
+    name: &str,
+    source: &mut S,
+    store: &mut Store<D>,
+    output: &mut O,
+) -> Result<Ending, ServeFault>
+    ensures { Imports (S.is_honest source.old) (S.releases source.old)
+        D.is_honest D.moments D.failures name.now (Ok store.old) result
+        (O.contents output.old) (O.contents output.new) }
+{
+    let Ok(line) = line_of_import(alloc, name) else {
+        return refuse(output, Refusal::OutOfMemory);
+    };
+    let mut pins = Pins::new();
+    let reply = answer(alloc, line.as_bytes(), &mut pins, source, store);
+    tell(output, &reply)
+}
+
+/// Imports a release into the store of a device, and tells the reply.
+pub(crate) fn import<D: Disk + Drop, S: Source, O: Write>(
+    alloc: Global,
+    device: D,
+    name: &str,
+    source: &mut S,
+    output: &mut O,
+) -> Result<Ending, ServeFault>
+    ensures { IsImport (S.is_honest source.old) (S.releases source.old)
+        D.is_honest D.moments D.failures name.now device result
+        (O.contents output.old) (O.contents output.new) }
+{
+    match Store::open(alloc, device) {
+        Ok(store) => {
+            let mut store = store;
+            import_into(alloc, name, source, &mut store, output)
+        }
+        Err((refusal, _)) => refuse(output, refusal),
+    }
+}

@@ -1,0 +1,25 @@
+//! A store is made.
+
+ghost use Rattle.command_line.specs.Tasks.{IsMade};
+
+use crate::endings::{Ending, refuse, tell_done};
+use disk_model::Disk;
+use history_store::Store;
+use line_server::ServeFault;
+use std::alloc::Global;
+use std::io::Write;
+
+/// Makes a store on a device, and tells it.
+pub(crate) fn init<D: Disk + Drop, O: Write>(
+    alloc: Global,
+    device: D,
+    output: &mut O,
+) -> Result<Ending, ServeFault>
+    ensures { IsMade D.is_honest D.moments device result
+        (O.contents output.old) (O.contents output.new) }
+{
+    match Store::create(alloc, device) {
+        Ok(_) => tell_done(output),
+        Err((refusal, _)) => refuse(output, refusal),
+    }
+}

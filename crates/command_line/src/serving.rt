@@ -1,0 +1,77 @@
+//! Lines are served.
+
+ghost use Rattle.std.specs.Prelude.{Ok};
+ghost use Rattle.command_line.specs.Tasks.{Serves, IsServing, IsServingNew};
+
+use crate::endings::{Ending, refuse};
+use disk_model::Disk;
+use history_store::Store;
+use line_server::{ServeFault, Source, serve};
+use std::alloc::Global;
+use std::io::{Read, Write};
+
+/// How many reads of its input a server makes at most.
+const MOST_READS: u32 = 4_294_967_295;
+
+/// Answers the lines of the input from a store.
+fn serve_all<D: Disk + Drop, S: Source, I: Read, O: Write>(
+    alloc: Global,
+    source: &mut S,
+    store: &mut Store<D>,
+    input: &mut I,
+    output: &mut O,
+) -> Result<Ending, ServeFault>
+    ensures { Serves (S.is_honest source.old) (S.releases source.old)
+        D.is_honest D.moments D.failures (Ok store.old) result
+        (I.remaining input.old) (I.remaining input.new)
+        (O.contents output.old) (O.contents output.new) }
+{
+    match serve(alloc, input, output, source, store, MOST_READS) {
+        Ok(_) => Ok(Ending::Done),
+        Err(fault) => Err(fault),
+    }
+}
+
+/// Answers the lines of the input from the store of a device.
+pub(crate) fn serve_device<D: Disk + Drop, S: Source, I: Read, O: Write>(
+    alloc: Global,
+    device: D,
+    source: &mut S,
+    input: &mut I,
+    output: &mut O,
+) -> Result<Ending, ServeFault>
+    ensures { IsServing (S.is_honest source.old) (S.releases source.old)
+        D.is_honest D.moments D.failures device result
+        (I.remaining input.old) (I.remaining input.new)
+        (O.contents output.old) (O.contents output.new) }
+{
+    match Store::open(alloc, device) {
+        Ok(store) => {
+            let mut store = store;
+            serve_all(alloc, source, &mut store, input, output)
+        }
+        Err((refusal, _)) => refuse(output, refusal),
+    }
+}
+
+/// Answers the lines of the input from a new store on a device.
+pub(crate) fn serve_new<D: Disk + Drop, S: Source, I: Read, O: Write>(
+    alloc: Global,
+    device: D,
+    source: &mut S,
+    input: &mut I,
+    output: &mut O,
+) -> Result<Ending, ServeFault>
+    ensures { IsServingNew (S.is_honest source.old) (S.releases source.old)
+        D.is_honest D.moments D.failures device result
+        (I.remaining input.old) (I.remaining input.new)
+        (O.contents output.old) (O.contents output.new) }
+{
+    match Store::create(alloc, device) {
+        Ok(store) => {
+            let mut store = store;
+            serve_all(alloc, source, &mut store, input, output)
+        }
+        Err((refusal, _)) => refuse(output, refusal),
+    }
+}
