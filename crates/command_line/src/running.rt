@@ -42,7 +42,9 @@ pub fn run<R: Files<File = File> + AllocGlobal + Clone + Drop, I: Read, O: Write
             releases,
             name,
         } => import(rt, alloc, store, releases, name, output),
-        Task::Serve { store, releases } => serve_file(rt, alloc, store, releases, input, output),
+        Task::Serve { store, releases } => {
+            serve_file(rt, alloc, store, releases, input, output, MOST_READS)
+        }
         Task::Demo => demo(alloc, output),
     };
     finish(ended, output, faults)
@@ -140,21 +142,22 @@ fn import<R: Files<File = File> + AllocGlobal + Clone + Drop, O: Write>(
     }
 }
 
-/// Answers the lines of the input.
-fn serve_file<R: Files<File = File> + AllocGlobal + Clone + Drop, I: Read, O: Write>(
+/// Answers the lines of the input, in so many reads at most.
+pub(crate) fn serve_file<R: Files<File = File> + AllocGlobal + Clone + Drop, I: Read, O: Write>(
     rt: &R,
     alloc: Global,
     path: &str,
     dir: &str,
     input: &mut I,
     output: &mut O,
+    most_reads: u32,
 ) -> Result<Ending, ServeFault> {
     let mut store = match opened(rt, alloc, path) {
         Ok(store) => store,
         Err(refusal) => return refuse(output, refusal),
     };
     let mut source = FolderSource { rt, dir };
-    serve(alloc, input, output, &mut source, &mut store, MOST_READS)?;
+    serve(alloc, input, output, &mut source, &mut store, most_reads)?;
     Ok(Ending::Done)
 }
 

@@ -1,6 +1,8 @@
 //! The program's statuses, its files and its demonstration.
 
 use super::*;
+use crate::endings::finish;
+use crate::running::serve_file;
 use import_check::sample;
 use std::io::{Read, Write};
 use std::test::Fail;
@@ -226,6 +228,33 @@ fn streams_that_fail(rt: HostRuntime) -> Result<(), Fail> {
         );
         assert_eq!(rt; got, *status, "{line} {room}");
         assert!(rt; written.as_slice() == *faults, "{line} {room}");
+    }
+    Ok(())
+}
+
+#[test]
+fn a_server_that_may_read_no_more(rt: HostRuntime) -> Result<(), Fail> {
+    let made = run_words(&rt, "sctd init --store few", b"")?;
+    assert_eq!(rt; made.status, 0);
+    // How many reads it may make, the status, what is written of faults: the second read finds the end.
+    let cases: [(u32, u8, &[u8]); 2] = [(1, 1, b"ERR 52 Reads\n"), (2, 0, b"")];
+    for (reads, status, faults) in &cases {
+        let mut input: &[u8] = b"0 STATUS\n";
+        let mut output = Vec::new(rt.alloc());
+        let mut written = Vec::new(rt.alloc());
+        let ended = serve_file(
+            &rt,
+            rt.alloc(),
+            "few",
+            "releases",
+            &mut input,
+            &mut output,
+            *reads,
+        );
+        let got = finish(ended, &mut output, &mut written);
+        assert_eq!(rt; got, *status, "{reads}");
+        assert!(rt; output.as_slice() == b"OK 0 0 0 -\n".as_slice(), "{reads}");
+        assert!(rt; written.as_slice() == *faults, "{reads}");
     }
     Ok(())
 }
