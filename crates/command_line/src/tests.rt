@@ -1,7 +1,9 @@
 //! The program's statuses, its files and its demonstration.
 
 use super::*;
+use crate::endings::finish;
 use import_check::sample;
+use line_server::ServeFault;
 use std::io::{Read, Write};
 use std::test::Fail;
 use std::{fs, io};
@@ -226,6 +228,25 @@ fn streams_that_fail(rt: HostRuntime) -> Result<(), Fail> {
         );
         assert_eq!(rt; got, *status, "{line} {room}");
         assert!(rt; written.as_slice() == *faults, "{line} {room}");
+    }
+    Ok(())
+}
+
+#[test]
+fn what_is_told_of_faults(rt: HostRuntime) -> Result<(), Fail> {
+    let cases: [(ServeFault, &[u8]); 4] = [
+        (ServeFault::OutOfMemory, b"ERR 1 OutOfMemory\n"),
+        (ServeFault::Read, b"ERR 50 Read\n"),
+        (ServeFault::Write, b"ERR 51 Write\n"),
+        (ServeFault::Reads, b"ERR 52 Reads\n"),
+    ];
+    for (fault, line) in &cases {
+        let mut output = Vec::new(rt.alloc());
+        let mut written = Vec::new(rt.alloc());
+        let got = finish(Err(*fault), &mut output, &mut written);
+        assert_eq!(rt; got, 1, "{fault:?}");
+        assert!(rt; output.is_empty(), "{fault:?}");
+        assert!(rt; written.as_slice() == *line, "{fault:?}");
     }
     Ok(())
 }
