@@ -31,16 +31,17 @@ pub trait Source {
         ensures given { is_honest self.old → IsGiven result (releases self.old name.now) };
 }
 
-/// The sample releases.
+/// The sample releases, and no others.
 #[derive(Clone, Copy)]
 pub struct Sample;
 
 impl Source for Sample {
-    ghost use Rattle.std.specs.Prelude.{None};
+    ghost use Rattle.std.specs.Prelude.{⊤};
+    ghost use Rattle.import_check.specs.Sample.{sample_files};
 
-    ghost is_honest = { λ _. ⊥ };
+    ghost is_honest = { λ _. ⊤ };
 
-    ghost releases = { λ _ _. None };
+    ghost releases = { λ _ name. sample_files name };
 
     fn release(&mut self, alloc: Global, name: &str) -> Result<Release, SourceFault> {
         match sample(alloc, name) {
