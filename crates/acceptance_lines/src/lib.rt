@@ -1,5 +1,5 @@
-//! Worked examples as lines that are served, with stops and openings between them; the script of the demonstration through streams of all sorts; and the
-//! statuses of the program. It has no code of its own.
+//! Worked examples as lines that are served, with stops and openings between them, and the script of the demonstration through streams of all sorts. It has
+//! no code of its own.
 #![tactic(auto)]
 
 #[cfg(test)]
@@ -8,8 +8,6 @@ mod demonstration;
 mod examples;
 #[cfg(test)]
 mod openings;
-#[cfg(test)]
-mod program;
 #[cfg(test)]
 mod publication;
 #[cfg(test)]
