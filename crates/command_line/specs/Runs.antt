@@ -1,10 +1,11 @@
 -- What the program does of what its words ask for.
-use Rattle.std.specs.Prelude.{◌≡◌, ◌≢◌, ◌⊎◌, ◌≤◌, ℕ, List, [], Option, None, Some, Result, Ok, Err}
+use Rattle.std.specs.Prelude.{◌≡◌, ◌≢◌, ◌⊎◌, ◌≤◌, ℕ, List, [], Option, Some, Result, Ok, Err, ⊤}
 use Rattle.std.specs.Io.KnownBytes.{Keeps}
 use Rattle.disk_model.specs.Disk.{Moments}
 use Rattle.disk_model.specs.Change.{made}
 use Rattle.disk_model.specs.MemDisk.{memory_moments, failure_count}
 use Rattle.disk_model.specs.declared.memory.MemDisk.{MemDisk}
+use Rattle.import_check.specs.Sample.{sample_files}
 use Rattle.clap.specs.Values.{kind_of}
 use Rattle.clap.specs.declared.error.kind.ErrorKind.{ErrorKind}
 use Rattle.clap.specs.declared.error.kind.ErrorKind.TheVariants.{DisplayHelp, DisplayVersion}
@@ -30,12 +31,12 @@ IsMissing ended old new = IsTold ended (Err (Store DiskFault)) old new
 abbrev pub IsDoneAt : {D : Type 0} → (D → Type 0) → (D → Type 0) → Type 0 → Type 0
 IsDoneAt {D} gives done missing = ((device : D) × gives device × done device) ⊎ missing
 
--- the lines of the script were served, as lines that come in are, from a new store in memory
+-- the lines of the script were served, as lines that come in are, from a new store in memory and the sample releases
 pub record IsDemonstrated (script : List ℕ) (ended : Result Ending ServeFault) (old new : Option (List ℕ)) : Type 0 where
   pub disk : MemDisk
   pub empty : memory_moments disk ≡ made []
   pub rest : Option (List ℕ)
-  pub serving : IsServingNew ⊥ (λ _. None) (λ _. Unit {0}) memory_moments failure_count disk ended (Some script) rest old new
+  pub serving : IsServingNew ⊤ sample_files (λ _. Unit {0}) memory_moments failure_count disk ended (Some script) rest old new
 
 -- the task was done so; only a server reads
 abbrev pub Does : {D : Type 0} → (List ℕ → D → Type 0) → Type 0 → (List ℕ → Releases) → (D → Type 0) → (D → Moments) → (D → ℕ) → List ℕ → Task → Result Ending ServeFault → Option (List ℕ) → Option (List ℕ) → Option (List ℕ) → Option (List ℕ) → Type 0
