@@ -18,18 +18,20 @@ fn new_store(alloc: Global) -> Result<Store<MemDisk>, Refusal> {
     }
 }
 
-/// A store that serves streams.
+/// A store that serves streams. It is boxed, so that a test which lets it go is proved without what a store is made of.
 #[derive(Drop)]
 pub struct Server {
     alloc: Global,
-    store: Store<MemDisk>,
+    store: Box<Store<MemDisk>>,
 }
 
 impl Server {
     /// A new store.
     pub fn new(alloc: Global) -> Result<Server, Refusal> {
-        let store = new_store(alloc)?;
-        Ok(Server { alloc, store })
+        match Box::new(alloc, new_store(alloc)?) {
+            Ok(store) => Ok(Server { alloc, store }),
+            Err(_) => Err(Refusal::OutOfMemory),
+        }
     }
 
     /// Serves all lines of the input.
