@@ -21,6 +21,7 @@ fn words_of(rt: &HostRuntime) -> io::Result<Vec<String>> {
 
 fn main(rt: HostRuntime) -> ExitCode {
     let Ok(_places) = places_of_streams(&rt) else {
+        let _ = eprintln!(rt; "ERR 2 DiskFault");
         return ExitCode::FAILURE;
     };
     let words = match words_of(&rt) {
