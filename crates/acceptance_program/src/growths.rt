@@ -1,0 +1,113 @@
+//! Words and tasks with little memory.
+
+use crate::shown::{Shown, run_words, words_of};
+use scarce_memory::Scarcity;
+use std::alloc::AllocError;
+use std::fs;
+use std::test::Fail;
+
+/// By how many bytes more a run finds each time.
+const STEP: usize = 32;
+
+/// How many times a run is tried.
+const TRIES: usize = 40_000;
+
+const OUT_OF_MEMORY: &str = "ERR 1 OutOfMemory\n";
+
+/// How a run is refused for want of memory: what it writes, and what it writes of faults.
+type Refusal = (&'static str, &'static str);
+
+/// Where the words are no task yet, or the buffer of a server isn't made.
+const UNTOLD: Refusal = ("", OUT_OF_MEMORY);
+
+/// What a task may say: what the disk takes lacks, or what the store takes.
+const TASK: [Refusal; 3] = [UNTOLD, ("ERR 2 DiskFault\n", ""), (OUT_OF_MEMORY, "")];
+
+/// What came of runs with ever more memory.
+#[derive(Debug, Drop)]
+struct Tried {
+    refused: usize,
+    /// What the first run showed that wasn't refused; it has no end where each was.
+    last: Option<Shown>,
+}
+
+/// Runs the program with more and more memory, until it isn't refused in one of these ways.
+fn run_until_enough(
+    rt: &HostRuntime,
+    scarcity: &mut Scarcity,
+    words: &[String],
+    input: &str,
+    refusals: &[Refusal],
+) -> Result<Tried, AllocError> {
+    for refused in 0..TRIES {
+        let got = run_words(rt, scarcity, words, input, Some(STEP * refused))?;
+        if !refusals.iter().any(|way| got.is(1, way.0, way.1)) {
+            let last = Some(got);
+            return Ok(Tried { refused, last });
+        }
+    }
+    Ok(Tried {
+        refused: TRIES,
+        last: None,
+    })
+}
+
+#[test]
+fn each_growth_of_the_words(rt: HostRuntime) -> Result<(), Fail> {
+    let mut scarcity = Scarcity::new(rt.alloc())?;
+    // The words, and the status with all memory: no task is begun.
+    let cases = [
+        ("sctd", 2),
+        ("sctd shelve", 2),
+        ("sctd init", 2),
+        ("sctd init --store a --store b", 2),
+        ("sctd import --store a --releases b", 2),
+        ("sctd --help", 0),
+        ("sctd import --help", 0),
+    ];
+    for (line, status) in &cases {
+        let words = words_of(rt.alloc(), *line)?;
+        let whole = run_words(&rt, &mut scarcity, words.as_slice(), "", None)?;
+        assert_eq!(rt; whole.status, *status, "{line}");
+        let tried = run_until_enough(&rt, &mut scarcity, words.as_slice(), "", &[UNTOLD])?;
+        assert!(rt; tried.refused > 0, "{line}");
+        assert!(rt; tried.last == Some(whole), "{line}: {tried:?}");
+    }
+    Ok(())
+}
+
+const CONCEPTS: &[u8] = b"id\teffectiveTime\tactive\tmoduleId\tdefinitionStatusId\r\n\
+138875005\t20200131\t1\t900000000000207008\t900000000000074008\r\n";
+
+#[test]
+fn each_growth_of_a_task(rt: HostRuntime) -> Result<(), Fail> {
+    let folder = "scarce/r1/Terminology";
+    fs::create_dir_all(&rt, folder)?;
+    let file = "scarce/r1/Terminology/sct2_Concept_Full_INT_20200131.txt";
+    fs::write(&rt, file, CONCEPTS)?;
+    let mut scarcity = Scarcity::new(rt.alloc())?;
+    // The words, the input, and what is written once there is enough.
+    let steps = [
+        ("sctd init --store scarce/store", "", "OK\n"),
+        (
+            "sctd import --store scarce/store --releases scarce r1",
+            "",
+            "OK 1 1 0\n",
+        ),
+        (
+            "sctd serve --store scarce/store --releases scarce",
+            "0 STATUS\n0 PIN\n",
+            "OK 1 1 1 -\nOK 1\n",
+        ),
+    ];
+    for (line, input, output) in &steps {
+        let words = words_of(rt.alloc(), *line)?;
+        let tried = run_until_enough(&rt, &mut scarcity, words.as_slice(), *input, &TASK)?;
+        assert!(rt; tried.refused > 0, "{line}");
+        match &tried.last {
+            Some(last) => assert!(rt; last.is(0, *output, ""), "{line}: {tried:?}"),
+            None => assert!(rt; false, "{line}"),
+        }
+    }
+    Ok(())
+}

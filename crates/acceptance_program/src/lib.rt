@@ -1,0 +1,9 @@
+//! The program with ever more memory, until there is enough, and where it is refused. It has no code of its own.
+#![tactic(auto)]
+
+#[cfg(test)]
+mod growths;
+#[cfg(test)]
+mod refused;
+#[cfg(test)]
+mod shown;
