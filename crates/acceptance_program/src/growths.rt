@@ -1,5 +1,7 @@
 //! Words and tasks with little memory.
 
+ghost use Rattle.std.specs.Prelude.{◌≤◌};
+
 use crate::shown::{Shown, run_words, words_of};
 use scarce_memory::Scarcity;
 use std::alloc::AllocError;
@@ -8,6 +10,9 @@ use std::test::Fail;
 
 /// By how many bytes more a run finds each time.
 const STEP: usize = 32;
+
+/// The same, where each run waits for the disk.
+const TASK_STEP: usize = 256;
 
 /// How many times a run is tried.
 const TRIES: usize = 40_000;
@@ -37,10 +42,13 @@ fn run_until_enough(
     scarcity: &mut Scarcity,
     words: &[String],
     input: &str,
+    step: usize,
     refusals: &[Refusal],
-) -> Result<Tried, AllocError> {
+) -> Result<Tried, AllocError>
+    requires { step ≤ 256 }
+{
     for refused in 0..TRIES {
-        let got = run_words(rt, scarcity, words, input, Some(STEP * refused))?;
+        let got = run_words(rt, scarcity, words, input, Some(step * refused))?;
         if !refusals.iter().any(|way| got.is(1, way.0, way.1)) {
             let last = Some(got);
             return Ok(Tried { refused, last });
@@ -69,7 +77,7 @@ fn each_growth_of_the_words(rt: HostRuntime) -> Result<(), Fail> {
         let words = words_of(rt.alloc(), *line)?;
         let whole = run_words(&rt, &mut scarcity, words.as_slice(), "", None)?;
         assert_eq!(rt; whole.status, *status, "{line}");
-        let tried = run_until_enough(&rt, &mut scarcity, words.as_slice(), "", &[UNTOLD])?;
+        let tried = run_until_enough(&rt, &mut scarcity, words.as_slice(), "", STEP, &[UNTOLD])?;
         assert!(rt; tried.refused > 0, "{line}");
         assert!(rt; tried.last == Some(whole), "{line}: {tried:?}");
     }
@@ -102,7 +110,14 @@ fn each_growth_of_a_task(rt: HostRuntime) -> Result<(), Fail> {
     ];
     for (line, input, output) in &steps {
         let words = words_of(rt.alloc(), *line)?;
-        let tried = run_until_enough(&rt, &mut scarcity, words.as_slice(), *input, &TASK)?;
+        let tried = run_until_enough(
+            &rt,
+            &mut scarcity,
+            words.as_slice(),
+            *input,
+            TASK_STEP,
+            &TASK,
+        )?;
         assert!(rt; tried.refused > 0, "{line}");
         match &tried.last {
             Some(last) => assert!(rt; last.is(0, *output, ""), "{line}: {tried:?}"),
