@@ -15,7 +15,7 @@ fn run_words<O: Write>(
 ) -> Result<(u8, Vec<u8>), Fail> {
     let words = words_of(rt.alloc(), line)?;
     let mut faults = Vec::new(rt.alloc());
-    let status = run(
+    let (status, _) = run(
         rt,
         rt.alloc(),
         words.as_slice(),

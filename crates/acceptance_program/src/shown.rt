@@ -51,7 +51,7 @@ pub fn run_words(
     if let Some(bytes) = room {
         scarcity.leave(bytes)?;
     }
-    let status = run(rt, alloc, words, &mut input, &mut output, &mut faults);
+    let (status, _) = run(rt, alloc, words, &mut input, &mut output, &mut faults);
     scarcity.relax();
     Ok(Shown {
         status,

@@ -1,16 +1,16 @@
 //! How a task ends, and the status that the program has then.
 
-ghost use Rattle.std.specs.Prelude.{◌≡◌, ◌≤◌, Result, Ok, Err, IfErr, OnOk, []};
+ghost use Rattle.std.specs.Prelude.{◌≡◌, ◌≤◌, Result, Ok, Err, OnOk, []};
 ghost use Rattle.std.specs.Io.KnownBytes.{Appends, Keeps};
 ghost use Rattle.line_server.specs.declared.refusal.LineRefusal.{LineRefusal};
 ghost use Rattle.line_server.specs.declared.refusal.LineRefusal.TheVariants.{Store};
-ghost use Rattle.line_server.specs.declared.serving.ServeFault.TheVariants.{Write as WriteFailed};
 ghost use Rattle.line_server.specs.Said.{Answer, Done as AllDone, said};
 ghost use Rattle.command_line.specs.declared.endings.Ending.TheVariants.{Done, Refused};
 ghost use Rattle.command_line.specs.Endings.{fault_number, fault_name, fault_line, IsTold};
 
 use history_store::Refusal;
-use line_server::{LineRefusal, Reply, ServeFault};
+use line_server::{LineRefusal, Reply, ServeFault, done, refused};
+use std::alloc::Global;
 use std::io::Write;
 
 /// How a task ended, where what it had to say was written.
@@ -84,41 +84,22 @@ fn name_of(fault: ServeFault) -> &'static str
     }
 }
 
-/// Writes bytes to the output.
-pub(crate) fn put<O: Write>(output: &mut O, bytes: &[u8]) -> Result<(), ServeFault>
-    ensures ok { OnOk result (Appends (O.contents output.old) (O.contents output.new) bytes.now) }
-    ensures fault { IfErr result (λ fault. fault ≡ WriteFailed) }
-{
-    match output.write_all(bytes) {
-        Ok(()) => Ok(()),
-        Err(_) => Err(ServeFault::Write),
-    }
-}
-
 /// Writes that all is done.
-pub(crate) fn tell_done<O: Write>(output: &mut O) -> Result<Ending, ServeFault>
+pub(crate) fn tell_done<O: Write>(alloc: Global, output: &mut O) -> Result<Ending, ServeFault>
     ensures { IsTold result (Ok (AllDone [])) (O.contents output.old) (O.contents output.new) }
 {
-    match put(output, b"OK\n") {
-        Ok(()) => Ok(Ending::Done),
-        Err(fault) => Err(fault),
-    }
+    tell(output, &done(alloc))
 }
 
 /// Writes the line of a refusal.
-pub(crate) fn refuse<O: Write>(output: &mut O, refusal: Refusal) -> Result<Ending, ServeFault>
+pub(crate) fn refuse<O: Write>(
+    alloc: Global,
+    output: &mut O,
+    refusal: Refusal,
+) -> Result<Ending, ServeFault>
     ensures { IsTold result (Err (Store refusal)) (O.contents output.old) (O.contents output.new) }
 {
-    let refusal = LineRefusal::Store(refusal);
-    let (code, name) = (refusal.code(), refusal.name());
-    let written = match refusal.place() {
-        Some((file, line)) => writeln!(output, "ERR {code} {name} {file} {line}"),
-        None => writeln!(output, "ERR {code} {name}"),
-    };
-    match written {
-        Ok(()) => Ok(Ending::Refused),
-        Err(_) => Err(ServeFault::Write),
-    }
+    tell(output, &refused(alloc, LineRefusal::Store(refusal)))
 }
 
 /// Writes a reply.
@@ -126,8 +107,9 @@ pub(crate) fn tell<O: Write>(output: &mut O, reply: &Reply) -> Result<Ending, Se
     ensures { (outcome : Result Answer LineRefusal) → reply.now ≡ said outcome
         → IsTold result outcome (O.contents output.old) (O.contents output.new) }
 {
-    put(output, reply.body())?;
-    put(output, reply.last())?;
+    if reply.write_to(output).is_err() {
+        return Err(ServeFault::Write);
+    }
     if reply.last().starts_with(b"ERR") {
         Ok(Ending::Refused)
     } else {

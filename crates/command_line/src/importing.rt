@@ -26,34 +26,35 @@ fn import_into<D: Disk + Drop, S: Source, O: Write>(
     output: &mut O,
 ) -> Result<Ending, ServeFault>
     ensures { Imports (S.is_honest source.old) (S.releases source.old)
-        D.is_honest D.moments D.failures name.now (Ok store.old) result
+        D.is_honest D.moments D.failures name.now (Ok store.old) store.new.disk result
         (O.contents output.old) (O.contents output.new) }
 {
     let Ok(line) = line_of_import(alloc, name) else {
-        return refuse(output, Refusal::OutOfMemory);
+        return refuse(alloc, output, Refusal::OutOfMemory);
     };
     let mut pins = Pins::new();
     let reply = answer(alloc, line.as_bytes(), &mut pins, source, store);
     tell(output, &reply)
 }
 
-/// Imports a release into the store of a device, and tells the reply.
+/// Imports a release into the store of a device, and tells the reply. The device comes back.
 pub(crate) fn import<D: Disk + Drop, S: Source, O: Write>(
     alloc: Global,
     device: D,
     name: &str,
     source: &mut S,
     output: &mut O,
-) -> Result<Ending, ServeFault>
+) -> (Result<Ending, ServeFault>, D)
     ensures { IsImport (S.is_honest source.old) (S.releases source.old)
-        D.is_honest D.moments D.failures name.now device result
+        D.is_honest D.moments D.failures name.now device result.1 result.0
         (O.contents output.old) (O.contents output.new) }
 {
     match Store::open(alloc, device) {
         Ok(store) => {
             let mut store = store;
-            import_into(alloc, name, source, &mut store, output)
+            let ended = import_into(alloc, name, source, &mut store, output);
+            (ended, store.close())
         }
-        Err((refusal, _)) => refuse(output, refusal),
+        Err((refusal, device)) => (refuse(alloc, output, refusal), device),
     }
 }

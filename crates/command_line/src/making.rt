@@ -9,17 +9,17 @@ use line_server::ServeFault;
 use std::alloc::Global;
 use std::io::Write;
 
-/// Makes a store on a device, and tells it.
+/// Makes a store on a device, and tells it. The device comes back.
 pub(crate) fn init<D: Disk + Drop, O: Write>(
     alloc: Global,
     device: D,
     output: &mut O,
-) -> Result<Ending, ServeFault>
-    ensures { IsMade D.is_honest D.moments device result
+) -> (Result<Ending, ServeFault>, D)
+    ensures { IsMade D.is_honest D.moments D.failures device result.1 result.0
         (O.contents output.old) (O.contents output.new) }
 {
     match Store::create(alloc, device) {
-        Ok(_) => tell_done(output),
-        Err((refusal, _)) => refuse(output, refusal),
+        Ok(store) => (tell_done(alloc, output), store.close()),
+        Err((refusal, device)) => (refuse(alloc, output, refusal), device),
     }
 }

@@ -19,7 +19,7 @@ use std::alloc::Global;
 use std::io::{Read, Write};
 
 /// Does what the words ask for, of which the first is the program's name, and answers the status of the program: 0 where it was done; 1 where it was
-/// refused, or a stream or the memory failed; 2 where the words are no command.
+/// refused, or a stream or the memory failed; 2 where the words are no command. The device that the task was done on comes back as it was left.
 pub fn run<P: Places, I: Read, O: Write, E: Write>(
     places: &P,
     alloc: Global,
@@ -27,26 +27,30 @@ pub fn run<P: Places, I: Read, O: Write, E: Write>(
     input: &mut I,
     output: &mut O,
     faults: &mut E,
-) -> u8
-    ensures status { result ≤ 2 }
+) -> (u8, Option<P::Device>)
+    ensures status { result.0 ≤ 2 }
     // Words that are no command do nothing but to be told.
-    ensures no_command { result ≡ 2 → (input.new ≡ input.old) × (output.new ≡ output.old) }
+    ensures no_command { result.0 ≡ 2 → (input.new ≡ input.old) × (output.new ≡ output.old) }
     ensures done { IsRun (P.gives places.now) (P.is_honest places.now) (P.releases places.now)
         P.Device.is_honest P.Device.moments P.Device.failures SCRIPT.now
-        (map string_bytes words.now) result (I.remaining input.old) (I.remaining input.new)
+        (map string_bytes words.now) result.1 result.0
+        (I.remaining input.old) (I.remaining input.new)
         (O.contents output.old) (O.contents output.new)
-        ⊎ IsNoTask (map string_bytes words.now) result
+        ⊎ IsNoTask (map string_bytes words.now) result.1 result.0
         (I.remaining input.old) (I.remaining input.new)
         (O.contents output.old) (O.contents output.new) }
 {
     match task_of(alloc, words) {
         Ok(task) => {
-            let ended = perform(places, alloc, &task, input, output);
-            finish(ended, output, faults)
+            let (ended, left) = perform(places, alloc, &task, input, output);
+            (finish(ended, output, faults), left)
         }
-        Err(refused) => explain(&refused, output, faults),
+        Err(refused) => (explain(&refused, output, faults), None),
     }
 }
+
+/// How a task ended, and the device that it was done on, if there is one.
+type Ended<D> = (Result<Ending, ServeFault>, Option<D>);
 
 /// Does a task.
 fn perform<P: Places, I: Read, O: Write>(
@@ -55,9 +59,10 @@ fn perform<P: Places, I: Read, O: Write>(
     task: &Task<'_>,
     input: &mut I,
     output: &mut O,
-) -> Result<Ending, ServeFault>
+) -> Ended<P::Device>
     ensures { Does (P.gives places.now) (P.is_honest places.now) (P.releases places.now)
-        P.Device.is_honest P.Device.moments P.Device.failures SCRIPT.now task.now result
+        P.Device.is_honest P.Device.moments P.Device.failures SCRIPT.now task.now
+        result.1 result.0
         (I.remaining input.old) (I.remaining input.new)
         (O.contents output.old) (O.contents output.new) }
 {
@@ -71,7 +76,7 @@ fn perform<P: Places, I: Read, O: Write>(
         Task::Serve { store, releases } => {
             serve_at(places, alloc, *store, *releases, input, output)
         }
-        Task::Demo => demo(alloc, output),
+        Task::Demo => (demo(alloc, output), None),
     }
 }
 
@@ -81,15 +86,18 @@ fn init_at<P: Places, O: Write>(
     alloc: Global,
     path: &str,
     output: &mut O,
-) -> Result<Ending, ServeFault>
+) -> Ended<P::Device>
     ensures { IsDoneAt (P.gives places.now path.now)
-        (λ device. IsMade P.Device.is_honest P.Device.moments device result
-        (O.contents output.old) (O.contents output.new))
-        (IsMissing result (O.contents output.old) (O.contents output.new)) }
+        (λ device after. IsMade P.Device.is_honest P.Device.moments P.Device.failures
+        device after result.0 (O.contents output.old) (O.contents output.new))
+        (IsMissing result.0 (O.contents output.old) (O.contents output.new)) result.1 }
 {
     match places.device_or_new(path) {
-        Ok(device) => init(alloc, device, output),
-        Err(_) => refuse(output, Refusal::DiskFault),
+        Ok(device) => {
+            let (ended, left) = init(alloc, device, output);
+            (ended, Some(left))
+        }
+        Err(_) => (refuse(alloc, output, Refusal::DiskFault), None),
     }
 }
 
@@ -101,19 +109,20 @@ fn import_at<P: Places, O: Write>(
     dir: &str,
     name: &str,
     output: &mut O,
-) -> Result<Ending, ServeFault>
+) -> Ended<P::Device>
     ensures { IsDoneAt (P.gives places.now path.now)
-        (λ device. IsImport (P.is_honest places.now) (P.releases places.now dir.now)
-        P.Device.is_honest P.Device.moments P.Device.failures name.now device result
+        (λ device after. IsImport (P.is_honest places.now) (P.releases places.now dir.now)
+        P.Device.is_honest P.Device.moments P.Device.failures name.now device after result.0
         (O.contents output.old) (O.contents output.new))
-        (IsMissing result (O.contents output.old) (O.contents output.new)) }
+        (IsMissing result.0 (O.contents output.old) (O.contents output.new)) result.1 }
 {
     match places.device(path) {
         Ok(device) => {
             let mut source = FolderSource { places, dir };
-            import(alloc, device, name, &mut source, output)
+            let (ended, left) = import(alloc, device, name, &mut source, output);
+            (ended, Some(left))
         }
-        Err(_) => refuse(output, Refusal::DiskFault),
+        Err(_) => (refuse(alloc, output, Refusal::DiskFault), None),
     }
 }
 
@@ -125,21 +134,22 @@ fn serve_at<P: Places, I: Read, O: Write>(
     dir: &str,
     input: &mut I,
     output: &mut O,
-) -> Result<Ending, ServeFault>
+) -> Ended<P::Device>
     ensures { IsDoneAt (P.gives places.now path.now)
-        (λ device. IsServing (P.is_honest places.now) (P.releases places.now dir.now)
-        P.Device.is_honest P.Device.moments P.Device.failures device result
+        (λ device after. IsServing (P.is_honest places.now) (P.releases places.now dir.now)
+        P.Device.is_honest P.Device.moments P.Device.failures device after result.0
         (I.remaining input.old) (I.remaining input.new)
         (O.contents output.old) (O.contents output.new))
-        (IsMissing result (O.contents output.old) (O.contents output.new)
-        × (I.remaining input.new ≡ I.remaining input.old)) }
+        (IsMissing result.0 (O.contents output.old) (O.contents output.new)
+        × (I.remaining input.new ≡ I.remaining input.old)) result.1 }
 {
     match places.device(path) {
         Ok(device) => {
             let mut source = FolderSource { places, dir };
-            serve_device(alloc, device, &mut source, input, output)
+            let (ended, left) = serve_device(alloc, device, &mut source, input, output);
+            (ended, Some(left))
         }
-        Err(_) => refuse(output, Refusal::DiskFault),
+        Err(_) => (refuse(alloc, output, Refusal::DiskFault), None),
     }
 }
 
@@ -149,7 +159,8 @@ fn demo<O: Write>(alloc: Global, output: &mut O) -> Result<Ending, ServeFault>
         (O.contents output.old) (O.contents output.new) }
 {
     let mut script = SCRIPT;
-    serve_new(alloc, MemDisk::new(alloc), &mut Sample, &mut script, output)
+    let (ended, _) = serve_new(alloc, MemDisk::new(alloc), &mut Sample, &mut script, output);
+    ended
 }
 
 /// Writes why the words give no task. A help that was asked for is no fault.

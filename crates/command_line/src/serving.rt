@@ -22,7 +22,7 @@ fn serve_all<D: Disk + Drop, S: Source, I: Read, O: Write>(
     output: &mut O,
 ) -> Result<Ending, ServeFault>
     ensures { Serves (S.is_honest source.old) (S.releases source.old)
-        D.is_honest D.moments D.failures (Ok store.old) result
+        D.is_honest D.moments D.failures (Ok store.old) store.new.disk result
         (I.remaining input.old) (I.remaining input.new)
         (O.contents output.old) (O.contents output.new) }
 {
@@ -32,46 +32,48 @@ fn serve_all<D: Disk + Drop, S: Source, I: Read, O: Write>(
     }
 }
 
-/// Answers the lines of the input from the store of a device.
+/// Answers the lines of the input from the store of a device, which comes back.
 pub(crate) fn serve_device<D: Disk + Drop, S: Source, I: Read, O: Write>(
     alloc: Global,
     device: D,
     source: &mut S,
     input: &mut I,
     output: &mut O,
-) -> Result<Ending, ServeFault>
+) -> (Result<Ending, ServeFault>, D)
     ensures { IsServing (S.is_honest source.old) (S.releases source.old)
-        D.is_honest D.moments D.failures device result
+        D.is_honest D.moments D.failures device result.1 result.0
         (I.remaining input.old) (I.remaining input.new)
         (O.contents output.old) (O.contents output.new) }
 {
     match Store::open(alloc, device) {
         Ok(store) => {
             let mut store = store;
-            serve_all(alloc, source, &mut store, input, output)
+            let ended = serve_all(alloc, source, &mut store, input, output);
+            (ended, store.close())
         }
-        Err((refusal, _)) => refuse(output, refusal),
+        Err((refusal, device)) => (refuse(alloc, output, refusal), device),
     }
 }
 
-/// Answers the lines of the input from a new store on a device.
+/// Answers the lines of the input from a new store on a device, which comes back.
 pub(crate) fn serve_new<D: Disk + Drop, S: Source, I: Read, O: Write>(
     alloc: Global,
     device: D,
     source: &mut S,
     input: &mut I,
     output: &mut O,
-) -> Result<Ending, ServeFault>
+) -> (Result<Ending, ServeFault>, D)
     ensures { IsServingNew (S.is_honest source.old) (S.releases source.old)
-        D.is_honest D.moments D.failures device result
+        D.is_honest D.moments D.failures device result.1 result.0
         (I.remaining input.old) (I.remaining input.new)
         (O.contents output.old) (O.contents output.new) }
 {
     match Store::create(alloc, device) {
         Ok(store) => {
             let mut store = store;
-            serve_all(alloc, source, &mut store, input, output)
+            let ended = serve_all(alloc, source, &mut store, input, output);
+            (ended, store.close())
         }
-        Err((refusal, _)) => refuse(output, refusal),
+        Err((refusal, device)) => (refuse(alloc, output, refusal), device),
     }
 }

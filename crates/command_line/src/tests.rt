@@ -25,7 +25,7 @@ fn run_words(rt: &HostRuntime, line: &str, input: &[u8]) -> Result<Shown, Fail> 
     let mut input = input;
     let mut output = Vec::new(rt.alloc());
     let mut faults = Vec::new(rt.alloc());
-    let status = run(
+    let (status, _) = run(
         rt,
         rt.alloc(),
         words.as_slice(),
@@ -218,7 +218,7 @@ fn streams_that_fail(rt: HostRuntime) -> Result<(), Fail> {
             goes_out: *goes_out,
         };
         let mut written = Vec::new(rt.alloc());
-        let got = run(
+        let (got, _) = run(
             &rt,
             rt.alloc(),
             words.as_slice(),

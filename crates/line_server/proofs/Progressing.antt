@@ -26,7 +26,6 @@ use Rattle.line_server.specs.Steps.{kept, room}
 use Rattle.line_server.proofs.Alike.{turn_of, turn_alike}
 use Rattle.line_server.proofs.Cuts.{Cut, cut_none, cut_byte, cut_line, cut_end, cut_rest, cut_front, kept_more, kept_none, kept_some, kept_ended, kept_unended}
 use Rattle.line_server.proofs.Imported.{run_imported}
-use Rattle.line_server.proofs.Sent.{some_more}
 
 -- ---- how many lines end in what came
 
@@ -164,7 +163,7 @@ module _ {D : Type 0} (honest_source : Type 0) (has : Releases) (honest : D → 
 
     out : (result : Result ℕ ServeFault) (new : Option (List ℕ)) (pins : List (Option ℕ)) (after : Stored D) (turns : List Turn)
         → Run honest_source has honest moments failures start turns (desk pins after) → IfSome input (AreLines result (lines_asked turns))
-        → (came : List ℕ) → Consumes input rest came → IsRead result most came rest (length turns) → IsWritten result old new (replies turns) → IsCount result (length turns)
+        → (came : List ℕ) → Consumes input rest came → IsRead result most came rest (length turns) → IsWritten result old new turns → IsCount result (length turns)
         → Out result new after
     out result new pins after turns run lines came consumed read written count = record {
       turns = turns;
@@ -219,8 +218,8 @@ module _ {D : Type 0} (honest_source : Type 0) (has : Releases) (honest : D → 
           pub unwritten_within : AppendsSome mid new (bytes_of (said outcome)) → Out (Err faults.Write) new after
           unwritten_within w =
               out (Err faults.Write) new later after (h.turns ++ last ∷ []) last_run (all_are_first input (lines_asked (h.turns ++ last ∷ [])) faults.Write last_lines) seen c
-              (omega (arith, length-append h.turns (last ∷ [])))
-              (subst (λ (bs : List ℕ). AppendsSome old new bs) (replies_more h.turns last) (some_more old mid new (replies h.turns) (bytes_of (said outcome)) h.written w))
+              tt
+              (h.turns, last, mid, refl, h.written, w)
               tt
 
     -- the reply to a line wasn't written whole, and more of the input had come
@@ -236,8 +235,8 @@ module _ {D : Type 0} (honest_source : Type 0) (has : Releases) (honest : D → 
         (first_lines input rest ((seen ++ 10 ∷ []) ++ more) [] (lines_asked (h.turns ++ t ∷ [])) faults.Write c
         (λ others. subst (λ (l : List ℕ). IsFront (lines_asked (h.turns ++ t ∷ [])) (lines_in l)) (sym (append_assoc (seen ++ 10 ∷ []) more others)) (cut_front (seen ++ 10 ∷ []) (lines_asked (h.turns ++ t ∷ [])) [] (more ++ others) cut)))
         ((seen ++ 10 ∷ []) ++ more) c
-        (omega (arith, length-append h.turns (t ∷ [])))
-        (subst (λ (bs : List ℕ). AppendsSome old new bs) (replies_more h.turns t) (some_more old mid new (replies h.turns) (bytes_of (said outcome)) h.written w))
+        tt
+        (h.turns, t, mid, refl, h.written, w)
         tt
 
   -- no memory for the buffer

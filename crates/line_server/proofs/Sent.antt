@@ -7,8 +7,7 @@ use Rattle.std.proofs.Math.Seq.{take-add}
 use Rattle.std.proofs.lemmas.List.{take_all, length-drop}
 use Rattle.std.specs.Io.KnownBytes.{Appends}
 use Rattle.std.proofs.KnownBytes.{Appends-trans}
-use Rattle.line_server.specs.Streams.{AppendsSome}
-use Rattle.line_server.specs.Steps.{IsPut}
+use Rattle.line_server.specs.Streams.{AppendsSome, IsPut}
 
 -- the slice from n on
 pub rest_of : (n : ℕ) (bs : List ℕ) → take (length bs - n) (drop n bs) ≡ drop n bs
@@ -27,7 +26,7 @@ some_of_front : (a b : Option (List ℕ)) (xs ys : List ℕ) → AppendsSome a b
 some_of_front a b xs ys p = (p.0, p.1 ++ ys, ap (λ (l : List ℕ). l ++ ys) p.2 ∙ append_assoc p.0 p.1 ys, omega (arith, p.3, length-append p.1 ys), p.4)
 
 -- all, and then some of more
-pub some_more : (a b c : Option (List ℕ)) (xs ys : List ℕ) → Appends a b xs → AppendsSome b c ys → AppendsSome a c (xs ++ ys)
+some_more : (a b c : Option (List ℕ)) (xs ys : List ℕ) → Appends a b xs → AppendsSome b c ys → AppendsSome a c (xs ++ ys)
 some_more a b c xs ys h p = (xs ++ p.0, p.1, ap (λ (l : List ℕ). xs ++ l) p.2 ∙ sym (append_assoc xs p.0 p.1), p.3, Appends-trans a b c xs p.0 h p.4)
 
 -- two parts, the first of which was written whole

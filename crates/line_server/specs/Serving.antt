@@ -1,5 +1,5 @@
 -- What serving lines does.
-use Rattle.std.specs.Prelude.{◌≡◌, ◌^◌, ◌-◌, ◌≤◌, ℕ, List, [], length, min, replicate, Option, None, IfSome, Result, Ok, Err}
+use Rattle.std.specs.Prelude.{◌≡◌, ◌^◌, ◌-◌, ◌≤◌, ℕ, List, [], ◌∷◌, ◌++◌, length, min, replicate, Option, None, IfSome, Result, Ok, Err}
 use Rattle.std.specs.Io.KnownBytes.{Appends, Consumes, IsAtEnd}
 use Rattle.disk_model.specs.Disk.{Moments}
 use Rattle.rf2_rows.specs.File.{lines_in}
@@ -7,6 +7,7 @@ use Rattle.history_store.specs.Stored.{Stored}
 use Rattle.line_server.specs.declared.serving.ServeFault.{ServeFault}
 use Rattle.line_server.specs.declared.serving.ServeFault.TheVariants as faults
 use Rattle.line_server.specs.Sources.{Releases}
+use Rattle.line_server.specs.Said.{said, bytes_of}
 use Rattle.line_server.specs.Replies.{desk}
 use Rattle.line_server.specs.Imports.{IsFront, Imports}
 use Rattle.line_server.specs.Turns.{Turn, Run, lines_asked, replies, imported, failed_in}
@@ -23,13 +24,15 @@ abbrev pub IsRead : Result ℕ ServeFault → ℕ → List ℕ → Option (List 
 IsRead (Ok n) most came rest answered = IsAtEnd rest
 IsRead (Err faults.OutOfMemory) most came rest answered = (came ≡ []) × (answered ≡ 0)
 IsRead (Err faults.Read) most came rest answered = answered ≡ ends_in came
-IsRead (Err faults.Write) most came rest answered = 1 ≤ answered
+IsRead (Err faults.Write) most came rest answered = Unit {0}
 IsRead (Err faults.Reads) most came rest answered = (answered ≡ ends_in came) × (most ≤ length came)
 
--- all was written, but after a fault of the writer a front part alone
-abbrev pub IsWritten : Result ℕ ServeFault → Option (List ℕ) → Option (List ℕ) → List ℕ → Type 0
-IsWritten (Err faults.Write) old new bytes = AppendsSome old new bytes
-IsWritten result old new bytes = Appends old new bytes
+-- Each reply was written. After a fault of the writer the last line that was answered is the one whose reply isn't, or in part alone.
+abbrev pub IsWritten : Result ℕ ServeFault → Option (List ℕ) → Option (List ℕ) → List Turn → Type 0
+IsWritten (Err faults.Write) old new turns =
+    (done : List Turn) × (last : Turn) × (mid : Option (List ℕ)) × (turns ≡ done ++ last ∷ [])
+    × Appends old mid (replies done) × AppendsSome mid new (bytes_of (said last.outcome))
+IsWritten result old new turns = Appends old new (replies turns)
 
 abbrev pub IsCount : Result ℕ ServeFault → ℕ → Type 0
 IsCount (Ok n) answered = n ≡ min answered (2 ^ 64 - 1)
@@ -42,7 +45,7 @@ pub record IsServed {D : Type 0} (result : Result ℕ ServeFault) (most : ℕ) (
   pub run : Run honest_source has honest moments failures (desk (replicate 64 None) before) turns (desk pins after)
   pub lines : IfSome input (AreLines result (lines_asked turns))
   pub read : (came : List ℕ) × Consumes input rest came × IsRead result most came rest (length turns)
-  pub written : IsWritten result old new (replies turns)
+  pub written : IsWritten result old new turns
   pub count : IsCount result (length turns)
   -- a stop at any moment leaves the history from before with the first so many of the releases that the lines imported
   pub imports : Imports honest moments before after (imported turns) (failed_in turns)

@@ -1,6 +1,5 @@
 -- Steps of serving. Only private functions cite these words.
-use Rattle.std.specs.Prelude.{ℕ, List, take, Option, Result, Ok, Err}
-use Rattle.std.specs.Io.KnownBytes.{Appends}
+use Rattle.std.specs.Prelude.{ℕ, List, take, Option, Result}
 use Rattle.disk_model.specs.Disk.{Moments}
 use Rattle.import_check.specs.declared.release.Release.{Release}
 use Rattle.history_store.specs.Stored.{Stored}
@@ -9,7 +8,7 @@ use Rattle.line_server.specs.Sources.{Releases}
 use Rattle.line_server.specs.Said.{Answer, said, bytes_of}
 use Rattle.line_server.specs.Replies.{desk}
 use Rattle.line_server.specs.Turns.{IsTurn}
-use Rattle.line_server.specs.Streams.{AppendsSome}
+use Rattle.line_server.specs.Streams.{IsPut}
 
 -- how many bytes of a line are kept
 unfoldable pub room : ℕ
@@ -17,11 +16,6 @@ room = 4098
 
 abbrev pub kept : List ℕ → List ℕ
 kept line = take room line
-
--- all was written, or else a front part alone
-abbrev pub IsPut : {T E : Type 0} → Result T E → Option (List ℕ) → Option (List ℕ) → List ℕ → Type 0
-IsPut (Ok x) old new bytes = Appends old new bytes
-IsPut (Err e) old new bytes = AppendsSome old new bytes
 
 -- one line was answered, and its reply was written
 pub record IsLineServed {D T E : Type 0} (result : Result T E) (honest_source : Type 0) (has : Releases) (honest : D → Type 0) (moments : D → Moments) (failures : D → ℕ) (line : List ℕ) (pins : List (Option ℕ)) (store : Stored D) (pins_after : List (Option ℕ)) (store_after : Stored D) (old new : Option (List ℕ)) : Type 0 where

@@ -19,8 +19,10 @@ mod tests;
 mod wording;
 
 pub use answering::answer;
+pub use outgoing::WriteFault;
 pub use pins::Pins;
 pub use refusal::LineRefusal;
 pub use reply::Reply;
 pub use serving::{ServeFault, serve};
 pub use source::{Sample, Source, SourceFault};
+pub use wording::{done, refused};

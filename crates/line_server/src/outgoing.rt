@@ -1,6 +1,6 @@
 //! What goes out.
 
-ghost use Rattle.line_server.specs.Steps.{IsPut};
+ghost use Rattle.line_server.specs.Streams.{IsPut};
 
 use std::io::Write;
 use thiserror::Error;
@@ -11,7 +11,7 @@ use thiserror::Error;
 pub struct WriteFault;
 
 /// Writes all of it. A write that takes no byte is a fault.
-pub fn put_all<W: Write>(writer: &mut W, bytes: &[u8]) -> Result<(), WriteFault>
+pub(crate) fn put_all<W: Write>(writer: &mut W, bytes: &[u8]) -> Result<(), WriteFault>
     ensures { IsPut result (W.contents writer.old) (W.contents writer.new) bytes.now }
 {
     let mut done = 0;

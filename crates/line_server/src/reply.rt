@@ -1,8 +1,12 @@
 //! What is written for a line.
 
 ghost use Rattle.std.specs.Prelude.{◌≡◌, ◌≤◌, length};
+ghost use Rattle.line_server.specs.Said.{bytes_of};
+ghost use Rattle.line_server.specs.Streams.{IsPut};
 
+use crate::outgoing::{WriteFault, put_all};
 use arrayvec::ArrayString;
+use std::io::Write;
 use std::marker::Model;
 
 /// The lines that are written for a line, each with its LF: those of rows or identifiers, and a last one, which takes no memory.
@@ -40,5 +44,14 @@ impl Reply {
         ensures short { length result.now ≤ 128 }
     {
         self.last.as_str().as_bytes()
+    }
+
+    /// Writes its lines, in as many writes as the writer wants. A write that takes no byte is a fault.
+    pub fn write_to<W: Write>(&self, writer: &mut W) -> Result<(), WriteFault>
+        ensures { IsPut result (W.contents writer.old) (W.contents writer.new)
+            (bytes_of self.now) }
+    {
+        put_all(writer, self.body())?;
+        put_all(writer, self.last())
     }
 }

@@ -8,7 +8,7 @@ ghost use Rattle.line_server.specs.Steps.{IsLineServed};
 
 use crate::answering::answer;
 use crate::buffer::LineBuffer;
-use crate::outgoing::{WriteFault, put_all};
+use crate::outgoing::WriteFault;
 use crate::pins::Pins;
 use crate::source::Source;
 use disk_model::Disk;
@@ -53,8 +53,7 @@ fn answer_line<W: Write, S: Source, D: Disk>(
     ensures stays { S.is_honest source.old → S.releases source.new ≡ S.releases source.old }
 {
     let reply = answer(alloc, line, pins, source, store);
-    put_all(writer, reply.body())?;
-    put_all(writer, reply.last())
+    reply.write_to(writer)
 }
 
 /// Answers the lines of the input in order, each before its reply is written, and answers their number. It makes at most `max_reads`

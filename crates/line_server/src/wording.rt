@@ -13,6 +13,17 @@ use itoa::Buffer;
 use rf2_rows::{Row, write_row};
 use std::alloc::{AllocError, Global};
 
+/// A last line that begins with this word.
+fn begun_with(word: &str) -> ArrayString<128>
+    requires { length word.now ≤ 3 }
+    ensures bytes { result.bytes ≡ word.now }
+    ensures len { array_string_len result ≡ length word.now }
+{
+    let mut last = ArrayString::<128>::new();
+    last.push_str(word);
+    last
+}
+
 /// Appends a space and a word.
 fn put_word(last: &mut ArrayString<128>, word: &str)
     requires { array_string_len last.old + length word.now + 1 ≤ 128 }
@@ -43,21 +54,18 @@ fn reply(body: Vec<u8>, text: ArrayString<128>) -> Reply
     Reply::new(body, last)
 }
 
-/// The reply where nothing is to be told.
-pub(crate) fn done(alloc: Global) -> Reply
+/// The reply where all is done and nothing is to be told: `OK`. It takes no memory.
+pub fn done(alloc: Global) -> Reply
     ensures { result ≡ said (Ok (Done [])) }
 {
-    let mut last = ArrayString::<128>::new();
-    last.push_str("OK");
-    reply(Vec::new(alloc), last)
+    reply(Vec::new(alloc), begun_with("OK"))
 }
 
 /// The reply of a number.
 pub(crate) fn numbered(alloc: Global, number: u64) -> Reply
     ensures { result ≡ said (Ok (Done (decimal number ∷ []))) }
 {
-    let mut last = ArrayString::<128>::new();
-    last.push_str("OK");
+    let mut last = begun_with("OK");
     put_number(&mut last, number);
     reply(Vec::new(alloc), last)
 }
@@ -67,8 +75,7 @@ pub(crate) fn received(alloc: Global, receipt: Receipt) -> Reply
     ensures { result ≡ said (Ok (Done (decimal receipt.number ∷ decimal receipt.new ∷ decimal
         receipt.repeated ∷ []))) }
 {
-    let mut last = ArrayString::<128>::new();
-    last.push_str("OK");
+    let mut last = begun_with("OK");
     put_number(&mut last, u64::from(receipt.number));
     put_number(&mut last, receipt.new);
     put_number(&mut last, receipt.repeated);
@@ -86,8 +93,7 @@ pub(crate) fn counted(
     ensures { result ≡ said (Ok (Done (decimal imports ∷ decimal rows ∷ decimal segments ∷
         number_or_none left ∷ []))) }
 {
-    let mut last = ArrayString::<128>::new();
-    last.push_str("OK");
+    let mut last = begun_with("OK");
     put_number(&mut last, u64::from(imports));
     put_number(&mut last, rows);
     put_number(&mut last, u64::from(segments));
@@ -98,12 +104,11 @@ pub(crate) fn counted(
     reply(Vec::new(alloc), last)
 }
 
-/// The reply to a line that is refused.
-pub(crate) fn refused(alloc: Global, refusal: LineRefusal) -> Reply
+/// The reply to what is refused: `ERR`, the number, the name and the place. It takes no memory.
+pub fn refused(alloc: Global, refusal: LineRefusal) -> Reply
     ensures { result ≡ said (Err refusal) }
 {
-    let mut last = ArrayString::<128>::new();
-    last.push_str("ERR");
+    let mut last = begun_with("ERR");
     put_number(&mut last, u64::from(refusal.code()));
     put_word(&mut last, refusal.name());
     match refusal.place() {
@@ -121,8 +126,7 @@ fn end(count: usize) -> ArrayString<128>
     ensures bytes { result.bytes ++ 10 ∷ [] ≡ line (codes "END" ∷ decimal count ∷ []) }
     ensures short { array_string_len result < 128 }
 {
-    let mut last = ArrayString::<128>::new();
-    last.push_str("END");
+    let mut last = begun_with("END");
     put_number(&mut last, count as u64);
     last
 }

@@ -36,7 +36,7 @@ fn main(rt: HostRuntime) -> ExitCode {
         }
     };
     let (mut input, mut output, mut faults) = (rt.stdin(), rt.stdout(), rt.stderr());
-    let status = run(
+    let (status, _) = run(
         &rt,
         rt.alloc(),
         &words,

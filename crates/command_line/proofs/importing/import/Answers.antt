@@ -1,3 +1,4 @@
+use Rattle.std.proofs.Common.{refl}
 use Rattle.command_line.proofs.importing.import.Goals as goal
 
 pub returns-in-Ok : goal.returns-in-Ok
@@ -5,8 +6,8 @@ returns-in-Ok g c =
     let opened = c.open.ensures in
     record {
       had = c.open.result;
-      opening = record { exact = opened.exact; any_moment = opened.any_moment; acknowledged = opened.acknowledged; honesty = opened.honesty };
-      imports = rw c.in-Ok.is c.import_into.ensures;
+      opening = record { exact = opened.exact; any_moment = opened.any_moment; synced = opened.synced; acknowledged = opened.acknowledged; honesty = opened.honesty; counts = opened.failures };
+      imports = rw (c.in-Ok.is, c.close.ensures.disk) c.import_into-ended.ensures;
     }
 
 pub returns : goal.returns
@@ -14,6 +15,6 @@ returns g c =
     let opened = c.open.ensures in
     record {
       had = c.open.result;
-      opening = record { exact = opened.exact; any_moment = opened.any_moment; acknowledged = opened.acknowledged; honesty = opened.honesty };
-      imports = rw c.in-Err.is c.refuse.ensures;
+      opening = record { exact = opened.exact; any_moment = opened.any_moment; synced = opened.synced; acknowledged = opened.acknowledged; honesty = opened.honesty; counts = opened.failures };
+      imports = rw c.in-Err.is (c.refuse.ensures, refl);
     }

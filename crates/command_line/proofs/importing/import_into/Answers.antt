@@ -1,8 +1,8 @@
-use Rattle.std.proofs.Common.{◌∙◌, inl, inr}
+use Rattle.std.proofs.Common.{◌∙◌, inl, inr, refl}
 use Rattle.command_line.proofs.importing.import_into.Goals as goal
 
 pub returns-in_default : goal.returns-in_default
-returns-in_default g c = inr c.refuse.ensures
+returns-in_default g c = inr (c.refuse.ensures, refl)
 
 pub returns : goal.returns
 returns g c =
@@ -14,4 +14,5 @@ returns g c =
       line = c.as_bytes.ensures.value ∙ c.in-Ok.ensures;
       answered = rw (← c.new-pins.ensures.none) t.turn;
       told = c.tell.ensures t.outcome t.reply_is;
+      left_so = refl;
     })

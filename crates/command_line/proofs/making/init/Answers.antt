@@ -1,3 +1,4 @@
+use Rattle.std.proofs.Common.{refl}
 use Rattle.command_line.proofs.making.init.Goals as goal
 
 pub returns-in-Ok : goal.returns-in-Ok
@@ -5,7 +6,8 @@ returns-in-Ok g c =
     let made = c.create.ensures in
     record {
       had = c.create.result;
-      making = record { exact = made.made; acknowledged = made.acknowledged; honesty = made.honesty };
+      making = record { exact = made.made; refused = made.refused; untouched = made.untouched; bytes = made.bytes; acknowledged = made.acknowledged; honesty = made.honesty; counts = made.failures };
+      left_so = rw c.in-Ok.is c.close.ensures.disk;
       told = rw c.in-Ok.is c.tell_done.ensures;
     }
 
@@ -14,6 +16,7 @@ returns g c =
     let made = c.create.ensures in
     record {
       had = c.create.result;
-      making = record { exact = made.made; acknowledged = made.acknowledged; honesty = made.honesty };
+      making = record { exact = made.made; refused = made.refused; untouched = made.untouched; bytes = made.bytes; acknowledged = made.acknowledged; honesty = made.honesty; counts = made.failures };
+      left_so = rw c.in-Err.is refl;
       told = rw c.in-Err.is c.refuse.ensures;
     }

@@ -7,6 +7,7 @@ returns-in-Ok g c = record {
   ends = rw c.in-Ok.is refl;
   after = c.serve.new.store;
   served = c.serve.ensures.served;
+  left_so = refl;
 }
 
 pub returns-in-Err : goal.returns-in-Err
@@ -15,4 +16,5 @@ returns-in-Err g c = record {
   ends = rw c.in-Err.is refl;
   after = c.serve.new.store;
   served = c.serve.ensures.served;
+  left_so = refl;
 }

@@ -6,8 +6,8 @@ returns-in-Ok g c =
     let opened = c.open.ensures in
     record {
       had = c.open.result;
-      opening = record { exact = opened.exact; any_moment = opened.any_moment; acknowledged = opened.acknowledged; honesty = opened.honesty };
-      serves = rw c.in-Ok.is c.serve_all.ensures;
+      opening = record { exact = opened.exact; any_moment = opened.any_moment; synced = opened.synced; acknowledged = opened.acknowledged; honesty = opened.honesty; counts = opened.failures };
+      serves = rw (c.in-Ok.is, c.close.ensures.disk) c.serve_all-ended.ensures;
     }
 
 pub returns : goal.returns
@@ -15,6 +15,6 @@ returns g c =
     let opened = c.open.ensures in
     record {
       had = c.open.result;
-      opening = record { exact = opened.exact; any_moment = opened.any_moment; acknowledged = opened.acknowledged; honesty = opened.honesty };
-      serves = rw c.in-Err.is (c.refuse.ensures, refl);
+      opening = record { exact = opened.exact; any_moment = opened.any_moment; synced = opened.synced; acknowledged = opened.acknowledged; honesty = opened.honesty; counts = opened.failures };
+      serves = rw c.in-Err.is (c.refuse.ensures, refl, refl);
     }

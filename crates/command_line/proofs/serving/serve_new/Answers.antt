@@ -6,8 +6,8 @@ returns-in-Ok g c =
     let made = c.create.ensures in
     record {
       had = c.create.result;
-      making = record { exact = made.made; acknowledged = made.acknowledged; honesty = made.honesty };
-      serves = rw c.in-Ok.is c.serve_all.ensures;
+      making = record { exact = made.made; refused = made.refused; untouched = made.untouched; bytes = made.bytes; acknowledged = made.acknowledged; honesty = made.honesty; counts = made.failures };
+      serves = rw (c.in-Ok.is, c.close.ensures.disk) c.serve_all-ended.ensures;
     }
 
 pub returns : goal.returns
@@ -15,6 +15,6 @@ returns g c =
     let made = c.create.ensures in
     record {
       had = c.create.result;
-      making = record { exact = made.made; acknowledged = made.acknowledged; honesty = made.honesty };
-      serves = rw c.in-Err.is (c.refuse.ensures, refl);
+      making = record { exact = made.made; refused = made.refused; untouched = made.untouched; bytes = made.bytes; acknowledged = made.acknowledged; honesty = made.honesty; counts = made.failures };
+      serves = rw c.in-Err.is (c.refuse.ensures, refl, refl);
     }
