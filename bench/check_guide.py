@@ -1,5 +1,5 @@
 #!/usr/bin/env python3
-"""Runs the examples of docs/GUIDE.md and compares what they print.
+"""Runs the examples of docs/GUIDE.md that begin with `$`, and compares what they print.
 
 check_guide.py PROGRAM [GUIDE]
 

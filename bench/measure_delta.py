@@ -3,9 +3,11 @@
 
 measure_delta.py PROGRAM FOLDER [ROWS ..]
 
-PROGRAM is the built sctd. For each number of rows (235000 and 2350000, if none is given) a release is made in FOLDER by make_release.py,
-and its Full part is imported into a store in a file. Then the store is served, once for each of ten tries, on a copy of that file: once STATUS
-is answered, the Delta is imported as a line, and its seconds of wall and of the program's processor are taken. Standard library alone.
+PROGRAM is the built sctd. For each number of rows (235000 and 2350000, if none is given) a release
+is made in FOLDER by make_release.py, if it isn't there, and its Full part is imported into a store
+in a file. Then the store is served, once for each of ten tries, on a copy of that file: once STATUS
+is answered, the Delta is imported as a line, and its seconds of wall and of the program's processor
+are taken. Standard library alone.
 """
 
 import os

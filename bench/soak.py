@@ -13,7 +13,8 @@ again. A model in this script answers each line too. What has to hold:
 - each reply is the model's, byte for byte, as far as replies came;
 - after a kill the store is what the model is after the first so many of the lines that were sent,
   at least those whose replies came: each import is there whole or not at all, in order;
-- what was asked at a pin before is answered in the same way after.
+- then all that two pins show at two dates is the model's, and at the end each version of each
+  component.
 
 It ends by itself, prints its figures, and has the status 1 at the first reply that is another one.
 The same SEED gives the same lines; the moments of the kills are those of the machine. Standard

@@ -12,7 +12,7 @@ use rf2_values::Row;
 use segment::Posted;
 use std::alloc::Global;
 
-/// A row that is to be read: the number of its list, and where it stands.
+/// A row that is to be read: the number of its list, from 0 on, and where it stands.
 #[derive(Clone, Copy, Debug)]
 pub struct Chosen {
     pub segment: usize,

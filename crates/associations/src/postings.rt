@@ -17,7 +17,9 @@ const IS_A: u64 = 116_680_003;
 /// stands.
 #[derive(Clone, Copy)]
 pub struct Link {
+    /// The parent: the SCTID of a concept.
     pub destination: u64,
+    /// The child: the SCTID of a concept.
     pub source: u64,
     pub at: Posted,
 }
@@ -25,9 +27,11 @@ pub struct Link {
 /// An active association, and where its row stands. The member's id is that of the place's key.
 #[derive(Clone, Copy)]
 pub struct Reference {
-    /// The component that it refers to.
+    /// The component that it refers to, by its SCTID.
     pub referenced: u64,
+    /// The reference set, which says what the association means: the SCTID of a concept.
     pub refset: u64,
+    /// The component that it leads to, by its SCTID.
     pub target: u64,
     pub at: Posted,
 }

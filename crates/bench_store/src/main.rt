@@ -1,4 +1,4 @@
-//! Does one piece of work on a store in a file, for a driver that measures it (bench/measure.py). Without words it does nothing.
+//! Does one piece of work on a store in a file, for the drivers that measure it (bench/measure.py, bench/measure_merge.py). Without words it does nothing.
 #![tactic(auto)]
 
 mod decoding;

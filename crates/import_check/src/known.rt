@@ -71,6 +71,7 @@ pub struct KnownRows<'a> {
 }
 
 impl<'a> KnownRows<'a> {
+    /// Rows that ascend by their keys. Of others nothing is found rightly.
     pub fn new(rows: &'a [StampedRow]) -> KnownRows<'a>
         ensures { result.rows ≡ rows.entry }
     {

@@ -22,7 +22,9 @@ use std::alloc::Global;
 /// What was read.
 #[derive(Drop)]
 pub struct Loaded {
+    /// The current slot.
     pub slot: Slot,
+    /// What its content lists.
     pub directory: Directory,
     /// The places of each segment's rows, in the directory's order.
     pub places: Vec<Vec<Posted>>,
