@@ -1,7 +1,7 @@
 -- The moments of a disk in memory after a call, by what its record says.
 use Rattle.std.specs.Prelude.{Result, Ok, Err, OnOk, OnErr, IsOk}
 use Rattle.std.specs.Prelude.{nat_lt}
-use Rattle.std.proofs.Common.{◌≡◌, inl, inr, ℕ, ◌<◌, min, Bool, true, false, if◌then◌else◌, List, [], ◌∷◌, ◌++◌, length, take, refl, sym, ◌∙◌, ap, arith}
+use Rattle.std.proofs.Common.{◌≡◌, ◌⊎◌, inl, inr, ℕ, ◌<◌, min, Bool, true, false, if◌then◌else◌, List, [], ◌∷◌, ◌++◌, length, take, refl, sym, ◌∙◌, ap, arith}
 use Rattle.std.proofs.lemmas.Bool.Decides.{nat_tests}
 use Rattle.std.proofs.lemmas.List.{append-nil, take_all}
 use Rattle.disk_model.specs.Disk.{DiskState, IsImage, HasFailed, Fails, followed_by, settled, after_write, after_cut}
@@ -48,6 +48,20 @@ pub unmade : {T E T_2 E_2 : Type 0} (result : Result T E) (noted : Result T_2 E_
 unmade (Ok x) noted old mid new fate why stays same passes = tt
 unmade (Err e) (Err y) old mid new fate why stays same passes = same ∙ stays
 unmade (Err e) (Ok y) old mid new fate why stays same passes = absurd (why refl passes)
+
+-- whatever a call answered, at most it itself is new on the record
+pub at_most_one : {T E : Type 0} (noted : Result T E) (old mid new : List Change) (fate fate_2 : Fate) (change : Fate → Change)
+    → OnOk noted (mid ≡ old ++ change fate ∷ []) → OnErr noted (mid ≡ old) → new ≡ mid → fate ≡ fate_2 → (new ≡ old) ⊎ (new ≡ old ++ change fate_2 ∷ [])
+at_most_one (Ok x) old mid new fate fate_2 change is stays same fates = inr (same ∙ is ∙ ap (λ (f : Fate). old ++ change f ∷ []) fates)
+at_most_one (Err e) old mid new fate fate_2 change is stays same fates = inl (same ∙ stays)
+
+-- a sync that failed
+pub unsynced : {T E T_2 E_2 : Type 0} (result : Result T E) (noted : Result T_2 E_2) (old mid new : List Change) (fate : Fate)
+    → OnErr result (IsOk noted → ¬ (fate ≡ Passes)) → OnOk noted (mid ≡ old ++ synced_as fate) → OnErr noted (mid ≡ old) → new ≡ mid → OnErr result (new ≡ old)
+unsynced (Ok x) noted old mid new fate why is stays same = tt
+unsynced (Err e) (Err y) old mid new fate why is stays same = same ∙ stays
+unsynced (Err e) (Ok y) old mid new Passes why is stays same = absurd (why refl refl)
+unsynced (Err e) (Ok y) old mid new (FateFails part) why is stays same = same ∙ is ∙ append-nil old
 
 pub write_may_fail : (at : ℕ) (bytes : List ℕ) (s : DiskState) (part : ℕ) → IsImage s s.now → HasFailed s (after_write s at bytes) (after_change s (FailedWrite at bytes part))
 write_may_fail at bytes s part now = record { account = inr refl; image = change_image s (FailedWrite at bytes part) now }

@@ -1,4 +1,4 @@
-ghost use Rattle.std.specs.Prelude.{◌≡◌, ◌↔◌, ℕ, ◌+◌, ◌-◌, ◌≤◌, ◌++◌, [], ◌∷◌, Some, length, take, drop, min};
+ghost use Rattle.std.specs.Prelude.{◌≡◌, ◌⊎◌, ◌↔◌, ℕ, ◌+◌, ◌-◌, ◌≤◌, ◌++◌, [], ◌∷◌, Some, length, take, drop, min};
 ghost use Rattle.std.specs.Prelude.{IsTrue, IsOk, IfOk, IsErr, OnOk, OnErr, Contains};
 ghost use Rattle.disk_model.specs.Disk.{IsImage, Fails, followed_by, settled, after_write, after_cut};
 ghost use Rattle.fault_counts.specs.Counting.{CountsEach};
@@ -107,6 +107,7 @@ impl MemDisk {
     /// Until either is passed no call fails for want of memory. An `Err` changes neither the bytes nor the record.
     pub fn reserve(&mut self, bytes: u64, calls: u32) -> Result<(), AllocError>
         ensures room { OnOk result (HasRoomFor self.new bytes calls bytes) }
+        ensures succeeds { HasRoomFor self.old bytes calls bytes → IsOk result }
         ensures kept { SameRecord self.old self.new }
         ensures failures { failure_count self.new ≡ failure_count self.old }
         ensures faults { faults_of self.new ≡ faults_of self.old }
@@ -319,6 +320,9 @@ impl Disk for MemDisk {
         ensures traced { HasRoomFor self.old (at + length bytes.now) 1 (length bytes.now)
             → record_of self.new
             ≡ record_of self.old ++ written_as (fate_of (faults_of self.old)) at bytes.now ∷ [] }
+        // Whatever it answers, this call alone is new on the record, or none.
+        ensures one { (record_of self.new ≡ record_of self.old) ⊎ (record_of self.new
+            ≡ record_of self.old ++ written_as (fate_of (faults_of self.old)) at bytes.now ∷ []) }
         ensures room { UsesRoom self.old self.new 1 (length bytes.now) }
     {
         let fate = self.faults.of_change();
@@ -343,6 +347,8 @@ impl Disk for MemDisk {
         ensures noted { OnOk result (record_of self.new ≡ record_of self.old ++ Cut len ∷ []) }
         ensures traced { HasRoomFor self.old 0 1 0 → record_of self.new
             ≡ record_of self.old ++ cut_as (fate_of (faults_of self.old)) len ∷ [] }
+        ensures one { (record_of self.new ≡ record_of self.old) ⊎ (record_of self.new
+            ≡ record_of self.old ++ cut_as (fate_of (faults_of self.old)) len ∷ []) }
         ensures room { UsesRoom self.old self.new 1 0 }
     {
         let fate = self.faults.of_change();
@@ -360,6 +366,8 @@ impl Disk for MemDisk {
         ensures succeeds { HasRoomFor self.old 0 1 0
             → fate_of (faults_of self.old) ≡ Passes → IsOk result }
         ensures first { first_bytes self.new ≡ first_bytes self.old }
+        // A sync that fails, for whatever reason, leaves the record as it was.
+        ensures unmade { OnErr result (record_of self.new ≡ record_of self.old) }
         ensures noted { OnOk result (record_of self.new ≡ record_of self.old ++ Sync ∷ []) }
         ensures traced { HasRoomFor self.old 0 1 0 → record_of self.new
             ≡ record_of self.old ++ synced_as (fate_of (faults_of self.old)) }

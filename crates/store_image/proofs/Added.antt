@@ -4,12 +4,14 @@ use Rattle.std.proofs.Common.{◌≡◌, ◌⊎◌, inl, ℕ, ◌+◌, ◌*◌, 
 use Rattle.std.specs.Int.{div_ceil}
 use Rattle.std.proofs.lemmas.List.Elements.{All-push}
 use Rattle.disk_model.specs.Disk.{Moments, IsImage, EachImage, LeavesOnly, after_write, settled}
-use Rattle.disk_model.proofs.MomentSteps.{weaker, at_end}
+use Rattle.disk_model.proofs.Images.{same_but_all}
+use Rattle.disk_model.proofs.MomentSteps.{joined, weaker, at_end}
 use Rattle.blocks.specs.declared.slots.Slot.{Slot}
 use Rattle.blocks.specs.Extents.{start_of, byte_range}
-use Rattle.blocks.specs.Outside.{SameOutside}
+use Rattle.blocks.specs.Outside.{SameOutside, StemsWithin, StemsWithinBoth}
 use Rattle.blocks.proofs.Elsewhere.{elsewhere_joined}
 use Rattle.blocks.proofs.SlotImages.{Either}
+use Rattle.blocks.proofs.Within.{either_within}
 use Rattle.history_model.specs.declared.stamped.StampedRow.{StampedRow}
 use Rattle.history_model.specs.Lists.{listed}
 use Rattle.history_model.proofs.InOrder.{Has-all, all_from_has}
@@ -117,3 +119,20 @@ add_elsewhere (Ok x) entry slots at n a b c place len wrote published =
     let P : ℕ → ℕ → Type 0 = λ m k. SameOutside ((m, m + k) ∷ []) a b in
     let first : SameOutside (byte_range (extent_of entry) ∷ []) a b = subst (λ (m : ℕ). P m entry.bytes) place (subst (λ (k : ℕ). P at k) len wrote) in
     elsewhere_joined (byte_range (extent_of entry) ∷ []) (slots ∷ []) a b c first published
+
+-- what a stop leaves elsewhere, while the segment is written and while the directory is published
+module _ (old mid : Moments) (entry : Entry) (at : ℕ) (bytes : List ℕ) (len : length bytes ≡ entry.bytes) (place : at ≡ start_of (extent_of entry)) (now : IsImage old.state old.state.now) (wrote : LeavesOnly old mid (Either at bytes old.state)) (slots : ℕ × ℕ) where
+  abbrev pub WithinBoth : List ℕ → Type 0
+  WithinBoth = StemsWithinBoth old.state (byte_range (extent_of entry)) slots
+
+  in_extent : (c : List ℕ) → Either at bytes old.state c → StemsWithin old.state (byte_range (extent_of entry)) c
+  in_extent c either =
+      let start = start_of (extent_of entry) in either_within old.state start (start + entry.bytes) at bytes now (omega (arith, place)) (omega (arith, place, len)) c either
+
+  pub written_inside : LeavesOnly old mid WithinBoth
+  written_inside = weaker old mid (Either at bytes old.state) WithinBoth (λ c either. (c, in_extent c either, same_but_all slots.0 slots.1 c)) wrote
+
+  pub published_inside : (new : Moments) → LeavesOnly mid new (StemsWithin mid.state slots) → LeavesOnly old new WithinBoth
+  published_inside new run =
+      joined old mid new WithinBoth written_inside
+      (weaker mid new (StemsWithin mid.state slots) WithinBoth (λ c stems. (stems.0, in_extent stems.0 (at_end old mid (Either at bytes old.state) wrote stems.0 stems.1), stems.2)) run)

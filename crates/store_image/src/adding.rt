@@ -3,8 +3,9 @@
 ghost use Rattle.std.specs.Prelude.{◌≡◌, ◌⊎◌, ◌↔◌, ◌+◌, ◌++◌, ◌∷◌, [], List, length, IfOk, OnOk};
 ghost use Rattle.disk_model.specs.Disk.{EachImage, LeavesOnly};
 ghost use Rattle.fault_counts.specs.Counting.{CountsEach};
+ghost use Rattle.blocks.specs.Calls.{MakesCalls};
 ghost use Rattle.blocks.specs.Extents.{byte_range};
-ghost use Rattle.blocks.specs.Outside.{SameOutside, StemsWithin};
+ghost use Rattle.blocks.specs.Outside.{SameOutside, StemsWithin, StemsWithinBoth};
 ghost use Rattle.blocks.specs.Slots.{other, slot_range};
 ghost use Rattle.history_model.specs.declared.stamped.StampedRow.{StampedRow};
 ghost use Rattle.directory.specs.Listings.{Listing, IsEntry};
@@ -40,6 +41,12 @@ pub fn publish_listing<D: Disk>(
         → IsOnDisk (D.moments disk.old).state slot d lists → next.now.epoch ≡ d.epoch + 1
         → LeavesOnly (D.moments disk.old) (D.moments disk.new)
         (StemsWithin (D.moments disk.old).state (slot_range (other slot))) }
+    // The same whatever the disk has.
+    ensures inside { D.is_honest disk.old
+        → LeavesOnly (D.moments disk.old) (D.moments disk.new)
+        (StemsWithin (D.moments disk.old).state (slot_range (other slot))) }
+    ensures calls { D.is_honest disk.old
+        → MakesCalls result 6 (D.moments disk.old) (D.moments disk.new) }
     ensures elsewhere { D.is_honest disk.old → OnOk result (SameOutside (slot_range (other slot) ∷ []) (D.moments disk.old).state.now (D.moments disk.new).state.now) }
     ensures next { IfOk result (λ published. published ≡ other slot) }
     ensures honesty { D.is_honest disk.old ↔ D.is_honest disk.new }
@@ -72,6 +79,13 @@ pub fn add_segment<D: Disk>(
     ensures on_disk { D.is_honest disk.old → (d : Listing) (lists : List (List StampedRow)) (rows : List StampedRow) → IsOnDisk (D.moments disk.old).state slot d lists
         → IsAdded d next.now lists entry rows → bytes.now ≡ segment_of rows
         → OnOk result (IsOnDisk (D.moments disk.new).state (other slot) next.now (lists ++ rows ∷ [])) }
+    // What a stop leaves changes within the segment's extent and the other slot alone.
+    ensures inside { D.is_honest disk.old
+        → LeavesOnly (D.moments disk.old) (D.moments disk.new)
+        (StemsWithinBoth (D.moments disk.old).state (byte_range (extent_of entry))
+        (slot_range (other slot))) }
+    ensures calls { D.is_honest disk.old
+        → MakesCalls result 8 (D.moments disk.old) (D.moments disk.new) }
     ensures elsewhere { D.is_honest disk.old → OnOk result (SameOutside (byte_range (extent_of entry) ∷ slot_range (other slot) ∷ []) (D.moments disk.old).state.now (D.moments disk.new).state.now) }
     ensures next { IfOk result (λ published. published ≡ other slot) }
     ensures honesty { D.is_honest disk.old ↔ D.is_honest disk.new }

@@ -3,6 +3,7 @@
 ghost use Rattle.std.specs.Prelude.{◌≡◌, ◌⊎◌, ◌↔◌, ◌+◌, ◌≤◌, ◌++◌, ◌∷◌, [], ℕ, List, length, IfOk, OnOk, OnErr};
 ghost use Rattle.disk_model.specs.Disk.{IsImage, LeavesOnly, Fails, followed_by, after_write, settled};
 ghost use Rattle.fault_counts.specs.Counting.{CountsEach};
+ghost use Rattle.blocks.specs.Calls.{MakesCalls};
 ghost use Rattle.blocks.specs.Extents.{start_of, byte_range, block_limit};
 ghost use Rattle.blocks.specs.Outside.{SameOutside, StemsWithin};
 ghost use Rattle.blocks.specs.Slots.{other, slot_range};
@@ -91,6 +92,12 @@ pub fn publish_written<D: Disk>(
         → LeavesOnly (D.moments disk.old) (D.moments disk.new)
         (λ c. IsImage (D.moments disk.old).state c
         ⊎ StemsWithin (settled (D.moments disk.old).state.now) (slot_range (other slot)) c) }
+    // The same whatever the disk has.
+    ensures inside { D.is_honest disk.old → LeavesOnly (D.moments disk.old) (D.moments disk.new)
+        (λ c. IsImage (D.moments disk.old).state c
+        ⊎ StemsWithin (settled (D.moments disk.old).state.now) (slot_range (other slot)) c) }
+    ensures calls { D.is_honest disk.old
+        → MakesCalls result 7 (D.moments disk.old) (D.moments disk.new) }
     ensures elsewhere { D.is_honest disk.old → OnOk result
         (SameOutside (slot_range (other slot) ∷ [])
         (D.moments disk.old).state.now (D.moments disk.new).state.now) }

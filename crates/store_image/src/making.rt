@@ -1,7 +1,10 @@
 //! Making an empty store.
 
 ghost use Rattle.std.specs.Prelude.{◌≡◌, ◌⊎◌, ◌↔◌, ◌≤◌, [], length, IfOk, IfErr, OnOk};
-ghost use Rattle.disk_model.specs.Disk.{EachImage};
+ghost use Rattle.disk_model.specs.Disk.{EachImage, LeavesOnly};
+ghost use Rattle.blocks.specs.Calls.{MakesCalls};
+ghost use Rattle.blocks.specs.Outside.{StemsWithin};
+ghost use Rattle.blocks.specs.Slots.{slots_range};
 ghost use Rattle.history_model.specs.History.{no_history};
 ghost use Rattle.store_image.specs.declared.fault.ImageFault.TheVariants as faults;
 ghost use Rattle.store_image.specs.Images.{StandsFor};
@@ -50,6 +53,12 @@ pub fn make<D: Disk>(alloc: Global, disk: &mut D) -> Result<Made, ImageFault>
     // A disk with a byte stays as it is, whatever the answer: where the device fails, too.
     ensures untouched { D.is_honest disk.old → 1 ≤ length (D.moments disk.old).state.now
         → D.moments disk.new ≡ D.moments disk.old }
+    // Whatever it answers, what a stop may leave doesn't change behind the slots.
+    ensures inside { D.is_honest disk.old
+        → LeavesOnly (D.moments disk.old) (D.moments disk.new)
+        (StemsWithin (D.moments disk.old).state slots_range) }
+    ensures calls { D.is_honest disk.old
+        → MakesCalls result 9 (D.moments disk.old) (D.moments disk.new) }
     ensures honesty { D.is_honest disk.old ↔ D.is_honest disk.new }
     ensures failures { CountsFault result (D.failures disk.old) (D.failures disk.new) }
 {

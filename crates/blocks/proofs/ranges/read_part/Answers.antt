@@ -1,8 +1,10 @@
 use Rattle.std.proofs.Common.{◌≡◌, ◌+◌, ◌*◌, ◌≤◌, ◌++◌, take, drop, ◌/◌, ◌%◌, List, ℕ, length, refl, sym, ap, subst, ◌∙◌, arith}
+use Rattle.std.proofs.lemmas.Result.{err_from_is_err_and}
 use Rattle.disk_model.specs.Disk.{Moments}
 use Rattle.blocks.specs.Cache.{count_of, AgreesWith}
+use Rattle.blocks.proofs.Looked.{looks_up, none_looked_up, stopped, looked_up_next, ended, all_looked_up}
 use Rattle.blocks.proofs.PartsKept.{next_kept, used_keeps, keeps_on, count_in}
-use Rattle.blocks.proofs.PartsRead.{IsReadSoFar, all_read, more_read, short_read}
+use Rattle.blocks.proofs.PartsRead.{IsReadSoFar, none_read, all_read, more_read, short_read}
 use Rattle.blocks.proofs.ranges.read_part.Goals as goal
 
 pub returns-clause-bytes : goal.returns-clause-bytes
@@ -44,6 +46,19 @@ returns-then-count-skip-clause-kept g c part =
     let whole : c.in_ok-count.count ≡ 4096 = ap count_in (c.in_ok-count.ensures.kept here.0 here.1).0 in
     absurd (omega (arith, whole, c.if-count-skip.true, c.min-taken.ensures))
 
+pub loop-done-init : goal.loop-done-init
+loop-done-init g c = (
+  refl,
+  omega arith,
+  (λ h. h, λ h. h),
+  λ honest. refl,
+  refl,
+  λ honest agrees. (agrees, none_read c.args.from (g.D.Disk.moments c.args.disk.now).state.now c.args.into.now),
+  refl,
+  λ part. (refl, λ q. refl),
+  none_looked_up c.args.from (length c.args.into.now) c.args.cache.now,
+)
+
 pub loop-done-preserved : goal.loop-done-preserved
 loop-done-preserved g c =
     let inv = c.loop-done.invariant in
@@ -71,4 +86,23 @@ loop-done-preserved g c =
             (c.in_ok-count.ensures.kept here.0 here.1).2 ∙ still.0,
             keeps_on c.args.cache.now c.loop-done.cache c.read.new.self still.1 (used_keeps c.loop-done.cache c.read.new.self (at / 4096) (c.in_ok-count.ensures.used here.0 here.1)),
           )),
+      looked_up_next c.args.from (length c.args.into.now) c.loop-done.done c.args.cache.now c.loop-done.cache c.read.new.self inv.8 (omega (arith, inv.0, c.loop-done-test.true))
+          (looks_up (at / 4096) c.in_ok-count.count c.read.new.into c.loop-done.cache c.read.new.self (λ kept is. c.in_ok-count.ensures.used kept is) c.in_ok-count.ensures.keeps) c.min-taken.result (omega (arith, inv.0, c.min-taken.ensures)),
     )
+
+pub returns-in_err-count-clause-looked_up : goal.returns-in_err-count-clause-looked_up
+returns-in_err-count-clause-looked_up g c =
+    let p = err_from_is_err_and c.from_residual.result c.from_residual.ensures.1 in
+    rw p.1 (stopped c.args.from (length c.args.into.now) c.loop-done.done c.args.cache.now c.loop-done.cache c.read.new.self c.loop-done.invariant.8 p.0 c.in_err-count.ensures.unread)
+
+pub returns-then-count-skip-clause-looked_up : goal.returns-then-count-skip-clause-looked_up
+returns-then-count-skip-clause-looked_up g c =
+    let inv = c.loop-done.invariant in
+    let at = c.args.from + c.loop-done.done in
+    ended c.args.from (length c.args.into.now) c.loop-done.done c.args.cache.now c.loop-done.cache c.read.new.self inv.8 (omega (arith, inv.0, c.loop-done-test.true))
+    (looks_up (at / 4096) c.in_ok-count.count c.read.new.into c.loop-done.cache c.read.new.self (λ kept is. c.in_ok-count.ensures.used kept is) c.in_ok-count.ensures.keeps) _
+
+pub returns-clause-looked_up : goal.returns-clause-looked_up
+returns-clause-looked_up g c =
+    let inv = c.loop-done.invariant in
+    all_looked_up _ c.args.from (length c.args.into.now) c.loop-done.done c.args.cache.now c.loop-done.cache (omega (arith, inv.0, inv.1, c.loop-done-test.false)) inv.8

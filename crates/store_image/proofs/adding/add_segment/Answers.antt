@@ -1,6 +1,10 @@
-use Rattle.std.proofs.Common.{◌++◌, ◌∷◌, [], ap, ◌*◌, length}
+use Rattle.std.proofs.Common.{◌≤◌, ◌+◌, ◌++◌, ◌∷◌, [], ap, ◌*◌, length, arith}
+use Rattle.std.proofs.lemmas.Result.{err_from_is_err_and}
 use Rattle.disk_model.proofs.MomentSteps.{joined}
-use Rattle.store_image.proofs.Added.{added_is_next, old_stays, still_on_disk, all_held, add_elsewhere}
+use Rattle.blocks.specs.Calls.{call_count}
+use Rattle.blocks.specs.Slots.{other, slot_range}
+use Rattle.blocks.proofs.Counted.{at_most, counts_on}
+use Rattle.store_image.proofs.Added.{added_is_next, old_stays, still_on_disk, all_held, add_elsewhere, written_inside, published_inside}
 use Rattle.store_image.proofs.adding.add_segment.Goals as goal
 
 pub returns-in_err-write_through-clause-any_moment : goal.returns-in_err-write_through-clause-any_moment
@@ -30,3 +34,25 @@ returns-clause-on_disk g c honest d lists rows on added same =
 pub returns-clause-elsewhere : goal.returns-clause-elsewhere
 returns-clause-elsewhere g c honest =
     add_elsewhere c.publish_listing.result c.args.entry _ _ (length c.args.bytes.now) _ _ _ (ap (λ n. 4096 * n) c.from.ensures) c.requires.bytes (c.in_ok-write_through.ensures.elsewhere honest) (c.publish_listing.ensures.elsewhere (c.write_through.ensures.honesty.0 honest))
+
+pub returns-in_err-write_through-clause-inside : goal.returns-in_err-write_through-clause-inside
+returns-in_err-write_through-clause-inside g c honest =
+    written_inside _ _ c.args.entry _ c.args.bytes.now c.requires.bytes (ap (λ n. 4096 * n) c.from.ensures) (g.met.D.Disk.now_is_image c.args.disk.now honest) (c.write_through.ensures.any_moment honest) (slot_range (other c.args.slot))
+
+pub returns-clause-inside : goal.returns-clause-inside
+returns-clause-inside g c honest =
+    published_inside _ _ c.args.entry _ c.args.bytes.now c.requires.bytes (ap (λ n. 4096 * n) c.from.ensures) (g.met.D.Disk.now_is_image c.args.disk.now honest) (c.write_through.ensures.any_moment honest) (slot_range (other c.args.slot)) _
+    (c.publish_listing.ensures.inside (c.write_through.ensures.honesty.0 honest))
+
+pub returns-in_err-write_through-clause-calls : goal.returns-in_err-write_through-clause-calls
+returns-in_err-write_through-clause-calls g c honest =
+    let old = g.D.Disk.moments c.args.disk.now in
+    let new = g.D.Disk.moments c.write_through.new.disk in
+    let few : call_count new ≤ call_count old + 2 = at_most c.write_through.result 2 old new (c.write_through.ensures.calls honest) in
+    let p = err_from_is_err_and c.from_residual.result c.from_residual.ensures.1 in rw p.1 (omega (arith, few))
+
+pub returns-clause-calls : goal.returns-clause-calls
+returns-clause-calls g c honest =
+    let old = g.D.Disk.moments c.args.disk.now in
+    let mid = g.D.Disk.moments c.write_through.new.disk in
+    counts_on c.publish_listing.result 2 6 old mid (g.D.Disk.moments c.publish_listing.new.disk) (c.in_ok-write_through.ensures.calls honest) (c.publish_listing.ensures.calls (c.write_through.ensures.honesty.0 honest))

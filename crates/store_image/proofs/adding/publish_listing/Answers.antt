@@ -1,3 +1,7 @@
+use Rattle.std.proofs.Common.{◌≤◌, ◌+◌, arith}
+use Rattle.std.proofs.lemmas.Result.{err_from_is_err_and}
+use Rattle.blocks.specs.Calls.{call_count}
+use Rattle.blocks.proofs.Counted.{at_most}
 use Rattle.store_image.proofs.Published.{epoch_before, publish_run, publish_done, one_slot}
 use Rattle.store_image.proofs.adding.publish_listing.Goals as goal
 
@@ -23,3 +27,16 @@ returns-in_err-published-clause-one_slot g c honest d lists on following =
 pub returns-clause-one_slot : goal.returns-clause-one_slot
 returns-clause-one_slot g c honest d lists on following =
     one_slot _ _ c.args.slot d lists c.content_of-content.result c.epoch.result c.args.next.now.epoch on following c.epoch.ensures (c.publish.ensures.any_moment honest)
+
+pub returns-in_err-published-clause-inside : goal.returns-in_err-published-clause-inside
+returns-in_err-published-clause-inside g c honest = c.publish.ensures.inside honest
+
+pub returns-clause-inside : goal.returns-clause-inside
+returns-clause-inside g c honest = c.publish.ensures.inside honest
+
+pub returns-in_err-published-clause-calls : goal.returns-in_err-published-clause-calls
+returns-in_err-published-clause-calls g c honest =
+    let old = g.D.Disk.moments c.args.disk.now in
+    let new = g.D.Disk.moments c.publish.new.disk in
+    let few : call_count new ≤ call_count old + 6 = at_most c.publish.result 6 old new (c.publish.ensures.calls honest) in
+    let p = err_from_is_err_and c.from_residual.result c.from_residual.ensures.1 in rw p.1 few

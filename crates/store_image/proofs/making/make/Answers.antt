@@ -1,5 +1,12 @@
-use Rattle.std.proofs.Common.{length, ap, ◌∙◌}
-use Rattle.disk_model.specs.Disk.{Moments}
+use Rattle.std.proofs.Common.{◌≡◌, ◌≤◌, ◌+◌, ℕ, List, length, ap, subst, ◌∙◌, arith}
+use Rattle.std.proofs.lemmas.Result.{err_from_is_err_and}
+use Rattle.disk_model.specs.Disk.{DiskState, Moments}
+use Rattle.disk_model.proofs.Images.{same_but_all}
+use Rattle.disk_model.proofs.MomentSteps.{stayed, from_same}
+use Rattle.blocks.specs.Calls.{call_count}
+use Rattle.blocks.specs.Outside.{StemsWithin}
+use Rattle.blocks.specs.Slots.{slots_range}
+use Rattle.blocks.proofs.Counted.{at_most}
 use Rattle.store_image.proofs.Empty.{first_epoch, empty_on_disk, empty_stands, new_bytes}
 use Rattle.store_image.proofs.making.make.Goals as goal
 
@@ -21,3 +28,19 @@ returns-clause-bytes g c honest =
     let none = c.in_ok-check_empty.ensures.exact honest in
     let same = ap (λ (m : Moments). length m.state.now) (c.in_ok-check_empty.ensures.moments honest) in
     new_bytes _ _ c.content_of-content.result c.in_ok-directory.directory (same ∙ none) c.in_ok-directory.ensures c.content_of-content.ensures (g.met.D.Disk.now_is_image c.start.new.disk new) (c.in_ok-current.ensures.fresh first) (c.in_ok-current.ensures.elsewhere first)
+
+pub returns-in_err-check_empty-clause-inside : goal.returns-in_err-check_empty-clause-inside
+returns-in_err-check_empty-clause-inside g c honest = stayed _ _ _ (c.check_empty.ensures.moments honest) (λ f image. (f, image, same_but_all 0 16384 f))
+
+pub returns-in_err-directory-clause-inside : goal.returns-in_err-directory-clause-inside
+returns-in_err-directory-clause-inside g c honest = stayed _ _ _ (c.check_empty.ensures.moments honest) (λ f image. (f, image, same_but_all 0 16384 f))
+
+pub returns-in_err-current-clause-inside : goal.returns-in_err-current-clause-inside
+returns-in_err-current-clause-inside g c honest =
+    let old = g.D.Disk.moments c.args.disk.now in
+    from_same old _ _ (λ (s : DiskState) (f : List ℕ). StemsWithin s slots_range f) (StemsWithin old.state slots_range) (c.check_empty.ensures.moments honest) (c.start.ensures.any_moment (c.check_empty.ensures.honesty.0 honest)) (λ f stems. stems)
+
+pub returns-clause-inside : goal.returns-clause-inside
+returns-clause-inside g c honest =
+    let old = g.D.Disk.moments c.args.disk.now in
+    from_same old _ _ (λ (s : DiskState) (f : List ℕ). StemsWithin s slots_range f) (StemsWithin old.state slots_range) (c.check_empty.ensures.moments honest) (c.start.ensures.any_moment (c.check_empty.ensures.honesty.0 honest)) (λ f stems. stems)

@@ -1,9 +1,9 @@
 use Rattle.std.proofs.Common.{◌∙◌}
 use Rattle.std.specs.Prelude.{nat_lt}
-use Rattle.disk_model.specs.Faults.{cut_as}
-use Rattle.disk_model.specs.MemDisk.{first_bytes, record_of}
+use Rattle.disk_model.specs.Faults.{fate_of, cut_as}
+use Rattle.disk_model.specs.MemDisk.{first_bytes, record_of, faults_of}
 use Rattle.disk_model.specs.declared.memory.faults.Fate.{Fate}
-use Rattle.disk_model.proofs.Noted.{passed, failed, unmade, cut_may_fail}
+use Rattle.disk_model.proofs.Noted.{passed, failed, unmade, at_most_one, cut_may_fail}
 use Rattle.disk_model.proofs.memory.MemDiskDisk.cut.Goals as goal
 
 pub returns-clause-made : goal.returns-clause-made
@@ -31,3 +31,9 @@ returns-clause-unmade c =
     λ passes. unmade c.answer.result c.note_cut-noted.result (record_of c.args.self.now) (record_of c.note_cut-noted.new.self) (record_of c.answer.new.self)
     c.of_change-fate.result
     c.answer.ensures.failed c.note_cut-noted.ensures.err c.answer.ensures.kept.1 (c.of_change-fate.ensures.fate ∙ passes)
+
+pub returns-clause-one : goal.returns-clause-one
+returns-clause-one c =
+    let old = c.args.self.now in
+    at_most_one c.note_cut-noted.result (record_of old) (record_of c.note_cut-noted.new.self) (record_of c.answer.new.self) c.of_change-fate.result (fate_of (faults_of old)) (λ (fate : Fate). cut_as fate c.args.len)
+    c.note_cut-noted.ensures.ok c.note_cut-noted.ensures.err c.answer.ensures.kept.1 c.of_change-fate.ensures.fate

@@ -1,5 +1,5 @@
 use Rattle.disk_model.specs.MemDisk.{first_bytes, record_of}
-use Rattle.disk_model.proofs.Noted.{synced_ok}
+use Rattle.disk_model.proofs.Noted.{synced_ok, unsynced}
 use Rattle.disk_model.proofs.memory.MemDiskDisk.sync.Goals as goal
 
 pub returns-clause-made : goal.returns-clause-made
@@ -12,3 +12,9 @@ returns-clause-made c =
 
 pub returns-clause-room : goal.returns-clause-room
 returns-clause-room c = λ end calls bytes room. c.answer.ensures.room end calls bytes (c.note_sync-noted.ensures.room end calls bytes room)
+
+pub returns-clause-unmade : goal.returns-clause-unmade
+returns-clause-unmade c =
+    unsynced c.answer.result c.note_sync-noted.result (record_of c.args.self.now) (record_of c.note_sync-noted.new.self) (record_of c.answer.new.self)
+    c.of_change-fate.result
+    c.answer.ensures.failed c.note_sync-noted.ensures.ok c.note_sync-noted.ensures.err c.answer.ensures.kept.1
