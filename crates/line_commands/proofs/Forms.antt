@@ -10,7 +10,7 @@ use Rattle.rf2_values.specs.Member.{SpellsMember}
 use Rattle.rf2_values.specs.Time.{IsTime}
 use Rattle.rf2_values.specs.Row.{IsIdOf, SpellsId, IsConcept, IsComponent}
 use Rattle.line_commands.specs.declared.command.Command.{Command as RustCommand}
-use Rattle.line_commands.specs.Commands.{Command, Get, History, Children, Terms, Replaced, Page, letter, SpellsAfter}
+use Rattle.line_commands.specs.Commands.{Command, Get, History, Children, Terms, Replaced, Page, most_rows, letter, SpellsAfter}
 use Rattle.line_commands.specs.Private.{IsWord, behind, IsSpelled, IsReadAs}
 use Rattle.line_commands.proofs.FirstWords.{decimal_word, letter_word, id_word, no_space, peel, one_letter}
 use Rattle.line_commands.proofs.Readings.{time_below, after_word}
@@ -67,7 +67,7 @@ record TermsForm (text : List ℕ) : Type 0 where
   prefix : List ℕ
   is_time : IsTime date
   low : 1 ≤ limit
-  high : limit ≤ 1000
+  high : limit ≤ most_rows
   some : 1 ≤ length prefix
   utf8 : IsUtf8 prefix
   whole : text ≡ decimal date ++ 32 ∷ (decimal limit ++ 32 ∷ prefix)
@@ -96,7 +96,7 @@ record PageForm (text : List ℕ) : Type 0 where
   spells : SpellsAfter kind after after_text
   is_time : IsTime date
   low : 1 ≤ limit
-  high : limit ≤ 1000
+  high : limit ≤ most_rows
   whole : text ≡ letter kind ++ 32 ∷ (decimal date ++ 32 ∷ (after_text ++ 32 ∷ decimal limit))
 
 page_form : (text : List ℕ) (command : Command) → IsSpelled (codes "PAGE") (Some text) command → PageForm text
@@ -142,7 +142,7 @@ module _ (text a b x : List ℕ) (is_word : IsWord a) (other_word : IsWord b) (c
       let p = peel a (decimal f.date) _ _ is_word (decimal_word f.date (time_below f.date f.is_time)) (sym cut ∙ f.whole) in
       peel b (decimal f.limit) _ _ other_word (decimal_word f.limit (omega arith)) p.1
 
-  pub terms_no_limit : ((n : ℕ) → 1 ≤ n → n ≤ 1000 → b ≢ decimal n) → IsSpelled (codes "TERMS") (Some text) command → ⊥
+  pub terms_no_limit : ((n : ℕ) → 1 ≤ n → n ≤ most_rows → b ≢ decimal n) → IsSpelled (codes "TERMS") (Some text) command → ⊥
   terms_no_limit none s = let f = terms_form text command s in none f.limit f.low f.high (terms_apart f).0
 
   pub terms_no_prefix : (1 ≤ length x → IsUtf8 x → ⊥) → IsSpelled (codes "TERMS") (Some text) command → ⊥
@@ -182,7 +182,7 @@ module _ (text a b x : List ℕ) (is_word : IsWord a) (other_word : IsWord b) (c
         let same : f.kind ≡ k = one_letter f.kind k (sym p.0 ∙ e) in
         none f.after (subst (λ (z : Kind). SpellsAfter z f.after u) same (subst (λ (z : List ℕ). SpellsAfter f.kind f.after z) (sym p.1) f.spells))
 
-    pub page_no_limit : ((n : ℕ) → 1 ≤ n → n ≤ 1000 → y ≢ decimal n) → IsSpelled (codes "PAGE") (Some text) command → ⊥
+    pub page_no_limit : ((n : ℕ) → 1 ≤ n → n ≤ most_rows → y ≢ decimal n) → IsSpelled (codes "PAGE") (Some text) command → ⊥
     page_no_limit none s = let f = page_form text command s in none f.limit f.low f.high (page_apart f).2
 
 -- ---- the other texts that aren't cut
@@ -253,7 +253,7 @@ get_found text a b x k id date e f is spells time last = record {
   rest_is = ap (λ (t : List ℕ). Some (t ++ 32 ∷ (b ++ 32 ∷ decimal date))) (sym f) ∙ ap (λ (t : List ℕ). Some (a ++ 32 ∷ (b ++ 32 ∷ t))) (sym last) ∙ ap (λ (t : List ℕ). Some t) (sym e);
 }
 
-pub page_found : (text a b x u y : List ℕ) (k : Kind) (date : ℕ) (after : Option ℕ) (limit : ℕ) → text ≡ a ++ 32 ∷ (b ++ 32 ∷ x) → x ≡ u ++ 32 ∷ y → a ≡ letter k → IsTime date → b ≡ decimal date → SpellsAfter k after u → 1 ≤ limit → limit ≤ 1000 → y ≡ decimal limit
+pub page_found : (text a b x u y : List ℕ) (k : Kind) (date : ℕ) (after : Option ℕ) (limit : ℕ) → text ≡ a ++ 32 ∷ (b ++ 32 ∷ x) → x ≡ u ++ 32 ∷ y → a ≡ letter k → IsTime date → b ≡ decimal date → SpellsAfter k after u → 1 ≤ limit → limit ≤ most_rows → y ≡ decimal limit
     → IsSpelled (codes "PAGE") (Some text) (Page k date after limit)
 page_found text a b x u y k date after limit e g f time day spells low high last = record {
   word_is = refl;

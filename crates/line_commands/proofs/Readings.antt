@@ -12,7 +12,7 @@ use Rattle.rf2_values.specs.Time.{IsTime}
 use Rattle.rf2_values.specs.Row.{IsIdOf, SpellsId, IsConcept, IsComponent}
 use Rattle.line_commands.specs.declared.unread.Unread.TheVariants as unread
 use Rattle.line_commands.specs.Commands.{Command, Import, Get, History, Children, Terms, Replaced, Page, Pin, Unpin, Merge, Step, Publish, Abandon, Trim, Status, word_of, letter, SpellsArguments, SpellsAfter}
-use Rattle.line_commands.specs.Requests.{with_rest, Asks, HasSession, HasCommand}
+use Rattle.line_commands.specs.Requests.{with_rest, sessions, Asks, HasSession, HasCommand}
 use Rattle.line_commands.specs.Private.{IsWord, behind}
 use Rattle.line_commands.specs.Laws.{OneReading, AskedIsRead, OneRefusal}
 use Rattle.line_commands.proofs.FirstWords.{decimal_word, letter_word, command_is_word, none_word, id_word, peel, one_head, spaced_is, one_letter, not_dash}
@@ -156,10 +156,10 @@ one_command c d xs ys w s t same = absurd (false≢true (sym (ap (bytes_eq (word
 pub line_begins : (line : List ℕ) (session : ℕ) (command : Command) → (a : Asks line session command) → line ≡ with_rest (decimal session) (Some (with_rest (word_of command) (behind a.arguments)))
 line_begins line session command a = a.line_is ∙ ap (λ (t : List ℕ). decimal session ++ 32 ∷ t) (spaced_is (word_of command) a.arguments)
 
-pub session_word : (n : ℕ) → n < 64 → IsWord (decimal n)
+pub session_word : (n : ℕ) → n < sessions → IsWord (decimal n)
 session_word n lt = decimal_word n (omega arith)
 
-pub one_session : (m n : ℕ) (r s : Option (List ℕ)) → m < 64 → n < 64 → with_rest (decimal m) r ≡ with_rest (decimal n) s → (m ≡ n) × (r ≡ s)
+pub one_session : (m n : ℕ) (r s : Option (List ℕ)) → m < sessions → n < sessions → with_rest (decimal m) r ≡ with_rest (decimal n) s → (m ≡ n) × (r ≡ s)
 one_session m n r s low high e =
     let heads = one_head (decimal m) (decimal n) r s (session_word m low) (session_word n high) e in
     (decimal_injective m n (omega arith) (omega arith) heads.0, heads.1)

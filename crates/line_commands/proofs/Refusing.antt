@@ -7,7 +7,7 @@ use Rattle.line_commands.specs.declared.words.Word.{Word}
 use Rattle.line_commands.specs.declared.words.Word.TheVariants as words
 use Rattle.line_commands.specs.declared.unread.Unread.TheVariants as unread
 use Rattle.line_commands.specs.Commands.{Command, Import, Get, History, Children, Terms, Replaced, Page, Pin, Unpin, Merge, Step, Publish, Abandon, Trim, Status, word_of}
-use Rattle.line_commands.specs.Requests.{with_rest, IsUnread, HasSession, HasCommand}
+use Rattle.line_commands.specs.Requests.{with_rest, sessions, request_limit, IsUnread, HasSession, HasCommand}
 use Rattle.line_commands.specs.Private.{IsWord, text_of_word, behind, IsSpelled}
 use Rattle.line_commands.proofs.FirstWords.{command_is_word, one_head}
 use Rattle.line_commands.proofs.Readings.{session_word, begun, line_begins}
@@ -29,11 +29,11 @@ some_command words.Abandon = (Abandon, refl)
 some_command words.Trim = (Trim, refl)
 some_command words.Status = (Status, refl)
 
-module _ (line number : List ℕ) (rest : Option (List ℕ)) (short : length line ≤ 4096) (is_word : IsWord number) (cut : line ≡ with_rest number rest) where
-  pub refuse_session : ((n : ℕ) → n < 64 → number ≢ decimal n) → IsUnread line unread.Session
+module _ (line number : List ℕ) (rest : Option (List ℕ)) (short : length line ≤ request_limit) (is_word : IsWord number) (cut : line ≡ with_rest number rest) where
+  pub refuse_session : ((n : ℕ) → n < sessions → number ≢ decimal n) → IsUnread line unread.Session
   refuse_session none = (short, λ h. none h.0 h.1 (one_head number (decimal h.0) _ _ is_word (session_word h.0 h.1) (sym cut ∙ h.2.1)).0)
 
-  module _ (session : ℕ) (is_session : session < 64) (number_is : number ≡ decimal session) where
+  module _ (session : ℕ) (is_session : session < sessions) (number_is : number ≡ decimal session) where
     has_session_here : HasSession line
     has_session_here = (session, is_session, (rest, cut ∙ ap (λ (n : List ℕ). with_rest n rest) number_is))
 

@@ -42,6 +42,10 @@ word_of Abandon = codes "ABANDON"
 word_of Trim = codes "TRIM"
 word_of Status = codes "STATUS"
 
+-- the most rows that one answer may be asked for
+abbrev pub most_rows : ℕ
+most_rows = 1000
+
 -- the letter that stands for a kind
 abbrev pub letter : Kind → List ℕ
 letter kinds.Concept = codes "C"
@@ -62,10 +66,10 @@ SpellsArguments (Get kind id date) texts =
 SpellsArguments (History kind id) texts = (text : List ℕ) × IsIdOf kind id × SpellsId kind id text × (texts ≡ letter kind ∷ text ∷ [])
 SpellsArguments (Children concept date) texts = IsConcept concept × IsTime date × (texts ≡ decimal concept ∷ decimal date ∷ [])
 SpellsArguments (Terms date limit prefix) texts =
-    IsTime date × (1 ≤ limit) × (limit ≤ 1000) × (1 ≤ length prefix) × IsUtf8 prefix × (texts ≡ decimal date ∷ decimal limit ∷ prefix ∷ [])
+    IsTime date × (1 ≤ limit) × (limit ≤ most_rows) × (1 ≤ length prefix) × IsUtf8 prefix × (texts ≡ decimal date ∷ decimal limit ∷ prefix ∷ [])
 SpellsArguments (Replaced id date) texts = IsComponent id × IsTime date × (texts ≡ decimal id ∷ decimal date ∷ [])
 SpellsArguments (Page kind date after limit) texts =
-    (text : List ℕ) × SpellsAfter kind after text × IsTime date × (1 ≤ limit) × (limit ≤ 1000) × (texts ≡ letter kind ∷ decimal date ∷ text ∷ decimal limit ∷ [])
+    (text : List ℕ) × SpellsAfter kind after text × IsTime date × (1 ≤ limit) × (limit ≤ most_rows) × (texts ≡ letter kind ∷ decimal date ∷ text ∷ decimal limit ∷ [])
 SpellsArguments (Pin None) texts = texts ≡ []
 SpellsArguments (Pin (Some number)) texts = (number < 2 ^ 32) × (texts ≡ decimal number ∷ [])
 SpellsArguments (Step rows) texts = (1 ≤ rows) × (rows ≤ 100000) × (texts ≡ decimal rows ∷ [])

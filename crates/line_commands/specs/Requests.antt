@@ -29,10 +29,18 @@ command_of rust.Status = Status
 abbrev pub spaced : List (List ℕ) → List ℕ
 spaced words = join_with_byte 32 words
 
+-- how many sessions there are: their numbers are those below
+abbrev pub sessions : ℕ
+sessions = 64
+
+-- the most bytes that a line of the protocol may have, without its end
+abbrev pub request_limit : ℕ
+request_limit = 4096
+
 -- the line is a session's number, a command's word and its arguments
 pub record Asks (line : List ℕ) (session : ℕ) (command : Command) : Type 0 where
-  pub short : length line ≤ 4096
-  pub is_session : session < 64
+  pub short : length line ≤ request_limit
+  pub is_session : session < sessions
   pub arguments : List (List ℕ)
   pub spelled : SpellsArguments command arguments
   pub line_is : line ≡ spaced (decimal session ∷ word_of command ∷ arguments)
@@ -47,17 +55,17 @@ abbrev pub StartsWithWord : List ℕ → List ℕ → Type 0
 StartsWithWord word text = (rest : Option (List ℕ)) × (text ≡ with_rest word rest)
 
 abbrev pub HasSession : List ℕ → Type 0
-HasSession line = (session : ℕ) × (session < 64) × StartsWithWord (decimal session) line
+HasSession line = (session : ℕ) × (session < sessions) × StartsWithWord (decimal session) line
 
 abbrev pub HasCommand : List ℕ → Type 0
-HasCommand line = (session : ℕ) × (command : Command) × (session < 64) × StartsWithWord (spaced (decimal session ∷ word_of command ∷ [])) line
+HasCommand line = (session : ℕ) × (command : Command) × (session < sessions) × StartsWithWord (spaced (decimal session ∷ word_of command ∷ [])) line
 
 -- the first reason why a line asks nothing
 abbrev pub IsUnread : List ℕ → Unread → Type 0
-IsUnread line unread.Long = 4096 < length line
-IsUnread line unread.Session = (length line ≤ 4096) × ¬ (HasSession line)
-IsUnread line unread.Command = (length line ≤ 4096) × HasSession line × ¬ (HasCommand line)
-IsUnread line unread.Arguments = (length line ≤ 4096) × HasCommand line × ((session : ℕ) (command : Command) → Asks line session command → ⊥)
+IsUnread line unread.Long = request_limit < length line
+IsUnread line unread.Session = (length line ≤ request_limit) × ¬ (HasSession line)
+IsUnread line unread.Command = (length line ≤ request_limit) × HasSession line × ¬ (HasCommand line)
+IsUnread line unread.Arguments = (length line ≤ request_limit) × HasCommand line × ((session : ℕ) (command : Command) → Asks line session command → ⊥)
 
 -- the number and the name by which the protocol knows the reason
 abbrev pub unread_number : Unread → ℕ

@@ -5,16 +5,18 @@ ghost use Rattle.rf2_values.specs.Time.{IsTime};
 ghost use Rattle.rf2_values.specs.Member.{SpellsMember};
 ghost use Rattle.rf2_values.specs.Row.{IsOfClass, IsComponent, IsIdOf, SpellsId};
 ghost use Rattle.line_commands.specs.Commands.{letter, SpellsAfter};
+ghost use Rattle.line_commands.specs.Requests.{sessions};
 
+use crate::command::SESSIONS;
 use rf2_values::{Class, EffectiveTime, Kind, Member, Sctid, number};
 
 /// A session's number.
 pub fn session(text: &[u8]) -> Option<u8>
-    ensures { MatchOption result ((n : ℕ) → n < 64 → text.now ≢ decimal n)
-        (λ n. (n < 64) × (text.now ≡ decimal n)) }
+    ensures { MatchOption result ((n : ℕ) → n < sessions → text.now ≢ decimal n)
+        (λ n. (n < sessions) × (text.now ≡ decimal n)) }
 {
     match number::parse(text) {
-        Some(number) if number < 64 => u8::try_from(number).ok(),
+        Some(number) if number < SESSIONS as u64 => u8::try_from(number).ok(),
         _ => None,
     }
 }

@@ -65,7 +65,13 @@ pub enum Command<'a> {
     Status,
 }
 
-/// A session's command. Sessions have the numbers 0 to 63.
+/// How many sessions there are. They have the numbers from 0 on.
+pub const SESSIONS: usize = 64;
+
+/// The most bytes that a line may have, without its end.
+pub const REQUEST_LIMIT: usize = 4096;
+
+/// A session's command.
 #[derive(Clone, Copy, Debug, PartialEq, Eq)]
 pub struct Request<'a> {
     pub session: u8,

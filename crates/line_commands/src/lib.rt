@@ -12,6 +12,6 @@ mod tests;
 mod unread;
 mod words;
 
-pub use command::{Command, Request};
+pub use command::{Command, REQUEST_LIMIT, Request, SESSIONS};
 pub use parsing::parse;
 pub use unread::Unread;

@@ -3,7 +3,7 @@
 ghost use Rattle.std.specs.Prelude.{IfOk, IfErr};
 ghost use Rattle.line_commands.specs.Requests.{Asks, IsUnread, command_of};
 
-use crate::command::Request;
+use crate::command::{REQUEST_LIMIT, Request};
 use crate::unread::Unread;
 use crate::words::{command_word, first_word};
 use crate::{arguments, columns};
@@ -13,7 +13,7 @@ pub fn parse(line: &[u8]) -> Result<Request<'_>, Unread>
     ensures found { IfOk result (λ r. Asks line.now r.session (command_of r.command)) }
     ensures refused { IfErr result (IsUnread line.now) }
 {
-    if line.len() > 4096 {
+    if line.len() > REQUEST_LIMIT {
         return Err(Unread::Long);
     }
     let (number, rest) = first_word(line);
