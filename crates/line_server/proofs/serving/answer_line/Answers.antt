@@ -1,6 +1,4 @@
-use Rattle.std.proofs.Common.{subst}
-use Rattle.line_server.specs.Said.{Said, bytes_of}
-use Rattle.line_server.specs.Streams.{IsPut}
+use Rattle.line_server.proofs.Sent.{put_alike}
 use Rattle.line_server.proofs.serving.answer_line.Goals as goal
 
 pub returns-clause-served : goal.returns-clause-served
@@ -11,5 +9,5 @@ returns-clause-served g c =
       releases = t.releases;
       failed = t.failed;
       turn = t.turn;
-      put = subst (λ (r : Said). IsPut c.write_to.result _ _ (bytes_of r)) t.reply_is c.write_to.ensures;
+      put = put_alike c.write_to.result _ _ _ _ t.reply_is c.write_to.ensures;
     }
