@@ -1,15 +1,15 @@
 -- The least id of a kind, of one list and of several.
-use Rattle.std.proofs.Common.{◌≡◌, ℕ, ◌≤◌, true, false, List, [], ◌++◌, refl, subst, inl, inr, arith}
+use Rattle.std.proofs.Common.{◌≡◌, ℕ, ◌≤◌, true, false, List, [], ◌++◌, refl, inl, inr, arith}
 use Rattle.std.specs.Prelude.{◌==◌, nat_lt, Option, Some, None, slice_get}
 use Rattle.std.proofs.lemmas.Bool.Decides.{nat_tests}
 use Rattle.rf2_values.specs.declared.row.Kind.{Kind}
 use Rattle.rf2_values.specs.Key.{kind_place}
-use Rattle.history_model.specs.InOrder.{Has, IsAscending}
+use Rattle.history_model.specs.InOrder.{IsAscending}
 use Rattle.history_model.proofs.InOrder.{Has-append_left, Has-append_right, Has-append_cases}
 use Rattle.segment.specs.declared.place.Posted.{Posted}
 use Rattle.as_of_index.specs.declared.search.Start.TheVariants.{Components}
 use Rattle.as_of_index.specs.Places.{place_cmp}
-use Rattle.as_of_index.specs.Search.{in_segment, is_before, is_of, SplitsAt, IsNext, IsNextId, id_of_kind, lesser_of}
+use Rattle.as_of_index.specs.Search.{in_segment, is_before, SplitsAt, IsNext, IsNextId, id_of_kind, lesser_of}
 use Rattle.as_of_index.proofs.Following.{next_nothing, next_more, next_of_list}
 use Rattle.as_of_index.proofs.Paging.{next_id_is, next_id_other, next_id_none}
 

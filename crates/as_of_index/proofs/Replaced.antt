@@ -1,5 +1,5 @@
 -- A list that is put in the place of two. A test's helper alone cites this.
-use Rattle.std.proofs.Common.{◌≡◌, ℕ, zero, suc, List, [], ◌∷◌, ◌++◌, sym}
+use Rattle.std.proofs.Common.{ℕ, zero, suc, List, [], ◌∷◌, ◌++◌, sym}
 use Rattle.std.specs.Prelude.{slice_set, remove}
 use Rattle.std.specs.List.{AllByRecursion}
 use Rattle.history_model.specs.InOrder.{IsAscending}

@@ -1,5 +1,5 @@
 -- What a stop leaves while lines are answered, and what is opened of it.
-use Rattle.std.proofs.Common.{◌≡◌, ◌⊎◌, inl, inr, ℕ, List, [], ◌∷◌, ◌++◌, Option, Some, None, Result, Ok, Err, refl, sym, subst}
+use Rattle.std.proofs.Common.{◌≡◌, ◌⊎◌, inl, inr, ℕ, List, [], ◌∷◌, Option, Some, None, Result, Ok, Err, refl, sym, subst}
 use Rattle.std.specs.Prelude.{MatchResult}
 use Rattle.disk_model.specs.Disk.{Moments}
 use Rattle.disk_model.proofs.MomentSteps.{weaker}

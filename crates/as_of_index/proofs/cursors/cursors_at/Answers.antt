@@ -1,7 +1,6 @@
-use Rattle.std.proofs.Common.{◌≡◌, List, [], ◌∷◌, ◌++◌, take, sym, ap, subst, ◌∙◌}
+use Rattle.std.proofs.Common.{List, [], ◌∷◌, ◌++◌, take, sym, ap, ◌∙◌}
 use Rattle.segment.specs.declared.place.Posted.{Posted}
 use Rattle.std.proofs.lemmas.List.{take_more}
-use Rattle.as_of_index.specs.Search.{ArePassed}
 use Rattle.as_of_index.proofs.Walking.{passed_push}
 use Rattle.as_of_index.proofs.cursors.cursors_at.Goals as goal
 

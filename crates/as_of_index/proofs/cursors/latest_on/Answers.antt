@@ -1,4 +1,4 @@
-use Rattle.std.proofs.Common.{◌≡◌, Some, None, sym, ap, subst, ◌∙◌, take, take_all, get_or, arith}
+use Rattle.std.proofs.Common.{None, sym, subst, take, take_all, get_or, arith}
 use Rattle.as_of_index.specs.declared.search.Start.TheVariants.{Later}
 use Rattle.as_of_index.specs.Search.{all_places, IsPassed}
 use Rattle.as_of_index.proofs.Found.{Picks, pick_nothing, pick_more, places-more}

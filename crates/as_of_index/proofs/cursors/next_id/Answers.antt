@@ -1,9 +1,9 @@
-use Rattle.std.proofs.Common.{◌≡◌, ℕ, ◌<◌, ◌≤◌, List, length, sym, ap, subst, ◌∙◌, take, take_all, get_or, true, arith}
+use Rattle.std.proofs.Common.{◌≡◌, ◌≤◌, List, length, sym, subst, take, take_all, get_or, true, arith}
 use Rattle.std.specs.List.{AllByRecursion}
 use Rattle.history_model.specs.InOrder.{IsAscending}
 use Rattle.segment.specs.declared.place.Posted.{Posted}
 use Rattle.as_of_index.specs.Places.{place_cmp}
-use Rattle.as_of_index.specs.Search.{all_places, in_segment, id_of_kind, is_before, SplitsAt, IsPassed}
+use Rattle.as_of_index.specs.Search.{all_places, in_segment, is_before, SplitsAt, IsPassed}
 use Rattle.as_of_index.proofs.Found.{places-more}
 use Rattle.as_of_index.specs.declared.search.Start.TheVariants.{Components}
 use Rattle.as_of_index.proofs.LeastIds.{NextIds, id_nothing, id_of_list, id_more}

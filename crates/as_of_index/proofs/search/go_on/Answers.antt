@@ -1,4 +1,4 @@
-use Rattle.std.proofs.Common.{◌≡◌, Some, None, sym, ◌∙◌, arith}
+use Rattle.std.proofs.Common.{Some, None, sym, ◌∙◌, arith}
 use Rattle.as_of_index.proofs.Walking.{stopped, passed_one, there_at}
 use Rattle.as_of_index.proofs.search.go_on.Goals as goal
 

@@ -1,7 +1,4 @@
-use Rattle.std.proofs.Common.{◌≡◌, None, subst, take, true}
-use Rattle.std.specs.List.{AllByRecursion}
-use Rattle.as_of_index.specs.Search.{is_before, SplitsAt}
-use Rattle.as_of_index.specs.declared.search.Start.TheVariants.{AfterVersion, Later}
+use Rattle.std.proofs.Common.{take, true}
 use Rattle.as_of_index.proofs.Found.{none_from}
 use Rattle.as_of_index.proofs.Walking.{below_versions}
 use Rattle.as_of_index.proofs.search.latest_from.Goals as goal

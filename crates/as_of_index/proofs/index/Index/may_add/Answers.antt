@@ -1,4 +1,4 @@
-use Rattle.std.proofs.Common.{◌≡◌, ◌<◌, length, sym, ap, subst, ◌∙◌, arith}
+use Rattle.std.proofs.Common.{◌<◌, length, ap, arith}
 use Rattle.as_of_index.proofs.Apart.{places_push, apart_each}
 use Rattle.as_of_index.proofs.index.Index.may_add.Goals as goal
 
