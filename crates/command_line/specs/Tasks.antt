@@ -22,20 +22,26 @@ use Rattle.command_line.specs.Endings.{IsTold}
 abbrev pub StoreOr : Type 0 → Type 0
 StoreOr D = Result (Stored D) (Refusal × D)
 
--- a store was made on this device, or not: a refusal leaves the device as it was, and one with a byte stays as it is whatever comes
-pub record IsMaking {D : Type 0} (honest : D → Type 0) (moments : D → Moments) (failures : D → ℕ) (device : D) (had : StoreOr D) : Type 0 where
+-- a store was made on this device, or not: a refusal leaves the
+-- device as it was, and one with a byte stays as it is whatever comes
+pub record IsMaking {D : Type 0} (honest : D → Type 0) (moments : D → Moments) (failures : D → ℕ)
+    (device : D) (had : StoreOr D) : Type 0 where
   pub exact : honest device → IsMakingOf had (moments device).state.now
   pub refused : honest device → HandsBack moments had device
-  pub untouched : honest device → 1 ≤ length (moments device).state.now → moments (device_of had) ≡ moments device
+  pub untouched : honest device → 1 ≤ length (moments device).state.now
+      → moments (device_of had) ≡ moments device
   pub bytes : honest device → IfOk had (λ s. IsNewStore (moments s.disk).state.now)
   pub acknowledged : honest device → IfOk had (IsAcknowledged moments)
   pub honesty : honest device ↔ honest (device_of had)
   pub counts : CountsOpening had (failures device) (failures (device_of had))
 
--- a store was opened from this device, or not: it was synced and nothing else, and what a stop may leave of it was on it before
-pub record IsOpening {D : Type 0} (honest : D → Type 0) (moments : D → Moments) (failures : D → ℕ) (device : D) (had : StoreOr D) : Type 0 where
+-- a store was opened from this device, or not: it was synced and
+-- nothing else, and what a stop may leave of it was on it before
+pub record IsOpening {D : Type 0} (honest : D → Type 0) (moments : D → Moments) (failures : D → ℕ)
+    (device : D) (had : StoreOr D) : Type 0 where
   pub exact : honest device → IsOpeningOf had (moments device).state.now
-  pub any_moment : honest device → LeavesOnly (moments device) (moments (device_of had)) (IsImage (moments device).state)
+  pub any_moment : honest device
+      → LeavesOnly (moments device) (moments (device_of had)) (IsImage (moments device).state)
   pub synced : honest device → SyncsOnce moments had device
   pub acknowledged : honest device → IfOk had (IsAcknowledged moments)
   pub honesty : honest device ↔ honest (device_of had)
@@ -49,7 +55,8 @@ making_told (Ok store) = Ok (AllDone [])
 making_told (Err e) = Err (Store e.0)
 
 -- a store was made, that was told, and the device was left so
-pub record IsMade {D : Type 0} (honest : D → Type 0) (moments : D → Moments) (failures : D → ℕ) (device left : D) (ended : Result Ending ServeFault) (old new : Option (List ℕ)) : Type 0 where
+pub record IsMade {D : Type 0} (honest : D → Type 0) (moments : D → Moments) (failures : D → ℕ)
+    (device left : D) (ended : Result Ending ServeFault) (old new : Option (List ℕ)) : Type 0 where
   pub had : StoreOr D
   pub making : IsMaking honest moments failures device had
   pub left_so : left ≡ device_of had
@@ -61,18 +68,24 @@ pub record IsMade {D : Type 0} (honest : D → Type 0) (moments : D → Moments)
 abbrev pub import_line : List ℕ → List ℕ
 import_line name = codes "0 IMPORT " ++ name
 
--- The line that imports the release was answered, where no session is pinned, the reply was told, and the device was left as it then was.
-pub record IsImportTold {D : Type 0} (honest_source : Type 0) (has : Releases) (honest : D → Type 0) (moments : D → Moments) (failures : D → ℕ) (name : List ℕ) (store : Stored D) (left : D) (ended : Result Ending ServeFault) (old new : Option (List ℕ)) : Type 0 where
+-- The line that imports the release was answered, where no session is
+-- pinned, the reply was told, and the device was left as it then was.
+pub record IsImportTold {D : Type 0} (honest_source : Type 0) (has : Releases) (honest : D → Type 0)
+    (moments : D → Moments) (failures : D → ℕ) (name : List ℕ) (store : Stored D) (left : D)
+    (ended : Result Ending ServeFault) (old new : Option (List ℕ)) : Type 0 where
   pub turn : Turn
   pub pins : List (Option ℕ)
   pub after : Stored D
   pub line : turn.line ≡ import_line name
-  pub answered : IsTurn honest_source has honest moments failures (desk (replicate 64 None) store) turn (desk pins after)
+  pub answered : IsTurn honest_source has honest moments failures
+      (desk (replicate 64 None) store) turn (desk pins after)
   pub told : IsTold ended turn.outcome old new
   pub left_so : left ≡ after.disk
 
--- so, or memory lacked for the line; or it was told why there is no store; and the device was left as the store or its opening left it
-abbrev pub Imports : {D : Type 0} → Type 0 → Releases → (D → Type 0) → (D → Moments) → (D → ℕ) → List ℕ → StoreOr D → D → Result Ending ServeFault → Option (List ℕ) → Option (List ℕ) → Type 0
+-- so, or memory lacked for the line; or it was told why there is no store;
+-- and the device was left as the store or its opening left it
+abbrev pub Imports : {D : Type 0} → Type 0 → Releases → (D → Type 0) → (D → Moments) → (D → ℕ)
+    → List ℕ → StoreOr D → D → Result Ending ServeFault → Option (List ℕ) → Option (List ℕ) → Type 0
 Imports honest_source has honest moments failures name (Ok store) left ended old new =
     IsImportTold honest_source has honest moments failures name store left ended old new
     ⊎ (IsTold ended (Err (Store OutOfMemory)) old new × (left ≡ store.disk))
@@ -80,7 +93,9 @@ Imports honest_source has honest moments failures name (Err e) left ended old ne
     IsTold ended (Err (Store e.0)) old new × (left ≡ e.1)
 
 -- the store was opened from this device, and the release was imported into it
-pub record IsImport {D : Type 0} (honest_source : Type 0) (has : Releases) (honest : D → Type 0) (moments : D → Moments) (failures : D → ℕ) (name : List ℕ) (device left : D) (ended : Result Ending ServeFault) (old new : Option (List ℕ)) : Type 0 where
+pub record IsImport {D : Type 0} (honest_source : Type 0) (has : Releases) (honest : D → Type 0)
+    (moments : D → Moments) (failures : D → ℕ) (name : List ℕ) (device left : D)
+    (ended : Result Ending ServeFault) (old new : Option (List ℕ)) : Type 0 where
   pub had : StoreOr D
   pub opening : IsOpening honest moments failures device had
   pub imports : Imports honest_source has honest moments failures name had left ended old new
@@ -97,28 +112,37 @@ abbrev pub most_reads : ℕ
 most_reads = 4294967295
 
 -- the lines of the input were served, and the device was left as it then was
-pub record IsInputServed {D : Type 0} (honest_source : Type 0) (has : Releases) (honest : D → Type 0) (moments : D → Moments) (failures : D → ℕ) (store : Stored D) (left : D) (ended : Result Ending ServeFault) (input rest old new : Option (List ℕ)) : Type 0 where
+pub record IsInputServed {D : Type 0} (honest_source : Type 0) (has : Releases)
+    (honest : D → Type 0) (moments : D → Moments) (failures : D → ℕ) (store : Stored D) (left : D)
+    (ended : Result Ending ServeFault) (input rest old new : Option (List ℕ)) : Type 0 where
   pub result : Result ℕ ServeFault
   pub ends : ended ≡ ended_by result
   pub after : Stored D
-  pub served : IsServed result most_reads honest_source has honest moments failures input rest old new store after
+  pub served : IsServed result most_reads honest_source has honest moments failures input rest old
+      new store after
   pub left_so : left ≡ after.disk
 
 -- the lines were served from the store; or it was told why there is none, and nothing was read
-abbrev pub Serves : {D : Type 0} → Type 0 → Releases → (D → Type 0) → (D → Moments) → (D → ℕ) → StoreOr D → D → Result Ending ServeFault → Option (List ℕ) → Option (List ℕ) → Option (List ℕ) → Option (List ℕ) → Type 0
+abbrev pub Serves : {D : Type 0} → Type 0 → Releases → (D → Type 0) → (D → Moments) → (D → ℕ)
+    → StoreOr D → D → Result Ending ServeFault → Option (List ℕ) → Option (List ℕ) → Option (List ℕ)
+    → Option (List ℕ) → Type 0
 Serves honest_source has honest moments failures (Ok store) left ended input rest old new =
     IsInputServed honest_source has honest moments failures store left ended input rest old new
 Serves honest_source has honest moments failures (Err e) left ended input rest old new =
     IsTold ended (Err (Store e.0)) old new × (rest ≡ input) × (left ≡ e.1)
 
 -- the store was opened from this device, and the lines were served from it
-pub record IsServing {D : Type 0} (honest_source : Type 0) (has : Releases) (honest : D → Type 0) (moments : D → Moments) (failures : D → ℕ) (device left : D) (ended : Result Ending ServeFault) (input rest old new : Option (List ℕ)) : Type 0 where
+pub record IsServing {D : Type 0} (honest_source : Type 0) (has : Releases) (honest : D → Type 0)
+    (moments : D → Moments) (failures : D → ℕ) (device left : D) (ended : Result Ending ServeFault)
+    (input rest old new : Option (List ℕ)) : Type 0 where
   pub had : StoreOr D
   pub opening : IsOpening honest moments failures device had
   pub serves : Serves honest_source has honest moments failures had left ended input rest old new
 
 -- the store was made on this device, and the lines were served from it
-pub record IsServingNew {D : Type 0} (honest_source : Type 0) (has : Releases) (honest : D → Type 0) (moments : D → Moments) (failures : D → ℕ) (device left : D) (ended : Result Ending ServeFault) (input rest old new : Option (List ℕ)) : Type 0 where
+pub record IsServingNew {D : Type 0} (honest_source : Type 0) (has : Releases) (honest : D → Type 0)
+    (moments : D → Moments) (failures : D → ℕ) (device left : D) (ended : Result Ending ServeFault)
+    (input rest old new : Option (List ℕ)) : Type 0 where
   pub had : StoreOr D
   pub making : IsMaking honest moments failures device had
   pub serves : Serves honest_source has honest moments failures had left ended input rest old new

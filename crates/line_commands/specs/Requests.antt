@@ -58,14 +58,16 @@ abbrev pub HasSession : List ℕ → Type 0
 HasSession line = (session : ℕ) × (session < sessions) × StartsWithWord (decimal session) line
 
 abbrev pub HasCommand : List ℕ → Type 0
-HasCommand line = (session : ℕ) × (command : Command) × (session < sessions) × StartsWithWord (spaced (decimal session ∷ word_of command ∷ [])) line
+HasCommand line = (session : ℕ) × (command : Command) × (session < sessions)
+    × StartsWithWord (spaced (decimal session ∷ word_of command ∷ [])) line
 
 -- the first reason why a line asks nothing
 abbrev pub IsUnread : List ℕ → Unread → Type 0
 IsUnread line unread.Long = request_limit < length line
 IsUnread line unread.Session = (length line ≤ request_limit) × ¬ (HasSession line)
 IsUnread line unread.Command = (length line ≤ request_limit) × HasSession line × ¬ (HasCommand line)
-IsUnread line unread.Arguments = (length line ≤ request_limit) × HasCommand line × ((session : ℕ) (command : Command) → Asks line session command → ⊥)
+IsUnread line unread.Arguments = (length line ≤ request_limit) × HasCommand line
+    × ((session : ℕ) (command : Command) → Asks line session command → ⊥)
 
 -- the number and the name by which the protocol knows the reason
 abbrev pub unread_number : Unread → ℕ

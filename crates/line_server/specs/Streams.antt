@@ -9,7 +9,8 @@ ends_in bytes = count_by (λ b. b == 10) bytes
 
 -- known bytes grew by a front part of these, and not by all
 abbrev pub AppendsSome : Option (List ℕ) → Option (List ℕ) → List ℕ → Type 0
-AppendsSome old new bytes = (front : List ℕ) × (rest : List ℕ) × (bytes ≡ front ++ rest) × (1 ≤ length rest) × Appends old new front
+AppendsSome old new bytes = (front : List ℕ) × (rest : List ℕ) × (bytes ≡ front ++ rest)
+    × (1 ≤ length rest) × Appends old new front
 
 -- all was written, or else a front part alone
 abbrev pub IsPut : {T E : Type 0} → Result T E → Option (List ℕ) → Option (List ℕ) → List ℕ → Type 0

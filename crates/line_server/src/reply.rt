@@ -9,7 +9,8 @@ use arrayvec::ArrayString;
 use std::io::Write;
 use std::marker::Model;
 
-/// The lines that are written for a line, each with its LF: those of rows or identifiers, and a last one, which takes no memory.
+/// The lines that are written for a line, each with its LF: those
+/// of rows or identifiers, and a last one, which takes no memory.
 #[derive(Drop)]
 pub struct Reply {
     body: Vec<u8>,
@@ -46,7 +47,8 @@ impl Reply {
         self.last.as_str().as_bytes()
     }
 
-    /// Writes its lines, in as many writes as the writer wants. A write that takes no byte is a fault.
+    /// Writes its lines, in as many writes as the writer wants.
+    /// A write that takes no byte is a fault.
     pub fn write_to<W: Write>(&self, writer: &mut W) -> Result<(), WriteFault>
         ensures { IsPut result (W.contents writer.old) (W.contents writer.new)
             (bytes_of self.now) }
