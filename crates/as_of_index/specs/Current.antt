@@ -20,7 +20,7 @@ is_same_key a b = kind_place a.kind == kind_place b.kind && a.id == b.id && a.ti
 abbrev pub is_same_place : ℕ → Posted → ℕ → Posted → Bool
 is_same_place n p m q =
     n == m && kind_place p.key.kind == kind_place q.key.kind && p.key.id == q.key.id
-        && p.key.time == q.key.time && p.import == q.import && p.at == q.at && p.bytes == q.bytes
+    && p.key.time == q.key.time && p.import == q.import && p.at == q.at && p.bytes == q.bytes
 
 -- the version is one of those with these keys
 abbrev pub is_among : List Key → Version → Bool

@@ -36,10 +36,10 @@ is_candidate kind id date pin p = is_of kind id p && nat_le p.key.time date && n
 abbrev pub is_before : Start → Posted → Bool
 is_before (start.AfterVersion kind id time) p = nat_lt (kind_place p.key.kind) (kind_place kind)
     || (kind_place p.key.kind == kind_place kind
-        && (nat_lt p.key.id id || (p.key.id == id && nat_le p.key.time time)))
+    && (nat_lt p.key.id id || (p.key.id == id && nat_le p.key.time time)))
 is_before (start.Later kind id after) p = nat_lt (kind_place p.key.kind) (kind_place kind)
     || (kind_place p.key.kind == kind_place kind
-        && (nat_lt p.key.id id || (p.key.id == id && not (is_above after p.key.time))))
+    && (nat_lt p.key.id id || (p.key.id == id && not (is_above after p.key.time))))
 is_before (start.Components kind after) p = nat_lt (kind_place p.key.kind) (kind_place kind)
     || (kind_place p.key.kind == kind_place kind && not (is_above after p.key.id))
 

@@ -29,7 +29,7 @@ pub record AreTaken {X Y : Type 0} (place : X → Posted) (of : X → ℕ) (answ
       → Has ys (answer x.0 x.1)
   pub only : (y : Y) → Has ys y
       → (x : ℕ × X) × Has xs x × (of x.1 ≡ d) × IsCurrentAt lists date pin x.0 (place x.1)
-          × (answer x.0 x.1 ≡ y)
+      × (answer x.0 x.1 ≡ y)
 
 -- one that ties with it is there
 abbrev pub IsThere : {Y : Type 0} → (Y → Y → Ordering) → List Y → Y → Type 0

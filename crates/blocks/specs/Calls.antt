@@ -9,4 +9,4 @@ call_count m = length m.past
 abbrev pub MakesCalls : {T E : Type 0} → Result T E → ℕ → Moments → Moments → Type 0
 MakesCalls result n old new =
     MatchResult result (λ _. call_count new ≡ call_count old + n)
-        (λ _. call_count new ≤ call_count old + n)
+    (λ _. call_count new ≤ call_count old + n)

@@ -31,7 +31,7 @@ IsMissing ended old new = IsTold ended (Err (Store DiskFault)) old new
 abbrev pub IsDoneAt : {D : Type 0} → (D → Type 0) → (D → D → Type 0) → Type 0 → Option D → Type 0
 IsDoneAt {D} gives done missing left =
     ((device : D) × (after : D) × gives device × done device after × (left ≡ Some after))
-        ⊎ (missing × (left ≡ None))
+    ⊎ (missing × (left ≡ None))
 
 -- the lines of the script were served, as lines that come in
 -- are, from a new store in memory and the sample releases
@@ -52,20 +52,20 @@ abbrev pub Does : {D : Type 0} → (List ℕ → D → Type 0) → Type 0 → (L
 Does gives honest_source has honest moments failures script
     (tasks.Init store) left ended input rest old new =
     IsDoneAt (gives store.now)
-        (λ device after. IsMade honest moments failures device after ended old new)
-        (IsMissing ended old new) left
+    (λ device after. IsMade honest moments failures device after ended old new)
+    (IsMissing ended old new) left
     × (rest ≡ input)
 Does gives honest_source has honest moments failures script
     (tasks.Import store releases name) left ended input rest old new =
     IsDoneAt (gives store.now)
-        (λ device after. IsImport honest_source
-            (has releases.now) honest moments failures name.now device after ended old new)
+    (λ device after. IsImport honest_source
+    (has releases.now) honest moments failures name.now device after ended old new)
     (IsMissing ended old new) left × (rest ≡ input)
 Does gives honest_source has honest moments failures script
     (tasks.Serve store releases) left ended input rest old new =
     IsDoneAt (gives store.now)
-        (λ device after. IsServing honest_source
-            (has releases.now) honest moments failures device after ended input rest old new)
+    (λ device after. IsServing honest_source
+    (has releases.now) honest moments failures device after ended input rest old new)
     (IsMissing ended old new × (rest ≡ input)) left
 Does gives honest_source has honest moments failures script tasks.Demo left ended input rest old new
     =
@@ -96,7 +96,7 @@ abbrev pub IsExplained : Refused → ℕ → Option (List ℕ) → Option (List 
 IsExplained refusals.OutOfMemory status old new = (status ≡ 1) × (new ≡ old)
 IsExplained (refusals.Words error) status old new =
     (IsFaulty (kind_of error) → (status ≡ 2) × (new ≡ old))
-        × ((IsFaulty (kind_of error) → ⊥) → status ≤ 1)
+    × ((IsFaulty (kind_of error) → ⊥) → status ≤ 1)
 
 -- the words ask for no task, and that was told; no device is left
 pub record IsNoTask {D : Type 0} (words : List (List ℕ)) (left : Option D) (status : ℕ)

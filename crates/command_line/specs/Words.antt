@@ -35,7 +35,7 @@ serve_command = with_rule (with_rule (new_app (codes "serve")) (option (codes "s
 abbrev pub import_command : App
 import_command = with_rule
     (with_rule (with_rule (new_app (codes "import")) (option (codes "store")))
-        (option (codes "releases")))
+    (option (codes "releases")))
     (wanted (codes "name"))
 
 abbrev pub demo_command : App
@@ -49,7 +49,7 @@ empty_program =
 abbrev pub program : App
 program =
     with_subcommand (with_subcommand (with_subcommand
-        (with_subcommand empty_program init_command.top) import_command.top) serve_command.top)
+    (with_subcommand empty_program init_command.top) import_command.top) serve_command.top)
     demo_command.top
 
 -- ---- what is built of them
@@ -73,7 +73,7 @@ Reads (Some read) (tasks.Import store releases name) =
     × (first_of (codes "name") read.1 ≡ Some name.now)
 Reads (Some read) (tasks.Serve store releases) =
     (read.0 ≡ codes "serve") × (first_of (codes "store") read.1 ≡ Some store.now)
-        × (first_of (codes "releases") read.1 ≡ Some releases.now)
+    × (first_of (codes "releases") read.1 ≡ Some releases.now)
 Reads (Some read) tasks.Demo = read.0 ≡ codes "demo"
 
 -- the words, of which the first is the program's name, are in order and ask for the task

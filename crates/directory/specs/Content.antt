@@ -13,13 +13,13 @@ mark = codes "SCTHIST1"
 unfoldable pub header_bytes : ℕ → ℕ → ℕ → List ℕ
 header_bytes epoch imports count =
     to_be_bytes w64 epoch ++
-        (mark ++ (to_be_bytes w32 imports ++ (to_be_bytes w32 count ++ replicate 8 0)))
+    (mark ++ (to_be_bytes w32 imports ++ (to_be_bytes w32 count ++ replicate 8 0)))
 
 -- an entry has 16 bytes
 unfoldable pub entry_bytes : Entry → List ℕ
 entry_bytes entry =
     to_be_bytes w32 entry.first ++
-        (to_be_bytes w32 entry.bytes ++ (to_be_bytes w32 entry.rows ++ replicate 4 0))
+    (to_be_bytes w32 entry.bytes ++ (to_be_bytes w32 entry.rows ++ replicate 4 0))
 
 -- what is read of a content block
 unfoldable pub listing_bytes : Listing → List ℕ

@@ -25,8 +25,7 @@ impl Model for Directory {
 
     ghost Value = { Listing };
 
-    ghost view =
-        { λ d. record { epoch = d.epoch; imports = d.imports; entries = d.entries.items } };
+    ghost view = { λ d. record { epoch = d.epoch; imports = d.imports; entries = d.entries.items } };
 
     ghost invariant = { λ d. record {
       is : IsListing (record { epoch = d.epoch; imports = d.imports; entries = d.entries.items });

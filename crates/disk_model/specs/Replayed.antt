@@ -39,9 +39,13 @@ cut_image : (s : DiskState) (n : ℕ) → IsImage s s.now → IsImage (after_cut
 unfolding after_cut
 cut_image s n now =
     by_test (ltb n (length s.now))
-    (record
-        { now = take n s.now; base = s.base; least = min s.least n; greatest = s.greatest;
-            loose = s.loose }) s
+    (record {
+      now = take n s.now;
+      base = s.base;
+      least = min s.least n;
+      greatest = s.greatest;
+      loose = s.loose;
+    }) s
     (record {
       no_shorter = omega (arith, length-take n s.now, now.no_shorter);
       no_longer = omega (arith, length-take n s.now, now.no_longer);
@@ -58,9 +62,13 @@ pub now-after_cut : (s : DiskState) (n : ℕ) → (after_cut s n).now ≡ take n
 unfolding after_cut
 now-after_cut s n =
     cut_now (ltb n (length s.now)) n s
-    (record
-        { now = take n s.now; base = s.base; least = min s.least n; greatest = s.greatest;
-            loose = s.loose }) refl
+    (record {
+      now = take n s.now;
+      base = s.base;
+      least = min s.least n;
+      greatest = s.greatest;
+      loose = s.loose;
+    }) refl
     (λ wrong. take_all n s.now (grind (arith, nat_tests)))
 
 -- a part of a write
@@ -105,12 +113,18 @@ failed_cut_image s len true now = let is = now-after_cut s len in subst
     (λ (c : List ℕ). IsImage (after_cut s len) c) is (cut_image s len now)
 failed_cut_image s len false now =
     either_image (ltb len (length s.now))
-    (record
-        { now = take len s.now; base = s.base; least = min s.least len; greatest = s.greatest;
-            loose = s.loose }) s s.now
-    (record
-        { no_shorter = omega (arith, now.no_shorter); no_longer = now.no_longer;
-            fixed = λ i lt out. now.fixed i (omega arith) out })
+    (record {
+      now = take len s.now;
+      base = s.base;
+      least = min s.least len;
+      greatest = s.greatest;
+      loose = s.loose;
+    }) s s.now
+    (record {
+      no_shorter = omega (arith, now.no_shorter);
+      no_longer = now.no_longer;
+      fixed = λ i lt out. now.fixed i (omega arith) out;
+    })
     now
 
 as_read : (s : DiskState) (bytes : List ℕ) → IsImage s bytes → IsImage (reading s bytes) bytes

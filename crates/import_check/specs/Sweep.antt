@@ -97,7 +97,7 @@ pub record IsLast (known : List Version) (lines done : List PlacedLine)
 -- of all these lines, so many have been taken and so many judged
 pub record Swept (known : List Version) (lines judged done : List PlacedLine)
     (known_row : Option Version) (fresh : List Version)
-        (first : Option Contradiction) : Type 0 where
+    (first : Option Contradiction) : Type 0 where
   pub standing : MatchOption (standing_row known_row fresh) (done ≡ []) (IsLast known lines done)
   pub each_judged : (line : PlacedLine) → Has judged line → IsJudged known lines first line
   pub contradiction : IfSome first (IsContradiction known lines)
@@ -139,14 +139,14 @@ IsVerdict standing first line now =
     ((standing ≡ Some line.row) × (now ≡ first))
     ⊎
     ((standing ≢ Some line.row) × (c : Contradiction) × (now ≡ Some c)
-        × IsEarlierOf first (contradiction_at line) c)
+    × IsEarlierOf first (contradiction_at line) c)
 
 -- the first contradiction, or without one the new rows and how many lines more there were
 abbrev pub IsOutcome : Sweep → ℕ → Result Fresh ImportFault → Type 0
 IsOutcome s count result = MatchOption s.first
     (IsOkAnd result
-        (λ fresh. (fresh.rows.items ≡ s.fresh.items)
-            × (fresh.repeated ≡ count - length s.fresh.items)))
+    (λ fresh. (fresh.rows.items ≡ s.fresh.items)
+    × (fresh.repeated ≡ count - length s.fresh.items)))
     (λ c. result ≡ Err (importfault.Contradiction c.file c.line c.key))
 
 -- the new rows ascend, none of their keys is known, and each
@@ -161,7 +161,7 @@ pub record IsOwn (known : List Version) (rest : List PlacedLine) (s : Sweep) : T
 abbrev pub KeepsApart : List Version → PlacedLine → Sweep → Sweep → Type 0
 KeepsApart known line old new =
     (rest : List PlacedLine) → IsRising rank_cmp (line ∷ rest) → IsOwn known (line ∷ rest) old
-        → IsOwn known rest new
+    → IsOwn known rest new
 
 -- why lines are taken no further: memory ran out, or a known row can't be had
 abbrev pub IsCutShort : (honest : Type 0) → ImportFault → Type 0

@@ -102,31 +102,31 @@ IsAnswer honest releases session (Import name) answer old new =
     × (answer ≡ Done (decimal receipt.number ∷ decimal receipt.new ∷ decimal receipt.repeated ∷ []))
 IsAnswer honest releases session (Pin None) answer old new =
     IsPinned old new session (Some old.store.history.imports)
-        × (answer ≡ Done (decimal old.store.history.imports ∷ []))
+    × (answer ≡ Done (decimal old.store.history.imports ∷ []))
 IsAnswer honest releases session (Pin (Some number)) answer old new =
     (number ≤ old.store.history.imports) × IsPinned old new session (Some number)
-        × (answer ≡ Done (decimal number ∷ []))
+    × (answer ≡ Done (decimal number ∷ []))
 IsAnswer honest releases session Unpin answer old new =
     IsPinned old new session None × (answer ≡ Done [])
 IsAnswer honest releases session Merge answer old new =
     (left : ℕ) × IsBeginningOf (Ok left) old.store new.store × (new.pins ≡ old.pins)
-        × (answer ≡ Done (decimal left ∷ []))
+    × (answer ≡ Done (decimal left ∷ []))
 IsAnswer honest releases session (Step rows) answer old new =
     (left : ℕ) × IsSteppingOf (Ok left) old.store new.store rows × (new.pins ≡ old.pins)
-        × (answer ≡ Done (decimal left ∷ []))
+    × (answer ≡ Done (decimal left ∷ []))
 IsAnswer honest releases session Publish answer old new =
     IsPublishingOf (Ok tt) old.store new.store × (honest → new.store.history ≡ old.store.history)
-        × (new.pins ≡ old.pins) × (answer ≡ Done [])
+    × (new.pins ≡ old.pins) × (answer ≡ Done [])
 IsAnswer honest releases session Abandon answer old new =
     IsAbandoningOf (Ok tt) old.store new.store × (new.pins ≡ old.pins) × (answer ≡ Done [])
 IsAnswer honest releases session Trim answer old new =
     (bytes : ℕ) × IsTrimmingOf (Ok bytes) old.store new.store × (new.pins ≡ old.pins)
-        × (answer ≡ Done [])
+    × (answer ≡ Done [])
 IsAnswer honest releases session Status answer old new =
     (old.store.needs_reopen ≡ false) × (new ≡ old) × (answer ≡ Done (status_of old.store))
 IsAnswer honest releases session command answer old new =
     (old.store.needs_reopen ≡ false) × Same old new
-        × IsFinding honest (found command (shown old session)) answer
+    × IsFinding honest (found command (shown old session)) answer
 
 -- ---- what is refused
 
@@ -161,7 +161,7 @@ IsStoreRefusal honest releases Merge refusal old new =
     IsBeginningOf (Err refusal) old.store new.store × (new.pins ≡ old.pins)
 IsStoreRefusal honest releases (Step rows) refusal old new =
     IsSteppingOf (Err refusal) old.store new.store rows × (honest → refusal ≢ store.Damaged)
-        × (new.pins ≡ old.pins)
+    × (new.pins ≡ old.pins)
 IsStoreRefusal honest releases Publish refusal old new =
     IsPublishingOf (Err refusal) old.store new.store × (new.pins ≡ old.pins)
 IsStoreRefusal honest releases Abandon refusal old new =
@@ -199,7 +199,7 @@ abbrev pub Replies : {D : Type 0} → Type 0 → Releases → List ℕ → Resul
     → Desk D → Type 0
 Replies honest releases text outcome old new =
     ((session : ℕ) × (command : Command) × Asks text session command
-        × IsOutcome honest releases session command outcome old new)
+    × IsOutcome honest releases session command outcome old new)
     ⊎
     ((reason : Unread) × IsUnread text reason × (outcome ≡ Err (refusals.Unread reason))
-        × (new ≡ old))
+    × (new ≡ old))

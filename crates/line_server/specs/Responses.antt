@@ -55,14 +55,14 @@ abbrev pub IsCarriedOut : {D : Type 0} → Result Said LineRefusal → (D → Ty
     → (D → ℕ) → Command → Stored D → Stored D → Type 0
 IsCarriedOut result honest moments failures command old new =
     (has : Releases) (session : ℕ) (pins : List (Option ℕ))
-        → IsResponse result (Unit {0}) has honest moments failures session command (desk pins old)
-            (desk pins new)
+    → IsResponse result (Unit {0}) has honest moments failures session command (desk pins old)
+    (desk pins new)
 
 -- to a session that looks at so many imports
 abbrev pub IsQueried : {D : Type 0} → Result Said LineRefusal → (D → Type 0) → (D → Moments)
     → (D → ℕ) → Command → ℕ → Stored D → Stored D → Type 0
 IsQueried result honest moments failures command pin old new =
     (has : Releases) (session : ℕ) (pins : List (Option ℕ))
-        → pin_of pins session old.history.imports ≡ pin
+    → pin_of pins session old.history.imports ≡ pin
     → IsResponse result (Unit {0}) has honest moments failures session command (desk pins old)
     (desk pins new)

@@ -61,8 +61,8 @@ LeavesDisk honest moments Publish outcome old new =
     honest old.disk → IfRefused outcome (moments new.disk ≡ moments old.disk)
 LeavesDisk honest moments Trim outcome old new =
     honest old.disk
-        → OnOk outcome ((moments new.disk).state.now ≡ take (trimmed_len old.shelf)
-            (moments old.disk).state.now) × IfRefused outcome (moments new.disk ≡ moments old.disk)
+    → OnOk outcome ((moments new.disk).state.now ≡ take (trimmed_len old.shelf)
+    (moments old.disk).state.now) × IfRefused outcome (moments new.disk ≡ moments old.disk)
 LeavesDisk honest moments command outcome old new =
     honest old.disk → moments new.disk ≡ moments old.disk
 
@@ -99,7 +99,7 @@ abbrev pub Run : {D : Type 0} → Type 0 → Releases → (D → Type 0) → (D 
 Run {D} honest_source has honest moments failures old [] new = new ≡ old
 Run {D} honest_source has honest moments failures old (turn ∷ turns) new =
     (mid : Desk D) × IsTurn honest_source has honest moments failures old turn mid
-        × Run honest_source has honest moments failures mid turns new
+    × Run honest_source has honest moments failures mid turns new
 
 abbrev pub lines_asked : List Turn → List (List ℕ)
 lines_asked turns = map (λ turn. turn.line) turns

@@ -109,7 +109,7 @@ fn read_relationship(
         (λ b. (kind_of_body b ≡ kind.Relationship) × IsBody b
         ×
         (source.now ∷ destination.now ∷ number.now ∷ type_id.now ∷ characteristic_type.now
-            ∷ modifier.now ∷ []
+        ∷ modifier.now ∷ []
         ≡ body_columns b))
         (FirstFault (columns_in (own_layout kind.Relationship))
         (source.now ∷ destination.now ∷ number.now ∷ type_id.now ∷ characteristic_type.now

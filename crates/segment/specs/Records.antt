@@ -40,8 +40,8 @@ active_code true = 1
 abbrev pub common_fields : StampedRow → List Field
 common_fields s =
     Number w8 (kind_code (kind_of s.row)) ∷ Number w128 s.row.id ∷ Number w32 s.row.time
-        ∷ Number w32 s.import ∷ Number w8 (active_code s.row.active) ∷ Number w64 s.row.module_id
-        ∷ []
+    ∷ Number w32 s.import ∷ Number w8 (active_code s.row.active) ∷ Number w64 s.row.module_id
+    ∷ []
 
 -- the fields of its kind
 abbrev pub body_fields : Body → List Field

@@ -37,7 +37,7 @@ pub fn publish_listing<D: Disk>(
         → EachImage (D.moments disk.old).state (HoldsAll (pieces_of next.now.entries others))
         → LeavesOnly (D.moments disk.old) (D.moments disk.new)
         (λ c. StandsForHistory (history_of d lists) c
-            ⊎ StandsForHistory (history_of next.now others) c) }
+        ⊎ StandsForHistory (history_of next.now others) c) }
     // After Ok each stop leaves the new one.
     ensures on_disk { D.is_honest disk.old → (d : Listing) (lists others : List (List StampedRow))
         → IsOnDisk (D.moments disk.old).state slot d lists
@@ -57,7 +57,7 @@ pub fn publish_listing<D: Disk>(
         → MakesCalls result 6 (D.moments disk.old) (D.moments disk.new) }
     ensures elsewhere { D.is_honest disk.old
         → OnOk result (SameOutside (slot_range (other slot) ∷ []) (D.moments disk.old).state.now
-            (D.moments disk.new).state.now) }
+        (D.moments disk.new).state.now) }
     ensures next { IfOk result (λ published. published ≡ other slot) }
     ensures honesty { D.is_honest disk.old ↔ D.is_honest disk.new }
     ensures failures { CountsEach result (D.failures disk.old) (D.failures disk.new) }
@@ -89,7 +89,7 @@ pub fn add_segment<D: Disk>(
         → IsAdded d next.now lists entry rows → bytes.now ≡ segment_of rows
         → LeavesOnly (D.moments disk.old) (D.moments disk.new)
         (λ c. StandsForHistory (history_of d lists) c
-            ⊎ StandsForHistory (history_of next.now (lists ++ rows ∷ [])) c) }
+        ⊎ StandsForHistory (history_of next.now (lists ++ rows ∷ [])) c) }
     // After Ok each stop leaves the new one.
     ensures on_disk { D.is_honest disk.old
         → (d : Listing) (lists : List (List StampedRow)) (rows : List StampedRow)
@@ -106,7 +106,7 @@ pub fn add_segment<D: Disk>(
         → MakesCalls result 8 (D.moments disk.old) (D.moments disk.new) }
     ensures elsewhere { D.is_honest disk.old
         → OnOk result (SameOutside (byte_range (extent_of entry) ∷ slot_range (other slot) ∷ [])
-            (D.moments disk.old).state.now (D.moments disk.new).state.now) }
+        (D.moments disk.old).state.now (D.moments disk.new).state.now) }
     ensures next { IfOk result (λ published. published ≡ other slot) }
     ensures honesty { D.is_honest disk.old ↔ D.is_honest disk.new }
     ensures failures { CountsEach result (D.failures disk.old) (D.failures disk.new) }

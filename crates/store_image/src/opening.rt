@@ -41,8 +41,8 @@ pub fn load<D: Disk, S: RowSink>(
 ) -> Result<Loaded, ImageFault>
     ensures exact { D.is_honest disk.old
         → MatchResult result
-            (λ l. Shows l.slot l.directory l.shown.items (D.moments disk.old).state.now)
-            (λ e. IsNotOpened e (D.moments disk.old).state.now) }
+        (λ l. Shows l.slot l.directory l.shown.items (D.moments disk.old).state.now)
+        (λ e. IsNotOpened e (D.moments disk.old).state.now) }
     // What was read fits together, on every disk.
     ensures kept { IfOk result (λ l. IsKept l.directory l.shown.items) }
     ensures places { IfOk result
@@ -54,7 +54,7 @@ pub fn load<D: Disk, S: RowSink>(
     // A stop at any moment leaves what it might have left before.
     ensures any_moment { D.is_honest disk.old
         → LeavesOnly (D.moments disk.old) (D.moments disk.new)
-            (IsImage (D.moments disk.old).state) }
+        (IsImage (D.moments disk.old).state) }
     // It syncs once and changes nothing else, whatever it answers.
     ensures synced { D.is_honest disk.old
         → IsSynced result (D.moments disk.old) (D.moments disk.new) }
