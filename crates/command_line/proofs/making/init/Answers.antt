@@ -11,8 +11,8 @@ returns-in-Ok g c =
       told = rw c.in-Ok.is c.tell_done.ensures;
     }
 
-pub returns : goal.returns
-returns g c =
+pub returns-in-Err : goal.returns-in-Err
+returns-in-Err g c =
     let made = c.create.ensures in
     record {
       had = c.create.result;

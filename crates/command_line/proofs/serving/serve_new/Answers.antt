@@ -10,8 +10,8 @@ returns-in-Ok g c =
       serves = rw (c.in-Ok.is, c.close.ensures.disk) c.serve_all-ended.ensures;
     }
 
-pub returns : goal.returns
-returns g c =
+pub returns-in-Err : goal.returns-in-Err
+returns-in-Err g c =
     let made = c.create.ensures in
     record {
       had = c.create.result;
