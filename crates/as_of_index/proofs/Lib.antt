@@ -13,6 +13,5 @@ pub mod Storing
 pub mod First
 pub mod Keyed
 pub mod Apart
-pub mod Replaced
 pub mod Current
 pub mod Pushing

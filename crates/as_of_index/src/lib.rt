@@ -8,13 +8,9 @@ mod index;
 mod kept;
 pub mod laws;
 mod listed;
-#[cfg(test)]
-mod making;
 mod reader;
 mod search;
 mod several;
-#[cfg(test)]
-mod tests;
 
 pub use chosen::{Chosen, read_all};
 pub use index::{Index, MAX_LISTS};

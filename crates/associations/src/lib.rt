@@ -16,8 +16,3 @@ pub use hierarchy::children;
 pub use links::Links;
 pub use postings::{EdgeCount, Link, Postings, Reference, Sealed};
 pub use substitutes::replacements;
-
-#[cfg(test)]
-mod making;
-#[cfg(test)]
-mod tests;

@@ -16,8 +16,3 @@ pub use postings::Postings;
 pub use sealed::Sealed;
 pub use search::find;
 pub use terms::Terms;
-
-#[cfg(test)]
-mod making;
-#[cfg(test)]
-mod tests;

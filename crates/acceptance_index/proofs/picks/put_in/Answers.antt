@@ -1,5 +1,5 @@
-use Rattle.as_of_index.proofs.Replaced.{replaced_places}
-use Rattle.as_of_index.proofs.making.put_in.Goals as goal
+use Rattle.acceptance_index.proofs.Replaced.{replaced_places}
+use Rattle.acceptance_index.proofs.picks.put_in.Goals as goal
 
 pub replace_two-requires-clause-lists : goal.replace_two-requires-clause-lists
 replace_two-requires-clause-lists c =

@@ -1,4 +1,4 @@
--- A list that is put in the place of two. A test's helper alone cites this.
+-- A list that is put in the place of two.
 use Rattle.std.proofs.Common.{ℕ, zero, suc, List, [], ◌∷◌, ◌++◌, sym}
 use Rattle.std.specs.Prelude.{slice_set, remove}
 use Rattle.std.specs.List.{AllByRecursion}

@@ -1,0 +1,106 @@
+//! Releases and the rows that their imports leave, in lists.
+
+use crate::rows::{
+    FINDING_SITE, IS_A, MEMBER, OTHER, ROOT, SAME_AS, STREET, STREET_NAME, THIRD, association,
+    concept, description, relationship, relationship_id,
+};
+use history_model::{StampedRow, plain};
+use rf2_values::Row;
+use std::alloc::Global;
+use std::test::Fail;
+
+fn first_release(alloc: Global) -> Result<Vec<Row>, Fail> {
+    Ok(vec![in alloc;
+        concept(ROOT, 20_200_131, true)?,
+        concept(STREET, 20_200_131, true)?,
+        concept(OTHER, 20_200_131, true)?,
+        description(alloc, STREET_NAME, 20_200_131, true, "Straße")?,
+        relationship(1_000_027, 20_200_131, true, (STREET, ROOT), IS_A)?,
+        relationship(2_000_029, 20_200_131, true, (STREET, ROOT), IS_A)?,
+    ]?)
+}
+
+/// The street is retired and replaced, it has another name, and one of its relationships ends.
+fn second_release(alloc: Global) -> Result<Vec<Row>, Fail> {
+    Ok(vec![in alloc;
+        concept(STREET, 20_210_131, false)?,
+        description(alloc, STREET_NAME, 20_210_131, true, "Weg")?,
+        relationship(2_000_029, 20_210_131, false, (STREET, ROOT), IS_A)?,
+        association(MEMBER, 20_210_131, true, SAME_AS, (STREET, OTHER))?,
+    ]?)
+}
+
+/// A row comes again, and one between two versions. The other relationship ends too, and one of another type leads to the root.
+fn third_release(alloc: Global) -> Result<Vec<Row>, Fail> {
+    let id = relationship_id(100)?;
+    Ok(vec![in alloc;
+        concept(ROOT, 20_200_131, true)?,
+        concept(STREET, 20_200_731, false)?,
+        concept(THIRD, 20_200_131, true)?,
+        relationship(1_000_027, 20_210_131, false, (STREET, ROOT), IS_A)?,
+        relationship(id, 20_210_131, true, (OTHER, ROOT), FINDING_SITE)?,
+    ]?)
+}
+
+/// The rows after these releases, in key order.
+pub(crate) fn imported(alloc: Global, releases: &[Vec<Row>]) -> Result<Vec<StampedRow>, Fail> {
+    let mut rows = Vec::new(alloc);
+    let mut imports = 0u32;
+    for release in releases {
+        let Some(next) = imports.checked_add(1) else {
+            return Err(Fail::from("too many releases"));
+        };
+        rows = plain::after_release(alloc, imports, &rows, release)?;
+        imports = next;
+    }
+    Ok(rows)
+}
+
+/// The rows of the example's three releases, in key order.
+pub(crate) fn example(alloc: Global) -> Result<Vec<StampedRow>, Fail> {
+    let releases = vec![in alloc;
+        first_release(alloc)?,
+        second_release(alloc)?,
+        third_release(alloc)?,
+    ]?;
+    imported(alloc, &releases)
+}
+
+/// The rows that some of the imports brought, as a list.
+pub(crate) fn brought(
+    alloc: Global,
+    rows: &[StampedRow],
+    first: u32,
+    last: u32,
+) -> Result<Vec<StampedRow>, Fail> {
+    let mut found = Vec::new(alloc);
+    for stamped in rows {
+        if first <= stamped.import && stamped.import <= last {
+            found.push(stamped.try_clone(alloc)?)?;
+        }
+    }
+    Ok(found)
+}
+
+/// A list for each range of imports, from the first to the last.
+pub(crate) fn lists_of(
+    alloc: Global,
+    rows: &[StampedRow],
+    ranges: &[(u32, u32)],
+) -> Result<Vec<Vec<StampedRow>>, Fail> {
+    let mut lists = Vec::new(alloc);
+    for (first, last) in ranges {
+        lists.push(brought(alloc, rows, *first, *last)?)?;
+    }
+    Ok(lists)
+}
+
+/// The rows of the example, each release's as a list.
+pub(crate) fn three_lists(alloc: Global) -> Result<[Vec<StampedRow>; 3], Fail> {
+    let rows = example(alloc)?;
+    Ok([
+        brought(alloc, &rows, 1, 1)?,
+        brought(alloc, &rows, 2, 2)?,
+        brought(alloc, &rows, 3, 3)?,
+    ])
+}
