@@ -24,7 +24,7 @@ use Rattle.rf2_values.specs.Sctid.{IsSctid, check_digits, class_of}
 use Rattle.rf2_values.specs.Time.{IsTime}
 use Rattle.rf2_values.specs.Text.{IsText}
 use Rattle.rf2_values.specs.Member.{IsMemberByte}
-use Rattle.rf2_values.specs.Row.{Version, version, IsVersion, IsOfClass, IsConcept, IsComponent, IsIdOf, IsBody, Spells, SpellsColumns, SpellsId, kind_of, kind_of_body, id_text, later_columns, body_columns, flag, line_of}
+use Rattle.rf2_values.specs.Row.{Version, version, IsVersion, IsOfClass, IsConcept, IsComponent, IsIdOf, IsBody, Spells, SpellsColumns, SpellsId, kind_of, kind_of_body, id_text, later_columns, body_columns, flag, line_limit, line_of}
 use Rattle.rf2_values.proofs.Decimals.{decimal_is_plain}
 use Rattle.rf2_values.proofs.Lengths.{length-line}
 use Rattle.rf2_rows.specs.declared.fault.LineFault.{LineFault}
@@ -371,7 +371,7 @@ own kind.Association ts h =
       consed _ _ _ _ _ a.2 a.3.2 (consed _ _ _ _ _ b.2 b.3.2 (consed _ _ _ _ _ c.2 c.3.2 (no_more c.1 c.4))),
     )
 
-row_of : (k : Kind) (ts : List (List ℕ)) → AllStand (columns k) ts → length (line_of ts) ≤ 65535 → (v : Version) × (kind_of v ≡ k) × IsVersion v × SpellsColumns v ts
+row_of : (k : Kind) (ts : List (List ℕ)) → AllStand (columns k) ts → length (line_of ts) ≤ line_limit → (v : Version) × (kind_of v ≡ k) × IsVersion v × SpellsColumns v ts
 row_of k ts h short =
     let a = first (Identifier k) (Time ∷ Active ∷ ConceptReference ∷ columns_in (own_layout k)) ts h in
     let t = first Time (Active ∷ ConceptReference ∷ columns_in (own_layout k)) a.1 a.4 in
@@ -380,7 +380,7 @@ row_of k ts h short =
     let b = own k m.1 m.4 in
     let v = version a.3.0 t.3.0 s.3.0 m.3.0 b.0 in
     let all : ts ≡ a.0 ∷ later_columns v = consed _ _ _ _ _ a.2 refl (consed _ _ _ _ _ t.2 t.3.2 (consed _ _ _ _ _ s.2 s.3.1 (consed _ _ _ _ _ m.2 m.3.2 b.3))) in
-    let long : length (line_of (a.0 ∷ later_columns v)) ≤ 65535 = subst (λ (xs : List (List ℕ)). length (line_of xs) ≤ 65535) all short in
+    let long : length (line_of (a.0 ∷ later_columns v)) ≤ line_limit = subst (λ (xs : List (List ℕ)). length (line_of xs) ≤ line_limit) all short in
     let same : length (id_text (kind_of_body b.0) a.3.0) ≡ length a.0 = ap (λ (x : Kind). length (id_text x a.3.0)) b.1 ∙ id_length k a.3.0 a.0 a.3.2 in (
       v,
       b.1,
@@ -398,7 +398,7 @@ row_of k ts h short =
 
 pub each_line : (k : Kind) (text : List ℕ) → ((v : Version) × (kind_of v ≡ k) × Spells v text) ⊎ ((f : LineFault) × IsFaultOf k text f)
 each_line k text =
-    elim (cases_lt 65535 (length text)) [
+    elim (cases_lt line_limit (length text)) [
       | inl long ↦ inr (fault.LineLength, inl (long, refl))
       | inr short ↦
           elim (utf8 text) [
@@ -411,7 +411,7 @@ each_line k text =
                         | inr bad ↦ inr (bad.0, inr (short, inr (good, inr (same, bad.1))))
                         | inl stand ↦
                             let whole : line_of (columns_of text) ≡ text = join_with_byte-slice_split 9 text in
-                            let row = row_of k (columns_of text) stand (subst (λ (t : List ℕ). length t ≤ 65535) (sym whole) short) in
+                            let row = row_of k (columns_of text) stand (subst (λ (t : List ℕ). length t ≤ line_limit) (sym whole) short) in
                             inl (row.0, row.1, record { is_row = row.2; columns = (columns_of text, row.3, sym whole); short = short })
                       ]
                 ]
@@ -420,7 +420,7 @@ each_line k text =
 
 first_line : (k : Kind) (text : List ℕ) → (text ≡ header k) ⊎ ((f : LineFault) × IsFirstLineFault k text f)
 first_line k text =
-    elim (cases_lt 65535 (length text)) [
+    elim (cases_lt line_limit (length text)) [
       | inl long ↦ inr (fault.LineLength, inl (long, refl))
       | inr short ↦
           elim (utf8 text) [

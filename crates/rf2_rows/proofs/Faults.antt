@@ -8,7 +8,7 @@ use Rattle.std.specs.Str.{IsUtf8}
 use Rattle.rf2_rows.specs.declared.fault.LineFault.{LineFault}
 use Rattle.rf2_rows.specs.declared.fault.RowFault.{RowFault}
 use Rattle.rf2_rows.specs.declared.fault.RowFault.TheVariants as rowfault
-use Rattle.rf2_values.specs.Row.{Version, version, IsVersion, IsIdOf, IsBody, IsConcept, SpellsId, SpellsColumns, kind_of, kind_of_body, line_of, id_text, later_columns, body_columns, flag}
+use Rattle.rf2_values.specs.Row.{Version, version, IsVersion, IsIdOf, IsBody, IsConcept, SpellsId, SpellsColumns, kind_of, kind_of_body, line_limit, line_of, id_text, later_columns, body_columns, flag}
 use Rattle.rf2_rows.specs.Line.{Column, MayStand, HasFault, AllStand, FirstFault, columns as columns_of_kind, columns_in, common_layout, own_layout, columns_of, IsFaultOfColumns, IsLineFaultThat}
 use Rattle.rf2_rows.specs.Private.{texts, IsLineReading}
 use Rattle.rf2_values.specs.Time.{IsTime}
@@ -75,7 +75,7 @@ given_map P Q g rowfault.OutOfMemory h = tt
 given_map P Q g (rowfault.Line f) h = g f h
 
 -- what the columns of a line give is what the line gives
-pub line_reading : (kind : Kind) (text : List ℕ) (parts : List (List ℕ)) (r : Result Version RowFault) → length text ≤ 65535 → IsUtf8 text → text ≡ line_of parts → parts ≡ columns_of text
+pub line_reading : (kind : Kind) (text : List ℕ) (parts : List (List ℕ)) (r : Result Version RowFault) → length text ≤ line_limit → IsUtf8 text → text ≡ line_of parts → parts ≡ columns_of text
     → MatchResult r (λ v. (kind_of v ≡ kind) × IsVersion v × SpellsColumns v parts) (IsLineFaultThat (IsFaultOfColumns kind parts)) → IsLineReading kind text r
 line_reading kind text parts (Ok v) short utf8 whole cut h = (h.0, record { is_row = h.1; columns = (parts, h.2, whole); short = short })
 line_reading kind text parts (Err rowfault.OutOfMemory) short utf8 whole cut h = tt
@@ -92,11 +92,11 @@ id_length kind.Association n text s = by_index_length 36 _ ∙ sym s.long
 -- what the columns of a line say is a row, if the line is short
 pub row_of_columns : (kind : Kind) (columns : List (Bor (List ℕ))) (id time : ℕ) (active : Bool) (m : ℕ) (body : Body) → 4 ≤ length columns
     → IsIdOf kind id → SpellsId kind id (text_at columns 0) → IsTime time → text_at columns 1 ≡ decimal time → text_at columns 2 ≡ flag active → IsConcept m → text_at columns 3 ≡ decimal m
-    → kind_of_body body ≡ kind → IsBody body → texts (drop 4 columns) ≡ body_columns body → length (line_of (texts columns)) ≤ 65535 → IsVersion (version id time active m body)
+    → kind_of_body body ≡ kind → IsBody body → texts (drop 4 columns) ≡ body_columns body → length (line_of (texts columns)) ≤ line_limit → IsVersion (version id time active m body)
 row_of_columns kind columns id time active m body le is_id spells_id is_time spells_time spells_flag is_module spells_module same is_body spells_body short =
     let v = version id time active m body in
     let all : texts columns ≡ text_at columns 0 ∷ later_columns v = common_first columns le ∙ cc in
-    let long : length (line_of (text_at columns 0 ∷ later_columns v)) ≤ 65535 = subst (λ (ts : List (List ℕ)). length (line_of ts) ≤ 65535) all short in
+    let long : length (line_of (text_at columns 0 ∷ later_columns v)) ≤ line_limit = subst (λ (ts : List (List ℕ)). length (line_of ts) ≤ line_limit) all short in
     let first : length (id_text (kind_of_body body) id) ≡ length (text_at columns 0) = ap (λ (k : Kind). length (id_text k id)) same ∙ id_length kind id (text_at columns 0) spells_id in
     record {
       id = subst (λ (k : Kind). IsIdOf k id) (sym same) is_id;

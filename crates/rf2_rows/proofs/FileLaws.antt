@@ -18,7 +18,7 @@ use Rattle.rf2_rows.specs.declared.fault.LineFault.{LineFault}
 use Rattle.rf2_rows.specs.declared.fault.FileFault.{FileFault}
 use Rattle.rf2_rows.specs.declared.fault.FileFault.TheVariants as filefault
 use Rattle.rf2_values.specs.declared.row.Row.{Row}
-use Rattle.rf2_values.specs.Row.{Version, IsBody, Spells, kind_of, body_columns, line_of}
+use Rattle.rf2_values.specs.Row.{Version, IsBody, Spells, kind_of, body_columns, line_limit, line_of}
 use Rattle.rf2_rows.specs.Line.{header, columns, IsFaultOf}
 use Rattle.rf2_rows.specs.File.{InLines, mark, without_mark, lines_in, SpellsEach, IsReleaseFile, IsFirstLineFault, IsFaultOfLines, IsFaultOfFile, IsFaultThat}
 use Rattle.rf2_rows.proofs.Splits.{IsFree}
@@ -99,7 +99,7 @@ ascii_by_test (x ∷ xs) e =
 record IsHeader (kind : Kind) : Type 0 where
   is_line : IsPlainLine (header kind)
   utf8 : IsUtf8 (header kind)
-  short : length (header kind) ≤ 65535
+  short : length (header kind) ≤ line_limit
   no_mark : (more : List ℕ) → starts_with nat_eq (header kind ++ more) mark ≡ false
 
 -- what makes a text a header, as a test

@@ -8,7 +8,7 @@ use Rattle.rf2_rows.specs.declared.fault.LineFault.{LineFault}
 use Rattle.rf2_rows.specs.declared.fault.FileFault.{FileFault}
 use Rattle.rf2_rows.specs.declared.fault.FileFault.TheVariants as filefault
 use Rattle.rf2_rows.specs.declared.fault.LineFault.TheVariants as fault
-use Rattle.rf2_values.specs.Row.{Version, Spells, kind_of}
+use Rattle.rf2_values.specs.Row.{Version, Spells, kind_of, line_limit}
 use Rattle.rf2_rows.specs.Line.{header, IsFaultOf}
 
 -- a line end is LF or CR LF
@@ -54,8 +54,8 @@ lines_in bytes = map without_terminator (lines_of bytes)
 -- the first fault of a first line
 abbrev pub IsFirstLineFault : Kind → List ℕ → LineFault → Type 0
 IsFirstLineFault kind text f =
-    ((65535 < length text) × (f ≡ fault.LineLength))
-    ⊎ ((length text ≤ 65535)
+    ((line_limit < length text) × (f ≡ fault.LineLength))
+    ⊎ ((length text ≤ line_limit)
     × ((¬ (IsUtf8 text) × (f ≡ fault.NotUtf8))
     ⊎ (IsUtf8 text × (text ≢ header kind) × (f ≡ fault.Header))))
 

@@ -13,7 +13,7 @@ use Rattle.rf2_values.specs.Time.{IsTime}
 use Rattle.rf2_values.specs.Text.{IsText}
 use Rattle.rf2_rows.specs.declared.fault.RowFault.{RowFault}
 use Rattle.rf2_rows.specs.declared.fault.RowFault.TheVariants as rowfault
-use Rattle.rf2_values.specs.Row.{IsOfClass, IsConcept, IsComponent, IsIdOf, SpellsId, flag, line_of}
+use Rattle.rf2_values.specs.Row.{IsOfClass, IsConcept, IsComponent, IsIdOf, SpellsId, flag, line_limit, line_of}
 
 -- the texts between the TABs
 abbrev pub columns_of : List ℕ → List (List ℕ)
@@ -128,8 +128,8 @@ IsFaultOfColumns kind texts f =
 -- the first fault of a line
 abbrev pub IsFaultOf : Kind → List ℕ → LineFault → Type 0
 IsFaultOf kind text f =
-    ((65535 < length text) × (f ≡ fault.LineLength))
-    ⊎ ((length text ≤ 65535)
+    ((line_limit < length text) × (f ≡ fault.LineLength))
+    ⊎ ((length text ≤ line_limit)
     × ((¬ (IsUtf8 text) × (f ≡ fault.NotUtf8))
     ⊎ (IsUtf8 text × IsFaultOfColumns kind (columns_of text) f)))
 

@@ -9,9 +9,9 @@ ghost use Rattle.rf2_rows.specs.File.{without_mark as bytes_without_mark, lines_
 ghost use Rattle.rf2_rows.specs.File.{IsFirstLineFault, IsFaultOfRows, IsFaultOfFile, IsFaultThat};
 
 use crate::fault::{FileFault, LineFault};
-use crate::line::{LINE_LIMIT, read_line};
+use crate::line::read_line;
 use bstr::{ByteSlice, Lines};
-use rf2_values::{Kind, Row};
+use rf2_values::{Kind, LINE_LIMIT, Row};
 use std::alloc::Global;
 
 /// The column names of a concept file.

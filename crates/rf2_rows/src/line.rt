@@ -6,7 +6,7 @@ ghost use Rattle.rf2_rows.specs.declared.fault.LineFault.{LineFault};
 ghost use Rattle.rf2_rows.specs.declared.fault.RowFault.TheVariants as rowfault;
 ghost use Rattle.rf2_values.specs.Time.{IsTime};
 ghost use Rattle.rf2_values.specs.Row.{Version, IsVersion, IsBody, IsConcept, IsIdOf, kind_of, kind_of_body, body_columns};
-ghost use Rattle.rf2_values.specs.Row.{Spells, SpellsId, SpellsColumns, flag as flag_text, line_of};
+ghost use Rattle.rf2_values.specs.Row.{Spells, SpellsId, SpellsColumns, flag as flag_text, line_limit, line_of};
 ghost use Rattle.rf2_rows.specs.Line.{IsLineFaultThat, FirstFault, columns_in, common_layout, own_layout, IsFaultOfColumns, IsFaultOf};
 ghost use Rattle.rf2_rows.specs.Private.{texts, IsLineReading};
 
@@ -17,12 +17,10 @@ use crate::columns::{
 use crate::fault::{LineFault, RowFault};
 use bstr::ByteSlice;
 use rf2_values::{
-    Association, Body, Concept, Description, EffectiveTime, Kind, Relationship, Row, Sctid,
+    Association, Body, Concept, Description, EffectiveTime, Kind, LINE_LIMIT, Relationship, Row,
+    Sctid,
 };
 use std::alloc::Global;
-
-/// The most bytes that a line has, without its line end.
-pub(crate) const LINE_LIMIT: usize = 65_535;
 
 /// The columns that every kind has.
 #[derive(Clone, Copy)]
@@ -170,7 +168,7 @@ fn read_own(alloc: Global, kind: Kind, own: &[&[u8]]) -> Result<Body, RowFault>
 
 /// The row that the columns spell.
 fn read_columns(alloc: Global, kind: Kind, columns: &[&[u8]]) -> Result<Row, RowFault>
-    requires { length (line_of (texts columns.now)) ≤ 65535 }
+    requires { length (line_of (texts columns.now)) ≤ line_limit }
     ensures { MatchResult result
         (λ v. (kind_of v ≡ kind) × IsVersion v × SpellsColumns v (texts columns.now))
         (IsLineFaultThat (IsFaultOfColumns kind (texts columns.now))) }

@@ -12,7 +12,7 @@ use Rattle.rf2_values.specs.declared.row.Association.{Association}
 use Rattle.rf2_values.specs.declared.row.Body.TheVariants as body
 use Rattle.rf2_values.specs.Time.{IsTime}
 use Rattle.rf2_values.specs.Private.{columns_len}
-use Rattle.rf2_values.specs.Row.{version, canonical, line_of, flag, id_text, later_columns, body_columns, kind_of_body, IsIdOf, IsConcept, IsBody}
+use Rattle.rf2_values.specs.Row.{version, canonical, line_of, flag, id_text, later_columns, body_columns, kind_of_body, line_limit, IsIdOf, IsConcept, IsBody}
 
 pub length-line : (text : List ℕ) (texts : List (List ℕ)) → length (line_of (text ∷ texts)) ≡ length text + columns_len texts
 length-line t [] = omega arith
@@ -61,7 +61,7 @@ own_short (body.Association a) h =
 
 -- a row whose texts are short has a short line
 pub line_short : (id time : ℕ) (active : Bool) (m : ℕ) (b : Body) (texts : ℕ) → IsIdOf (kind_of_body b) id → IsTime time → IsConcept m
-    → columns_len (body_columns b) ≤ texts + 126 → texts ≤ 65000 → length (canonical (version id time active m b)) ≤ 65535
+    → columns_len (body_columns b) ≤ texts + 126 → texts ≤ 65000 → length (canonical (version id time active m b)) ≤ line_limit
 line_short id time active m b texts is_id is_time is_module own short =
     let v = version id time active m b in
     let to = is_time.year_to in

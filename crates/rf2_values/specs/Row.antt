@@ -111,20 +111,24 @@ tabbed columns = flat_map (λ column. 9 ∷ column) columns
 abbrev pub canonical : Version → List ℕ
 canonical v = line_of (id_text (kind_of v) v.id ∷ later_columns v)
 
+-- the most bytes that a line may have, without its line end
+abbrev pub line_limit : ℕ
+line_limit = 65535
+
 -- what a row may be
 pub record IsVersion (v : Version) : Type 0 where
   pub id : IsIdOf (kind_of v) v.id
   pub time : IsTime v.time
   pub module_id : IsOfClass class.Concept v.module_id
   pub body : IsBody v.body
-  pub short : length (canonical v) ≤ 65535
+  pub short : length (canonical v) ≤ line_limit
 
 -- the texts are the spellings of the row's columns
 abbrev pub SpellsColumns : Version → List (List ℕ) → Type 0
 SpellsColumns v texts = (id : List ℕ) × SpellsId (kind_of v) v.id id × (texts ≡ id ∷ later_columns v)
 
--- the text is the spellings of the row's columns, joined by TAB, within 65,535 bytes
+-- the text is the spellings of the row's columns, joined by TAB, in no more bytes than a line may have
 pub record Spells (v : Version) (text : List ℕ) : Type 0 where
   pub is_row : IsVersion v
   pub columns : (texts : List (List ℕ)) × SpellsColumns v texts × (text ≡ line_of texts)
-  pub short : length text ≤ 65535
+  pub short : length text ≤ line_limit

@@ -3,13 +3,16 @@
 ghost use Rattle.std.specs.Prelude.{◌≡◌, ◌+◌, ◌≤◌, ◌^◌, ◌↔◌, IsTrue, length, decimal};
 ghost use Rattle.rf2_values.specs.Time.{IsTime};
 ghost use Rattle.rf2_values.specs.Private.{columns_len};
-ghost use Rattle.rf2_values.specs.Row.{version, canonical, id_text, body_columns, kind_of_body, IsIdOf, IsConcept, IsBody};
+ghost use Rattle.rf2_values.specs.Row.{version, canonical, id_text, body_columns, kind_of_body, line_limit, IsIdOf, IsConcept, IsBody};
 
 use crate::row::{Body, Kind};
 use crate::sctid::Sctid;
 use crate::text::Text;
 use crate::time::EffectiveTime;
 use itoa::Buffer;
+
+/// The most bytes that a line has, without its line end.
+pub const LINE_LIMIT: usize = 65_535;
 
 /// How many bytes the number takes, with the TAB before it.
 fn number_len(number: u64) -> u128
@@ -101,7 +104,7 @@ pub fn is_short(id: u128, time: EffectiveTime, active: bool, module_id: Sctid, b
     requires module_id { IsConcept module_id }
     requires body { IsBody body.now }
     ensures { IsTrue result
-        ↔ (length (canonical (version id time active module_id body.now)) ≤ 65535) }
+        ↔ (length (canonical (version id time active module_id body.now)) ≤ line_limit) }
 {
-    texts_len(body) <= 65_000 || line_len(id, time, active, module_id, body) <= 65_535
+    texts_len(body) <= 65_000 || line_len(id, time, active, module_id, body) <= LINE_LIMIT as u128
 }

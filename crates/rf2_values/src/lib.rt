@@ -14,6 +14,7 @@ mod text;
 mod time;
 
 pub use key::Key;
+pub use length::LINE_LIMIT;
 pub use member::Member;
 pub use row::{Association, Body, Concept, Description, Kind, Relationship, Row};
 pub use sctid::{Class, Sctid};
