@@ -5,6 +5,9 @@ ghost use Rattle.history_model.specs.Queries.{is_kind, is_version_of};
 
 use rf2_values::{Kind, Row};
 
+/// The concept that a relationship has as its type where it says "is a".
+pub const IS_A: u64 = 116_680_003;
+
 /// Whether the row is of the kind.
 pub fn is_kind(row: &Row, kind: Kind) -> bool
     ensures { result ≡ is_kind kind row.now }

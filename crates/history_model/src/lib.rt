@@ -11,6 +11,7 @@ mod stamped;
 #[cfg(test)]
 mod tests;
 
+pub use component::IS_A;
 pub use receipt::Receipt;
 pub use shown::Shown;
 pub use stamped::StampedRow;
