@@ -9,7 +9,7 @@ use Rattle.rf2_values.specs.declared.row.Kind.{Kind}
 use Rattle.rf2_values.specs.declared.row.Kind.TheVariants as kinds
 use Rattle.rf2_values.specs.declared.row.Body.{Body}
 use Rattle.rf2_values.specs.declared.row.Body.TheVariants as bodies
-use Rattle.rf2_values.specs.Row.{Version, IsVersion, IsBody, IsIdOf, kind_of, kind_of_body, line_of, body_columns, flag, id_text}
+use Rattle.rf2_values.specs.Row.{Version, IsVersion, IsBody, IsIdOf, kind_of, kind_of_body, line_limit, line_of, body_columns, flag, id_text}
 use Rattle.rf2_values.specs.Time.{IsTime}
 use Rattle.rf2_values.proofs.Lengths.{length-line}
 use Rattle.history_model.specs.declared.stamped.StampedRow.{StampedRow}
@@ -43,7 +43,7 @@ common_fits : (s : StampedRow) → IsStamped s → AllByRecursion Fits (common_f
 common_fits s is =
     (small_kind (kind_of s.row), (small_id (kind_of s.row) s.row.id is.row.id, (small_time s.row.time is.row.time, (is.fits, (small_flag s.row.active, (omega (arith, is.row.module_id.sctid.high), tt))))))
 
-body_fits : (b : Body) (id time active module_id : List ℕ) → IsBody b → length (line_of (id ∷ time ∷ active ∷ module_id ∷ body_columns b)) ≤ 65535 → AllByRecursion Fits (body_fields b)
+body_fits : (b : Body) (id time active module_id : List ℕ) → IsBody b → length (line_of (id ∷ time ∷ active ∷ module_id ∷ body_columns b)) ≤ line_limit → AllByRecursion Fits (body_fields b)
 body_fits (bodies.Concept c) id time active module_id is short = (omega (arith, is.sctid.high), tt)
 body_fits (bodies.Description d) id time active module_id is short =
     let len = length-line id (time ∷ active ∷ module_id ∷ body_columns (bodies.Description d)) in
@@ -190,7 +190,7 @@ pub length-spelled : (fields : List Field) → length (spelled fields) ≡ field
 length-spelled [] = refl
 length-spelled (f ∷ fields) = omega (arith, length-append (field_bytes f) (spelled fields), length-field f, length-spelled fields)
 
-body_room : (b : Body) (id time active module_id : List ℕ) → length (line_of (id ∷ time ∷ active ∷ module_id ∷ body_columns b)) ≤ 65535 → fields_len (body_fields b) ≤ 65563
+body_room : (b : Body) (id time active module_id : List ℕ) → length (line_of (id ∷ time ∷ active ∷ module_id ∷ body_columns b)) ≤ line_limit → fields_len (body_fields b) ≤ 65563
 body_room (bodies.Concept c) id time active module_id short = omega arith
 body_room (bodies.Description d) id time active module_id short =
     let len = length-line id (time ∷ active ∷ module_id ∷ body_columns (bodies.Description d)) in omega (arith, len, short)
@@ -218,13 +218,13 @@ body_sizes (bodies.Association a) = refl
 pub record_size : (s : StampedRow) → length (record_of s) ≡ fixed_len (kind_of s.row) + texts_len s.row.body
 record_size s = length-record s ∙ body_sizes s.row.body
 
-few_texts : (b : Body) → fields_len (body_fields b) ≤ 65563 → texts_len b ≤ 65535
+few_texts : (b : Body) → fields_len (body_fields b) ≤ 65563 → texts_len b ≤ line_limit
 few_texts (bodies.Concept c) room = omega arith
 few_texts (bodies.Description d) room = omega (arith, room)
 few_texts (bodies.Relationship r) room = omega arith
 few_texts (bodies.Association a) room = omega arith
 
-pub texts_room : (v : Version) → IsVersion v → texts_len v.body ≤ 65535
+pub texts_room : (v : Version) → IsVersion v → texts_len v.body ≤ line_limit
 texts_room v is = few_texts v.body (row_room v is)
 
 -- a record begins with its own length

@@ -4,6 +4,7 @@ ghost use Rattle.std.specs.Prelude.{◌≡◌, ℕ, ◌+◌, ◌-◌, ◌++◌, 
 ghost use Rattle.std.specs.List.{AllByRecursion};
 ghost use Rattle.rf2_values.specs.declared.row.Kind.TheVariants as kinds;
 ghost use Rattle.rf2_values.specs.declared.row.Body.TheVariants as bodies;
+ghost use Rattle.rf2_values.specs.Row.{line_limit};
 ghost use Rattle.history_model.specs.InOrder.{IsAscending};
 ghost use Rattle.history_model.specs.History.{stamped_cmp};
 ghost use Rattle.segment.specs.Records.{spelled, kind_code, active_code, body_fields, record_of, segment_of, IsStamped, IsSegment};
@@ -33,7 +34,7 @@ fn code_of_active(active: bool) -> u8
 
 /// How many bytes the texts of a body have.
 fn text_bytes(body: &Body) -> u32
-    requires { texts_len body.now ≤ 65535 }
+    requires { texts_len body.now ≤ line_limit }
     ensures { result ≡ texts_len body.now }
 {
     match body {
