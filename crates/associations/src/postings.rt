@@ -4,14 +4,11 @@ ghost use Rattle.std.specs.Prelude.{◌≡◌, OnOk, OnErr};
 ghost use Rattle.std.specs.List.Sorted.{IsNonDecreasingBy, IsPermutation};
 ghost use Rattle.associations.specs.Edges.{Edges, no_edges, link, reference, edges_of, joined_edges, count_of, first_edges, AreSameEdges, IsSealed};
 
-use history_model::StampedRow;
+use history_model::{IS_A, StampedRow};
 use rf2_values::{Association, Body, Relationship};
 use segment::Posted;
 use std::alloc::{AllocError, Global};
 use std::marker::Model;
-
-/// The type of a relationship that says "is a".
-const IS_A: u64 = 116_680_003;
 
 /// An active relationship that says that its source is a kind of its destination, and where its row
 /// stands.

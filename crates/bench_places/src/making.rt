@@ -3,7 +3,7 @@
 use crate::asking::scrambled;
 use as_of_index::{Index, Listed, MAX_LISTS, Posted};
 use associations::Links;
-use history_model::StampedRow;
+use history_model::{IS_A, StampedRow};
 use rf2_values::{
     Association, Body, Description, EffectiveTime, Key, Kind, Relationship, Row, Sctid, Text,
 };
@@ -22,8 +22,6 @@ const INFERRED: u64 = 900_000_000_000_011_006;
 const MODIFIER: u64 = 900_000_000_000_451_002;
 
 const SAME_AS: u64 = 900_000_000_000_527_005;
-
-const IS_A: u64 = 116_680_003;
 
 pub(crate) const ROOT: u64 = 138_875_005;
 
