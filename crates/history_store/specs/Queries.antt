@@ -6,10 +6,12 @@ use Rattle.history_store.specs.declared.refusal.Refusal.TheVariants as refusals
 use Rattle.history_store.specs.Stored.{Stored, IsAcknowledged}
 use Rattle.history_store.specs.Answers.{Counts, IsReadingOf}
 
--- Whatever is answered, history and shelf stay, and a failed device alone closes the store. A store that has to be opened again
--- leaves everything as it is. On an honest disk nothing is damaged, what a stop may leave stays, and as long as no call has
--- failed it stands for what the store holds.
-pub record IsQuery {T D : Type 0} (result : Result T Refusal) (is_honest : D → Type 0) (moments_of : D → Moments) (failures_of : D → ℕ)
+-- Whatever is answered, history and shelf stay, and a failed device alone closes the store. A store
+-- that has to be opened again leaves everything as it is. On an honest disk nothing is damaged,
+-- what a stop may leave stays, and as long as no call has failed it stands for what the store
+-- holds.
+pub record IsQuery {T D : Type 0} (result : Result T Refusal) (is_honest : D → Type 0)
+    (moments_of : D → Moments) (failures_of : D → ℕ)
     (old new : Stored D) : Type 0 where
   pub undamaged : is_honest old.disk → IfErr result (λ e. e ≢ refusals.Damaged)
   pub read : IsReadingOf result old new
