@@ -2,7 +2,8 @@
 
 use crate::server::Turn;
 
-/// Imports of three releases, one of them while a merge goes on; what two sessions, of which one is pinned, are then told; and two refusals.
+/// Imports of three releases, one of them while a merge goes on; what two
+/// sessions, of which one is pinned, are then told; and two refusals.
 pub const SCRIPT: [Turn; 20] = [
     ("0 STATUS", &["OK 0 0 0 -"]),
     ("0 GET C 138875005 20230131", &["END 0"]),

@@ -1,5 +1,5 @@
-//! Worked examples as lines that are served, with stops and openings between them, and the script of the demonstration through streams of all sorts. It has
-//! no code of its own.
+//! Worked examples as lines that are served, with stops and openings between them, and the
+//! script of the demonstration through streams of all sorts. It has no code of its own.
 #![tactic(auto)]
 
 #[cfg(test)]

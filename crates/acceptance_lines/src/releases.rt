@@ -23,7 +23,8 @@ fn file_of(name: &str) -> Option<File> {
     Some(file)
 }
 
-/// By how many bytes the first sample's Concept file is cut short. Its last line ends in two columns of 18 digits, each behind a TAB, and CR LF.
+/// By how many bytes the first sample's Concept file is cut short. Its last
+/// line ends in two columns of 18 digits, each behind a TAB, and CR LF.
 fn cut_of(name: &str) -> Option<usize> {
     match name {
         "cut-in-a-row" => Some(40),

@@ -11,7 +11,8 @@ use std::io::{Read, Write};
 /// The most reads that a run may make.
 const READS: u32 = 1_000_000;
 
-/// A line and the lines of its reply, in which a bar stands for a TAB and a name in capitals for an identifier.
+/// A line and the lines of its reply, in which a bar stands
+/// for a TAB and a name in capitals for an identifier.
 pub type Turn = (&'static str, &'static [&'static str]);
 
 /// The lines, each with an LF.
@@ -33,7 +34,8 @@ pub fn replies_of(alloc: Global, turns: &[Turn]) -> Result<Vec<u8>, AllocError> 
     Ok(replies)
 }
 
-/// A store on a disk in memory that serves streams of lines. It is boxed, so that a test which lets it go is proved without what a store is made of.
+/// A store on a disk in memory that serves streams of lines. It is boxed, so
+/// that a test which lets it go is proved without what a store is made of.
 #[derive(Drop)]
 pub struct Server {
     alloc: Global,

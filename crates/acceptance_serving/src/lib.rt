@@ -1,4 +1,5 @@
-//! Lines that are served with little memory, and overlong ones. Its script is for other crates' tests too.
+//! Lines that are served with little memory, and overlong ones.
+//! Its script is for other crates' tests too.
 #![tactic(auto)]
 
 #[cfg(test)]

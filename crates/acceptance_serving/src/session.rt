@@ -18,7 +18,8 @@ fn new_store(alloc: Global) -> Result<Store<MemDisk>, Refusal> {
     }
 }
 
-/// A store that serves streams. It is boxed, so that a test which lets it go is proved without what a store is made of.
+/// A store that serves streams. It is boxed, so that a test
+/// which lets it go is proved without what a store is made of.
 #[derive(Drop)]
 pub struct Server {
     alloc: Global,

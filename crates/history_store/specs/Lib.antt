@@ -7,6 +7,7 @@ pub mod Publishing
 pub mod Stored
 pub mod Prepared
 pub mod Answers
+pub mod Queries
 pub mod Written
 pub mod MergeAnswers
 pub mod Refusals

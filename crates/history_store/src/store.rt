@@ -1,7 +1,7 @@
 //! The store: its calls.
 
-ghost use Rattle.std.specs.Prelude.{◌≡◌, ◌≢◌, ◌⊎◌, ◌↔◌, ◌+◌, ◌≤◌, ◌∷◌, ℕ, List, length};
-ghost use Rattle.std.specs.Prelude.{IfOk, IfErr, OnOk, OnErr, true, false};
+ghost use Rattle.std.specs.Prelude.{◌≡◌, ◌⊎◌, ◌↔◌, ◌+◌, ◌≤◌, ◌∷◌, ℕ, List, length};
+ghost use Rattle.std.specs.Prelude.{IfOk, IfErr, OnOk, MatchResult, Ok, Err, true, false};
 ghost use Rattle.disk_model.specs.Disk.{EachImage, IsImage, LeavesOnly};
 
 use crate::counting::row_count;
@@ -84,9 +84,12 @@ impl<D: Disk> Store<D> {
     ghost use Rattle.store_image.specs.Answers.{IsNewStore};
     ghost use Rattle.history_store.specs.Written.{added_ranges};
     ghost use Rattle.history_store.specs.Answers.{Counts, IsStep, device_of, CountsOpening};
-    ghost use Rattle.history_store.specs.Answers.{IsMakingOf, IsOpeningOf, SyncsOnce, IsReadingOf};
-    ghost use Rattle.history_store.specs.Answers.{IsStill, IsRefused, IsNotFresh, IsImportOf};
-    ghost use Rattle.history_store.specs.Answers.{IsImportAtAll, IsBeforeOrAfter, HandsBack, KeepsMoments};
+    ghost use Rattle.history_store.specs.Answers.{IsMakingOf, IsOpeningOf, SyncsOnce, HandsBack};
+    ghost use Rattle.history_store.specs.Answers.{IsReadingOf, IsStill, IsRefused};
+    ghost use Rattle.history_store.specs.Answers.{IsNotFresh, IsImportOf, IsImportAtAll};
+    ghost use Rattle.history_store.specs.Answers.{IsBeforeOrAfter, KeepsMoments};
+    ghost use Rattle.history_store.specs.Refusals.{of_read};
+    ghost use Rattle.history_store.specs.Queries.{IsQuery};
     ghost use Rattle.history_store.specs.declared.refusal.Refusal.TheVariants as refusals;
 
     /// Makes a store on an empty disk. The length of the disk is looked
@@ -193,6 +196,28 @@ impl<D: Disk> Store<D> {
         }
     }
 
+    /// What was read of the rows, as the store answers it. Where
+    /// the device failed, the store has to be opened again.
+    fn answered<T>(&mut self, read: Result<T, ReadFault>) -> Result<T, Refusal>
+        requires still { self.old.needs_reopen ≡ false }
+        ensures same { MatchResult read (λ found. result ≡ Ok found)
+            (λ fault. result ≡ Err (of_read fault)) }
+        ensures left { IsReadingOf result self.old self.new }
+        ensures disk { self.new.disk ≡ self.old.disk }
+        ensures acknowledged { D.is_honest self.old.disk → self.new.needs_reopen ≡ false
+            → IsAcknowledged D.moments self.new }
+    {
+        match read {
+            Ok(found) => Ok(found),
+            Err(fault) => {
+                if matches!(fault, ReadFault::DiskFault) {
+                    self.needs_reopen = true;
+                }
+                Err(Refusal::from(fault))
+            }
+        }
+    }
+
     /// The component's row at the date, as the first `pin` imports show it.
     pub fn lookup(
         &mut self,
@@ -204,16 +229,7 @@ impl<D: Disk> Store<D> {
         requires { pin ≤ self.old.history.imports }
         ensures found { D.is_honest self.old.disk
             → IfOk result (λ row. row ≡ lookup kind id time (rows_at pin self.old.history.rows)) }
-        ensures undamaged { D.is_honest self.old.disk → IfErr result (λ e. e ≢ refusals.Damaged) }
-        ensures read { IsReadingOf result self.old self.new }
-        // A store that has to be opened again leaves everything as it is.
-        ensures closed { self.old.needs_reopen ≡ true → self.new ≡ self.old }
-        ensures moments { D.is_honest self.old.disk
-            → D.moments self.new.disk ≡ D.moments self.old.disk }
-        ensures acknowledged { D.is_honest self.old.disk → self.new.needs_reopen ≡ false
-            → IsAcknowledged D.moments self.new }
-        ensures honesty { D.is_honest self.old.disk ↔ D.is_honest self.new.disk }
-        ensures failures { Counts result (D.failures self.old.disk) (D.failures self.new.disk) }
+        ensures query { IsQuery result D.is_honest D.moments D.failures self.old self.new }
     {
         if self.needs_reopen {
             return Err(Refusal::ReopenNeeded);
@@ -225,15 +241,8 @@ impl<D: Disk> Store<D> {
             shown: self.shown.as_slice(),
             damages: 0,
         };
-        match self.index.pick(&mut reader, kind, id, time, pin) {
-            Ok(row) => Ok(row),
-            Err(fault) => {
-                if matches!(fault, ReadFault::DiskFault) {
-                    self.needs_reopen = true;
-                }
-                Err(Refusal::from(fault))
-            }
-        }
+        let read = self.index.pick(&mut reader, kind, id, time, pin);
+        self.answered(read)
     }
 
     /// The rows of a release that aren't known.
@@ -424,15 +433,7 @@ impl<D: Disk> Store<D> {
         ensures found { D.is_honest self.old.disk
             → IfOk result (λ rows. rows.items ≡ versions kind id
             (rows_at pin self.old.history.rows)) }
-        ensures undamaged { D.is_honest self.old.disk → IfErr result (λ e. e ≢ refusals.Damaged) }
-        ensures read { IsReadingOf result self.old self.new }
-        ensures closed { self.old.needs_reopen ≡ true → self.new ≡ self.old }
-        ensures moments { D.is_honest self.old.disk
-            → D.moments self.new.disk ≡ D.moments self.old.disk }
-        ensures acknowledged { D.is_honest self.old.disk → self.new.needs_reopen ≡ false
-            → IsAcknowledged D.moments self.new }
-        ensures honesty { D.is_honest self.old.disk ↔ D.is_honest self.new.disk }
-        ensures failures { Counts result (D.failures self.old.disk) (D.failures self.new.disk) }
+        ensures query { IsQuery result D.is_honest D.moments D.failures self.old self.new }
     {
         if self.needs_reopen {
             return Err(Refusal::ReopenNeeded);
@@ -444,15 +445,8 @@ impl<D: Disk> Store<D> {
             shown: self.shown.as_slice(),
             damages: 0,
         };
-        match self.index.history(&mut reader, kind, id, pin) {
-            Ok(found) => Ok(found),
-            Err(fault) => {
-                if matches!(fault, ReadFault::DiskFault) {
-                    self.needs_reopen = true;
-                }
-                Err(Refusal::from(fault))
-            }
-        }
+        let read = self.index.history(&mut reader, kind, id, pin);
+        self.answered(read)
     }
 
     /// The first rows of a kind at the date, at most
@@ -469,15 +463,7 @@ impl<D: Disk> Store<D> {
         ensures found { D.is_honest self.old.disk
             → IfOk result (λ rows. rows.items ≡ page kind time after limit
             (rows_at pin self.old.history.rows)) }
-        ensures undamaged { D.is_honest self.old.disk → IfErr result (λ e. e ≢ refusals.Damaged) }
-        ensures read { IsReadingOf result self.old self.new }
-        ensures closed { self.old.needs_reopen ≡ true → self.new ≡ self.old }
-        ensures moments { D.is_honest self.old.disk
-            → D.moments self.new.disk ≡ D.moments self.old.disk }
-        ensures acknowledged { D.is_honest self.old.disk → self.new.needs_reopen ≡ false
-            → IsAcknowledged D.moments self.new }
-        ensures honesty { D.is_honest self.old.disk ↔ D.is_honest self.new.disk }
-        ensures failures { Counts result (D.failures self.old.disk) (D.failures self.new.disk) }
+        ensures query { IsQuery result D.is_honest D.moments D.failures self.old self.new }
     {
         if self.needs_reopen {
             return Err(Refusal::ReopenNeeded);
@@ -489,15 +475,8 @@ impl<D: Disk> Store<D> {
             shown: self.shown.as_slice(),
             damages: 0,
         };
-        match self.index.page(&mut reader, kind, time, pin, after, limit) {
-            Ok(found) => Ok(found),
-            Err(fault) => {
-                if matches!(fault, ReadFault::DiskFault) {
-                    self.needs_reopen = true;
-                }
-                Err(Refusal::from(fault))
-            }
-        }
+        let read = self.index.page(&mut reader, kind, time, pin, after, limit);
+        self.answered(read)
     }
 
     /// Active descriptions whose term begins with the prefix,
@@ -513,15 +492,7 @@ impl<D: Disk> Store<D> {
         ensures found { D.is_honest self.old.disk
             → IfOk result (λ rows. rows.items ≡ terms prefix.now time limit
             (rows_at pin self.old.history.rows)) }
-        ensures undamaged { D.is_honest self.old.disk → IfErr result (λ e. e ≢ refusals.Damaged) }
-        ensures read { IsReadingOf result self.old self.new }
-        ensures closed { self.old.needs_reopen ≡ true → self.new ≡ self.old }
-        ensures moments { D.is_honest self.old.disk
-            → D.moments self.new.disk ≡ D.moments self.old.disk }
-        ensures acknowledged { D.is_honest self.old.disk → self.new.needs_reopen ≡ false
-            → IsAcknowledged D.moments self.new }
-        ensures honesty { D.is_honest self.old.disk ↔ D.is_honest self.new.disk }
-        ensures failures { Counts result (D.failures self.old.disk) (D.failures self.new.disk) }
+        ensures query { IsQuery result D.is_honest D.moments D.failures self.old self.new }
     {
         if self.needs_reopen {
             return Err(Refusal::ReopenNeeded);
@@ -533,7 +504,7 @@ impl<D: Disk> Store<D> {
             shown: self.shown.as_slice(),
             damages: 0,
         };
-        match find(
+        let read = find(
             self.alloc,
             &self.terms,
             &self.index,
@@ -542,15 +513,8 @@ impl<D: Disk> Store<D> {
             time,
             pin,
             limit,
-        ) {
-            Ok(found) => Ok(found),
-            Err(fault) => {
-                if matches!(fault, ReadFault::DiskFault) {
-                    self.needs_reopen = true;
-                }
-                Err(Refusal::from(fault))
-            }
-        }
+        );
+        self.answered(read)
     }
 
     /// The sources of the active relationships of the type "is a" to a concept, ascending.
@@ -587,15 +551,7 @@ impl<D: Disk> Store<D> {
         ensures found { D.is_honest self.old.disk
             → IfOk result (λ rows. rows.items ≡ replacements id time
             (rows_at pin self.old.history.rows)) }
-        ensures undamaged { D.is_honest self.old.disk → IfErr result (λ e. e ≢ refusals.Damaged) }
-        ensures read { IsReadingOf result self.old self.new }
-        ensures closed { self.old.needs_reopen ≡ true → self.new ≡ self.old }
-        ensures moments { D.is_honest self.old.disk
-            → D.moments self.new.disk ≡ D.moments self.old.disk }
-        ensures acknowledged { D.is_honest self.old.disk → self.new.needs_reopen ≡ false
-            → IsAcknowledged D.moments self.new }
-        ensures honesty { D.is_honest self.old.disk ↔ D.is_honest self.new.disk }
-        ensures failures { Counts result (D.failures self.old.disk) (D.failures self.new.disk) }
+        ensures query { IsQuery result D.is_honest D.moments D.failures self.old self.new }
     {
         if self.needs_reopen {
             return Err(Refusal::ReopenNeeded);
@@ -607,7 +563,7 @@ impl<D: Disk> Store<D> {
             shown: self.shown.as_slice(),
             damages: 0,
         };
-        match replacements(
+        let read = replacements(
             self.alloc,
             &self.links,
             &self.index,
@@ -615,15 +571,8 @@ impl<D: Disk> Store<D> {
             id,
             time,
             pin,
-        ) {
-            Ok(found) => Ok(found),
-            Err(fault) => {
-                if matches!(fault, ReadFault::DiskFault) {
-                    self.needs_reopen = true;
-                }
-                Err(Refusal::from(fault))
-            }
-        }
+        );
+        self.answered(read)
     }
 
     /// How many releases were imported.

@@ -7,7 +7,8 @@ use Rattle.history_model.specs.History.{History, rows_at}
 use Rattle.history_store.specs.declared.refusal.Refusal.{Refusal}
 use Rattle.history_store.specs.declared.refusal.Refusal.TheVariants as store
 use Rattle.history_store.specs.Stored.{Stored, IsAcknowledged}
-use Rattle.history_store.specs.Answers.{IsReadRefusal, IsRefused, IsStill, CountsRefusal}
+use Rattle.history_store.specs.Answers.{IsRefused, IsStill}
+use Rattle.history_store.specs.Queries.{IsQuery}
 use Rattle.line_commands.specs.Commands.{Command, Import, Get, History as Versions, Children, Terms, Replaced, Page, Pin, Unpin, Merge, Step, Publish, Abandon, Trim, Status}
 use Rattle.line_server.specs.declared.refusal.LineRefusal.{LineRefusal}
 use Rattle.line_server.specs.declared.refusal.LineRefusal.TheVariants as refusals
@@ -25,6 +26,10 @@ is_fault _ = false
 
 pub lack_is_no_fault : store.OutOfMemory ≢ store.DiskFault
 lack_is_no_fault e = false≢true (ap is_fault e)
+
+abbrev is_lack : Refusal → Bool
+is_lack store.OutOfMemory = true
+is_lack _ = false
 
 -- what holds where the device isn't blamed, holds after a refusal
 pub kept_if : {X : Type 0} (e : Refusal) → (e ≢ store.DiskFault → X) → IfRefused (Err (refusals.Store e)) X
@@ -117,42 +122,40 @@ responded honest moments failures result has session command outcome old new tol
   grows = grows;
 }
 
--- what the store says of a call that reads
-pub record IsRead {D : Type 0} (honest : D → Type 0) (moments : D → Moments) (old new : Stored D) : Type 0 where
-  pub closed : old.needs_reopen ≡ true → new ≡ old
-  pub still : honest old.disk → moments new.disk ≡ moments old.disk
-  pub acknowledged : honest old.disk → new.needs_reopen ≡ false → IsAcknowledged moments new
-  pub honesty : honest old.disk ↔ honest new.disk
-
-module _ {D : Type 0} (honest : D → Type 0) (moments : D → Moments) (failures : D → ℕ) (command : Command) (pin : ℕ) (old new : Stored D) (asks : AsksRows command) (r : IsRead honest moments old new) where
-  imports_of : new.history ≡ old.history → Imports honest moments old new [] None
-  imports_of history = still_imported honest moments old new history r.closed r.honesty r.still r.acknowledged
+module _ {D : Type 0} (honest : D → Type 0) (moments : D → Moments) (failures : D → ℕ) (command : Command) (pin : ℕ) (old new : Stored D) (asks : AsksRows command) where
+  imports_of : {T : Type 0} (result : Result T Refusal) → IsQuery result honest moments failures old new → new.history ≡ old.history → Imports honest moments old new [] None
+  imports_of result q history = still_imported honest moments old new history q.closed q.honesty q.moments q.acknowledged
 
   -- rows were found, and the reply lists them
-  pub rows_found : (given rows : List Version) (reply : Said) → found command (rows_at pin old.history.rows) ≡ Some (Rows rows) → IsStill old new → failures new.disk ≡ failures old.disk → (honest old.disk → given ≡ rows)
+  pub rows_found : {T : Type 0} (x : T) (given rows : List Version) (reply : Said) → IsQuery (Ok x) honest moments failures old new → found command (rows_at pin old.history.rows) ≡ Some (Rows rows) → (honest old.disk → given ≡ rows)
       → reply ≡ said (Ok (Rows given)) → IsQueried (Ok reply) honest moments failures command pin old new
-  rows_found given rows reply is s counts exact told has session pins at =
+  rows_found x given rows reply q is exact told has session pins at =
+      let s : IsStill old new = q.read in
       let seen : Some (Rows rows) ≡ found command (shown (desk pins old) session) = sym is ∙ ap (λ (k : ℕ). found command (rows_at k old.history.rows)) (sym at) in
       let finding = subst (λ (o : Option Answer). IsFinding (honest old.disk) o (Rows given)) seen (given, refl, exact) in
       let same : Same (desk pins old) (desk pins new) = record { pins = refl; store = record { history = s.history; shelf = s.shelf; needs_reopen = s.open_still ∙ sym s.open_before } } in
       responded honest moments failures (Ok reply) has session command (Ok (Rows given)) (desk pins old) (desk pins new) told
       (rows_answer (honest old.disk) has session (desk pins old) (desk pins new) command (Rows given) asks s.open_before same finding)
-      (imports_of s.history) counts (rows_left honest moments old new command (Ok (Rows given)) asks r.still) (same_imports old new s.history)
+      (imports_of (Ok x) q s.history) q.failures (rows_left honest moments old new command (Ok (Rows given)) asks q.moments) (same_imports old new s.history)
 
   -- the store refused
-  pub rows_unfound : (refusal : Refusal) → IsReadRefusal refusal old → IsRefused refusal old new → (honest old.disk → refusal ≢ store.Damaged) → CountsRefusal refusal (failures old.disk) (failures new.disk)
-      → IsQueried (Err (refusals.Store refusal)) honest moments failures command pin old new
-  rows_unfound refusal cause refused undamaged counts has session pins at =
+  pub rows_unfound : {T : Type 0} (refusal : Refusal) → IsQuery {T = T} (Err refusal) honest moments failures old new → IsQueried (Err (refusals.Store refusal)) honest moments failures command pin old new
+  rows_unfound refusal q has session pins at =
+      let refused : IsRefused refusal old new = q.read.1 in
       responded honest moments failures (Err (refusals.Store refusal)) has session command (Err (refusals.Store refusal)) (desk pins old) (desk pins new) refl
-      (rows_refused (honest old.disk) has session (desk pins old) (desk pins new) command refusal asks (record { cause = cause; refused = refused; undamaged = undamaged; pins = refl }))
-      (imports_of refused.history) counts (rows_left honest moments old new command (Err (refusals.Store refusal)) asks r.still) (same_imports old new refused.history)
+      (rows_refused (honest old.disk) has session (desk pins old) (desk pins new) command refusal asks (record { cause = q.read.0; refused = refused; undamaged = q.undamaged; pins = refl }))
+      (imports_of (Err refusal) q refused.history) q.failures (rows_left honest moments old new command (Err (refusals.Store refusal)) asks q.moments) (same_imports old new refused.history)
 
   -- rows were found, and memory lacks for the reply
-  pub rows_untold : IsStill old new → failures new.disk ≡ failures old.disk → IsQueried (Err (refusals.Store store.OutOfMemory)) honest moments failures command pin old new
-  rows_untold s counts =
-      rows_unfound store.OutOfMemory s.open_before
-      (record { history = s.history; shelf = s.shelf; closed = λ e. absurd (lack_is_no_fault e); still = λ e. s.open_still ∙ sym s.open_before })
-      (λ h e. false≢true (ap is_damage (sym e))) counts where
-        is_damage : Refusal → Bool
-        is_damage store.OutOfMemory = true
-        is_damage _ = false
+  pub rows_untold : {T : Type 0} (x : T) → IsQuery (Ok x) honest moments failures old new → IsQueried (Err (refusals.Store store.OutOfMemory)) honest moments failures command pin old new
+  rows_untold {T} x q =
+      let s : IsStill old new = q.read in
+      rows_unfound {T = T} store.OutOfMemory (record {
+        undamaged = λ h e. false≢true (ap is_lack (sym e));
+        read = (s.open_before, record { history = s.history; shelf = s.shelf; closed = λ e. absurd (lack_is_no_fault e); still = λ e. s.open_still ∙ sym s.open_before });
+        closed = q.closed;
+        moments = q.moments;
+        acknowledged = q.acknowledged;
+        honesty = q.honesty;
+        failures = q.failures;
+      })

@@ -98,7 +98,8 @@ fn pieces_play_no_part(rt: HostRuntime) -> Result<(), Fail> {
     Ok(())
 }
 
-/// Input, the length of its pieces, whether it fails at its end, how many reads are allowed, the room for replies.
+/// Input, the length of its pieces, whether it fails at its
+/// end, how many reads are allowed, the room for replies.
 type Way<'a> = (&'a [u8], usize, bool, u32, usize);
 
 #[test]

@@ -54,7 +54,8 @@ fn file_text(alloc: Global, lines: &[&str], end: &str) -> Result<String, AllocEr
     Ok(text)
 }
 
-/// A file's kind, its lines and what stands between them. The last line is empty where the file ends in a line end.
+/// A file's kind, its lines and what stands between them.
+/// The last line is empty where the file ends in a line end.
 type Lines = (Kind, &'static [&'static str], &'static str);
 
 /// The file of a release by the release's name.

@@ -17,15 +17,15 @@ pub returns-in_err-found : goal.returns-in_err-found
 returns-in_err-found g c =
     let p = err_from_is_err_and c.from_residual.result c.from_residual.ensures.1 in
     let e = c.in_err-found.ensures in
-    rw (p.1, p.2) (rows_unfound g.D.Disk.is_honest g.D.Disk.moments g.D.Disk.failures (Get c.args.kind c.args.id c.args.time) c.args.pin c.args.store.now c.lookup.new.self tt (record { closed = e.closed; still = e.moments; acknowledged = e.acknowledged; honesty = e.honesty }) c.in_err-found.field-0.0 e.read.0 e.read.1 e.undamaged e.failures)
+    rw (p.1, p.2) (rows_unfound g.D.Disk.is_honest g.D.Disk.moments g.D.Disk.failures (Get c.args.kind c.args.id c.args.time) c.args.pin c.args.store.now c.lookup.new.self tt c.in_err-found.field-0.0 e.query)
 
 pub returns-in_err-listed : goal.returns-in_err-listed
 returns-in_err-listed g c =
     let p = err_from_is_err_and c.from_residual-in_err-listed.result c.from_residual-in_err-listed.ensures.1 in
     let e = c.in_ok-found.ensures in
-    rw (p.1, p.2) (rows_untold g.D.Disk.is_honest g.D.Disk.moments g.D.Disk.failures (Get c.args.kind c.args.id c.args.time) c.args.pin c.args.store.now c.lookup.new.self tt (record { closed = e.closed; still = e.moments; acknowledged = e.acknowledged; honesty = e.honesty }) e.read e.failures)
+    rw (p.1, p.2) (rows_untold g.D.Disk.is_honest g.D.Disk.moments g.D.Disk.failures (Get c.args.kind c.args.id c.args.time) c.args.pin c.args.store.now c.lookup.new.self tt c.in_ok-found.found e.query)
 
 pub returns : goal.returns
 returns g c =
     let e = c.in_ok-found.ensures in
-    rows_found g.D.Disk.is_honest g.D.Disk.moments g.D.Disk.failures (Get c.args.kind c.args.id c.args.time) c.args.pin c.args.store.now c.lookup.new.self tt (record { closed = e.closed; still = e.moments; acknowledged = e.acknowledged; honesty = e.honesty }) (found_row c.in_ok-found.found) (found_row (lookup c.args.kind c.args.id c.args.time (rows_at c.args.pin c.args.store.now.history.rows))) c.in_ok-listed.field-0 refl e.read e.failures (λ h. ap found_row (e.found h)) (c.in_ok-listed.ensures ∙ ap (λ (xs : List Version). said (Ok (Rows xs))) (as_rows c.in_ok-found.found c.as_slice.result.now c.as_slice.ensures))
+    rows_found g.D.Disk.is_honest g.D.Disk.moments g.D.Disk.failures (Get c.args.kind c.args.id c.args.time) c.args.pin c.args.store.now c.lookup.new.self tt c.in_ok-found.found (found_row c.in_ok-found.found) (found_row (lookup c.args.kind c.args.id c.args.time (rows_at c.args.pin c.args.store.now.history.rows))) c.in_ok-listed.field-0 e.query refl (λ h. ap found_row (e.found h)) (c.in_ok-listed.ensures ∙ ap (λ (xs : List Version). said (Ok (Rows xs))) (as_rows c.in_ok-found.found c.as_slice.result.now c.as_slice.ensures))

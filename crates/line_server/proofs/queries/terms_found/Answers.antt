@@ -12,15 +12,15 @@ pub returns-in_err-found : goal.returns-in_err-found
 returns-in_err-found g c =
     let p = err_from_is_err_and c.from_residual.result c.from_residual.ensures.1 in
     let e = c.in_err-found.ensures in
-    rw (p.1, p.2) (rows_unfound g.D.Disk.is_honest g.D.Disk.moments g.D.Disk.failures (Terms c.args.time c.args.limit c.args.prefix.now) c.args.pin c.args.store.now c.terms.new.self tt (record { closed = e.closed; still = e.moments; acknowledged = e.acknowledged; honesty = e.honesty }) c.in_err-found.field-0.0 e.read.0 e.read.1 e.undamaged e.failures)
+    rw (p.1, p.2) (rows_unfound g.D.Disk.is_honest g.D.Disk.moments g.D.Disk.failures (Terms c.args.time c.args.limit c.args.prefix.now) c.args.pin c.args.store.now c.terms.new.self tt c.in_err-found.field-0.0 e.query)
 
 pub returns-in_err-listed : goal.returns-in_err-listed
 returns-in_err-listed g c =
     let p = err_from_is_err_and c.from_residual-in_err-listed.result c.from_residual-in_err-listed.ensures.1 in
     let e = c.in_ok-found.ensures in
-    rw (p.1, p.2) (rows_untold g.D.Disk.is_honest g.D.Disk.moments g.D.Disk.failures (Terms c.args.time c.args.limit c.args.prefix.now) c.args.pin c.args.store.now c.terms.new.self tt (record { closed = e.closed; still = e.moments; acknowledged = e.acknowledged; honesty = e.honesty }) e.read e.failures)
+    rw (p.1, p.2) (rows_untold g.D.Disk.is_honest g.D.Disk.moments g.D.Disk.failures (Terms c.args.time c.args.limit c.args.prefix.now) c.args.pin c.args.store.now c.terms.new.self tt c.in_ok-found.found e.query)
 
 pub returns : goal.returns
 returns g c =
     let e = c.in_ok-found.ensures in
-    rows_found g.D.Disk.is_honest g.D.Disk.moments g.D.Disk.failures (Terms c.args.time c.args.limit c.args.prefix.now) c.args.pin c.args.store.now c.terms.new.self tt (record { closed = e.closed; still = e.moments; acknowledged = e.acknowledged; honesty = e.honesty }) c.in_ok-found.found.items (terms c.args.prefix.now c.args.time c.args.limit (rows_at c.args.pin c.args.store.now.history.rows)) c.in_ok-listed.field-0 refl e.read e.failures e.found (c.in_ok-listed.ensures ∙ ap (λ (xs : List Version). said (Ok (Rows xs))) c.deref.ensures.value)
+    rows_found g.D.Disk.is_honest g.D.Disk.moments g.D.Disk.failures (Terms c.args.time c.args.limit c.args.prefix.now) c.args.pin c.args.store.now c.terms.new.self tt c.in_ok-found.found c.in_ok-found.found.items (terms c.args.prefix.now c.args.time c.args.limit (rows_at c.args.pin c.args.store.now.history.rows)) c.in_ok-listed.field-0 e.query refl e.found (c.in_ok-listed.ensures ∙ ap (λ (xs : List Version). said (Ok (Rows xs))) c.deref.ensures.value)

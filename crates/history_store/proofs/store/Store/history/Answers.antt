@@ -5,33 +5,30 @@ use Rattle.history_model.specs.Queries.{versions}
 use Rattle.segment.specs.Standing.{places_of}
 use Rattle.history_store.proofs.GoingOn.{merge_read}
 use Rattle.history_store.proofs.Held.{held_read, lent_honest}
-use Rattle.history_store.proofs.Refusing.{read_undamaged}
+use Rattle.history_store.proofs.Querying.{answered_so, answered_query}
 use Rattle.history_store.proofs.store.Store.history.Goals as goal
 
 pub invariant_of-self : goal.invariant_of-self
 invariant_of-self g c = (
-  held_read _ _ (g.D.Disk.moments c.self.inside.disk) (g.D.Disk.moments c.history.new.reader.disk.now) c.self.inside.cache c.history.new.reader.cache.now c.self.inside.slot c.self.inside.directory c.self.inside.index c.self.inside.shown.items c.self.inside.needs_reopen c.self.invariant.0 c.history.ensures.stays.0
-      (λ up still. (c.history.ensures.honesty (lent_honest _ _ _ _ _ _ _ _ c.self.invariant.0 c.entries.result.now c.as_slice.result.now c.entries.ensures.entries c.as_slice.ensures.value up still (g.met.D.Disk.now_is_image c.self.inside.disk up))).1),
+  held_read _ _ (g.D.Disk.moments c.self.inside.disk) (g.D.Disk.moments c.history-read.new.reader.disk.now) c.self.inside.cache c.history-read.new.reader.cache.now c.self.inside.slot c.self.inside.directory c.self.inside.index c.self.inside.shown.items c.self.inside.needs_reopen c.self.invariant.0 c.history-read.ensures.stays.0
+      (λ up still. (c.history-read.ensures.honesty (lent_honest _ _ _ _ _ _ _ _ c.self.invariant.0 c.entries.result.now c.as_slice.result.now c.entries.ensures.entries c.as_slice.ensures.value up still (g.met.D.Disk.now_is_image c.self.inside.disk up))).1),
   c.self.invariant.1,
   c.self.invariant.2,
-  merge_read _ _ (g.D.Disk.moments c.self.inside.disk) (g.D.Disk.moments c.history.new.reader.disk.now) c.self.inside.directory c.self.inside.shown.items c.self.inside.merge c.self.inside.needs_reopen c.self.invariant.3 c.history.ensures.stays.0,
+  merge_read _ _ (g.D.Disk.moments c.self.inside.disk) (g.D.Disk.moments c.history-read.new.reader.disk.now) c.self.inside.directory c.self.inside.shown.items c.self.inside.merge c.self.inside.needs_reopen c.self.invariant.3 c.history-read.ensures.stays.0,
 )
 
-pub invariant_of-self-else-matches : goal.invariant_of-self-else-matches
-invariant_of-self-else-matches g c = (
-  held_read _ _ (g.D.Disk.moments c.self.inside.disk) (g.D.Disk.moments c.history.new.reader.disk.now) c.self.inside.cache c.history.new.reader.cache.now c.self.inside.slot c.self.inside.directory c.self.inside.index c.self.inside.shown.items c.self.inside.needs_reopen c.self.invariant.0 c.history.ensures.stays.0
-      (λ up still. (c.history.ensures.honesty (lent_honest _ _ _ _ _ _ _ _ c.self.invariant.0 c.entries.result.now c.as_slice.result.now c.entries.ensures.entries c.as_slice.ensures.value up still (g.met.D.Disk.now_is_image c.self.inside.disk up))).1),
-  c.self.invariant.1,
-  c.self.invariant.2,
-  merge_read _ _ (g.D.Disk.moments c.self.inside.disk) (g.D.Disk.moments c.history.new.reader.disk.now) c.self.inside.directory c.self.inside.shown.items c.self.inside.merge c.self.inside.needs_reopen c.self.invariant.3 c.history.ensures.stays.0,
-)
-
-pub returns-in-Ok-clause-found : goal.returns-in-Ok-clause-found
-returns-in-Ok-clause-found g c = rw (← c.self.view_is) (λ up.
+pub returns-clause-found : goal.returns-clause-found
+returns-clause-found g c = rw (← c.self.view_is) (λ up.
     let lent = lent_honest _ _ _ _ _ _ _ _ c.self.invariant.0 c.entries.result.now c.as_slice.result.now c.entries.ensures.entries c.as_slice.ensures.value up c.if-self.false (g.met.D.Disk.now_is_image c.self.inside.disk up) in
-    c.in-Ok.ensures.found lent (c.self.invariant.0.places ∙ ap (map places_of) (sym c.as_slice.ensures.value)) ∙ ap (λ l. versions c.args.kind c.args.id (rows_at c.args.pin (listed l))) c.as_slice.ensures.value)
+    answered_so _ _ c.history-read.result c.answered.result c.answered.ensures.same
+    (λ x is. is ∙ ap (λ l. versions c.args.kind c.args.id (rows_at c.args.pin (listed l))) c.as_slice.ensures.value)
+    (c.history-read.ensures.found lent (c.self.invariant.0.places ∙ ap (map places_of) (sym c.as_slice.ensures.value))))
 
-pub returns-after-matches-clause-undamaged : goal.returns-after-matches-clause-undamaged
-returns-after-matches-clause-undamaged g c = rw (← c.self.view_is) (λ up.
+pub returns-clause-query : goal.returns-clause-query
+returns-clause-query g c = rw (← c.self.view_is) (
+    answered_query g.D.Disk.is_honest g.D.Disk.moments g.D.Disk.failures _ c.answered.new.self c.history-read.new.reader.disk.now c.history-read.result c.answered.result
+    c.if-self.false c.history-read.ensures.stays.0 c.history-read.ensures.disk_faults
+    (λ up.
     let lent = lent_honest _ _ _ _ _ _ _ _ c.self.invariant.0 c.entries.result.now c.as_slice.result.now c.entries.ensures.entries c.as_slice.ensures.value up c.if-self.false (g.met.D.Disk.now_is_image c.self.inside.disk up) in
-    read_undamaged c.in-Err.fault c.from.result c.from.ensures (c.in-Err.ensures.undamaged lent (c.self.invariant.0.places ∙ ap (map places_of) (sym c.as_slice.ensures.value))))
+    c.history-read.ensures.undamaged lent (c.self.invariant.0.places ∙ ap (map places_of) (sym c.as_slice.ensures.value)))
+    c.answered.ensures.same c.answered.ensures.left c.answered.ensures.disk c.answered.ensures.acknowledged)

@@ -1,0 +1,70 @@
+-- What is left of a store after a query.
+use Rattle.std.proofs.Common.{◌≡◌, ◌≢◌, ◌↔◌, ℕ, false, Result, Ok, Err, IfOk, IfErr, MatchResult, refl, sym, ap, subst, ◌∙◌}
+use Rattle.std.proofs.lemmas.Bool.{false≢true}
+use Rattle.fault_counts.specs.Counting.{Counts as CountsBy}
+use Rattle.disk_model.specs.Disk.{Moments}
+use Rattle.as_of_index.specs.Reader.{CountsDiskFault}
+use Rattle.as_of_index.specs.declared.reader.ReadFault.{ReadFault}
+use Rattle.as_of_index.specs.declared.reader.ReadFault.TheVariants as readfault
+use Rattle.history_store.specs.declared.refusal.Refusal.{Refusal}
+use Rattle.history_store.specs.declared.refusal.Refusal.TheVariants as refusals
+use Rattle.history_store.specs.Reading.{MomentsStay}
+use Rattle.history_store.specs.Refusals.{of_read}
+use Rattle.history_store.specs.Stored.{Stored, IsAcknowledged}
+use Rattle.history_store.specs.Answers.{Counts, IsRefused, IsReadingOf}
+use Rattle.history_store.specs.Queries.{IsQuery}
+use Rattle.history_store.proofs.Refusing.{read_undamaged}
+
+-- what was read, as the store answers it
+abbrev answer_of : {T : Type 0} → Result T ReadFault → Result T Refusal
+answer_of (Ok x) = Ok x
+answer_of (Err fault) = Err (of_read fault)
+
+abbrev pub IsAnswerOf : {T : Type 0} → Result T ReadFault → Result T Refusal → Type 0
+IsAnswerOf read result = MatchResult read (λ x. result ≡ Ok x) (λ fault. result ≡ Err (of_read fault))
+
+is_answer : {T : Type 0} (read : Result T ReadFault) (result : Result T Refusal) → IsAnswerOf read result → result ≡ answer_of read
+is_answer (Ok x) result is = is
+is_answer (Err fault) result is = is
+
+-- what holds of what was read, holds of what is answered
+pub answered_so : {T : Type 0} (P Q : T → Type 0) (read : Result T ReadFault) (result : Result T Refusal) → IsAnswerOf read result → ((x : T) → P x → Q x) → IfOk read P → IfOk result Q
+answered_so P Q (Ok x) result is so h = subst (λ r. IfOk r Q) (sym is) (so x h)
+answered_so P Q (Err fault) result is so h = subst (λ r. IfOk r Q) (sym is) tt
+
+undamaged_answer : {T : Type 0} (read : Result T ReadFault) → IfErr read (λ e. e ≢ readfault.Damaged) → IfErr (answer_of read) (λ e. e ≢ refusals.Damaged)
+undamaged_answer (Ok x) other = tt
+undamaged_answer (Err fault) other = read_undamaged fault (of_read fault) refl other
+
+counted_answer : {T : Type 0} (read : Result T ReadFault) (before after : ℕ) → CountsBy CountsDiskFault read before after → Counts (answer_of read) before after
+counted_answer (Ok x) before after counts = counts
+counted_answer (Err readfault.OutOfMemory) before after counts = counts
+counted_answer (Err readfault.DiskFault) before after counts = counts
+counted_answer (Err readfault.Damaged) before after counts = counts
+
+refused_beside : {D : Type 0} (e : Refusal) (old new : Stored D) (disk : D) → IsRefused e (record old { disk = disk }) new → IsRefused e old new
+refused_beside e old new disk r = record { history = r.history; shelf = r.shelf; closed = r.closed; still = r.still }
+
+-- whatever device the store has, the answer is the same
+read_beside : {T D : Type 0} (read : Result T ReadFault) (old new : Stored D) (disk : D) → IsReadingOf (answer_of read) (record old { disk = disk }) new → IsReadingOf (answer_of read) old new
+read_beside (Ok x) old new disk r = record { history = r.history; shelf = r.shelf; open_before = r.open_before; open_still = r.open_still }
+read_beside (Err readfault.OutOfMemory) old new disk r = (r.0, refused_beside _ old new disk r.1)
+read_beside (Err readfault.DiskFault) old new disk r = (r.0, refused_beside _ old new disk r.1)
+read_beside (Err readfault.Damaged) old new disk r = (r.0, refused_beside _ old new disk r.1)
+
+-- the rows were read, and what was read is answered
+pub answered_query : {T D : Type 0} (honest : D → Type 0) (moments : D → Moments) (failures : D → ℕ) (old new : Stored D) (disk : D) (read : Result T ReadFault) (result : Result T Refusal)
+    → old.needs_reopen ≡ false → MomentsStay (honest old.disk) (honest disk) (moments old.disk) (moments disk) → CountsBy CountsDiskFault read (failures old.disk) (failures disk)
+    → (honest old.disk → IfErr read (λ e. e ≢ readfault.Damaged))
+    → IsAnswerOf read result → IsReadingOf result (record old { disk = disk }) new → new.disk ≡ disk → (honest disk → new.needs_reopen ≡ false → IsAcknowledged moments new)
+    → IsQuery result honest moments failures old new
+answered_query honest moments failures old new disk read result still stay counts undamaged answers left same acknowledged = let is = is_answer read result answers in record {
+  undamaged = λ up. subst (λ r. IfErr r (λ e. e ≢ refusals.Damaged)) (sym is) (undamaged_answer read (undamaged up));
+  read = subst (λ r. IsReadingOf r old new) (sym is) (read_beside read old new disk (subst (λ r. IsReadingOf r (record old { disk = disk }) new) is left));
+  closed = λ closed. absurd (false≢true (sym still ∙ closed));
+  moments = λ up. ap moments same ∙ stay.1 up;
+  acknowledged = λ up. acknowledged (stay.0.0 up);
+  honesty = subst (λ d. honest old.disk ↔ honest d) (sym same) stay.0;
+  failures = subst (λ d. Counts result (failures old.disk) (failures d)) (sym same)
+      (subst (λ r. Counts r (failures old.disk) (failures disk)) (sym is) (counted_answer read (failures old.disk) (failures disk) counts));
+}
