@@ -70,7 +70,8 @@ fn is_right(
     Ok(said == want)
 }
 
-/// Answers a line with little memory, and again with all of it where it is refused for want of memory, and tells if it was.
+/// Answers a line with little memory, and again with all of it
+/// where it is refused for want of memory, and tells if it was.
 fn last_reply(
     means: &mut Means,
     line: &str,
@@ -122,7 +123,8 @@ fn answer_all(
     Ok(refused)
 }
 
-/// A store that is made with little memory, and again on the disk that comes back where it is refused, and whether it was.
+/// A store that is made with little memory, and again on the
+/// disk that comes back where it is refused, and whether it was.
 fn made(means: &mut Means) -> Result<(Box<Store<MemDisk>>, bool), Refusal> {
     let disk = roomy_disk(means.alloc())?;
     means.leave()?;

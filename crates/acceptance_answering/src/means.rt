@@ -3,7 +3,8 @@
 use scarce_memory::Scarcity;
 use std::alloc::{AllocError, Global};
 
-/// The allocator keeps up to so many freed pieces of each of so many sizes, each for requests of its own size alone.
+/// The allocator keeps up to so many freed pieces of each of
+/// so many sizes, each for requests of its own size alone.
 const KEPT: usize = 7;
 
 const KEPT_SIZES: usize = 64;
@@ -13,7 +14,8 @@ const LEAST: usize = 24;
 
 const SIZE_STEP: usize = 16;
 
-/// A piece in front of what is left, greater than those sizes: so what is left is a rest, which serves requests of all sizes.
+/// A piece in front of what is left, greater than those sizes: so
+/// what is left is a rest, which serves requests of all sizes.
 const FRONT: usize = 4_096;
 
 /// What each piece takes besides.

@@ -62,7 +62,8 @@ fn a_failed_import_closes_the_store(rt: HostRuntime) -> Result<(), Fail> {
         (Refusal::DiskFault.code(), Refusal::ReopenNeeded.code()),
         (2, 3)
     );
-    // Nine calls made the store, one opened it, two of the import succeeded; after the failed one there was none.
+    // Nine calls made the store, one opened it, two of the import succeeded;
+    // after the failed one there was none.
     let disk = store.close();
     assert_eq!(rt; disk.changes(), 12);
     for choice in [Choice::Lost, Choice::Kept, Choice::Filled(165)] {

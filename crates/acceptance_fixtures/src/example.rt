@@ -6,7 +6,8 @@ use history_store::{Receipt, Refusal, Store};
 use import_check::Release;
 use std::alloc::Global;
 
-/// A store on a disk in memory. It is boxed, so that a test which lets it go is proved without what a store is made of.
+/// A store on a disk in memory. It is boxed, so that a test
+/// which lets it go is proved without what a store is made of.
 #[derive(Drop)]
 pub struct Example {
     pub(crate) alloc: Global,

@@ -1,4 +1,5 @@
-//! Stores, releases, rows and images of disks for tests. Nothing here has a clause: a test that calls the store through an `Example` is proved without what the store promises.
+//! Stores, releases, rows and images of disks for tests. Nothing here has a clause: a test
+//! that calls the store through an `Example` is proved without what the store promises.
 #![tactic(auto)]
 
 mod disks;

@@ -1,4 +1,5 @@
-//! The questions, as lines. A pin above the number of imports is that number, and a number that isn't a date or an identifier finds nothing.
+//! The questions, as lines. A pin above the number of imports is that
+//! number, and a number that isn't a date or an identifier finds nothing.
 
 ghost use Rattle.std.specs.Prelude.{◌≤◌};
 

@@ -1,4 +1,5 @@
-//! Rows as text. In the text of a test a bar stands for a TAB, and a name in capitals for an identifier.
+//! Rows as text. In the text of a test a bar stands for
+//! a TAB, and a name in capitals for an identifier.
 
 use rf2_rows::{Kind, Row, write_row};
 use std::alloc::{AllocError, Global};

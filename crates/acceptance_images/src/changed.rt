@@ -87,7 +87,8 @@ fn is_answer(opened: Result<u32, Refusal>) -> bool {
     matches!(opened, Ok(_) | Err(Refusal::NotAStore | Refusal::Damaged))
 }
 
-/// The first of these places at which some byte leads to another answer than a store, "no store" and "damaged".
+/// The first of these places at which some byte leads to
+/// another answer than a store, "no store" and "damaged".
 fn first_other(alloc: Global, bytes: &[u8], from: usize, to: usize) -> Result<Option<usize>, Fail> {
     for place in from..to {
         for byte in [0, 0xa5, 0xff] {

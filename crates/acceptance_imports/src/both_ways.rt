@@ -1,4 +1,5 @@
-//! A plain program and the check of releases say the same: what is accepted, which rows are new, and how many lines aren't.
+//! A plain program and the check of releases say the same: what
+//! is accepted, which rows are new, and how many lines aren't.
 
 use acceptance_fixtures::of_files;
 use history_model::{StampedRow, plain};
@@ -22,7 +23,8 @@ const EDGE: &str = "1000027|20200131|1|CORE|1000004|138875005|0|116680003|INF|MO
 
 const EDGE_GROUPED: &str = "1000027|20200131|1|CORE|1000004|138875005|1|116680003|INF|MOD";
 
-/// How many rows are new and how many lines aren't, or the file and the line of the first contradiction.
+/// How many rows are new and how many lines aren't, or
+/// the file and the line of the first contradiction.
 type Answer = Result<(u64, u64), (usize, usize)>;
 
 /// The files of a release, by their lines.

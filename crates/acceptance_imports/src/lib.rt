@@ -1,4 +1,5 @@
-//! Worked examples of imports: what is accepted, what is refused and where, and how many there may be. It has no code of its own.
+//! Worked examples of imports: what is accepted, what is refused
+//! and where, and how many there may be. It has no code of its own.
 #![tactic(auto)]
 
 #[cfg(test)]

@@ -134,7 +134,8 @@ fn cut_concepts(alloc: Global, less: usize, more: &[u8]) -> Result<Option<Releas
 
 #[test]
 fn files_that_are_cut_short(rt: HostRuntime) -> Result<(), Fail> {
-    // Cut after 2000001|20200131|1, which leaves 40 bytes away: a TAB, 18 digits, a TAB, 18 digits, CR LF.
+    // Cut after 2000001|20200131|1, which leaves 40 bytes away:
+    // a TAB, 18 digits, a TAB, 18 digits, CR LF.
     let cases = [
         (40, Err(at(4, LineFault::Columns))),
         (2, Ok(3)),

@@ -1,4 +1,5 @@
-//! Worked examples as lines that are served, with stops and openings between them. It has no code of its own.
+//! Worked examples as lines that are served, with stops and openings between them.
+//! It has no code of its own.
 #![tactic(auto)]
 
 #[cfg(test)]

@@ -10,8 +10,8 @@ const BEFORE: [Turn; 1] = [("0 STATUS", &["OK 3 12 3 -"])];
 
 const BEHIND: [Turn; 1] = [("0 STATUS", &["OK 3 12 2 -"])];
 
-/// The front of the content of epoch 5: the mark, three imports and two segments. The first has 638 bytes and 10 rows in block 6, the second 92 bytes and
-/// 2 rows in block 7.
+/// The front of the content of epoch 5: the mark, three imports and two segments. The
+/// first has 638 bytes and 10 rows in block 6, the second 92 bytes and 2 rows in block 7.
 const CONTENT: [u8; 64] = [
     0, 0, 0, 0, 0, 0, 0, 5, 0x53, 0x43, 0x54, 0x48, 0x49, 0x53, 0x54, 0x31, 0, 0, 0, 3, 0, 0, 0, 2,
     0, 0, 0, 0, 0, 0, 0, 0, 0, 0, 0, 6, 0, 0, 2, 0x7e, 0, 0, 0, 10, 0, 0, 0, 0, 0, 0, 0, 7, 0, 0,
@@ -38,8 +38,9 @@ fn a_merge_is_published(rt: HostRuntime) -> Result<(), Fail> {
 fn a_publication_is_stopped(rt: HostRuntime) -> Result<(), Fail> {
     let server = after(rt.alloc(), publication())?.ok_or("other replies")?;
     let disk = server.close();
-    // A publication makes seven changing calls: the sixth opens the gate, and the last syncs it. Filled with 165 a gate that isn't synced reads as open,
-    // and filled with 0 as closed. The merge isn't there yet where so many calls are still to come.
+    // A publication makes seven changing calls: the sixth opens the gate, and the last syncs it.
+    // Filled with 165 a gate that isn't synced reads as open, and filled with 0 as closed. The
+    // merge isn't there yet where so many calls are still to come.
     let cases = [
         (Choice::Kept, 2),
         (Choice::Lost, 1),

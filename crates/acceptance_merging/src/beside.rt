@@ -8,14 +8,16 @@ use std::alloc::Global;
 use std::process::Abort;
 use std::test::Fail;
 
-/// The front of the content of epoch 5: three imports, a segment of 638 bytes and 10 rows at block 6, and one of 92 bytes and 2 rows at block 7.
+/// The front of the content of epoch 5: three imports, a segment of 638
+/// bytes and 10 rows at block 6, and one of 92 bytes and 2 rows at block 7.
 const CONTENT: [u8; 64] = [
     0, 0, 0, 0, 0, 0, 0, 5, 0x53, 0x43, 0x54, 0x48, 0x49, 0x53, 0x54, 0x31, 0, 0, 0, 3, 0, 0, 0, 2,
     0, 0, 0, 0, 0, 0, 0, 0, 0, 0, 0, 6, 0, 0, 0x02, 0x7e, 0, 0, 0, 0x0a, 0, 0, 0, 0, 0, 0, 0, 7, 0,
     0, 0, 0x5c, 0, 0, 0, 2, 0, 0, 0, 0,
 ];
 
-/// The first two records of the output: 1000004 of 2020 at import 1, active, and that of 2021 at import 2, inactive.
+/// The first two records of the output: 1000004 of 2020 at
+/// import 1, active, and that of 2021 at import 2, inactive.
 const RECORDS: [u8; 92] =
     *b"\x00\x00\x00\x2e\x01\x00\x00\x00\x00\x00\x00\x00\x00\x00\x00\x00\x00\x00\x0f\x42\
     \x44\x01\x34\x3a\xc3\x00\x00\x00\x01\x01\x0c\x7d\x71\x3b\x49\xdd\x28\xa0\x0c\x7d\
@@ -43,7 +45,8 @@ fn a_merge_byte_for_byte(rt: HostRuntime) -> Result<(), Fail> {
     Ok(())
 }
 
-/// What the store answers to questions of each sort as its first imports show it, one answer after the other.
+/// What the store answers to questions of each sort as
+/// its first imports show it, one answer after the other.
 fn answers(alloc: Global, store: &mut Example, pin: u32) -> Result<Vec<u8>, Refusal> {
     let mut all = Vec::new(alloc);
     for kind in [
@@ -120,7 +123,8 @@ fn a_merge_ends_with_the_store(rt: HostRuntime) -> Result<(), Fail> {
     passes(&rt, rt.alloc(), calls)
 }
 
-/// Blocks 4 and 5 are free, and 4 is reserved for the 730 bytes of both segments; 90 rows of 46 bytes are two blocks. Then the blocks that became free are used.
+/// Blocks 4 and 5 are free, and 4 is reserved for the 730 bytes of both segments;
+/// 90 rows of 46 bytes are two blocks. Then the blocks that became free are used.
 #[test]
 fn imports_fill_the_gaps_beside_the_reserved_blocks(rt: HostRuntime) -> Result<(), Fail> {
     let calls = "r1: 6; r2: 4; begin: 10; step 1: 9; r3: 2; step 100: 0; publish: 0; \

@@ -1,12 +1,16 @@
 //! Calls on a store as a text lists them, each with its answer, as in `step 1: 9; publish: no 12`.
 //!
-//! The answer is the number of rows that are new or left, or of bytes that were cut off, 0 where there is nothing to say, or `no` with the number of the refusal.
-//! - `r1`, `r2` and `r3` import the sample of that name, `years 2001 3` a release of three versions of the root concept, of 2001, 2002 and 2003, and `term 100` one of a
-//!   description whose term has 100 bytes;
+//! The answer is the number of rows that are new or left, or of bytes that were cut
+//! off, 0 where there is nothing to say, or `no` with the number of the refusal.
+//! - `r1`, `r2` and `r3` import the sample of that name, `years 2001 3` a release of three versions
+//!   of the root concept, of 2001, 2002 and 2003, and `term 100` one of a description whose term
+//!   has 100 bytes;
 //! - `begin`, `step 1`, `publish`, `abandon` and `trim` are calls of the store;
-//! - `imports`, `rows`, `segments`, `left` and `closed` ask what it shows: `left` is `none` without a merge, and `closed` is 1 where it has to be opened again; `versions` asks
-//!   how many versions of the root concept there are;
-//! - `open` closes it and opens it again, and so do `length`, the length of the disk, and `lists`, which is 1 where the newer content block is as the words behind it say.
+//! - `imports`, `rows`, `segments`, `left` and `closed` ask what it shows: `left` is `none` without
+//!   a merge, and `closed` is 1 where it has to be opened again; `versions` asks how many versions
+//!   of the root concept there are;
+//! - `open` closes it and opens it again, and so do `length`, the length of the disk, and
+//!   `lists`, which is 1 where the newer content block is as the words behind it say.
 
 use crate::contents::lists;
 use acceptance_fixtures::{Example, one_file};

@@ -5,7 +5,8 @@ use acceptance_fixtures::lines;
 use rf2_rows::Kind;
 use std::test::Fail;
 
-/// Those of fewest rows, and of those with as many the ones listed first. The segments lie one after the other from block 4 on.
+/// Those of fewest rows, and of those with as many the ones listed first.
+/// The segments lie one after the other from block 4 on.
 const CHOICES: &str = "\
     years 1901 1: 1; years 1902 1: 1; begin: 2; step 9: 0; publish: 0; lists 4 2, 6 92 2: 1
     years 1901 1: 1; years 1902 1: 1; years 1903 1: 1; begin: 2; step 9: 0; publish: 0; lists 5 3, 7 92 2, 6 46 1: 1

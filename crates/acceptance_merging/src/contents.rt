@@ -1,5 +1,6 @@
-//! What the newer content block of a disk lists, as a text says it: the epoch and the number of imports, and behind a comma each the first block, the bytes and the rows of a
-//! segment, as in `5 3, 6 638 10, 7 92 2`.
+//! What the newer content block of a disk lists, as a text says it: the epoch and the number of
+//! imports, and behind a comma each the first block, the bytes and the rows of a segment, as in `5
+//! 3, 6 638 10, 7 92 2`.
 
 use crate::calls::number;
 use std::alloc::{AllocError, Global};
@@ -12,7 +13,8 @@ fn put_entry(block: &mut Vec<u8>, entry: &str) -> Result<(), AllocError> {
     block.extend_from_slice(&[0; 4])
 }
 
-/// A content block: the epoch, the mark, the number of imports, the number of entries and eight zeros; the entries; and zeros up to its end.
+/// A content block: the epoch, the mark, the number of imports, the number
+/// of entries and eight zeros; the entries; and zeros up to its end.
 fn content(alloc: Global, epoch: u64, imports: u32, entries: &str) -> Result<Vec<u8>, AllocError> {
     let count = entries.split(',').count().min(128) as u32;
     let mut block = epoch.to_be_bytes().to_vec(alloc)?;
@@ -27,7 +29,8 @@ fn content(alloc: Global, epoch: u64, imports: u32, entries: &str) -> Result<Vec
     Ok(block)
 }
 
-/// Whether the newer slot is open and lists what the words say. The slot of an odd epoch is the first, that of an even one the second.
+/// Whether the newer slot is open and lists what the words say. The
+/// slot of an odd epoch is the first, that of an even one the second.
 pub fn lists(alloc: Global, bytes: &[u8], words: &str) -> Result<bool, AllocError> {
     let Some((front, entries)) = words.split_once(',') else {
         return Ok(false);

@@ -16,7 +16,8 @@ const CHOICES: [Choice; 4] = [
     Choice::Filled(165),
 ];
 
-/// The store after a stop with so many changing calls of the disk still to come. It has three imports, 12 rows and no merge.
+/// The store after a stop with so many changing calls of the disk still to come.
+/// It has three imports, 12 rows and no merge.
 fn stopped(
     rt: &impl Abort,
     alloc: Global,
@@ -68,7 +69,8 @@ fn a_step_that_stops_loses_nothing(rt: HostRuntime) -> Result<(), Fail> {
     Ok(())
 }
 
-/// The calls of two merges and two trims beside three imports, with how many changing calls on the device each makes.
+/// The calls of two merges and two trims beside three imports,
+/// with how many changing calls on the device each makes.
 const CALLS: [(&str, u64); 16] = [
     ("r1: 6", 8),
     ("r2: 4", 8),

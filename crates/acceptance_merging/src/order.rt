@@ -38,7 +38,8 @@ fn nothing_is_published_at_the_last_epoch(rt: HostRuntime) -> Result<(), Fail> {
     Ok(())
 }
 
-/// The opening syncs once, and then the write of the step fails. The counts are those from before the failed call.
+/// The opening syncs once, and then the write of the step fails.
+/// The counts are those from before the failed call.
 #[test]
 fn after_a_failure_each_call_wants_an_opening(rt: HostRuntime) -> Result<(), Fail> {
     let mut disk = played(&rt, rt.alloc(), "r1: 6; r2: 4")?.close();

@@ -12,7 +12,8 @@ fn what_lies_behind_the_last_segment_is_cut_off(rt: HostRuntime) -> Result<(), F
     passes(&rt, rt.alloc(), calls)
 }
 
-/// The segments lie in blocks 4 and 5, and 638 bytes of block 6 are reserved. Once the merge is given up, nothing of it is needed any more.
+/// The segments lie in blocks 4 and 5, and 638 bytes of block 6 are reserved.
+/// Once the merge is given up, nothing of it is needed any more.
 #[test]
 fn the_reserved_blocks_are_left(rt: HostRuntime) -> Result<(), Fail> {
     let calls = "r1: 6; r2: 4; begin: 10; trim: 0; step 4: 6; trim: 0; step 6: 0; trim: 0; \

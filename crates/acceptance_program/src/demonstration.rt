@@ -1,4 +1,5 @@
-//! The program's demonstration beside the script of the tests of lines: two texts, of which each has to say what the other does.
+//! The program's demonstration beside the script of the tests of lines:
+//! two texts, of which each has to say what the other does.
 
 use crate::shown::words_of;
 use command_line::{SCRIPT, run};

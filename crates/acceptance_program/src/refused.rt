@@ -1,4 +1,5 @@
-//! What the program writes and ends with where it is refused, isn't told what to do, or can't write.
+//! What the program writes and ends with where it is
+//! refused, isn't told what to do, or can't write.
 
 use crate::shown::words_of;
 use command_line::run;

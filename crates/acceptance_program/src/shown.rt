@@ -36,7 +36,8 @@ pub fn words_of(alloc: Global, line: &str) -> Result<Vec<String>, AllocError> {
     Ok(words)
 }
 
-/// Runs the program on words and an input, with so many bytes of memory if a number is given. What it writes takes none.
+/// Runs the program on words and an input, with so many bytes of memory if a number is given.
+/// What it writes takes none.
 pub fn run_words(
     rt: &HostRuntime,
     scarcity: &mut Scarcity,

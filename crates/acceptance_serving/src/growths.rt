@@ -87,7 +87,8 @@ fn count_refused(replies: &[Vec<u8>]) -> Option<usize> {
     Some(refused)
 }
 
-/// Whether the lines that weren't refused for want of memory are answered as where the refused ones never came.
+/// Whether the lines that weren't refused for want of memory
+/// are answered as where the refused ones never came.
 fn is_as_without(alloc: Global, replies: &[Vec<u8>]) -> Result<bool, Fail> {
     let input = input_without(alloc, replies)?;
     let want = replies_without(alloc, replies)?;

@@ -20,7 +20,8 @@ fn search(alloc: Global, letters: usize, end: &[u8]) -> Result<Vec<u8>, AllocErr
 
 #[test]
 fn a_line_of_the_protocol_at_its_greatest_length(rt: HostRuntime) -> Result<(), Fail> {
-    // How many letters, what ends the line, and what is served: 20 bytes stand before the letters, and 4,096 are the most.
+    // How many letters, what ends the line, and what is served:
+    // 20 bytes stand before the letters, and 4,096 are the most.
     let cases: [(usize, &[u8], &[u8]); 8] = [
         (4_076, b"\n", NONE),
         (4_076, b"\r\n", NONE),

@@ -68,7 +68,8 @@ fn is_closed(store: &mut Example) -> bool {
     needs_reopen(store.merge_abandon()) && is_mute(store) && store.needs_reopen()
 }
 
-/// Whether the disk that a failed call left is opened with the imports from before it, or where it was an import also with one more, whatever of it a stop leaves.
+/// Whether the disk that a failed call left is opened with the imports from before
+/// it, or where it was an import also with one more, whatever of it a stop leaves.
 fn is_before_or_after(
     alloc: Global,
     disk: &MemDisk,
@@ -98,7 +99,8 @@ enum Outcome {
     Wrong,
 }
 
-/// A failed call's store: it is closed, its counts are those from before, and its disk is opened as it was before or after.
+/// A failed call's store: it is closed, its counts are those from
+/// before, and its disk is opened as it was before or after.
 fn after_a_failure(
     alloc: Global,
     mut store: Example,
@@ -177,7 +179,8 @@ fn each_reading_call_and_each_call_at_all_fails(rt: HostRuntime) -> Result<(), F
     Ok(())
 }
 
-/// An opening of the disk after the script, one of whose calls fails. The disk comes back as it was, and is opened once its calls pass.
+/// An opening of the disk after the script, one of whose calls fails.
+/// The disk comes back as it was, and is opened once its calls pass.
 fn opening_with(alloc: Global, bytes: &[u8], fault: Fault, calls: u64) -> Result<Outcome, Refusal> {
     let mut disk = MemDisk::from_bytes(alloc, bytes.to_vec(alloc)?);
     fault.strike(&mut disk, calls);

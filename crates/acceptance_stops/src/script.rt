@@ -44,8 +44,8 @@ pub const CHOICES: [Choice; 4] = [
     Choice::Filled(165),
 ];
 
-/// The rows of the three releases: the number of the import that first brings each, its kind, its identifier and its line. The versions of a
-/// component ascend by time.
+/// The rows of the three releases: the number of the import that first brings each,
+/// its kind, its identifier and its line. The versions of a component ascend by time.
 const ROWS: [(u32, Kind, u128, &str); 12] = [
     (
         1,
@@ -138,7 +138,8 @@ fn shows(alloc: Global, store: &mut Example, pin: u32) -> Result<bool, Refusal> 
     Ok(true)
 }
 
-/// Whether the store holds exactly the rows of the first so many imports, each with the number of its import.
+/// Whether the store holds exactly the rows of the first
+/// so many imports, each with the number of its import.
 pub fn holds(alloc: Global, store: &mut Example, imports: u32) -> Result<bool, Refusal> {
     let rows = ROWS.iter().filter(|row| row.0 <= imports).count();
     if store.imports() != imports || store.row_count() != rows as u64 {

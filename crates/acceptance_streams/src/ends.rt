@@ -65,7 +65,8 @@ fn pieces_play_no_part(rt: HostRuntime) -> Result<(), Fail> {
     Ok(())
 }
 
-/// Input, the length of its pieces, how it fails at its end if it does, how many reads are allowed, the room for replies.
+/// Input, the length of its pieces, how it fails at its end if
+/// it does, how many reads are allowed, the room for replies.
 type Way<'a> = (&'a [u8], usize, Option<ErrorKind>, u32, usize);
 
 #[test]

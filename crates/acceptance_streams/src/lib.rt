@@ -1,4 +1,5 @@
-//! Lines that come in pieces, replies that go out bit by bit, and streams that fail. It has no code of its own.
+//! Lines that come in pieces, replies that go out bit by bit, and streams that fail.
+//! It has no code of its own.
 #![tactic(auto)]
 
 #[cfg(test)]

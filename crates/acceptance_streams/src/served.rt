@@ -5,7 +5,8 @@ use line_server::ServeFault;
 use std::alloc::Global;
 use std::test::Fail;
 
-/// How a new store serves the input with at most so many reads, and what a writer took that takes so many bytes at a time and has so much room.
+/// How a new store serves the input with at most so many reads, and what
+/// a writer took that takes so many bytes at a time and has so much room.
 pub fn served(
     alloc: Global,
     mut input: Pieces<'_>,

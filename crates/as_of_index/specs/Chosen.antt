@@ -12,7 +12,8 @@ chosen n at = record { segment = n; at = at; refset = 0; target = 0 }
 
 -- by refset, then by target, then by member
 abbrev pub ranked_cmp : Chosen → Chosen → Ordering
-ranked_cmp a b = ordering_then (nat_cmp a.refset b.refset) (ordering_then (nat_cmp a.target b.target) (nat_cmp a.at.key.id b.at.key.id))
+ranked_cmp a b = ordering_then (nat_cmp a.refset b.refset)
+    (ordering_then (nat_cmp a.target b.target) (nat_cmp a.at.key.id b.at.key.id))
 
 -- by id
 abbrev pub chosen_cmp : Chosen → Chosen → Ordering

@@ -1,4 +1,5 @@
--- Which places are those of the versions at a date, and which versions are among those with some keys.
+-- Which places are those of the versions at a date,
+-- and which versions are among those with some keys.
 use Rattle.std.specs.Prelude.{◌≡◌, ℕ, Bool, ◌&&◌, ◌==◌, List, Some}
 use Rattle.std.specs.List.{list_any}
 use Rattle.rf2_values.specs.declared.key.Key.{Key}
@@ -18,7 +19,8 @@ is_same_key a b = kind_place a.kind == kind_place b.kind && a.id == b.id && a.ti
 -- the places are one
 abbrev pub is_same_place : ℕ → Posted → ℕ → Posted → Bool
 is_same_place n p m q =
-    n == m && kind_place p.key.kind == kind_place q.key.kind && p.key.id == q.key.id && p.key.time == q.key.time && p.import == q.import && p.at == q.at && p.bytes == q.bytes
+    n == m && kind_place p.key.kind == kind_place q.key.kind && p.key.id == q.key.id
+    && p.key.time == q.key.time && p.import == q.import && p.at == q.at && p.bytes == q.bytes
 
 -- the version is one of those with these keys
 abbrev pub is_among : List Key → Version → Bool
@@ -26,4 +28,5 @@ is_among keys row = list_any (λ key. is_same_key key (key_of row)) keys
 
 -- the version that stands at the place is the one at the date, of those that the pin shows
 abbrev pub IsCurrentAt : List (List StampedRow) → ℕ → ℕ → ℕ → Posted → Type 0
-IsCurrentAt lists date pin n at = (s : StampedRow) × StandsAt lists n at s × (lookup at.key.kind at.key.id date (rows_at pin (listed lists)) ≡ Some s.row)
+IsCurrentAt lists date pin n at = (s : StampedRow) × StandsAt lists n at s
+    × (lookup at.key.kind at.key.id date (rows_at pin (listed lists)) ≡ Some s.row)

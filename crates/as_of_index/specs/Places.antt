@@ -13,7 +13,8 @@ use Rattle.segment.specs.Standing.{places_of}
 abbrev pub max_lists : ℕ
 max_lists = 128
 
--- the index lists the places of these lists' rows: as many lists, and each row of each with its own place
+-- the index lists the places of these lists' rows: as
+-- many lists, and each row of each with its own place
 abbrev pub Lists : List (List Posted) → List (List StampedRow) → Type 0
 Lists index lists = index ≡ map places_of lists
 
@@ -27,7 +28,8 @@ ShareNoKey xs ys = (p q : Posted) → Has xs p → Has ys q → p.key ≡ q.key 
 -- no key is in two of the lists
 abbrev pub EachApart : List (List Posted) → Type 0
 EachApart [] = Unit {0}
-EachApart (places ∷ lists) = AllByRecursion (λ others. ShareNoKey places others) lists × EachApart lists
+EachApart (places ∷ lists) =
+    AllByRecursion (λ others. ShareNoKey places others) lists × EachApart lists
 
 -- each list ascends, and no key is listed twice
 pub record ArePlaces (index : List (List Posted)) : Type 0 where
@@ -40,10 +42,13 @@ PlacesOfLists = (lists : List (List StampedRow)) → AreLists lists → ArePlace
 
 -- where a list of rows is added, its places are
 abbrev pub ListsMore : Type 0
-ListsMore = (index : List (List Posted)) (lists : List (List StampedRow)) (rows : List StampedRow) → Lists index lists
+ListsMore = (index : List (List Posted)) (lists : List (List StampedRow)) (rows : List StampedRow)
+    → Lists index lists
     → Lists (index ++ places_of rows ∷ []) (lists ++ rows ∷ [])
 
 -- where one is put in the place of two, its places are
 abbrev pub ListsMerged : Type 0
-ListsMerged = (index : List (List Posted)) (lists : List (List StampedRow)) (i j : ℕ) (rows : List StampedRow) → Lists index lists
+ListsMerged =
+    (index : List (List Posted)) (lists : List (List StampedRow)) (i j : ℕ) (rows : List StampedRow)
+    → Lists index lists
     → Lists (remove (slice_set index i (places_of rows)) j) (remove (slice_set lists i rows) j)

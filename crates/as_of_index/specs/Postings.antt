@@ -7,7 +7,8 @@ use Rattle.segment.specs.declared.place.Posted.{Posted}
 use Rattle.segment.specs.Standing.{with_places}
 
 -- what is posted of each row, one after the other
-abbrev pub posted_all : {X : Type 0} → (Version → Posted → List X) → List (StampedRow × Posted) → List X
+abbrev pub posted_all : {X : Type 0} → (Version → Posted → List X) → List (StampedRow × Posted)
+    → List X
 posted_all posted [] = []
 posted_all posted (x ∷ xs) = posted x.0.row x.1 ++ posted_all posted xs
 
@@ -17,8 +18,10 @@ numbered n [] = []
 numbered n (xs ∷ lists) = map (λ x. (n, x)) xs ++ numbered (n + 1) lists
 
 -- the lists are the postings of these lists' rows, each row pushed with its own place
-abbrev pub AllPosted : {X : Type 0} → (Version → Posted → List X) → List (List StampedRow) → List (List X) → Type 0
+abbrev pub AllPosted : {X : Type 0} → (Version → Posted → List X) → List (List StampedRow)
+    → List (List X) → Type 0
 AllPosted posted [] [] = Unit {0}
 AllPosted posted [] (ts ∷ postings) = ⊥
 AllPosted posted (rows ∷ lists) [] = ⊥
-AllPosted posted (rows ∷ lists) (ts ∷ postings) = IsPermutation (posted_all posted (with_places 0 rows)) ts × AllPosted posted lists postings
+AllPosted posted (rows ∷ lists) (ts ∷ postings) =
+    IsPermutation (posted_all posted (with_places 0 rows)) ts × AllPosted posted lists postings

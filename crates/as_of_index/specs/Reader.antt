@@ -22,4 +22,5 @@ CountsDamage readfault.Damaged old new = HasRisen old new
 
 -- the row has the key
 abbrev pub is_row_at : Key → StampedRow → Bool
-is_row_at key s = kind_place (kind_of s.row) == kind_place key.kind && s.row.id == key.id && s.row.time == key.time
+is_row_at key s = kind_place (kind_of s.row) == kind_place key.kind && s.row.id == key.id
+    && s.row.time == key.time

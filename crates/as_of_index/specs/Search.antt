@@ -1,4 +1,5 @@
--- What is searched for among places in the order of their keys: words of the private searches. Public clauses cite `IsPlaceOf` alone.
+-- What is searched for among places in the order of their keys: words of the private searches.
+-- Public clauses cite `IsPlaceOf` alone.
 use Rattle.std.specs.Prelude.{◌≡◌, ℕ, ◌+◌, ◌≤◌, Bool, true, false, ◌&&◌, ◌||◌, ◌==◌, not, List, [], ◌∷◌, ◌++◌, nat_le, nat_lt, length, map, take, drop, Option, Some, None}
 use Rattle.std.specs.List.{AllByRecursion}
 use Rattle.std.specs.Ordering.{is_lt}
@@ -33,9 +34,14 @@ is_candidate kind id date pin p = is_of kind id p && nat_le p.key.time date && n
 
 -- whether a search that begins here passes over the key
 abbrev pub is_before : Start → Posted → Bool
-is_before (start.AfterVersion kind id time) p = nat_lt (kind_place p.key.kind) (kind_place kind) || (kind_place p.key.kind == kind_place kind && (nat_lt p.key.id id || (p.key.id == id && nat_le p.key.time time)))
-is_before (start.Later kind id after) p = nat_lt (kind_place p.key.kind) (kind_place kind) || (kind_place p.key.kind == kind_place kind && (nat_lt p.key.id id || (p.key.id == id && not (is_above after p.key.time))))
-is_before (start.Components kind after) p = nat_lt (kind_place p.key.kind) (kind_place kind) || (kind_place p.key.kind == kind_place kind && not (is_above after p.key.id))
+is_before (start.AfterVersion kind id time) p = nat_lt (kind_place p.key.kind) (kind_place kind)
+    || (kind_place p.key.kind == kind_place kind
+    && (nat_lt p.key.id id || (p.key.id == id && nat_le p.key.time time)))
+is_before (start.Later kind id after) p = nat_lt (kind_place p.key.kind) (kind_place kind)
+    || (kind_place p.key.kind == kind_place kind
+    && (nat_lt p.key.id id || (p.key.id == id && not (is_above after p.key.time))))
+is_before (start.Components kind after) p = nat_lt (kind_place p.key.kind) (kind_place kind)
+    || (kind_place p.key.kind == kind_place kind && not (is_above after p.key.id))
 
 -- what has a key below another
 abbrev pub is_under : {X : Type 0} → (X → Key) → Key → X → Bool
@@ -56,38 +62,47 @@ abbrev pub ArePassed : Start → List (List Posted) → List ℕ → Type 0
 ArePassed start [] [] = Unit {0}
 ArePassed start [] (cursor ∷ cursors) = ⊥
 ArePassed start (places ∷ lists) [] = ⊥
-ArePassed start (places ∷ lists) (cursor ∷ cursors) = IsPassed start places cursor × ArePassed start lists cursors
+ArePassed start (places ∷ lists) (cursor ∷ cursors) =
+    IsPassed start places cursor × ArePassed start lists cursors
 
--- going back over the versions of a component: at one that the pin shows it stops, and where there are no more
+-- going back over the versions of a component: at one that
+-- the pin shows it stops, and where there are no more
 abbrev pub stops : Kind → ℕ → ℕ → Posted → Bool
 stops kind id pin p = not (is_of kind id p) || nat_le p.import pin
 
 -- the latest candidate of some
-pub record IsLatestOf (kind : Kind) (id date pin : ℕ) {X : Type 0} (place : X → Posted) (xs : List X) (b : X) : Type 0 where
+pub record IsLatestOf (kind : Kind) (id date pin : ℕ) {X : Type 0} (place : X → Posted)
+    (xs : List X) (b : X) : Type 0 where
   pub there : Has xs b
   pub passes : is_candidate kind id date pin (place b) ≡ true
-  pub latest : (x : X) → Has xs x → is_candidate kind id date pin (place x) ≡ true → (place x).key.time ≤ (place b).key.time
+  pub latest : (x : X) → Has xs x → is_candidate kind id date pin (place x) ≡ true
+      → (place x).key.time ≤ (place b).key.time
 
 unfoldable pub IsPick : Kind → ℕ → ℕ → ℕ → {X : Type 0} → (X → Posted) → List X → Option X → Type 0
-IsPick kind id date pin place xs None = (x : _) → Has xs x → is_candidate kind id date pin (place x) ≡ true → ⊥
+IsPick kind id date pin place xs None =
+    (x : _) → Has xs x → is_candidate kind id date pin (place x) ≡ true → ⊥
 IsPick kind id date pin place xs (Some b) = IsLatestOf kind id date pin place xs b
 
 -- the later of two, the first where they tie
 abbrev pub later_of : Option (ℕ × Posted) → ℕ → Option Posted → Option (ℕ × Posted)
 later_of best n None = best
 later_of None n (Some p) = Some (n, p)
-later_of (Some b) n (Some p) = elim (nat_lt b.1.key.time p.key.time) [ true ↦ Some (n, p) | false ↦ Some b ]
+later_of (Some b) n (Some p) =
+    elim (nat_lt b.1.key.time p.key.time) [ true ↦ Some (n, p) | false ↦ Some b ]
 
 -- the row that is answered stands at the place, and where none is answered there is no place
 abbrev pub IsPlaceOf : List (List StampedRow) → Option Version → Option (ℕ × Posted) → Type 0
 IsPlaceOf lists answer None = answer ≡ None
-IsPlaceOf lists answer (Some x) = (s : StampedRow) × StandsAt lists x.0 x.1 s × (answer ≡ Some s.row)
+IsPlaceOf lists answer (Some x) =
+    (s : StampedRow) × StandsAt lists x.0 x.1 s × (answer ≡ Some s.row)
 
 -- of some, the least that a search from here doesn't pass over
-pub record IsLeastOf (start : Start) {X : Type 0} (place : X → Posted) (xs : List X) (b : X) : Type 0 where
+pub record IsLeastOf (start : Start) {X : Type 0} (place : X → Posted) (xs : List X)
+    (b : X) : Type 0 where
   pub there : Has xs b
   pub passes : is_before start (place b) ≡ false
-  pub least : (x : X) → Has xs x → is_before start (place x) ≡ false → place_cmp (place x) (place b) ≡ Less → ⊥
+  pub least : (x : X) → Has xs x → is_before start (place x) ≡ false
+      → place_cmp (place x) (place b) ≡ Less → ⊥
 
 unfoldable pub IsNext : Start → {X : Type 0} → (X → Posted) → List X → Option X → Type 0
 IsNext start place xs None = (x : _) → Has xs x → is_before start (place x) ≡ true
@@ -97,14 +112,16 @@ IsNext start place xs (Some b) = IsLeastOf start place xs b
 abbrev pub sooner_of : Option (ℕ × Posted) → ℕ → Option Posted → Option (ℕ × Posted)
 sooner_of best n None = best
 sooner_of None n (Some p) = Some (n, p)
-sooner_of (Some b) n (Some p) = elim (place_cmp p b.1) [ Less ↦ Some (n, p) | Equal ↦ Some b | Greater ↦ Some b ]
+sooner_of (Some b) n (Some p) =
+    elim (place_cmp p b.1) [ Less ↦ Some (n, p) | Equal ↦ Some b | Greater ↦ Some b ]
 
 -- the place of a version of some component of the kind, with an id above `after`
 abbrev pub is_kind_above : Kind → Option ℕ → Posted → Bool
 is_kind_above kind after p = kind_place p.key.kind == kind_place kind && is_above after p.key.id
 
 -- the least id of a kind above `after`
-pub record IsLeastId (kind : Kind) (after : Option ℕ) (xs : List (ℕ × Posted)) (id : ℕ) : Type 0 where
+pub record IsLeastId (kind : Kind) (after : Option ℕ) (xs : List (ℕ × Posted))
+    (id : ℕ) : Type 0 where
   pub above : is_above after id ≡ true
   pub there : (x : ℕ × Posted) × Has xs x × (is_of kind id x.1 ≡ true)
   pub least : (x : ℕ × Posted) → Has xs x → is_kind_above kind after x.1 ≡ true → id ≤ x.1.key.id
@@ -116,7 +133,8 @@ IsNextId kind after xs (Some id) = IsLeastId kind after xs id
 -- the id of a place of the kind
 abbrev pub id_of_kind : Kind → Option Posted → Option ℕ
 id_of_kind kind None = None
-id_of_kind kind (Some p) = elim (kind_place p.key.kind == kind_place kind) [ true ↦ Some p.key.id | false ↦ None ]
+id_of_kind kind (Some p) =
+    elim (kind_place p.key.kind == kind_place kind) [ true ↦ Some p.key.id | false ↦ None ]
 
 -- the lesser of two ids, if they are given
 abbrev pub lesser_of : Option ℕ → Option ℕ → Option ℕ
@@ -129,11 +147,15 @@ abbrev pub is_version_above : Kind → ℕ → Option ℕ → Posted → Bool
 is_version_above kind id after p = is_of kind id p && is_above after p.key.time
 
 -- the first version of the component after a time
-pub record IsFirstVersion (kind : Kind) (id : ℕ) (after : Option ℕ) (xs : List (ℕ × Posted)) (b : ℕ × Posted) : Type 0 where
+pub record IsFirstVersion (kind : Kind) (id : ℕ) (after : Option ℕ) (xs : List (ℕ × Posted))
+    (b : ℕ × Posted) : Type 0 where
   pub there : Has xs b
   pub version : is_version_above kind id after b.1 ≡ true
-  pub first : (x : ℕ × Posted) → Has xs x → is_version_above kind id after x.1 ≡ true → b.1.key.time ≤ x.1.key.time
+  pub first : (x : ℕ × Posted) → Has xs x → is_version_above kind id after x.1 ≡ true
+      → b.1.key.time ≤ x.1.key.time
 
-unfoldable pub IsNextVersion : Kind → ℕ → Option ℕ → List (ℕ × Posted) → Option (ℕ × Posted) → Type 0
-IsNextVersion kind id after xs None = (x : ℕ × Posted) → Has xs x → is_version_above kind id after x.1 ≡ true → ⊥
+unfoldable pub IsNextVersion : Kind → ℕ → Option ℕ → List (ℕ × Posted) → Option (ℕ × Posted)
+    → Type 0
+IsNextVersion kind id after xs None =
+    (x : ℕ × Posted) → Has xs x → is_version_above kind id after x.1 ≡ true → ⊥
 IsNextVersion kind id after xs (Some b) = IsFirstVersion kind id after xs b

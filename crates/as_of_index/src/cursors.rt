@@ -47,7 +47,8 @@ pub(crate) fn next_id(
     best
 }
 
-/// The latest version of the component up to the date that the pin shows, and the number of its list.
+/// The latest version of the component up to the date
+/// that the pin shows, and the number of its list.
 pub(crate) fn latest_on(
     lists: &[Listed],
     cursors: &[usize],

@@ -43,7 +43,8 @@ impl Model for Index {
 
     ghost view = { λ a. a.lists.items };
 
-    ghost invariant = { λ a. record { places : ArePlaces a.lists.items; room : max_lists ≤ vec_capacity a.lists } };
+    ghost invariant = { λ a. record
+        { places : ArePlaces a.lists.items; room : max_lists ≤ vec_capacity a.lists } };
 }
 
 fn is_same_place(n: usize, p: &Posted, m: usize, q: &Posted) -> bool
@@ -125,8 +126,8 @@ impl Index {
         self.lists[i].places()
     }
 
-    /// Where the component's row at the date stands, of the rows that the pin shows, and the number of its list.
-    /// It makes one bisection a list, and reads no row.
+    /// Where the component's row at the date stands, of the rows that the pin shows,
+    /// and the number of its list. It makes one bisection a list, and reads no row.
     pub fn picked(
         &self,
         kind: Kind,
@@ -141,7 +142,8 @@ impl Index {
         latest(self.lists.as_slice(), kind, id, time, pin)
     }
 
-    /// Whether the version that stands at the place is the one at the date, of those that the pin shows. No row is read.
+    /// Whether the version that stands at the place is the one
+    /// at the date, of those that the pin shows. No row is read.
     pub fn is_current(&self, segment: usize, at: Posted, time: EffectiveTime, pin: u32) -> bool
         ensures { (lists : List (List StampedRow)) → Lists self.now lists
             → IsTrue result ↔ IsCurrentAt lists time pin segment at }
@@ -182,7 +184,8 @@ impl Index {
         }
     }
 
-    /// All versions of the component that the pin shows, ascending by time. It makes a bisection a list for each version.
+    /// All versions of the component that the pin shows, ascending by time.
+    /// It makes a bisection a list for each version.
     pub fn history<R: RowReader>(
         &self,
         reader: &mut R,
@@ -215,8 +218,8 @@ impl Index {
         Ok(rows)
     }
 
-    /// The first rows of a kind at the date with an id above `after`, ascending by id, of the rows that the pin shows.
-    /// It makes one bisection a list, and then goes on by a cursor a list.
+    /// The first rows of a kind at the date with an id above `after`, ascending by id, of the rows
+    /// that the pin shows. It makes one bisection a list, and then goes on by a cursor a list.
     pub fn page<R: RowReader>(
         &self,
         reader: &mut R,

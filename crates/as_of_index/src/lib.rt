@@ -1,4 +1,5 @@
-//! The answers at a date and a pin, from lists of places; rows are read through a reader that is lent.
+//! The answers at a date and a pin, from lists of places;
+//! rows are read through a reader that is lent.
 #![tactic(auto)]
 
 mod chosen;

@@ -74,7 +74,8 @@ pub(crate) fn all_releases(alloc: Global) -> Result<Vec<StampedRow>, Fail> {
     Ok(plain::after_release(alloc, 2, &rows, &third)?)
 }
 
-/// Rows of five imports, in key order: twelve members with many versions, some of them inactive, and two concepts.
+/// Rows of five imports, in key order: twelve members with
+/// many versions, some of them inactive, and two concepts.
 pub(crate) fn made_rows(alloc: Global) -> Result<Vec<StampedRow>, Fail> {
     let mut rows = Vec::new(alloc);
     for (number, id) in [(3u32, STREET), (4, ROOT)] {

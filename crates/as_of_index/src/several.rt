@@ -11,7 +11,8 @@ use crate::search::{Start, is_of, later, latest_in, next_in, share_no_key, soone
 use rf2_values::{EffectiveTime, Kind};
 use segment::Posted;
 
-/// The latest version of the component up to the date that the pin shows, and the number of its list.
+/// The latest version of the component up to the date
+/// that the pin shows, and the number of its list.
 pub(crate) fn latest(
     lists: &[Listed],
     kind: Kind,

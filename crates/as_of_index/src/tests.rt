@@ -1,4 +1,5 @@
-//! Answers that are known from outside, made histories beside the plain program, and readers that fail.
+//! Answers that are known from outside, made histories
+//! beside the plain program, and readers that fail.
 
 use crate::making::{
     MEMBER, OTHER, ROOT, STREET, THIRD, Watched, all_releases, brought, day, index_of, made_rows,

@@ -13,15 +13,23 @@ use Rattle.associations.specs.declared.postings.Link.{Link}
 use Rattle.associations.specs.declared.postings.Reference.{Reference}
 
 -- of the postings of the list with the number n, those that are current are taken, and no others
-pub record Takes {X Y : Type 0} (place : X → Posted) (answer : ℕ → X → Y) (lists : List (List StampedRow)) (date pin n : ℕ) (xs : List X) (old new : List Y) : Type 0 where
+pub record Takes {X Y : Type 0} (place : X → Posted) (answer : ℕ → X → Y)
+    (lists : List (List StampedRow)) (date pin n : ℕ) (xs : List X)
+    (old new : List Y) : Type 0 where
   pub kept : (y : Y) → Has old y → Has new y
   pub taken : (x : X) → Has xs x → IsCurrentAt lists date pin n (place x) → Has new (answer n x)
-  pub only : (y : Y) → Has new y → Has old y ⊎ ((x : X) × Has xs x × IsCurrentAt lists date pin n (place x) × (answer n x ≡ y))
+  pub only : (y : Y) → Has new y
+      → Has old y ⊎ ((x : X) × Has xs x × IsCurrentAt lists date pin n (place x) × (answer n x ≡ y))
 
 -- of some postings, those of component d that are current are taken, and no others
-pub record AreTaken {X Y : Type 0} (place : X → Posted) (of : X → ℕ) (answer : ℕ → X → Y) (lists : List (List StampedRow)) (date pin d : ℕ) (xs : List (ℕ × X)) (ys : List Y) : Type 0 where
-  pub taken : (x : ℕ × X) → Has xs x → of x.1 ≡ d → IsCurrentAt lists date pin x.0 (place x.1) → Has ys (answer x.0 x.1)
-  pub only : (y : Y) → Has ys y → (x : ℕ × X) × Has xs x × (of x.1 ≡ d) × IsCurrentAt lists date pin x.0 (place x.1) × (answer x.0 x.1 ≡ y)
+pub record AreTaken {X Y : Type 0} (place : X → Posted) (of : X → ℕ) (answer : ℕ → X → Y)
+    (lists : List (List StampedRow)) (date pin d : ℕ) (xs : List (ℕ × X))
+    (ys : List Y) : Type 0 where
+  pub taken : (x : ℕ × X) → Has xs x → of x.1 ≡ d → IsCurrentAt lists date pin x.0 (place x.1)
+      → Has ys (answer x.0 x.1)
+  pub only : (y : Y) → Has ys y
+      → (x : ℕ × X) × Has xs x × (of x.1 ≡ d) × IsCurrentAt lists date pin x.0 (place x.1)
+      × (answer x.0 x.1 ≡ y)
 
 -- one that ties with it is there
 abbrev pub IsThere : {Y : Type 0} → (Y → Y → Ordering) → List Y → Y → Type 0
@@ -48,12 +56,15 @@ AreSources lists date pin d xs ids =
 abbrev pub ranked : ℕ → Reference → Chosen
 ranked n r = record { segment = n; at = r.at; refset = r.refset; target = r.target }
 
-abbrev pub TakesReferences : List (List StampedRow) → ℕ → ℕ → ℕ → List Reference → List Chosen → List Chosen → Type 0
+abbrev pub TakesReferences : List (List StampedRow) → ℕ → ℕ → ℕ → List Reference → List Chosen
+    → List Chosen → Type 0
 TakesReferences = Takes (λ r. r.at) ranked
 
-abbrev pub AreRankedTaken : List (List StampedRow) → ℕ → ℕ → ℕ → List (ℕ × Reference) → List Chosen → Type 0
+abbrev pub AreRankedTaken : List (List StampedRow) → ℕ → ℕ → ℕ → List (ℕ × Reference) → List Chosen
+    → Type 0
 AreRankedTaken = AreTaken (λ r. r.at) (λ r. r.referenced) ranked
 
-abbrev pub AreRanked : List (List StampedRow) → ℕ → ℕ → ℕ → List (ℕ × Reference) → List Chosen → Type 0
+abbrev pub AreRanked : List (List StampedRow) → ℕ → ℕ → ℕ → List (ℕ × Reference) → List Chosen
+    → Type 0
 AreRanked lists date pin d xs kept =
     (all : List Chosen) × AreRankedTaken lists date pin d xs all × AreOnce ranked_cmp all kept

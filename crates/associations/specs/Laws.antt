@@ -50,7 +50,8 @@ PostedReferencesAreAll = (lists : List (List StampedRow)) (edges : List Edges) (
 
 -- they stay such where a list is added
 abbrev pub EdgesMore : Type 0
-EdgesMore = (lists : List (List StampedRow)) (edges : List Edges) (rows : List StampedRow) (e : Edges)
+EdgesMore =
+    (lists : List (List StampedRow)) (edges : List Edges) (rows : List StampedRow) (e : Edges)
     → EachPosted lists edges → ArePostingsOf rows e
     → EachPosted (lists ++ rows ∷ []) (edges ++ e ∷ [])
 

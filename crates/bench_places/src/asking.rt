@@ -11,7 +11,8 @@ use std::io;
 use std::rt::HostRuntime;
 use term_prefix::find;
 
-/// A reader that gives one row, whatever the place: what is timed is the search and a copy of a row.
+/// A reader that gives one row, whatever the place:
+/// what is timed is the search and a copy of a row.
 #[derive(Drop)]
 pub(crate) struct OneRow {
     stamped: StampedRow,

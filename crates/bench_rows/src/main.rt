@@ -1,4 +1,5 @@
-//! Reads a description file three times and prints how long each reading took. Without words it does nothing.
+//! Reads a description file three times and prints how long each reading took.
+//! Without words it does nothing.
 #![tactic(auto)]
 
 use rf2_rows::{Kind, read_file};

@@ -1,4 +1,5 @@
-//! Does one piece of work on a store in a file, for a driver that measures it (bench/measure.py). Without words it does nothing.
+//! Does one piece of work on a store in a file, for a driver that measures it (bench/measure.py).
+//! Without words it does nothing.
 #![tactic(auto)]
 
 mod decoding;
@@ -13,7 +14,8 @@ use std::process::ExitCode;
 use std::rt::HostRuntime;
 use std::{env, fs};
 
-/// The store in a file. It is boxed, so that a function which lets it go is proved without what a store is made of.
+/// The store in a file. It is boxed, so that a function which
+/// lets it go is proved without what a store is made of.
 fn opened(rt: &HostRuntime, path: &str) -> Option<Box<Store<FileDisk>>> {
     let disk = FileDisk::open(rt, path).ok()?;
     match Store::open(rt.alloc(), disk) {
@@ -120,7 +122,8 @@ fn ask_children(rt: &HostRuntime, path: &str, ids: &str) -> Option<u64> {
     Some(found)
 }
 
-/// Does what the words say, and prints how many rows it brought, found or holds. None where it can't be done.
+/// Does what the words say, and prints how many rows it brought, found or holds.
+/// None where it can't be done.
 fn run(rt: &HostRuntime) -> Option<()> {
     let mut words = env::args(rt).ok()?.skip(1);
     let Some(what) = words.next() else {

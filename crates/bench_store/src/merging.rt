@@ -94,7 +94,8 @@ fn prepared(store: &mut Store<FileDisk>, way: &str) -> Option<Between> {
     }
 }
 
-/// The descriptions behind one, as many as a step takes. The last of them; none, where there is none behind it.
+/// The descriptions behind one, as many as a step takes. The last of them;
+/// none, where there is none behind it.
 fn turn_page(store: &mut Store<FileDisk>, after: Option<u128>) -> Option<Option<u128>> {
     let time = EffectiveTime::of(20_251_231)?;
     let pin = store.imports();
@@ -120,9 +121,10 @@ fn go_between(
     }
 }
 
-/// Looks up the concepts of a file in groups of fifty: without a merge (`none`), with half of the rows of one taken (`half`), with a step
-/// before each group (`steps`), or without a merge and with a page before each group (`pages`). Says what the lookups, and what goes before
-/// the groups, took of the processor. How many are found.
+/// Looks up the concepts of a file in groups of fifty: without a merge (`none`), with half of the
+/// rows of one taken (`half`), with a step before each group (`steps`), or without a merge and with
+/// a page before each group (`pages`). Says what the lookups, and what goes before the groups, took
+/// of the processor. How many are found.
 pub fn look_up_in_groups(rt: &HostRuntime, path: &str, ids: &str, way: &str) -> Option<u64> {
     let mut store = opened(rt, path)?;
     let ids = concepts(rt.alloc(), &fs::read(rt, ids).ok()?).ok()?;
@@ -144,7 +146,8 @@ pub fn look_up_in_groups(rt: &HostRuntime, path: &str, ids: &str, way: &str) -> 
     Some(found)
 }
 
-/// Writes what stands behind the slots of one file into another, in so many bytes a write, and syncs. How many writes that were.
+/// Writes what stands behind the slots of one file into another,
+/// in so many bytes a write, and syncs. How many writes that were.
 pub fn write_alike(rt: &HostRuntime, from: &str, to: &str, bytes: &str) -> Option<u64> {
     let size = bytes.parse::<usize>().ok()?;
     let content = fs::read(rt, from).ok()?;

@@ -8,4 +8,5 @@ call_count m = length m.past
 -- so many calls more, and after an error no more than so many
 abbrev pub MakesCalls : {T E : Type 0} → Result T E → ℕ → Moments → Moments → Type 0
 MakesCalls result n old new =
-    MatchResult result (λ _. call_count new ≡ call_count old + n) (λ _. call_count new ≤ call_count old + n)
+    MatchResult result (λ _. call_count new ≡ call_count old + n)
+    (λ _. call_count new ≤ call_count old + n)

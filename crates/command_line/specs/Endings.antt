@@ -24,10 +24,13 @@ fault_name faults.Reads = codes "Reads"
 abbrev pub fault_line : ServeFault → List ℕ
 fault_line fault = line (codes "ERR" ∷ decimal (fault_number fault) ∷ fault_name fault ∷ [])
 
--- What was to be told was told: an answer where the task is done, and a refusal where it was refused. Where the output failed, a part of it may stand there.
-abbrev pub IsTold : Result Ending ServeFault → Result Answer LineRefusal → Option (List ℕ) → Option (List ℕ) → Type 0
+-- What was to be told was told: an answer where the task is done, and a refusal
+-- where it was refused. Where the output failed, a part of it may stand there.
+abbrev pub IsTold : Result Ending ServeFault → Result Answer LineRefusal → Option (List ℕ)
+    → Option (List ℕ) → Type 0
 IsTold (Ok endings.Done) outcome old new = IsOk outcome × Appends old new (bytes_of (said outcome))
-IsTold (Ok endings.Refused) outcome old new = IsErr outcome × Appends old new (bytes_of (said outcome))
+IsTold (Ok endings.Refused) outcome old new =
+    IsErr outcome × Appends old new (bytes_of (said outcome))
 IsTold (Err fault) outcome old new = fault ≡ faults.Write
 
 -- something was told so

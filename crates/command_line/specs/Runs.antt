@@ -31,34 +31,53 @@ IsMissing ended old new = IsTold ended (Err (Store DiskFault)) old new
 abbrev pub IsDoneAt : {D : Type 0} → (D → Type 0) → (D → Type 0) → Type 0 → Type 0
 IsDoneAt {D} gives done missing = ((device : D) × gives device × done device) ⊎ missing
 
--- the lines of the script were served, as lines that come in are, from a new store in memory and the sample releases
-pub record IsDemonstrated (script : List ℕ) (ended : Result Ending ServeFault) (old new : Option (List ℕ)) : Type 0 where
+-- the lines of the script were served, as lines that come in
+-- are, from a new store in memory and the sample releases
+pub record IsDemonstrated (script : List ℕ) (ended : Result Ending ServeFault)
+    (old new : Option (List ℕ)) : Type 0 where
   pub disk : MemDisk
   pub empty : memory_moments disk ≡ made []
   pub rest : Option (List ℕ)
-  pub serving : IsServingNew ⊤ sample_files (λ _. Unit {0}) memory_moments failure_count disk ended (Some script) rest old new
+  pub serving : IsServingNew ⊤ sample_files (λ _. Unit {0}) memory_moments failure_count disk ended
+      (Some script) rest old new
 
 -- the task was done so; only a server reads
-abbrev pub Does : {D : Type 0} → (List ℕ → D → Type 0) → Type 0 → (List ℕ → Releases) → (D → Type 0) → (D → Moments) → (D → ℕ) → List ℕ → Task → Result Ending ServeFault → Option (List ℕ) → Option (List ℕ) → Option (List ℕ) → Option (List ℕ) → Type 0
-Does gives honest_source has honest moments failures script (tasks.Init store) ended input rest old new =
-    IsDoneAt (gives store.now) (λ device. IsMade honest moments device ended old new) (IsMissing ended old new) × (rest ≡ input)
-Does gives honest_source has honest moments failures script (tasks.Import store releases name) ended input rest old new =
-    IsDoneAt (gives store.now) (λ device. IsImport honest_source (has releases.now) honest moments failures name.now device ended old new) (IsMissing ended old new)
+abbrev pub Does : {D : Type 0} → (List ℕ → D → Type 0) → Type 0 → (List ℕ → Releases) → (D → Type 0)
+    → (D → Moments) → (D → ℕ) → List ℕ → Task → Result Ending ServeFault → Option (List ℕ)
+    → Option (List ℕ) → Option (List ℕ) → Option (List ℕ) → Type 0
+Does gives honest_source has honest moments failures script
+    (tasks.Init store) ended input rest old new =
+    IsDoneAt (gives store.now) (λ device. IsMade honest moments device ended old new)
+    (IsMissing ended old new)
     × (rest ≡ input)
-Does gives honest_source has honest moments failures script (tasks.Serve store releases) ended input rest old new =
-    IsDoneAt (gives store.now) (λ device. IsServing honest_source (has releases.now) honest moments failures device ended input rest old new)
+Does gives honest_source has honest moments failures script
+    (tasks.Import store releases name) ended input rest old new =
+    IsDoneAt (gives store.now)
+    (λ device. IsImport honest_source
+    (has releases.now) honest moments failures name.now device ended old new)
+    (IsMissing ended old new)
+    × (rest ≡ input)
+Does gives honest_source has honest moments failures script
+    (tasks.Serve store releases) ended input rest old new =
+    IsDoneAt (gives store.now)
+    (λ device. IsServing honest_source
+    (has releases.now) honest moments failures device ended input rest old new)
     (IsMissing ended old new × (rest ≡ input))
 Does gives honest_source has honest moments failures script tasks.Demo ended input rest old new =
     IsDemonstrated script ended old new × (rest ≡ input)
 
 -- The words ask for a task, and it was done. The status is 0 only where it ended so.
-pub record IsRun {D : Type 0} (gives : List ℕ → D → Type 0) (honest_source : Type 0) (has : List ℕ → Releases) (honest : D → Type 0) (moments : D → Moments) (failures : D → ℕ) (script : List ℕ) (words : List (List ℕ)) (status : ℕ) (input rest old new : Option (List ℕ)) : Type 0 where
+pub record IsRun {D : Type 0} (gives : List ℕ → D → Type 0) (honest_source : Type 0)
+    (has : List ℕ → Releases) (honest : D → Type 0) (moments : D → Moments) (failures : D → ℕ)
+    (script : List ℕ) (words : List (List ℕ)) (status : ℕ)
+    (input rest old new : Option (List ℕ)) : Type 0 where
   pub task : Task
   pub asked : AskFor words task
   pub ended : Result Ending ServeFault
   -- what was written, and went out at the end
   pub written : Option (List ℕ)
-  pub does : Does gives honest_source has honest moments failures script task ended input rest old written
+  pub does : Does gives honest_source has honest moments failures script task ended input rest old
+      written
   pub kept : Keeps written new
   pub at_most : status ≤ 1
   pub done : status ≡ 0 → ended ≡ Ok Done
@@ -71,10 +90,12 @@ IsFaulty kind = (kind ≢ DisplayHelp) × (kind ≢ DisplayVersion)
 abbrev pub IsExplained : Refused → ℕ → Option (List ℕ) → Option (List ℕ) → Type 0
 IsExplained refusals.OutOfMemory status old new = (status ≡ 1) × (new ≡ old)
 IsExplained (refusals.Words error) status old new =
-    (IsFaulty (kind_of error) → (status ≡ 2) × (new ≡ old)) × ((IsFaulty (kind_of error) → ⊥) → status ≤ 1)
+    (IsFaulty (kind_of error) → (status ≡ 2) × (new ≡ old))
+    × ((IsFaulty (kind_of error) → ⊥) → status ≤ 1)
 
 -- the words ask for no task, and that was told
-pub record IsNoTask (words : List (List ℕ)) (status : ℕ) (input rest old new : Option (List ℕ)) : Type 0 where
+pub record IsNoTask (words : List (List ℕ)) (status : ℕ)
+    (input rest old new : Option (List ℕ)) : Type 0 where
   pub refused : Refused
   pub asked : AskForNone words refused
   pub explained : IsExplained refused status old new

@@ -22,15 +22,18 @@ abbrev pub StoreOr : Type 0 → Type 0
 StoreOr D = Result (Stored D) (Refusal × D)
 
 -- the store was made on this device
-pub record IsMaking {D : Type 0} (honest : D → Type 0) (moments : D → Moments) (device : D) (had : StoreOr D) : Type 0 where
+pub record IsMaking {D : Type 0} (honest : D → Type 0) (moments : D → Moments) (device : D)
+    (had : StoreOr D) : Type 0 where
   pub exact : honest device → IsMakingOf had (moments device).state.now
   pub acknowledged : honest device → IfOk had (IsAcknowledged moments)
   pub honesty : honest device ↔ honest (device_of had)
 
 -- the store was opened from this device, and what a stop may leave of it was on it before
-pub record IsOpening {D : Type 0} (honest : D → Type 0) (moments : D → Moments) (device : D) (had : StoreOr D) : Type 0 where
+pub record IsOpening {D : Type 0} (honest : D → Type 0) (moments : D → Moments) (device : D)
+    (had : StoreOr D) : Type 0 where
   pub exact : honest device → IsOpeningOf had (moments device).state.now
-  pub any_moment : honest device → LeavesOnly (moments device) (moments (device_of had)) (IsImage (moments device).state)
+  pub any_moment : honest device
+      → LeavesOnly (moments device) (moments (device_of had)) (IsImage (moments device).state)
   pub acknowledged : honest device → IfOk had (IsAcknowledged moments)
   pub honesty : honest device ↔ honest (device_of had)
 
@@ -42,7 +45,8 @@ making_told (Ok store) = Ok (AllDone [])
 making_told (Err e) = Err (Store e.0)
 
 -- a store was made, and that was told
-pub record IsMade {D : Type 0} (honest : D → Type 0) (moments : D → Moments) (device : D) (ended : Result Ending ServeFault) (old new : Option (List ℕ)) : Type 0 where
+pub record IsMade {D : Type 0} (honest : D → Type 0) (moments : D → Moments) (device : D)
+    (ended : Result Ending ServeFault) (old new : Option (List ℕ)) : Type 0 where
   pub had : StoreOr D
   pub making : IsMaking honest moments device had
   pub told : IsTold ended (making_told had) old new
@@ -53,23 +57,32 @@ pub record IsMade {D : Type 0} (honest : D → Type 0) (moments : D → Moments)
 abbrev pub import_line : List ℕ → List ℕ
 import_line name = codes "0 IMPORT " ++ name
 
--- The line that imports the release was answered, where no session is pinned, and the reply was told.
-pub record IsImportTold {D : Type 0} (honest_source : Type 0) (has : Releases) (honest : D → Type 0) (moments : D → Moments) (failures : D → ℕ) (name : List ℕ) (store : Stored D) (ended : Result Ending ServeFault) (old new : Option (List ℕ)) : Type 0 where
+-- The line that imports the release was answered,
+-- where no session is pinned, and the reply was told.
+pub record IsImportTold {D : Type 0} (honest_source : Type 0) (has : Releases) (honest : D → Type 0)
+    (moments : D → Moments) (failures : D → ℕ) (name : List ℕ) (store : Stored D)
+    (ended : Result Ending ServeFault) (old new : Option (List ℕ)) : Type 0 where
   pub turn : Turn
   pub pins : List (Option ℕ)
   pub after : Stored D
   pub line : turn.line ≡ import_line name
-  pub answered : IsTurn honest_source has honest moments failures (desk (replicate 64 None) store) turn (desk pins after)
+  pub answered : IsTurn honest_source has honest moments failures
+      (desk (replicate 64 None) store) turn (desk pins after)
   pub told : IsTold ended turn.outcome old new
 
 -- so, or memory lacked for the line; or it was told why there is no store
-abbrev pub Imports : {D : Type 0} → Type 0 → Releases → (D → Type 0) → (D → Moments) → (D → ℕ) → List ℕ → StoreOr D → Result Ending ServeFault → Option (List ℕ) → Option (List ℕ) → Type 0
+abbrev pub Imports : {D : Type 0} → Type 0 → Releases → (D → Type 0) → (D → Moments) → (D → ℕ)
+    → List ℕ → StoreOr D → Result Ending ServeFault → Option (List ℕ) → Option (List ℕ) → Type 0
 Imports honest_source has honest moments failures name (Ok store) ended old new =
-    IsImportTold honest_source has honest moments failures name store ended old new ⊎ IsTold ended (Err (Store OutOfMemory)) old new
-Imports honest_source has honest moments failures name (Err e) ended old new = IsTold ended (Err (Store e.0)) old new
+    IsImportTold honest_source has honest moments failures name store ended old new
+    ⊎ IsTold ended (Err (Store OutOfMemory)) old new
+Imports honest_source has honest moments failures name (Err e) ended old new =
+    IsTold ended (Err (Store e.0)) old new
 
 -- the store was opened from this device, and the release was imported into it
-pub record IsImport {D : Type 0} (honest_source : Type 0) (has : Releases) (honest : D → Type 0) (moments : D → Moments) (failures : D → ℕ) (name : List ℕ) (device : D) (ended : Result Ending ServeFault) (old new : Option (List ℕ)) : Type 0 where
+pub record IsImport {D : Type 0} (honest_source : Type 0) (has : Releases) (honest : D → Type 0)
+    (moments : D → Moments) (failures : D → ℕ) (name : List ℕ) (device : D)
+    (ended : Result Ending ServeFault) (old new : Option (List ℕ)) : Type 0 where
   pub had : StoreOr D
   pub opening : IsOpening honest moments device had
   pub imports : Imports honest_source has honest moments failures name had ended old new
@@ -86,26 +99,36 @@ abbrev pub most_reads : ℕ
 most_reads = 4294967295
 
 -- the lines of the input were served
-pub record IsInputServed {D : Type 0} (honest_source : Type 0) (has : Releases) (honest : D → Type 0) (moments : D → Moments) (failures : D → ℕ) (store : Stored D) (ended : Result Ending ServeFault) (input rest old new : Option (List ℕ)) : Type 0 where
+pub record IsInputServed {D : Type 0} (honest_source : Type 0) (has : Releases)
+    (honest : D → Type 0) (moments : D → Moments) (failures : D → ℕ) (store : Stored D)
+    (ended : Result Ending ServeFault) (input rest old new : Option (List ℕ)) : Type 0 where
   pub result : Result ℕ ServeFault
   pub ends : ended ≡ ended_by result
   pub after : Stored D
-  pub served : IsServed result most_reads honest_source has honest moments failures input rest old new store after
+  pub served : IsServed result most_reads honest_source has honest moments failures input rest old
+      new store after
 
 -- the lines were served from the store; or it was told why there is none, and nothing was read
-abbrev pub Serves : {D : Type 0} → Type 0 → Releases → (D → Type 0) → (D → Moments) → (D → ℕ) → StoreOr D → Result Ending ServeFault → Option (List ℕ) → Option (List ℕ) → Option (List ℕ) → Option (List ℕ) → Type 0
+abbrev pub Serves : {D : Type 0} → Type 0 → Releases → (D → Type 0) → (D → Moments) → (D → ℕ)
+    → StoreOr D → Result Ending ServeFault → Option (List ℕ) → Option (List ℕ) → Option (List ℕ)
+    → Option (List ℕ) → Type 0
 Serves honest_source has honest moments failures (Ok store) ended input rest old new =
     IsInputServed honest_source has honest moments failures store ended input rest old new
-Serves honest_source has honest moments failures (Err e) ended input rest old new = IsTold ended (Err (Store e.0)) old new × (rest ≡ input)
+Serves honest_source has honest moments failures (Err e) ended input rest old new =
+    IsTold ended (Err (Store e.0)) old new × (rest ≡ input)
 
 -- the store was opened from this device, and the lines were served from it
-pub record IsServing {D : Type 0} (honest_source : Type 0) (has : Releases) (honest : D → Type 0) (moments : D → Moments) (failures : D → ℕ) (device : D) (ended : Result Ending ServeFault) (input rest old new : Option (List ℕ)) : Type 0 where
+pub record IsServing {D : Type 0} (honest_source : Type 0) (has : Releases) (honest : D → Type 0)
+    (moments : D → Moments) (failures : D → ℕ) (device : D) (ended : Result Ending ServeFault)
+    (input rest old new : Option (List ℕ)) : Type 0 where
   pub had : StoreOr D
   pub opening : IsOpening honest moments device had
   pub serves : Serves honest_source has honest moments failures had ended input rest old new
 
 -- the store was made on this device, and the lines were served from it
-pub record IsServingNew {D : Type 0} (honest_source : Type 0) (has : Releases) (honest : D → Type 0) (moments : D → Moments) (failures : D → ℕ) (device : D) (ended : Result Ending ServeFault) (input rest old new : Option (List ℕ)) : Type 0 where
+pub record IsServingNew {D : Type 0} (honest_source : Type 0) (has : Releases) (honest : D → Type 0)
+    (moments : D → Moments) (failures : D → ℕ) (device : D) (ended : Result Ending ServeFault)
+    (input rest old new : Option (List ℕ)) : Type 0 where
   pub had : StoreOr D
   pub making : IsMaking honest moments device had
   pub serves : Serves honest_source has honest moments failures had ended input rest old new

@@ -29,20 +29,28 @@ abbrev pub init_command : App
 init_command = with_rule (new_app (codes "init")) (option (codes "store"))
 
 abbrev pub serve_command : App
-serve_command = with_rule (with_rule (new_app (codes "serve")) (option (codes "store"))) (option (codes "releases"))
+serve_command = with_rule (with_rule (new_app (codes "serve")) (option (codes "store")))
+    (option (codes "releases"))
 
 abbrev pub import_command : App
-import_command = with_rule (with_rule (with_rule (new_app (codes "import")) (option (codes "store"))) (option (codes "releases"))) (wanted (codes "name"))
+import_command = with_rule
+    (with_rule (with_rule (new_app (codes "import")) (option (codes "store")))
+    (option (codes "releases")))
+    (wanted (codes "name"))
 
 abbrev pub demo_command : App
 demo_command = new_app (codes "demo")
 
 -- the program, of which a command has to be given
 abbrev pub empty_program : App
-empty_program = record { top = record (new_app (codes "sctd")).top { subcommand_required = true }; subs = [] }
+empty_program =
+    record { top = record (new_app (codes "sctd")).top { subcommand_required = true }; subs = [] }
 
 abbrev pub program : App
-program = with_subcommand (with_subcommand (with_subcommand (with_subcommand empty_program init_command.top) import_command.top) serve_command.top) demo_command.top
+program =
+    with_subcommand (with_subcommand (with_subcommand
+    (with_subcommand empty_program init_command.top) import_command.top) serve_command.top)
+    demo_command.top
 
 -- ---- what is built of them
 
@@ -57,12 +65,15 @@ IsCommand app command = (app_of command ≡ app) × ((out-Command command).has_g
 -- a command was read with the values of this task
 abbrev pub Reads : Option (Text × List Row) → Task → Type 0
 Reads None task = ⊥
-Reads (Some read) (tasks.Init store) = (read.0 ≡ codes "init") × (first_of (codes "store") read.1 ≡ Some store.now)
+Reads (Some read) (tasks.Init store) =
+    (read.0 ≡ codes "init") × (first_of (codes "store") read.1 ≡ Some store.now)
 Reads (Some read) (tasks.Import store releases name) =
     (read.0 ≡ codes "import") × (first_of (codes "store") read.1 ≡ Some store.now)
-    × (first_of (codes "releases") read.1 ≡ Some releases.now) × (first_of (codes "name") read.1 ≡ Some name.now)
+    × (first_of (codes "releases") read.1 ≡ Some releases.now)
+    × (first_of (codes "name") read.1 ≡ Some name.now)
 Reads (Some read) (tasks.Serve store releases) =
-    (read.0 ≡ codes "serve") × (first_of (codes "store") read.1 ≡ Some store.now) × (first_of (codes "releases") read.1 ≡ Some releases.now)
+    (read.0 ≡ codes "serve") × (first_of (codes "store") read.1 ≡ Some store.now)
+    × (first_of (codes "releases") read.1 ≡ Some releases.now)
 Reads (Some read) tasks.Demo = read.0 ≡ codes "demo"
 
 -- the words, of which the first is the program's name, are in order and ask for the task

@@ -1,6 +1,7 @@
 //! The script that the demonstration serves.
 
-/// Imports of three releases, one of them while a merge goes on; what two sessions, of which one is pinned, are then told; and two refusals.
+/// Imports of three releases, one of them while a merge goes on; what two
+/// sessions, of which one is pinned, are then told; and two refusals.
 pub const SCRIPT: &[u8] = b"0 STATUS\n\
 0 GET C 138875005 20230131\n\
 0 IMPORT r1\n\

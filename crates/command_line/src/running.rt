@@ -18,8 +18,9 @@ use line_server::{Sample, ServeFault};
 use std::alloc::Global;
 use std::io::{Read, Write};
 
-/// Does what the words ask for, of which the first is the program's name, and answers the status of the program: 0 where it was done; 1 where it was
-/// refused, or a stream or the memory failed; 2 where the words are no command.
+/// Does what the words ask for, of which the first is the program's name, and answers the status of
+/// the program: 0 where it was done; 1 where it was refused, or a stream or the memory failed; 2
+/// where the words are no command.
 pub fn run<P: Places, I: Read, O: Write, E: Write>(
     places: &P,
     alloc: Global,

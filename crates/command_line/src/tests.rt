@@ -199,7 +199,8 @@ fn streams_that_fail(rt: HostRuntime) -> Result<(), Fail> {
     let made = run_words(&rt, "sctd init --store cut", b"")?;
     assert_eq!(rt; made.status, 0);
     let serve = "sctd serve --store cut --releases releases";
-    // The words, the room for the output and whether that goes out, the status, what is written of faults.
+    // The words, the room for the output and whether that
+    // goes out, the status, what is written of faults.
     let cases: [(&str, usize, bool, u8, &[u8]); 6] = [
         (serve, 4096, true, 1, b"ERR 50 Read\n"),
         ("sctd demo", 4096, true, 0, b""),

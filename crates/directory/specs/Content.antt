@@ -12,16 +12,19 @@ mark = codes "SCTHIST1"
 -- the first 32 bytes
 unfoldable pub header_bytes : ℕ → ℕ → ℕ → List ℕ
 header_bytes epoch imports count =
-    to_be_bytes w64 epoch ++ (mark ++ (to_be_bytes w32 imports ++ (to_be_bytes w32 count ++ replicate 8 0)))
+    to_be_bytes w64 epoch ++
+    (mark ++ (to_be_bytes w32 imports ++ (to_be_bytes w32 count ++ replicate 8 0)))
 
 -- an entry has 16 bytes
 unfoldable pub entry_bytes : Entry → List ℕ
 entry_bytes entry =
-    to_be_bytes w32 entry.first ++ (to_be_bytes w32 entry.bytes ++ (to_be_bytes w32 entry.rows ++ replicate 4 0))
+    to_be_bytes w32 entry.first ++
+    (to_be_bytes w32 entry.bytes ++ (to_be_bytes w32 entry.rows ++ replicate 4 0))
 
 -- what is read of a content block
 unfoldable pub listing_bytes : Listing → List ℕ
-listing_bytes d = header_bytes d.epoch d.imports (length d.entries) ++ flat_map entry_bytes d.entries
+listing_bytes d =
+    header_bytes d.epoch d.imports (length d.entries) ++ flat_map entry_bytes d.entries
 
 -- the block lists this, whatever stands in its rest
 pub record Lists (block : List ℕ) (d : Listing) : Type 0 where

@@ -8,11 +8,13 @@ use Rattle.directory.specs.Places.{SharesNoBlock, SharesNoByte, AreBeside, end_b
 
 -- some block is one of the so many from first on and one of the extent's
 abbrev pub meets : ℕ → ℕ → Extent → Bool
-meets first blocks extent = nat_lt (max first extent.first) (min (first + blocks) (end_block extent))
+meets first blocks extent =
+    nat_lt (max first extent.first) (min (first + blocks) (end_block extent))
 
 -- the so many blocks from first on lie below the limit, and none is taken
 abbrev pub is_free : ℕ → ℕ → List Extent → ℕ → Bool
-is_free limit blocks extents first = nat_le (first + blocks) limit && not (list_any (meets first blocks) extents)
+is_free limit blocks extents first =
+    nat_le (first + blocks) limit && not (list_any (meets first blocks) extents)
 
 -- the first place behind the slots where so many blocks are free
 unfoldable pub fit_below : ℕ → ℕ → List Extent → Option ℕ
@@ -22,7 +24,8 @@ fit_below limit blocks extents = find (is_free limit blocks extents) (range_with
 unfoldable pub fit : ℕ → List Entry → Option Extent → Option ℕ
 fit blocks live reserved = fit_below block_limit blocks (taken live reserved)
 
--- the so many blocks from first on lie behind the slots, below the last block, and share none with an extent that is taken
+-- the so many blocks from first on lie behind the slots, below
+-- the last block, and share none with an extent that is taken
 pub record IsFree (blocks : ℕ) (extents : List Extent) (first : ℕ) : Type 0 where
   pub start : 4 ≤ first
   pub end : first + blocks ≤ block_limit
@@ -41,9 +44,12 @@ FitIsLeast = (blocks : ℕ) (live : List Entry) (reserved : Option Extent) (firs
 -- there is no fit exactly where no place is free
 abbrev pub NoFitIsFull : Type 0
 NoFitIsFull = (blocks : ℕ) (live : List Entry) (reserved : Option Extent)
-    → (fit blocks live reserved ≡ None) ↔ ((first : ℕ) → IsFree blocks (taken live reserved) first → ⊥)
+    → (fit blocks live reserved ≡ None)
+    ↔ ((first : ℕ) → IsFree blocks (taken live reserved) first → ⊥)
 
 -- an extent at the fit for its blocks shares no block and no byte with one that is taken
 abbrev pub FitIsApart : Type 0
-FitIsApart = (extent : Extent) (live : List Entry) (reserved : Option Extent) → fit (block_count extent) live reserved ≡ Some extent.first
-    → AllByRecursion (AreBeside extent) (taken live reserved) × AllByRecursion (SharesNoByte extent) (taken live reserved)
+FitIsApart = (extent : Extent) (live : List Entry) (reserved : Option Extent)
+    → fit (block_count extent) live reserved ≡ Some extent.first
+    → AllByRecursion (AreBeside extent) (taken live reserved)
+    × AllByRecursion (SharesNoByte extent) (taken live reserved)

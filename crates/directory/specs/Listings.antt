@@ -43,4 +43,8 @@ with_two_replaced d i j entry = record d { entries = remove (slice_set d.entries
 -- at another epoch, with one entry at place i, and another one put in at place j
 abbrev pub with_two_back : Listing → ℕ → ℕ → ℕ → Entry → Entry → Listing
 with_two_back d epoch i j first second =
-    record { epoch = epoch; imports = d.imports; entries = insert (slice_set d.entries i first) j second }
+    record {
+      epoch = epoch;
+      imports = d.imports;
+      entries = insert (slice_set d.entries i first) j second;
+    }

@@ -16,7 +16,8 @@ Covers extent block = (extent.first ≤ block) × (block < end_block extent)
 
 -- none of the so many blocks from first on is one of the extent's
 abbrev pub SharesNoBlock : ℕ → ℕ → Extent → Type 0
-SharesNoBlock first blocks extent = (block : ℕ) → first ≤ block → block < first + blocks → Covers extent block → ⊥
+SharesNoBlock first blocks extent =
+    (block : ℕ) → first ≤ block → block < first + blocks → Covers extent block → ⊥
 
 -- they share no block
 abbrev pub AreBeside : Extent → Extent → Type 0

@@ -42,7 +42,8 @@ pub(crate) fn extent_met(
     }
 }
 
-/// The least place where a segment of so many blocks shares no block with those that are live or reserved.
+/// The least place where a segment of so many blocks
+/// shares no block with those that are live or reserved.
 pub fn first_fit(blocks: u32, live: &[Entry], reserved: Option<Extent>) -> Result<u32, Full>
     ensures fit { MatchResult result
         (λ first. fit blocks live.now reserved ≡ Some first)

@@ -1,5 +1,5 @@
-//! The directory of a store: its epoch, its number of imports and where its segments lie, as a value and as the
-//! bytes of a content block; and where a further segment finds room.
+//! The directory of a store: its epoch, its number of imports and where its segments lie,
+//! as a value and as the bytes of a content block; and where a further segment finds room.
 #![tactic(auto)]
 
 mod decoding;

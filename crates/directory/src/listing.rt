@@ -10,8 +10,8 @@ use thiserror::Error;
 /// A directory lists no more entries than this.
 pub const MOST_ENTRIES: usize = 128;
 
-/// The epoch, the number of imports and where the segments lie. It always is what a content block may
-/// list, and has room for the most entries, so that none of its changes takes memory.
+/// The epoch, the number of imports and where the segments lie. It always is what a content
+/// block may list, and has room for the most entries, so that none of its changes takes memory.
 #[derive(Drop)]
 pub struct Directory {
     epoch: u64,
@@ -38,8 +38,9 @@ impl Model for Directory {
 pub enum DirectoryFault {
     #[error("out of memory")]
     OutOfMemory,
-    /// Epoch 0, another mark, another byte where zeros stand, more entries than there may be, an entry of no bytes or
-    /// no rows, one among the slots or above the last block, or two that share a block.
+    /// Epoch 0, another mark, another byte where zeros stand, more entries than there may be, an
+    /// entry of no bytes or no rows, one among the slots or above the last block, or two that share
+    /// a block.
     #[error("the block lists no directory")]
     BadDirectory,
 }
@@ -166,8 +167,8 @@ impl Directory {
         let _ = self.entries.remove(j);
     }
 
-    /// Takes a replacement back, as after a publication that failed: the epoch from before, and the two
-    /// entries at their places again. `first` stood at place `i`, and `second` at place `j`.
+    /// Takes a replacement back, as after a publication that failed: the epoch from before, and the
+    /// two entries at their places again. `first` stood at place `i`, and `second` at place `j`.
     pub fn put_back(&mut self, epoch: u64, i: usize, j: usize, first: Entry, second: Entry)
         requires places { i < j }
         requires within { j ≤ length self.old.entries }

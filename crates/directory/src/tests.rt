@@ -2,7 +2,8 @@ use crate::*;
 use blocks::Extent;
 use std::test::Fail;
 
-/// The beginning of a content block of epoch 2 and one import, which lists one segment at block 4 of 46 bytes and one row.
+/// The beginning of a content block of epoch 2 and one import,
+/// which lists one segment at block 4 of 46 bytes and one row.
 const ONE_SEGMENT: [u8; 48] = [
     0, 0, 0, 0, 0, 0, 0, 2, 0x53, 0x43, 0x54, 0x48, 0x49, 0x53, 0x54, 0x31, 0, 0, 0, 1, 0, 0, 0, 1,
     0, 0, 0, 0, 0, 0, 0, 0, 0, 0, 0, 4, 0, 0, 0, 0x2e, 0, 0, 0, 1, 0, 0, 0, 0,

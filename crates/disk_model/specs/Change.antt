@@ -18,13 +18,16 @@ abbrev pub written : List ℕ → ℕ → List ℕ → List ℕ
 written file at [] = file
 written file at (byte ∷ bytes) = put file at (byte ∷ bytes)
 
--- after one call; one that failed counts for what a stop may leave, whatever it made of what a read gives
+-- after one call; one that failed counts for what a
+-- stop may leave, whatever it made of what a read gives
 abbrev pub after_change : DiskState → Change → DiskState
 after_change s (Write at bytes) = after_write s at bytes
 after_change s (Cut len) = after_cut s len
 after_change s Sync = settled s.now
-after_change s (FailedWrite at bytes part) = reading (after_write s at bytes) (written s.now at (take part bytes))
-after_change s (FailedCut len is_made) = reading (after_cut s len) (if is_made then take len s.now else s.now)
+after_change s (FailedWrite at bytes part) =
+    reading (after_write s at bytes) (written s.now at (take part bytes))
+after_change s (FailedCut len is_made) =
+    reading (after_cut s len) (if is_made then take len s.now else s.now)
 
 -- the moments after some calls more
 abbrev pub replayed : Moments → List Change → Moments
@@ -47,8 +50,10 @@ is_made (FailedCut len cut) = false
 abbrev pub count_made : List Change → ℕ
 count_made changes = count_by is_made changes
 
--- how many calls there are up to the one of this number among those that answered Ok; none up to number 0
+-- how many calls there are up to the one of this number among those that answered Ok;
+-- none up to number 0
 abbrev pub place_of : List Change → ℕ → ℕ
 place_of [] number = 0
 place_of (change ∷ changes) zero = 0
-place_of (change ∷ changes) (suc number) = place_of changes (if is_made change then number else suc number) + 1
+place_of (change ∷ changes) (suc number) =
+    place_of changes (if is_made change then number else suc number) + 1

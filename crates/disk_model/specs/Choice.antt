@@ -12,7 +12,8 @@ IsLoose s i = (¬ (All (IsOutside i) s.loose)) ⊎ (s.least ≤ i)
 pub record IsFilled (s : DiskState) (byte : ℕ) (image : List ℕ) : Type 0 where
   pub as_long : length image ≡ length s.now
   pub loose : (i : ℕ) → i < length s.now → IsLoose s i → slice_index image i ≡ byte
-  pub fixed : (i : ℕ) → i < s.least → All (IsOutside i) s.loose → slice_index image i ≡ slice_index s.now i
+  pub fixed : (i : ℕ) → i < s.least → All (IsOutside i) s.loose
+      → slice_index image i ≡ slice_index s.now i
 
 -- the image of a state that is asked for
 abbrev pub IsChosen : DiskState → Choice → List ℕ → Type 0

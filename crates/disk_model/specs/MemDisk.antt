@@ -26,7 +26,8 @@ changes_of d = count_made (record_of d)
 
 -- the state right after the call of this number among those that answered Ok; the first one for 0
 abbrev pub state_after : MemDisk → ℕ → DiskState
-state_after d number = (replayed (made (first_bytes d)) (take (place_of (record_of d) number) (record_of d))).state
+state_after d number =
+    (replayed (made (first_bytes d)) (take (place_of (record_of d) number) (record_of d))).state
 
 -- the failures that it was asked for
 abbrev pub faults_of : MemDisk → Faults
@@ -41,7 +42,8 @@ HasRoomFor d end calls bytes = HasRoom d.contents end × RecordHasRoomFor d.call
 
 -- what needed no memory before needs none after
 abbrev pub KeepsRoom : MemDisk → MemDisk → Type 0
-KeepsRoom old new = (end calls bytes : ℕ) → HasRoomFor old end calls bytes → HasRoomFor new end calls bytes
+KeepsRoom old new =
+    (end calls bytes : ℕ) → HasRoomFor old end calls bytes → HasRoomFor new end calls bytes
 
 -- after calls that use so much of the room, the rest of it is there
 abbrev pub UsesRoom : MemDisk → MemDisk → ℕ → ℕ → Type 0

@@ -9,4 +9,5 @@ changes_in r = map (change_of r.bytes.items) r.entries.items
 
 -- so many calls more, which write so many bytes, need no memory
 abbrev pub HasRoomFor : Record → ℕ → ℕ → Type 0
-HasRoomFor r calls bytes = (vec_len r.entries + calls ≤ vec_capacity r.entries) × (vec_len r.bytes + bytes ≤ vec_capacity r.bytes)
+HasRoomFor r calls bytes = (vec_len r.entries + calls ≤ vec_capacity r.entries)
+    × (vec_len r.bytes + bytes ≤ vec_capacity r.bytes)

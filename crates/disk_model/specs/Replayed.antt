@@ -1,4 +1,5 @@
--- A proof, which the law of the disk in memory cites: what a read gives is an image, after each call.
+-- A proof, which the law of the disk in memory cites:
+-- what a read gives is an image, after each call.
 use Rattle.std.proofs.lemmas.Bool.Decides.{nat_tests}
 use Rattle.std.proofs.Common.{◌≡◌, inl, inr, Bool, ℕ, ◌+◌, ◌≤◌, min, List, [], ◌∷◌, length, take, if◌then◌else◌, ltb}
 use Rattle.std.proofs.Common.{true, false, refl, sym, ◌∙◌, subst, arith, length-take}
@@ -10,9 +11,11 @@ use Rattle.disk_model.specs.Change.{Change, Write, Cut, Sync, FailedWrite, Faile
 
 settled_image : (bytes : List ℕ) → IsImage (settled bytes) (settled bytes).now
 unfolding settled
-settled_image bytes = record { no_shorter = omega arith; no_longer = omega arith; fixed = λ i lt out. refl }
+settled_image bytes =
+    record { no_shorter = omega arith; no_longer = omega arith; fixed = λ i lt out. refl }
 
-write_image : (s : DiskState) (at : ℕ) (bytes : List ℕ) → IsImage s s.now → IsImage (after_write s at bytes) (after_write s at bytes).now
+write_image : (s : DiskState) (at : ℕ) (bytes : List ℕ) → IsImage s s.now
+    → IsImage (after_write s at bytes) (after_write s at bytes).now
 unfolding after_write
 write_image s at [] now = now
 write_image s at (byte ∷ bytes) now = record {
@@ -27,7 +30,8 @@ write_image s at (byte ∷ bytes) now = record {
       ];
 }
 
-by_test : (b : Bool) (s t : DiskState) → IsImage s s.now → IsImage t t.now → IsImage (if b then s else t) (if b then s else t).now
+by_test : (b : Bool) (s t : DiskState) → IsImage s s.now → IsImage t t.now
+    → IsImage (if b then s else t) (if b then s else t).now
 by_test true s t first second = first
 by_test false s t first second = second
 
@@ -35,7 +39,13 @@ cut_image : (s : DiskState) (n : ℕ) → IsImage s s.now → IsImage (after_cut
 unfolding after_cut
 cut_image s n now =
     by_test (ltb n (length s.now))
-    (record { now = take n s.now; base = s.base; least = min s.least n; greatest = s.greatest; loose = s.loose }) s
+    (record {
+      now = take n s.now;
+      base = s.base;
+      least = min s.least n;
+      greatest = s.greatest;
+      loose = s.loose;
+    }) s
     (record {
       no_shorter = omega (arith, length-take n s.now, now.no_shorter);
       no_longer = omega (arith, length-take n s.now, now.no_longer);
@@ -52,11 +62,18 @@ pub now-after_cut : (s : DiskState) (n : ℕ) → (after_cut s n).now ≡ take n
 unfolding after_cut
 now-after_cut s n =
     cut_now (ltb n (length s.now)) n s
-    (record { now = take n s.now; base = s.base; least = min s.least n; greatest = s.greatest; loose = s.loose }) refl
+    (record {
+      now = take n s.now;
+      base = s.base;
+      least = min s.least n;
+      greatest = s.greatest;
+      loose = s.loose;
+    }) refl
     (λ wrong. take_all n s.now (grind (arith, nat_tests)))
 
 -- a part of a write
-part_image : (s : DiskState) (at : ℕ) (bytes part : List ℕ) → IsImage s s.now → length part ≤ length bytes
+part_image : (s : DiskState) (at : ℕ) (bytes part : List ℕ) → IsImage s s.now
+    → length part ≤ length bytes
     → IsImage (after_write s at bytes) (written s.now at part)
 unfolding after_write
 part_image s at [] [] now le = now
@@ -64,7 +81,8 @@ part_image s at [] (byte ∷ part) now le = absurd (omega arith)
 part_image s at (byte ∷ bytes) [] now le = record {
   no_shorter = now.no_shorter;
   no_longer = omega (arith, now.no_longer);
-  fixed = λ i lt out. now.fixed i lt (All-tail (IsOutside i) (at, at + length (byte ∷ bytes)) s.loose out);
+  fixed = λ i lt out. now.fixed i lt
+      (All-tail (IsOutside i) (at, at + length (byte ∷ bytes)) s.loose out);
 }
 part_image s at (byte ∷ bytes) (first ∷ part) now le = record {
   no_shorter = omega (arith, length-put s.now at (first ∷ part), now.no_shorter);
@@ -80,9 +98,11 @@ part_image s at (byte ∷ bytes) (first ∷ part) now le = record {
 
 failed_write_image : (s : DiskState) (at : ℕ) (bytes : List ℕ) (part : ℕ) → IsImage s s.now
     → IsImage (after_write s at bytes) (written s.now at (take part bytes))
-failed_write_image s at bytes part now = part_image s at bytes (take part bytes) now (omega (arith, length-take part bytes))
+failed_write_image s at bytes part now =
+    part_image s at bytes (take part bytes) now (omega (arith, length-take part bytes))
 
-either_image : (b : Bool) (s t : DiskState) (c : List ℕ) → IsImage s c → IsImage t c → IsImage (if b then s else t) c
+either_image : (b : Bool) (s t : DiskState) (c : List ℕ) → IsImage s c → IsImage t c
+    → IsImage (if b then s else t) c
 either_image true s t c first second = first
 either_image false s t c first second = second
 
@@ -93,24 +113,38 @@ failed_cut_image s len true now = let is = now-after_cut s len in subst
     (λ (c : List ℕ). IsImage (after_cut s len) c) is (cut_image s len now)
 failed_cut_image s len false now =
     either_image (ltb len (length s.now))
-    (record { now = take len s.now; base = s.base; least = min s.least len; greatest = s.greatest; loose = s.loose }) s s.now
-    (record { no_shorter = omega (arith, now.no_shorter); no_longer = now.no_longer; fixed = λ i lt out. now.fixed i (omega arith) out })
+    (record {
+      now = take len s.now;
+      base = s.base;
+      least = min s.least len;
+      greatest = s.greatest;
+      loose = s.loose;
+    }) s s.now
+    (record {
+      no_shorter = omega (arith, now.no_shorter);
+      no_longer = now.no_longer;
+      fixed = λ i lt out. now.fixed i (omega arith) out;
+    })
     now
 
 as_read : (s : DiskState) (bytes : List ℕ) → IsImage s bytes → IsImage (reading s bytes) bytes
-as_read s bytes image = record { no_shorter = image.no_shorter; no_longer = image.no_longer; fixed = image.fixed }
+as_read s bytes image =
+    record { no_shorter = image.no_shorter; no_longer = image.no_longer; fixed = image.fixed }
 
-pub change_image : (s : DiskState) (change : Change) → IsImage s s.now → IsImage (after_change s change) (after_change s change).now
+pub change_image : (s : DiskState) (change : Change) → IsImage s s.now
+    → IsImage (after_change s change) (after_change s change).now
 change_image s (Write at bytes) now = write_image s at bytes now
 change_image s (Cut n) now = cut_image s n now
 change_image s Sync now = settled_image s.now
-change_image s (FailedWrite at bytes part) now = as_read _ _ (failed_write_image s at bytes part now)
+change_image s (FailedWrite at bytes part) now =
+    as_read _ _ (failed_write_image s at bytes part now)
 change_image s (FailedCut len whole) now = as_read _ _ (failed_cut_image s len whole now)
 
 replayed_image : (m : Moments) (changes : List Change) → IsImage m.state m.state.now
     → IsImage (replayed m changes).state (replayed m changes).state.now
 replayed_image m [] now = now
-replayed_image m (change ∷ changes) now = replayed_image (followed_by m (after_change m.state change)) changes
+replayed_image m (change ∷ changes) now =
+    replayed_image (followed_by m (after_change m.state change)) changes
     (change_image m.state change now)
 
 pub memory_image : (bytes : List ℕ) (changes : List Change)

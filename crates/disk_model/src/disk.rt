@@ -12,35 +12,35 @@ pub struct DiskFault;
 /// No write goes past this length, in bytes: 4,194,304 blocks of 4,096 bytes.
 pub const MAX_END: u64 = 17_179_869_184;
 
-/// A device that holds bytes, at the places from 0 up to its length. Five calls are all that is asked of it, and
-/// what they promise is what everything above rests on, before and after a stop.
+/// A device that holds bytes, at the places from 0 up to its length. Five calls are all that is
+/// asked of it, and what they promise is what everything above rests on, before and after a stop.
 ///
-/// **A stop** is a loss of power, a crash, the end of the process at any time. What it leaves is one of the
-/// device's *images*: a run of bytes that the device then holds. So code that shall outlive stops has to be right
-/// for each image.
+/// **A stop** is a loss of power, a crash, the end of the process at any time. What it leaves is
+/// one of the device's *images*: a run of bytes that the device then holds. So code that shall
+/// outlive stops has to be right for each image.
 ///
-/// **A moment** lies before the first call, or after a call that may change the device: `write_at`, `cut` and
-/// `sync`. `moments` is the state at the present one and those at all moments before it, the newest first. It
-/// is a ghost: clauses speak of it, and no code can look at it. A stop within a call leaves an image of
-/// the moment before it or of the one after it. So what holds of each image of each moment holds whenever a
-/// stop may come.
+/// **A moment** lies before the first call, or after a call that may change the device: `write_at`,
+/// `cut` and `sync`. `moments` is the state at the present one and those at all moments before it,
+/// the newest first. It is a ghost: clauses speak of it, and no code can look at it. A stop within
+/// a call leaves an image of the moment before it or of the one after it. So what holds of each
+/// image of each moment holds whenever a stop may come.
 ///
-/// **A state** says what a read gives now, and what a stop may leave: the *base*, which is what a read gave at
-/// the last sync that answered `Ok`; the least and the greatest length since then; and the ranges that were
-/// written since then, which are *loose*. An image has a length between the least and the greatest one, and
-/// the bytes of the base at each place below the least length that lies in no loose range. At any other place
-/// it may have any byte: the old one, the new one, a part of it or neither. A sync that answers `Ok` leaves
-/// one image, which is what a read gives.
+/// **A state** says what a read gives now, and what a stop may leave: the *base*, which is what a
+/// read gave at the last sync that answered `Ok`; the least and the greatest length since then; and
+/// the ranges that were written since then, which are *loose*. An image has a length between the
+/// least and the greatest one, and the bytes of the base at each place below the least length that
+/// lies in no loose range. At any other place it may have any byte: the old one, the new one, a
+/// part of it or neither. A sync that answers `Ok` leaves one image, which is what a read gives.
 ///
-/// **Failures.** Each call may fail, once or from then on. A read or a sync that fails changes nothing. A
-/// write or a cut that fails changes nothing either, or it adds a moment: what a stop may leave is as before or as
-/// if the call had been made, and a read gives one of these images. `failures` goes up with each call that
-/// fails; at 2^64 - 1 it stays.
+/// **Failures.** Each call may fail, once or from then on. A read or a sync that fails changes
+/// nothing. A write or a cut that fails changes nothing either, or it adds a moment: what a stop
+/// may leave is as before or as if the call had been made, and a read gives one of these images.
+/// `failures` goes up with each call that fails; at 2^64 - 1 it stays.
 ///
-/// **Honesty.** An honest device keeps to all of this, and no call ends that. The clauses on bytes and moments
-/// have it as their premise, since no program can see whether a device lies; of one that isn't honest only what
-/// stands without that premise is known: calls end, name no more bytes than the buffer has, and count their
-/// failures.
+/// **Honesty.** An honest device keeps to all of this, and no call ends that. The clauses on bytes
+/// and moments have it as their premise, since no program can see whether a device lies; of one
+/// that isn't honest only what stands without that premise is known: calls end, name no more bytes
+/// than the buffer has, and count their failures.
 pub trait Disk {
     /// What a read gives and what a stop may leave, now and at each moment before.
     ghost moments: { Self → Moments };
@@ -48,7 +48,8 @@ pub trait Disk {
     /// How many calls have failed. It has 64 bits.
     ghost failures: { Self → ℕ };
 
-    /// The device keeps to what its calls promise of bytes and stops. Of one that doesn't nothing else is known.
+    /// The device keeps to what its calls promise of bytes and stops.
+    /// Of one that doesn't nothing else is known.
     ghost is_honest: { Self → Type 0 };
 
     /// The length, in bytes.
@@ -59,8 +60,8 @@ pub trait Disk {
         ensures honesty { is_honest self.old ↔ is_honest self.new }
         ensures failures { CountsEach result (failures self.old) (failures self.new) };
 
-    /// Fills the front of `into` with the bytes from the place `at` on, as far as they go, and answers how many.
-    /// Past the end there are none. After an error `into` may hold any bytes.
+    /// Fills the front of `into` with the bytes from the place `at` on, as far as they go, and
+    /// answers how many. Past the end there are none. After an error `into` may hold any bytes.
     fn read_at(&mut self, at: u64, into: &mut [u8]) -> Result<usize, DiskFault>
         ensures within { IfOk result (λ n. n ≤ length into.old) }
         ensures count { is_honest self.old → IfOk result
@@ -71,9 +72,9 @@ pub trait Disk {
         ensures honesty { is_honest self.old ↔ is_honest self.new }
         ensures failures { CountsEach result (failures self.old) (failures self.new) };
 
-    /// Writes over what is there from the place `at` on, and past the end, with zeros between the end and `at`.
-    /// Until a sync, a stop may leave any bytes in the range. A write of no bytes changes no byte, and is a call
-    /// like any other.
+    /// Writes over what is there from the place `at` on, and past the end, with zeros between the
+    /// end and `at`. Until a sync, a stop may leave any bytes in the range. A write of no bytes
+    /// changes no byte, and is a call like any other.
     fn write_at(&mut self, at: u64, bytes: &[u8]) -> Result<(), DiskFault>
         requires { at + length bytes.now ≤ MAX_END }
         ensures made { is_honest self.old → OnOk result (moments self.new
@@ -83,8 +84,8 @@ pub trait Disk {
         ensures honesty { is_honest self.old ↔ is_honest self.new }
         ensures failures { CountsEach result (failures self.old) (failures self.new) };
 
-    /// Cuts the device to a length in bytes, where it is longer. Until a sync, a stop may leave what was cut off,
-    /// or a part of it.
+    /// Cuts the device to a length in bytes, where it is longer. Until
+    /// a sync, a stop may leave what was cut off, or a part of it.
     fn cut(&mut self, len: u64) -> Result<(), DiskFault>
         ensures made { is_honest self.old → OnOk result (moments self.new
             ≡ followed_by (moments self.old) (after_cut (moments self.old).state len)) }
@@ -93,7 +94,8 @@ pub trait Disk {
         ensures honesty { is_honest self.old ↔ is_honest self.new }
         ensures failures { CountsEach result (failures self.old) (failures self.new) };
 
-    /// Waits until all that was written is on the device: after it, a stop leaves what a read gives.
+    /// Waits until all that was written is on the device:
+    /// after it, a stop leaves what a read gives.
     fn sync(&mut self) -> Result<(), DiskFault>
         ensures made { is_honest self.old → OnOk result (moments self.new
             ≡ followed_by (moments self.old) (settled (moments self.old).state.now)) }
@@ -102,5 +104,6 @@ pub trait Disk {
         ensures failures { CountsEach result (failures self.old) (failures self.new) };
 
     /// What a read gives is one of the images.
-    ghost now_is_image: { (disk : Self) → is_honest disk → IsImage (moments disk).state (moments disk).state.now };
+    ghost now_is_image: { (disk : Self) → is_honest disk
+        → IsImage (moments disk).state (moments disk).state.now };
 }

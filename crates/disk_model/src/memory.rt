@@ -24,8 +24,9 @@ use record::Record;
 use replay::Replay;
 use std::alloc::{AllocError, Global};
 
-/// A disk in memory. It keeps each call that changed it on record, so that it can give the images of each moment.
-/// Want of memory for a call or its record is a failure of the device, and changes nothing.
+/// A disk in memory. It keeps each call that changed it on record, so that it can give the images
+/// of each moment. Want of memory for a call or its record is a failure of the device, and changes
+/// nothing.
 #[derive(Drop)]
 pub struct MemDisk {
     alloc: Global,
@@ -33,7 +34,8 @@ pub struct MemDisk {
     calls: Record,
     faults: Faults,
     failures: u64,
-    ghost read_is_replayed: { shown contents ≡ (replayed (made contents.first.items) (changes_in calls)).state.now },
+    ghost read_is_replayed: { shown contents ≡
+        (replayed (made contents.first.items) (changes_in calls)).state.now },
 }
 
 impl MemDisk {
@@ -67,8 +69,8 @@ impl MemDisk {
         }
     }
 
-    /// So many calls more pass, reads among them, and then each one fails.
-    /// A write or a cut that fails so changes no byte, and counts as made for what a stop may leave.
+    /// So many calls more pass, reads among them, and then each one fails. A write or a
+    /// cut that fails so changes no byte, and counts as made for what a stop may leave.
     pub fn set_fuse(&mut self, calls: u64)
         ensures fuse { faults_of self.new ≡ record (faults_of self.old) { fuse = Some calls } }
         ensures kept { SameRecord self.old self.new }
@@ -78,9 +80,10 @@ impl MemDisk {
         self.faults.fuse = Some(calls);
     }
 
-    /// So many calls of `write_at`, `cut` and `sync` more pass, and the next one fails; later ones pass.
-    /// A write that fails so leaves its first `part` bytes written, and a cut is made where `part` isn't 0.
-    /// Both count as made for what a stop may leave. A sync that fails changes nothing.
+    /// So many calls of `write_at`, `cut` and `sync` more pass, and the next one fails; later ones
+    /// pass. A write that fails so leaves its first `part` bytes written, and a cut is made where
+    /// `part` isn't 0. Both count as made for what a stop may leave. A sync that fails changes
+    /// nothing.
     pub fn set_break(&mut self, calls: u64, part: u64)
         ensures fails { faults_of self.new
             ≡ record (faults_of self.old) { change_break = Some (calls, part) } }
@@ -102,9 +105,9 @@ impl MemDisk {
         self.faults.read_break = Some(calls);
     }
 
-    /// Takes all the memory for a disk of so many bytes, and for so many changing calls more that write no
-    /// more bytes together.
-    /// Until either is passed no call fails for want of memory. An `Err` changes neither the bytes nor the record.
+    /// Takes all the memory for a disk of so many bytes, and for so many changing calls more that
+    /// write no more bytes together. Until either is passed no call fails for want of memory. An
+    /// `Err` changes neither the bytes nor the record.
     pub fn reserve(&mut self, bytes: u64, calls: u32) -> Result<(), AllocError>
         ensures room { OnOk result (HasRoomFor self.new bytes calls bytes) }
         ensures kept { SameRecord self.old self.new }
@@ -132,9 +135,9 @@ impl MemDisk {
         self.contents.bytes()
     }
 
-    /// An image of the moment right after the changing call of this number among those that answered Ok; for
-    /// 0, of the moment when it was made. Writes and cuts that failed before it count as made. It only fails
-    /// for want of memory.
+    /// An image of the moment right after the changing call of this number among those that
+    /// answered Ok; for 0, of the moment when it was made. Writes and cuts that failed before it
+    /// count as made. It only fails for want of memory.
     pub fn image(&self, after: u64, choice: Choice) -> Result<Vec<u8>, AllocError>
         requires { after ≤ changes_of self.now }
         ensures chosen { IfOk result
@@ -328,7 +331,8 @@ impl Disk for MemDisk {
 
     fn cut(&mut self, len: u64) -> Result<(), DiskFault>
         ensures made { OnOk result (memory_moments self.new
-            ≡ followed_by (memory_moments self.old) (after_cut (memory_moments self.old).state len)) }
+            ≡ followed_by (memory_moments self.old)
+            (after_cut (memory_moments self.old).state len)) }
         ensures failed { OnErr result (Fails (memory_moments self.old)
             (after_cut (memory_moments self.old).state len) (memory_moments self.new)) }
         ensures failures { CountsEach result (failure_count self.old) (failure_count self.new) }

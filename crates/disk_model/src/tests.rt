@@ -60,7 +60,8 @@ fn images_after_each_call(rt: HostRuntime) -> Result<(), Fail> {
     disk.write_at(0, &[])?;
     disk.cut(3)?;
     assert_eq!(rt; disk.changes(), 8);
-    // What is kept, what is left where all is lost, and what is kept with 170 at each position that isn't sure.
+    // What is kept, what is left where all is lost, and what
+    // is kept with 170 at each position that isn't sure.
     let images: [(&[u8], &[u8], &[u8]); 9] = [
         (&[1, 2, 3, 4], &[1, 2, 3, 4], &[1, 2, 3, 4]),
         (&[1, 9, 3, 4], &[1, 2, 3, 4], &[1, 170, 3, 4]),
@@ -98,7 +99,8 @@ fn images_after_each_call(rt: HostRuntime) -> Result<(), Fail> {
     Ok(())
 }
 
-/// Whether a read gives the first, and the images of the present moment are all three: kept, lost, filled with 170.
+/// Whether a read gives the first, and the images of the present moment are all three:
+/// kept, lost, filled with 170.
 fn has_images(disk: &MemDisk, images: [&[u8]; 3]) -> Result<bool, AllocError> {
     let [kept, lost, filled] = images;
     let is_kept = disk.bytes() == kept && disk.image_now(Choice::Kept)?.as_slice() == kept;

@@ -1,4 +1,5 @@
-//! Reads a release from a real folder and imports it. It shows what a folder gives, which no proof can.
+//! Reads a release from a real folder and imports it.
+//! It shows what a folder gives, which no proof can.
 #![tactic(auto)]
 
 use disk_model::MemDisk;

@@ -35,7 +35,8 @@ pub fn pinned_stays()
     ensures { PinnedStays }
 {}
 
-/// Releases that are accepted one after the other are accepted in any order, with the same rows in the end.
+/// Releases that are accepted one after the other are
+/// accepted in any order, with the same rows in the end.
 pub fn order_is_free()
     ensures { OrderIsFree }
 {}

@@ -1,4 +1,5 @@
-//! What a history of releases says: the definitions, their laws, and a plain program that computes each definition.
+//! What a history of releases says: the definitions, their
+//! laws, and a plain program that computes each definition.
 #![tactic(auto)]
 
 mod component;

@@ -33,7 +33,8 @@ fn last_shown_version(
         .find(|s| is_shown_version(s, kind, id, time, pin))
 }
 
-/// The component's row at the date, of the rows that the pin shows. It goes over the rows from the last to the first.
+/// The component's row at the date, of the rows that the pin shows.
+/// It goes over the rows from the last to the first.
 pub fn lookup(
     rows: &[StampedRow],
     kind: Kind,

@@ -71,7 +71,8 @@ abbrev pub IsMakingOf : {D : Type 0} → Result (Stored D) (Refusal × D) → Li
 IsMakingOf (Ok store) bytes = (length bytes ≡ 0) × IsNew store
 IsMakingOf (Err e) bytes = IsNotMade e.0 bytes
 
--- Why no store is opened: the bytes are no store where no gate is open, and damaged where one is open and they stand for nothing.
+-- Why no store is opened: the bytes are no store where no gate is
+-- open, and damaged where one is open and they stand for nothing.
 abbrev pub IsNotOpened : Refusal → List ℕ → Type 0
 IsNotOpened refusals.OutOfMemory bytes = IsOpen A bytes ⊎ IsOpen B bytes
 IsNotOpened refusals.DiskFault bytes = Unit {0}
@@ -90,9 +91,10 @@ abbrev pub IsOpeningOf : {D : Type 0} → Result (Stored D) (Refusal × D) → L
 IsOpeningOf (Ok store) bytes = IsOpened store bytes
 IsOpeningOf (Err e) bytes = IsNotOpened e.0 bytes
 
--- a release that is taken: each file is a release file, the union is consistent, the history goes on with its rows,
--- and a segment of the new ones is added
-pub record IsTaken (h after : History) (shelf next : Shelf) (release : Release) (receipt : Receipt) : Type 0 where
+-- a release that is taken: each file is a release file, the union is consistent,
+-- the history goes on with its rows, and a segment of the new ones is added
+pub record IsTaken (h after : History) (shelf next : Shelf) (release : Release)
+    (receipt : Receipt) : Type 0 where
   pub room : IsNotSpent h.imports shelf.epoch
   pub rows : List Version
   pub is_release : IsReleaseOf release rows
@@ -102,7 +104,8 @@ pub record IsTaken (h after : History) (shelf next : Shelf) (release : Release) 
   pub shelf_is : IsShelfAfter (new_rows h rows) shelf next
 
 -- a release that would be taken, but for its new rows
-pub record IsUnplaced (h : History) (shelf : Shelf) (release : Release) (Lacks : List StampedRow → Shelf → Type 0) : Type 0 where
+pub record IsUnplaced (h : History) (shelf : Shelf) (release : Release)
+    (Lacks : List StampedRow → Shelf → Type 0) : Type 0 where
   pub room : IsNotSpent h.imports shelf.epoch
   pub rows : List Version
   pub is_release : IsReleaseOf release rows
@@ -118,17 +121,20 @@ pub record IsWelcome (h : History) (shelf : Shelf) (release : Release) : Type 0 
   pub next : Shelf
   pub shelf_is : IsShelfAfter (new_rows h rows) shelf next
 
--- where the device may fail: known rows are read once each file is a release file, and it is written to only for a release
--- that would be taken
+-- where the device may fail: known rows are read once each file is a
+-- release file, and it is written to only for a release that would be taken
 abbrev pub IsAtDevice : History → Shelf → Release → Type 0
-IsAtDevice h shelf release = (IsNotSpent h.imports shelf.epoch × IsRead release) ⊎ IsWelcome h shelf release
+IsAtDevice h shelf release =
+    (IsNotSpent h.imports shelf.epoch × IsRead release) ⊎ IsWelcome h shelf release
 
 -- why a release isn't taken at a history and a shelf, on an honest device
 abbrev pub IsNotTaken : Refusal → History → Shelf → Release → Type 0
 IsNotTaken refusals.OutOfMemory h shelf release = IsNotSpent h.imports shelf.epoch
 IsNotTaken refusals.DiskFault h shelf release = IsAtDevice h shelf release
-IsNotTaken refusals.CountSpent h shelf release = (h.imports ≡ last_import) ⊎ (shelf.epoch ≡ last_epoch)
-IsNotTaken (refusals.Line file line fault) h shelf release = IsNotSpent h.imports shelf.epoch × IsFaultOfRelease release file line fault
+IsNotTaken refusals.CountSpent h shelf release =
+    (h.imports ≡ last_import) ⊎ (shelf.epoch ≡ last_epoch)
+IsNotTaken (refusals.Line file line fault) h shelf release =
+    IsNotSpent h.imports shelf.epoch × IsFaultOfRelease release file line fault
 IsNotTaken (refusals.Contradiction file line) h shelf release = IsNotSpent h.imports shelf.epoch
     × (key : Key) × HasContradiction (full h) release file line key
 IsNotTaken refusals.TooManySegments h shelf release = IsUnplaced h shelf release HasNoEntry
@@ -148,13 +154,16 @@ pub record IsRefused {D : Type 0} (e : Refusal) (old new : Stored D) : Type 0 wh
   pub still : e ≢ refusals.DiskFault → new.needs_reopen ≡ old.needs_reopen
 
 -- what a stop may leave stays as it is at every refusal but the failed device
-abbrev pub KeepsMoments : {T D : Type 0} → (D → Moments) → Result T Refusal → Stored D → Stored D → Type 0
+abbrev pub KeepsMoments : {T D : Type 0} → (D → Moments) → Result T Refusal → Stored D → Stored D
+    → Type 0
 KeepsMoments moments (Ok x) old new = Unit {0}
 KeepsMoments moments (Err e) old new = e ≢ refusals.DiskFault → moments new.disk ≡ moments old.disk
 
 -- what an import answers, and the store after it
-abbrev pub IsImportOf : {D : Type 0} → Result Receipt Refusal → Stored D → Stored D → Release → Type 0
-IsImportOf (Ok receipt) old new release = IsTaken old.history new.history old.shelf new.shelf release receipt
+abbrev pub IsImportOf : {D : Type 0} → Result Receipt Refusal → Stored D → Stored D → Release
+    → Type 0
+IsImportOf (Ok receipt) old new release =
+    IsTaken old.history new.history old.shelf new.shelf release receipt
     × (old.needs_reopen ≡ false) × (new.needs_reopen ≡ false)
 IsImportOf (Err e) old new release = IsImportRefusal e old release × IsRefused e old new
 
@@ -170,9 +179,12 @@ abbrev pub IsBeforeOrAfter : History → Release → List ℕ → Type 0
 IsBeforeOrAfter h release c = StandsForHistory h c ⊎ StandsWith h release c
 
 -- the store goes on to this history and shelf, or stays; memory may lack, or the device may fail
-abbrev pub IsStep : {D : Type 0} → Result (Unit {0}) Refusal → Stored D → Stored D → History → Shelf → Type 0
-IsStep (Ok done) old new after next = (new.history ≡ after) × (new.shelf ≡ next) × (new.needs_reopen ≡ false)
-IsStep (Err e) old new after next = ((e ≡ refusals.OutOfMemory) ⊎ (e ≡ refusals.DiskFault)) × IsRefused e old new
+abbrev pub IsStep : {D : Type 0} → Result (Unit {0}) Refusal → Stored D → Stored D → History → Shelf
+    → Type 0
+IsStep (Ok done) old new after next =
+    (new.history ≡ after) × (new.shelf ≡ next) × (new.needs_reopen ≡ false)
+IsStep (Err e) old new after next =
+    ((e ≡ refusals.OutOfMemory) ⊎ (e ≡ refusals.DiskFault)) × IsRefused e old new
 
 -- why a call that only reads is refused
 abbrev pub IsReadRefusal : {D : Type 0} → Refusal → Stored D → Type 0
@@ -194,23 +206,30 @@ abbrev pub IsReadingOf : {T D : Type 0} → Result T Refusal → Stored D → St
 IsReadingOf (Ok x) old new = IsStill old new
 IsReadingOf (Err e) old new = IsReadRefusal e old × IsRefused e old new
 
--- why the new rows of a release are not had: a fault of the files on every disk, a contradiction and no damage on an honest one
+-- why the new rows of a release are not had: a fault of the files
+-- on every disk, a contradiction and no damage on an honest one
 abbrev pub IsNotFresh : Type 0 → Refusal → List Version → Release → Type 0
-IsNotFresh honest e known release = (fault : ImportFault) × (e ≡ refusal_of fault) × IsRefusal honest known release fault
+IsNotFresh honest e known release =
+    (fault : ImportFault) × (e ≡ refusal_of fault) × IsRefusal honest known release fault
 
--- Why an import is refused, on every disk: what the counts, the files and the directory say. Whether a row contradicts
--- the known ones is said on an honest disk alone.
+-- Why an import is refused, on every disk: what the counts, the files and the directory say.
+-- Whether a row contradicts the known ones is said on an honest disk alone.
 abbrev pub IsRefusalAtAll : {D : Type 0} → Refusal → Stored D → Release → Type 0
-IsRefusalAtAll refusals.OutOfMemory s release = (s.needs_reopen ≡ false) × IsNotSpent s.history.imports s.shelf.epoch
-IsRefusalAtAll refusals.DiskFault s release = (s.needs_reopen ≡ false) × IsNotSpent s.history.imports s.shelf.epoch × IsRead release
+IsRefusalAtAll refusals.OutOfMemory s release =
+    (s.needs_reopen ≡ false) × IsNotSpent s.history.imports s.shelf.epoch
+IsRefusalAtAll refusals.DiskFault s release =
+    (s.needs_reopen ≡ false) × IsNotSpent s.history.imports s.shelf.epoch × IsRead release
 IsRefusalAtAll refusals.ReopenNeeded s release = s.needs_reopen ≡ true
 IsRefusalAtAll refusals.NotEmpty s release = ⊥
-IsRefusalAtAll refusals.Full s release = (s.needs_reopen ≡ false) × IsNotSpent s.history.imports s.shelf.epoch
+IsRefusalAtAll refusals.Full s release =
+    (s.needs_reopen ≡ false) × IsNotSpent s.history.imports s.shelf.epoch
     × IsRead release × (length s.shelf.entries < most_entries)
-IsRefusalAtAll refusals.TooManySegments s release = (s.needs_reopen ≡ false) × IsNotSpent s.history.imports s.shelf.epoch
+IsRefusalAtAll refusals.TooManySegments s release =
+    (s.needs_reopen ≡ false) × IsNotSpent s.history.imports s.shelf.epoch
     × IsRead release × (length s.shelf.entries ≡ most_entries)
 IsRefusalAtAll refusals.NotAStore s release = ⊥
-IsRefusalAtAll refusals.Damaged s release = (s.needs_reopen ≡ false) × IsNotSpent s.history.imports s.shelf.epoch × IsRead release
+IsRefusalAtAll refusals.Damaged s release =
+    (s.needs_reopen ≡ false) × IsNotSpent s.history.imports s.shelf.epoch × IsRead release
 IsRefusalAtAll refusals.NothingToMerge s release = ⊥
 IsRefusalAtAll refusals.MergeBusy s release = ⊥
 IsRefusalAtAll refusals.NoMerge s release = ⊥
@@ -222,9 +241,11 @@ IsRefusalAtAll (refusals.Line file line fault) s release = (s.needs_reopen ≡ f
 IsRefusalAtAll (refusals.Contradiction file line) s release = (s.needs_reopen ≡ false)
     × IsNotSpent s.history.imports s.shelf.epoch × IsRead release
 
--- what an import answers on every disk, and the store after it: with one import more, or as it was; a failure of the
--- device alone closes it
-abbrev pub IsImportAtAll : {D : Type 0} → Result Receipt Refusal → Stored D → Stored D → Release → Type 0
+-- what an import answers on every disk, and the store after it: with one import more, or as it was;
+-- a failure of the device alone closes it
+abbrev pub IsImportAtAll : {D : Type 0} → Result Receipt Refusal → Stored D → Stored D → Release
+    → Type 0
 IsImportAtAll (Ok receipt) old new release = (new.history.imports ≡ old.history.imports + 1)
-    × (receipt.number ≡ new.history.imports) × (old.needs_reopen ≡ false) × (new.needs_reopen ≡ false)
+    × (receipt.number ≡ new.history.imports) × (old.needs_reopen ≡ false)
+    × (new.needs_reopen ≡ false)
 IsImportAtAll (Err e) old new release = IsRefusalAtAll e old release × IsRefused e old new

@@ -16,8 +16,10 @@ pub record IsDone {D : Type 0} (old new : Stored D) : Type 0 where
 abbrev pub IsNotBegun : {D : Type 0} → Refusal → Stored D → Type 0
 IsNotBegun refusals.ReopenNeeded s = s.needs_reopen ≡ true
 IsNotBegun refusals.MergeBusy s = (s.needs_reopen ≡ false) × GoesOn s.shelf
-IsNotBegun refusals.NothingToMerge s = (s.needs_reopen ≡ false) × (s.shelf.merge ≡ None) × (length s.shelf.entries < 2)
-IsNotBegun refusals.Full s = (s.needs_reopen ≡ false) × (s.shelf.merge ≡ None) × HasNoOutput s.shelf.entries
+IsNotBegun refusals.NothingToMerge s =
+    (s.needs_reopen ≡ false) × (s.shelf.merge ≡ None) × (length s.shelf.entries < 2)
+IsNotBegun refusals.Full s =
+    (s.needs_reopen ≡ false) × (s.shelf.merge ≡ None) × HasNoOutput s.shelf.entries
 IsNotBegun _ s = ⊥
 
 -- what the beginning of a merge answers, and the store after it
@@ -44,13 +46,17 @@ abbrev pub IsNotPublished : {D : Type 0} → Refusal → Stored D → Type 0
 IsNotPublished refusals.ReopenNeeded s = s.needs_reopen ≡ true
 IsNotPublished refusals.NoMerge s = (s.needs_reopen ≡ false) × (s.shelf.merge ≡ None)
 IsNotPublished refusals.MergeUnfinished s = (s.needs_reopen ≡ false) × IsUnfinished s.shelf
-IsNotPublished refusals.CountSpent s = (s.needs_reopen ≡ false) × IsFinished s.shelf × (s.shelf.epoch ≡ last_epoch)
-IsNotPublished refusals.DiskFault s = (s.needs_reopen ≡ false) × IsFinished s.shelf × (s.shelf.epoch < last_epoch)
+IsNotPublished refusals.CountSpent s =
+    (s.needs_reopen ≡ false) × IsFinished s.shelf × (s.shelf.epoch ≡ last_epoch)
+IsNotPublished refusals.DiskFault s =
+    (s.needs_reopen ≡ false) × IsFinished s.shelf × (s.shelf.epoch < last_epoch)
 IsNotPublished _ s = ⊥
 
--- What the publication of a merge answers, and the store after it. It has as many imports; on an honest disk the whole history stays.
+-- What the publication of a merge answers, and the store after it. It has as many imports;
+-- on an honest disk the whole history stays.
 abbrev pub IsPublishingOf : {D : Type 0} → Result (Unit {0}) Refusal → Stored D → Stored D → Type 0
-IsPublishingOf (Ok done) old new = IsPublished old.shelf new.shelf × (new.history.imports ≡ old.history.imports)
+IsPublishingOf (Ok done) old new =
+    IsPublished old.shelf new.shelf × (new.history.imports ≡ old.history.imports)
     × (old.needs_reopen ≡ false) × (new.needs_reopen ≡ false)
 IsPublishingOf (Err e) old new = IsNotPublished e old × IsRefused e old new
 
@@ -62,7 +68,8 @@ IsNotAbandoned _ s = ⊥
 
 -- what giving up a merge answers, and the store after it
 abbrev pub IsAbandoningOf : {D : Type 0} → Result (Unit {0}) Refusal → Stored D → Stored D → Type 0
-IsAbandoningOf (Ok done) old new = GoesOn old.shelf × (new.shelf ≡ record old.shelf { merge = None }) × IsDone old new
+IsAbandoningOf (Ok done) old new =
+    GoesOn old.shelf × (new.shelf ≡ record old.shelf { merge = None }) × IsDone old new
 IsAbandoningOf (Err e) old new = IsNotAbandoned e old × IsRefused e old new
 
 -- why nothing is cut off

@@ -26,7 +26,8 @@ pub record AreFewest (entries : List Entry) (i j : ℕ) : Type 0 where
 
 -- there are no other two
 abbrev pub FewestAreOne : Type 0
-FewestAreOne = (entries : List Entry) (i j k l : ℕ) → AreFewest entries i j → AreFewest entries k l → (i ≡ k) × (j ≡ l)
+FewestAreOne = (entries : List Entry) (i j k l : ℕ) → AreFewest entries i j → AreFewest entries k l
+    → (i ≡ k) × (j ≡ l)
 
 -- the two segments that a merge takes
 pub record Inputs (entries : List Entry) : Type 0 where
@@ -38,7 +39,8 @@ pub record Inputs (entries : List Entry) : Type 0 where
   pub a_is : slice_get entries i ≡ Some a
   pub b_is : slice_get entries j ≡ Some b
 
--- a merge begins: of the two segments of fewest rows, into the first place that has room for the bytes of both
+-- a merge begins: of the two segments of fewest rows, into
+-- the first place that has room for the bytes of both
 pub record IsBegun (shelf next : Shelf) (left : ℕ) : Type 0 where
   pub none : shelf.merge ≡ None
   pub inputs : Inputs shelf.entries
@@ -58,7 +60,8 @@ pub record IsBegun (shelf next : Shelf) (left : ℕ) : Type 0 where
 -- both are too long for one segment, or there is no place for it
 pub record HasNoOutput (entries : List Entry) : Type 0 where
   pub inputs : Inputs entries
-  pub lacks : (2 ^ 32 ≤ inputs.a.bytes + inputs.b.bytes) ⊎ (fit (div_ceil (inputs.a.bytes + inputs.b.bytes) 4096) entries None ≡ None)
+  pub lacks : (2 ^ 32 ≤ inputs.a.bytes + inputs.b.bytes)
+      ⊎ (fit (div_ceil (inputs.a.bytes + inputs.b.bytes) 4096) entries None ≡ None)
 
 -- a merge goes on
 abbrev pub GoesOn : Shelf → Type 0

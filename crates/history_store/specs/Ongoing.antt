@@ -1,5 +1,5 @@
--- A merge that goes on: in memory stand the places of the rows taken so far and what is posted of them, and their bytes
--- stand where the output is to lie, as a read gives them.
+-- A merge that goes on: in memory stand the places of the rows taken so far and what is
+-- posted of them, and their bytes stand where the output is to lie, as a read gives them.
 use Rattle.std.specs.Prelude.{◌≡◌, ℕ, ◌<◌, ◌++◌, Bool, false, List, length, Option, Some, None, slice_get}
 use Rattle.std.specs.List.{AllByRecursion, AllZip}
 use Rattle.rf2_values.specs.Key.{key_of}
@@ -25,7 +25,8 @@ use Rattle.history_store.specs.Shelf.{Merge}
 -- what the shelf shows of it
 abbrev pub merge_of : Option Ongoing → Option Merge
 merge_of None = None
-merge_of (Some m) = Some (record { i = m.i; j = m.j; output = extent_of m.entry; left = count_left m.places })
+merge_of (Some m) =
+    Some (record { i = m.i; j = m.j; output = extent_of m.entry; left = count_left m.places })
 
 -- the one row has the key, the import's number and the length of the other
 pub record IsLike (s other : StampedRow) : Type 0 where
@@ -33,10 +34,11 @@ pub record IsLike (s other : StampedRow) : Type 0 where
   pub import : s.import ≡ other.import
   pub bytes : record_len s ≡ record_len other
 
--- The rows that were read and taken of the two lists, and then what is left of them, are their union; a disk that isn't
--- honest may have given rows that are like these.
--- The output's extent shares no block with a segment that is listed.
-pub record IsMergeOf (honest : Type 0) (d : Listing) (lists : List (List StampedRow)) (i j : ℕ) (entry : Entry)
+-- The rows that were read and taken of the two lists, and then what is left of them, are their
+-- union; a disk that isn't honest may have given rows that are like these. The output's extent
+-- shares no block with a segment that is listed.
+pub record IsMergeOf (honest : Type 0) (d : Listing) (lists : List (List StampedRow)) (i j : ℕ)
+    (entry : Entry)
     (places : Merging) (rows : List StampedRow) (written : ℕ) : Type 0 where
   pub a : List StampedRow
   pub b : List StampedRow
@@ -54,7 +56,8 @@ pub record IsMergeOf (honest : Type 0) (d : Listing) (lists : List (List Stamped
   pub written_is : written ≡ length (segment_of rows)
 
 -- what is kept of rows that were taken: their places in the output, and what is posted of them
-pub record AreTaken (rows : List StampedRow) (listed : List Posted) (terms : List TermAt) (edges : Edges) : Type 0 where
+pub record AreTaken (rows : List StampedRow) (listed : List Posted) (terms : List TermAt)
+    (edges : Edges) : Type 0 where
   pub listed_are : listed ≡ places_of rows
   pub terms_are : terms ≡ posted_all posted_term (with_places 0 rows)
   pub edges_are : edges ≡ posted_edges (with_places 0 rows)
@@ -62,7 +65,8 @@ pub record AreTaken (rows : List StampedRow) (listed : List Posted) (terms : Lis
 -- it is one of two of the segments that are listed
 abbrev pub IsMergingOf : Type 0 → Listing → List (List StampedRow) → Option Ongoing → Type 0
 IsMergingOf honest d lists None = Unit {0}
-IsMergingOf honest d lists (Some m) = IsMergeOf honest d lists m.i m.j m.entry m.places m.shown m.written
+IsMergingOf honest d lists (Some m) =
+    IsMergeOf honest d lists m.i m.j m.entry m.places m.shown m.written
     × AreTaken m.shown m.listed.items m.terms m.edges
 
 -- a read gives what was written of the output; a stop may still lose it
@@ -70,7 +74,8 @@ abbrev pub IsWritten : Option Ongoing → List ℕ → Type 0
 IsWritten None now = Unit {0}
 IsWritten (Some m) now = BeginsWith (extent_of m.entry) (segment_of m.shown) now
 
--- A merge that goes on is of two of these segments. As long as no call has failed, a read gives what was written of it.
+-- A merge that goes on is of two of these segments. As long
+-- as no call has failed, a read gives what was written of it.
 pub record HasMerge (honest : Type 0) (now : List ℕ) (d : Listing) (lists : List (List StampedRow))
     (merge : Option Ongoing) (needs_reopen : Bool) : Type 0 where
   pub merging : IsMergingOf honest d lists merge

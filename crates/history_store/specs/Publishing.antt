@@ -6,7 +6,11 @@ use Rattle.history_store.specs.declared.publishing.Replaced.{Replaced}
 
 -- the directory with the output in the place of the two, at the next epoch
 abbrev pub replaced_listing : Listing → Ongoing → Listing
-replaced_listing d m = record { epoch = d.epoch + 1; imports = d.imports; entries = remove (slice_set d.entries m.i m.entry) m.j }
+replaced_listing d m = record {
+  epoch = d.epoch + 1;
+  imports = d.imports;
+  entries = remove (slice_set d.entries m.i m.entry) m.j;
+}
 
 -- a directory may list it
 pub record IsReplacing (d : Listing) (m : Ongoing) : Type 0 where

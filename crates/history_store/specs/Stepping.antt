@@ -37,9 +37,10 @@ pub record IsReady (honest : Type 0) (state : DiskState) (cache : LruCache ℕ (
   pub held : IsHeld honest state cache slot d index lists false
   pub merge : HasMerge honest state.now d lists (Some m) false
 
--- The next rows of two lists, up to n, and their records. On every disk they are alike in key, number and length; on an
--- honest one they are the rows.
-pub record IsPart (honest : Type 0) (a b : List StampedRow) (m : Ongoing) (n : ℕ) (p : Part) : Type 0 where
+-- The next rows of two lists, up to n, and their records. On every disk they
+-- are alike in key, number and length; on an honest one they are the rows.
+pub record IsPart (honest : Type 0) (a b : List StampedRow) (m : Ongoing) (n : ℕ)
+    (p : Part) : Type 0 where
   pub lengths : IsOf p.places a b
   pub left : count_left p.places ≡ count_left m.places - n
   pub rest : rows_left p.places a b ≡ drop n (rows_left m.places a b)

@@ -13,10 +13,12 @@ abbrev pub TermsTaken : List (List (StampedRow × Posted)) → List (List TermAt
 TermsTaken [] [] = Unit {0}
 TermsTaken [] (ts ∷ terms) = ⊥
 TermsTaken (rows ∷ segments) [] = ⊥
-TermsTaken (rows ∷ segments) (ts ∷ terms) = IsPermutation (posted_all posted_term rows) ts × TermsTaken segments terms
+TermsTaken (rows ∷ segments) (ts ∷ terms) =
+    IsPermutation (posted_all posted_term rows) ts × TermsTaken segments terms
 
 abbrev pub EdgesTaken : List (List (StampedRow × Posted)) → List Edges → Type 0
 EdgesTaken [] [] = Unit {0}
 EdgesTaken [] (e ∷ edges) = ⊥
 EdgesTaken (rows ∷ segments) [] = ⊥
-EdgesTaken (rows ∷ segments) (e ∷ edges) = AreSameEdges (posted_edges rows) e × EdgesTaken segments edges
+EdgesTaken (rows ∷ segments) (e ∷ edges) =
+    AreSameEdges (posted_edges rows) e × EdgesTaken segments edges

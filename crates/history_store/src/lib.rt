@@ -1,7 +1,8 @@
 //! A store of the release history of a terminology, on a disk.
 //!
-//! No row stands in memory. On the disk each import that brought rows has a segment of them, and a directory lists the
-//! segments; in memory an index lists the place of each row. Rows are read where they are listed, through a cache of blocks.
+//! No row stands in memory. On the disk each import that brought rows has a segment of them, and a
+//! directory lists the segments; in memory an index lists the place of each row. Rows are read
+//! where they are listed, through a cache of blocks.
 #![tactic(auto)]
 
 mod beginning;

@@ -26,8 +26,8 @@ impl<D: Disk> Store<D> {
     ghost use Rattle.history_store.specs.declared.refusal.Refusal.TheVariants as refusals;
     ghost use Rattle.history_store.specs.MergeAnswers.{IsBeginningOf, IsSteppingOf, IsPublishingOf, IsAbandoningOf, IsTrimmingOf};
 
-    /// Begins to merge the two segments of fewest rows, of those with as many the ones listed first, and answers how many
-    /// rows they have. It writes nothing and takes no memory.
+    /// Begins to merge the two segments of fewest rows, of those with as many the ones listed
+    /// first, and answers how many rows they have. It writes nothing and takes no memory.
     pub fn merge_begin(&mut self) -> Result<u64, Refusal>
         ensures answer { IsBeginningOf result self.old self.new }
         ensures disk { self.new.disk ≡ self.old.disk }
@@ -48,8 +48,9 @@ impl<D: Disk> Store<D> {
         Ok(left)
     }
 
-    /// Takes up to `n` rows more of the merge that goes on, in key order, and answers how many are left. They are read, and
-    /// their records are written by one write; all memory is taken before it.
+    /// Takes up to `n` rows more of the merge that goes on, in key order, and answers how many are
+    /// left. They are read, and their records are written by one write; all memory is taken before
+    /// it.
     pub fn merge_step(&mut self, n: u32) -> Result<u64, Refusal>
         ensures answer { IsSteppingOf result self.old self.new n }
         ensures undamaged { D.is_honest self.old.disk → IfErr result (λ e. e ≢ refusals.Damaged) }
@@ -59,7 +60,8 @@ impl<D: Disk> Store<D> {
             (StandsForHistory self.old.history) }
         ensures acknowledged { D.is_honest self.old.disk → self.new.needs_reopen ≡ false
             → IsAcknowledged D.moments self.new }
-        // Refused for any other reason than the device, it leaves whatever a stop may leave as it was.
+        // Refused for any other reason than the device,
+        // it leaves whatever a stop may leave as it was.
         ensures refused { D.is_honest self.old.disk
             → KeepsMoments D.moments result self.old self.new }
         // After Ok a read gives the same outside the blocks that the merge has reserved.
@@ -101,7 +103,8 @@ impl<D: Disk> Store<D> {
         }
     }
 
-    /// Puts the segment of both in the place of the two that were merged, in the directory as it stands now. It takes no memory.
+    /// Puts the segment of both in the place of the two that were
+    /// merged, in the directory as it stands now. It takes no memory.
     pub fn merge_publish(&mut self) -> Result<(), Refusal>
         ensures answer { IsPublishingOf result self.old self.new }
         ensures history { D.is_honest self.old.disk → self.new.history ≡ self.old.history }
@@ -115,7 +118,8 @@ impl<D: Disk> Store<D> {
             (StandsForHistory self.old.history) }
         ensures acknowledged { D.is_honest self.old.disk → self.new.needs_reopen ≡ false
             → IsAcknowledged D.moments self.new }
-        // Refused for any other reason than the device, it leaves whatever a stop may leave as it was.
+        // Refused for any other reason than the device,
+        // it leaves whatever a stop may leave as it was.
         ensures refused { D.is_honest self.old.disk
             → KeepsMoments D.moments result self.old self.new }
         ensures closed { self.old.needs_reopen ≡ true → self.new ≡ self.old }
@@ -176,7 +180,8 @@ impl<D: Disk> Store<D> {
         Ok(())
     }
 
-    /// Cuts off what lies behind all segments and the blocks that a merge reserves, and answers how many bytes these were.
+    /// Cuts off what lies behind all segments and the blocks that
+    /// a merge reserves, and answers how many bytes these were.
     pub fn trim(&mut self) -> Result<u64, Refusal>
         ensures answer { IsTrimmingOf result self.old self.new }
         ensures cut_off { D.is_honest self.old.disk → IfOk result

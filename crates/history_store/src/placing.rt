@@ -35,8 +35,8 @@ fn add_record(alloc: Global, bytes: &mut Vec<u8>, row: &StampedRow) -> Result<()
     Ok(())
 }
 
-/// The segment of rows that has so many bytes. The sink takes each row with its place, and then the row is dropped:
-/// rows and records never stand all beside each other in memory.
+/// The segment of rows that has so many bytes. The sink takes each row with its place, and
+/// then the row is dropped: rows and records never stand all beside each other in memory.
 pub(crate) fn place_all<S: RowSink>(
     alloc: Global,
     rows: Vec<StampedRow>,

@@ -1,4 +1,5 @@
-//! What is posted of the rows of segments: the terms of descriptions, and what relationships and associations say.
+//! What is posted of the rows of segments: the terms of
+//! descriptions, and what relationships and associations say.
 
 ghost use Rattle.std.specs.Prelude.{◌≡◌, ◌≤◌, [], length, IfOk};
 ghost use Rattle.as_of_index.specs.Places.{max_lists};

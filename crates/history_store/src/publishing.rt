@@ -52,7 +52,8 @@ pub(crate) fn put_back(directory: &mut Directory, merge: &Ongoing, before: Repla
     directory.put_back(before.epoch, merge.i, merge.j, before.first, before.second);
 }
 
-/// Puts what is kept of a merge's output in the place of what is kept of its two segments. It takes no memory.
+/// Puts what is kept of a merge's output in the place of what is kept of its two segments.
+/// It takes no memory.
 pub(crate) fn list_output(
     index: &mut Index,
     terms: &mut Terms,
@@ -72,7 +73,8 @@ pub(crate) fn list_output(
         × (terms.new ≡ remove (slice_set terms.old merge.i sealed) merge.j) }
     ensures links { (sealed : Edges) × AreSameEdges merge.edges sealed
         × (links.new ≡ remove (slice_set links.old merge.i sealed) merge.j) }
-    ensures shown { shown.new.items ≡ remove (slice_set shown.old.items merge.i merge.shown) merge.j }
+    ensures shown { shown.new.items ≡ remove
+        (slice_set shown.old.items merge.i merge.shown) merge.j }
 {
     let Ongoing {
         i,

@@ -162,7 +162,8 @@ fn cut_back(merge: &mut Ongoing, lengths: Lengths)
     merge.edges.cut_to(lengths.edges);
 }
 
-/// Makes the places of rows in the output, and posts what the rows say. An `Err` may leave some of it.
+/// Makes the places of rows in the output, and posts what the rows say.
+/// An `Err` may leave some of it.
 fn post_all(merge: &mut Ongoing, rows: &[StampedRow]) -> Result<(), AllocError>
     requires keeps { Keeps merge.old }
     requires written { merge.old.written ≡ length (segment_of merge.old.shown) }

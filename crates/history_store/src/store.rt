@@ -89,10 +89,12 @@ impl<D: Disk> Store<D> {
     ghost use Rattle.history_store.specs.Answers.{IsImportAtAll, IsBeforeOrAfter, HandsBack, KeepsMoments};
     ghost use Rattle.history_store.specs.declared.refusal.Refusal.TheVariants as refusals;
 
-    /// Makes a store on an empty disk. The length of the disk is looked at first, then all memory is taken, then the disk is written.
+    /// Makes a store on an empty disk. The length of the disk is looked
+    /// at first, then all memory is taken, then the disk is written.
     pub fn create(alloc: Global, disk: D) -> Result<Store<D>, (Refusal, D)>
         ensures made { D.is_honest disk → IsMakingOf result (D.moments disk).state.now }
-        // Refused for any other reason than the device, it leaves whatever a stop may leave as it was.
+        // Refused for any other reason than the device,
+        // it leaves whatever a stop may leave as it was.
         ensures refused { D.is_honest disk → HandsBack D.moments result disk }
         // A disk with a byte stays as it is, whatever the answer: where the device fails, too.
         ensures untouched { D.is_honest disk → 1 ≤ length (D.moments disk).state.now
@@ -133,7 +135,8 @@ impl<D: Disk> Store<D> {
         }
     }
 
-    /// Opens the store that a disk stands for. The disk is read, after one sync, and is given back with every refusal.
+    /// Opens the store that a disk stands for. The disk is read,
+    /// after one sync, and is given back with every refusal.
     pub fn open(alloc: Global, disk: D) -> Result<Store<D>, (Refusal, D)>
         ensures exact { D.is_honest disk → IsOpeningOf result (D.moments disk).state.now }
         // A stop at any moment leaves what it might have left before.
@@ -320,7 +323,8 @@ impl<D: Disk> Store<D> {
         requires still { self.old.needs_reopen ≡ false }
         requires prepared { IsPreparedFor self.old prepared }
         ensures step { IsStep result self.old self.new
-            (with_rows self.old.history prepared.shown) (shelf_of prepared.directory self.old.shelf.merge) }
+            (with_rows self.old.history prepared.shown)
+            (shelf_of prepared.directory self.old.shelf.merge) }
         ensures any_moment { D.is_honest self.old.disk
             → LeavesOnly (D.moments self.old.disk) (D.moments self.new.disk)
             (λ c. StandsForHistory self.old.history c ⊎ StandsForHistory
@@ -379,7 +383,8 @@ impl<D: Disk> Store<D> {
         // After Ok each stop leaves the new one.
         ensures acknowledged { D.is_honest self.old.disk → self.new.needs_reopen ≡ false
             → IsAcknowledged D.moments self.new }
-        // Refused for any other reason than the device, it leaves whatever a stop may leave as it was.
+        // Refused for any other reason than the device,
+        // it leaves whatever a stop may leave as it was.
         ensures refused { D.is_honest self.old.disk
             → KeepsMoments D.moments result self.old self.new }
         // After Ok a read gives the same outside the slots and the segment that was added.
@@ -450,7 +455,8 @@ impl<D: Disk> Store<D> {
         }
     }
 
-    /// The first rows of a kind at the date, at most `limit`, ascending by id from above `after` on.
+    /// The first rows of a kind at the date, at most
+    /// `limit`, ascending by id from above `after` on.
     pub fn page(
         &mut self,
         kind: Kind,
@@ -494,7 +500,8 @@ impl<D: Disk> Store<D> {
         }
     }
 
-    /// Active descriptions whose term begins with the prefix, whatever the case, ascending by id, at most `limit`.
+    /// Active descriptions whose term begins with the prefix,
+    /// whatever the case, ascending by id, at most `limit`.
     pub fn terms(
         &mut self,
         prefix: &str,
@@ -546,7 +553,8 @@ impl<D: Disk> Store<D> {
         }
     }
 
-    /// The sources of the active relationships of the type "is a" to a concept, ascending. Nothing is read.
+    /// The sources of the active relationships of the type "is a" to a concept, ascending.
+    /// Nothing is read.
     pub fn children(
         &mut self,
         id: Sctid,

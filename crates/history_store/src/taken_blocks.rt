@@ -20,7 +20,8 @@ pub(crate) fn reserved(merge: &Option<Ongoing>) -> Option<Extent>
     }
 }
 
-/// The first block behind all segments and the reserved extent, and at least the one behind the slots.
+/// The first block behind all segments and the reserved
+/// extent, and at least the one behind the slots.
 pub(crate) fn end_of(entries: &[Entry], reserved: Option<Extent>) -> u64
     ensures end { result ≡ end_of_taken (taken entries.now reserved) }
     ensures fits { result < 2 ^ 33 }

@@ -1,5 +1,6 @@
-//! The beginning of a merge whose output is near the longest segment or the end of the longest disk. Directories are made
-//! for it, since segments of rows that are so long would need a disk of 16 GiB.
+//! The beginning of a merge whose output is near the longest segment or the end of the longest
+//! disk. Directories are made for it, since segments of rows that are so long would need a disk of
+//! 16 GiB.
 
 ghost use Rattle.std.specs.Prelude.{IsTrue};
 ghost use Rattle.history_store.specs.Beginning.{AreLong};
@@ -14,10 +15,12 @@ use std::test::Fail;
 /// A segment: its first block, its bytes and its rows.
 type Segment = (u32, u32, u32);
 
-/// What a merge begins with: which two segments, counted from 0, its rows, and the first block of its output.
+/// What a merge begins with: which two segments, counted
+/// from 0, its rows, and the first block of its output.
 type Beginning = (usize, usize, u64, u32);
 
-/// The content block of epoch 9 and nine imports that lists these segments, without the zeros behind it.
+/// The content block of epoch 9 and nine imports that
+/// lists these segments, without the zeros behind it.
 fn content(alloc: Global, segments: &[Segment]) -> Result<Vec<u8>, AllocError> {
     let mut bytes = Vec::new(alloc);
     bytes.extend_from_slice(b"\0\0\0\0\0\0\0\x09SCTHIST1\0\0\0\x09")?;
@@ -110,8 +113,8 @@ fn an_output_is_one_segment(rt: HostRuntime) -> Result<(), Fail> {
 
 #[test]
 fn an_output_wants_free_blocks_side_by_side(rt: HostRuntime) -> Result<(), Fail> {
-    // The two to merge lie in blocks 4 and 5, three of 1,048,576 blocks each behind them, and one more up to the last
-    // free blocks of 4,194,304.
+    // The two to merge lie in blocks 4 and 5, three of 1,048,576 blocks each
+    // behind them, and one more up to the last free blocks of 4,194,304.
     for (len, last, want, why) in [
         (4_096, 4_294_942_720, Err(Refusal::Full), "no free block"),
         (

@@ -41,12 +41,15 @@ pub record IsAcceptedAs (known : List Version) (release : Release) (fresh : Fres
   pub rows_are : IsReleaseOf release rows
   pub taken : IsTaken known rows fresh
 
--- Why a release is refused: a row has a fault, which is that of the release; or each file is a release file, and a known
--- row can't be had or a line contradicts. That memory ran out says nothing.
+-- Why a release is refused: a row has a fault, which is that of the release; or each file is a
+-- release file, and a known row can't be had or a line contradicts. That memory ran out says
+-- nothing.
 abbrev pub IsRefusal : (honest : Type 0) → List Version → Release → ImportFault → Type 0
 IsRefusal honest known release importfault.OutOfMemory = ⊤
-IsRefusal honest known release (importfault.Known fault) = IsRead release × (honest → fault ≢ knownfault.Damaged)
-IsRefusal honest known release (importfault.Row file line fault) = IsFaultOfRelease release file line fault
+IsRefusal honest known release (importfault.Known fault) =
+    IsRead release × (honest → fault ≢ knownfault.Damaged)
+IsRefusal honest known release (importfault.Row file line fault) =
+    IsFaultOfRelease release file line fault
 IsRefusal honest known release (importfault.Contradiction file line key) =
     IsRead release × (honest → HasContradiction known release file line key)
 

@@ -10,11 +10,13 @@ use Rattle.import_check.specs.Known.{IsUnknown}
 
 -- no row before the place has the key
 abbrev pub NoneBefore : List StampedRow → Key → ℕ → Type 0
-NoneBefore rows key place = IsAscending stamped_cmp rows → (s : StampedRow) → Has (take place rows) s → key_of s.row ≡ key → ⊥
+NoneBefore rows key place = IsAscending stamped_cmp rows → (s : StampedRow)
+    → Has (take place rows) s → key_of s.row ≡ key → ⊥
 
 -- no row from the place on has it
 abbrev pub NoneFrom : List StampedRow → Key → ℕ → Type 0
-NoneFrom rows key place = IsAscending stamped_cmp rows → (s : StampedRow) → Has (drop place rows) s → key_of s.row ≡ key → ⊥
+NoneFrom rows key place = IsAscending stamped_cmp rows → (s : StampedRow) → Has (drop place rows) s
+    → key_of s.row ≡ key → ⊥
 
 -- the row at the place has the key
 abbrev pub StandsAtKey : List StampedRow → Key → ℕ → Type 0

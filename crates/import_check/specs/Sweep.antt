@@ -1,4 +1,5 @@
--- What a pass over lines in key order has found so far. No clause of a public function cites these words.
+-- What a pass over lines in key order has found so far.
+-- No clause of a public function cites these words.
 use Rattle.std.specs.Prelude.{◌≡◌, ◌≢◌, ℕ, ◌-◌, ◌≤◌, ◌<◌, ◌⊎◌, false, List, [], ◌∷◌, ◌++◌, length, slice_get}
 use Rattle.std.specs.Prelude.{Option, Some, None, MatchOption, IfSome, Result, Err, IsOkAnd, ⊤}
 use Rattle.std.specs.List.{AllByRecursion}
@@ -22,7 +23,8 @@ use Rattle.import_check.specs.Fresh.{IsApart}
 
 -- a line stands by another or before it
 abbrev pub StandsBy : ℕ → ℕ → ℕ → ℕ → Type 0
-StandsBy file line other_file other_line = (file < other_file) ⊎ ((file ≡ other_file) × (line ≤ other_line))
+StandsBy file line other_file other_line =
+    (file < other_file) ⊎ ((file ≡ other_file) × (line ≤ other_line))
 
 -- by file, then by line
 abbrev pub place_cmp : PlacedLine → PlacedLine → Ordering
@@ -55,7 +57,8 @@ abbrev pub Stands : List Version → List PlacedLine → Version → Type 0
 Stands known lines row = Has known row ⊎ IsNewRow known lines row
 
 -- a line whose row isn't the one that stands
-pub record IsContradiction (known : List Version) (lines : List PlacedLine) (c : Contradiction) : Type 0 where
+pub record IsContradiction (known : List Version) (lines : List PlacedLine)
+    (c : Contradiction) : Type 0 where
   pub line : PlacedLine
   pub there : Has lines line
   pub standing : Version
@@ -71,31 +74,36 @@ abbrev pub IsBlamed : Option Contradiction → PlacedLine → Type 0
 IsBlamed first line = MatchOption first ⊥ (λ c. StandsBy c.file c.line line.file line.line)
 
 -- the line's row is the one that stands, or a contradiction is found no later
-pub record IsJudged (known : List Version) (lines : List PlacedLine) (first : Option Contradiction) (line : PlacedLine) : Type 0 where
+pub record IsJudged (known : List Version) (lines : List PlacedLine) (first : Option Contradiction)
+    (line : PlacedLine) : Type 0 where
   pub standing : Version
   pub stands : Stands known lines standing
   pub same_key : key_of standing ≡ key_of line.row
   pub verdict : (standing ≡ line.row) ⊎ IsBlamed first line
 
--- the row that stands for the key of the last line: the one that is known, or else the last of the new rows
+-- the row that stands for the key of the last line: the
+-- one that is known, or else the last of the new rows
 abbrev pub standing_row : Option Version → List Version → Option Version
 standing_row None fresh = slice_get fresh (length fresh - 1)
 standing_row (Some row) fresh = Some row
 
 -- the row stands, and its key is that of a line and the greatest so far
-pub record IsLast (known : List Version) (lines done : List PlacedLine) (row : Version) : Type 0 where
+pub record IsLast (known : List Version) (lines done : List PlacedLine)
+    (row : Version) : Type 0 where
   pub stands : Stands known lines row
   pub greatest : (line : PlacedLine) → Has done line → is_gt (row_cmp line.row row) ≡ false
   pub at : (line : PlacedLine) × Has done line × (key_of line.row ≡ key_of row)
 
 -- of all these lines, so many have been taken and so many judged
 pub record Swept (known : List Version) (lines judged done : List PlacedLine)
-    (known_row : Option Version) (fresh : List Version) (first : Option Contradiction) : Type 0 where
+    (known_row : Option Version) (fresh : List Version)
+    (first : Option Contradiction) : Type 0 where
   pub standing : MatchOption (standing_row known_row fresh) (done ≡ []) (IsLast known lines done)
   pub each_judged : (line : PlacedLine) → Has judged line → IsJudged known lines first line
   pub contradiction : IfSome first (IsContradiction known lines)
   pub fresh_new : (row : Version) → Has fresh row → IsNewRow known lines row
-  pub fresh_done : (row : Version) → Has fresh row → (line : PlacedLine) × Has done line × (line.row ≡ row)
+  pub fresh_done : (row : Version) → Has fresh row
+      → (line : PlacedLine) × Has done line × (line.row ≡ row)
   pub each_kept : (line : PlacedLine) → Has done line
       → (row : Version) × (key_of row ≡ key_of line.row) × (Has known row ⊎ Has fresh row)
   pub ascending : IsAscending row_cmp fresh
@@ -125,27 +133,35 @@ abbrev pub contradiction_at : PlacedLine → Contradiction
 contradiction_at line = record { file = line.file; line = line.line; key = key_of line.row }
 
 -- where the first contradiction stands after a line: as before if its row is the one that stands
-abbrev pub IsVerdict : Option Version → Option Contradiction → PlacedLine → Option Contradiction → Type 0
+abbrev pub IsVerdict : Option Version → Option Contradiction → PlacedLine → Option Contradiction
+    → Type 0
 IsVerdict standing first line now =
     ((standing ≡ Some line.row) × (now ≡ first))
-    ⊎ ((standing ≢ Some line.row) × (c : Contradiction) × (now ≡ Some c) × IsEarlierOf first (contradiction_at line) c)
+    ⊎
+    ((standing ≢ Some line.row) × (c : Contradiction) × (now ≡ Some c)
+    × IsEarlierOf first (contradiction_at line) c)
 
 -- the first contradiction, or without one the new rows and how many lines more there were
 abbrev pub IsOutcome : Sweep → ℕ → Result Fresh ImportFault → Type 0
 IsOutcome s count result = MatchOption s.first
-    (IsOkAnd result (λ fresh. (fresh.rows.items ≡ s.fresh.items) × (fresh.repeated ≡ count - length s.fresh.items)))
+    (IsOkAnd result
+    (λ fresh. (fresh.rows.items ≡ s.fresh.items)
+    × (fresh.repeated ≡ count - length s.fresh.items)))
     (λ c. result ≡ Err (importfault.Contradiction c.file c.line c.key))
 
--- the new rows ascend, none of their keys is known, and each is below all lines to come but those for whose key it stands
+-- the new rows ascend, none of their keys is known, and each
+-- is below all lines to come but those for whose key it stands
 pub record IsOwn (known : List Version) (rest : List PlacedLine) (s : Sweep) : Type 0 where
   pub apart : IsApart known s.fresh.items
   pub below : (row : Version) → Has s.fresh.items row → (line : PlacedLine) → Has rest line
-      → (row_cmp row line.row ≡ Less) ⊎ ((key_of row ≡ key_of line.row) × (standing_of s ≡ Some row))
+      → (row_cmp row line.row ≡ Less)
+      ⊎ ((key_of row ≡ key_of line.row) × (standing_of s ≡ Some row))
 
 -- so it stays when one line more is taken
 abbrev pub KeepsApart : List Version → PlacedLine → Sweep → Sweep → Type 0
 KeepsApart known line old new =
-    (rest : List PlacedLine) → IsRising rank_cmp (line ∷ rest) → IsOwn known (line ∷ rest) old → IsOwn known rest new
+    (rest : List PlacedLine) → IsRising rank_cmp (line ∷ rest) → IsOwn known (line ∷ rest) old
+    → IsOwn known rest new
 
 -- why lines are taken no further: memory ran out, or a known row can't be had
 abbrev pub IsCutShort : (honest : Type 0) → ImportFault → Type 0
@@ -159,4 +175,5 @@ abbrev pub IsRefusalOf : (honest : Type 0) → List Version → List PlacedLine 
 IsRefusalOf honest known lines importfault.OutOfMemory = ⊤
 IsRefusalOf honest known lines (importfault.Known fault) = honest → fault ≢ knownfault.Damaged
 IsRefusalOf honest known lines (importfault.Row file line fault) = ⊥
-IsRefusalOf honest known lines (importfault.Contradiction file line key) = honest → IsFirstContradiction known lines file line key
+IsRefusalOf honest known lines (importfault.Contradiction file line key) =
+    honest → IsFirstContradiction known lines file line key

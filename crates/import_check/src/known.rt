@@ -62,7 +62,8 @@ pub trait Known {
     ghost stays_on: { (a b c : Self) → stays a b → stays b c → stays a c };
 }
 
-/// Rows that stand in memory, in key order. Keys that are asked for in ascending order are each looked for from where the last one stood.
+/// Rows that stand in memory, in key order. Keys that are asked for in
+/// ascending order are each looked for from where the last one stood.
 #[derive(Drop)]
 pub struct KnownRows<'a> {
     pub rows: &'a [StampedRow],

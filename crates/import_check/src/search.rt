@@ -63,7 +63,8 @@ fn end_place(rows: &[StampedRow], begin: usize, key: &Key) -> usize
     rows.len()
 }
 
-/// The place of the row with the key, or where it would stand. It takes the time of a bisection of the way from `near`.
+/// The place of the row with the key, or where it would stand.
+/// It takes the time of a bisection of the way from `near`.
 pub(crate) fn place_near(rows: &[StampedRow], near: usize, key: Key) -> Result<usize, usize>
     ensures { IsPlaceOf rows.now key result }
 {

@@ -29,8 +29,8 @@ pub(crate) struct Contradiction {
     pub(crate) key: Key,
 }
 
-/// What a pass over lines in key order has found so far. For the key of the last line stands the row that is known, or
-/// else the last of the new rows.
+/// What a pass over lines in key order has found so far. For the key of the
+/// last line stands the row that is known, or else the last of the new rows.
 #[derive(Drop)]
 pub(crate) struct Sweep {
     known_row: Option<Row>,
@@ -73,7 +73,8 @@ fn earlier(first: Option<Contradiction>, found: Contradiction) -> Contradiction
 
 impl Sweep {
     pub(crate) fn new(alloc: Global) -> Sweep
-        ensures swept { (known : List Version) (lines : List PlacedLine) → IsSwept known lines [] result }
+        ensures swept { (known : List Version) (lines : List PlacedLine)
+            → IsSwept known lines [] result }
         ensures empty { result.fresh.items ≡ [] }
     {
         Sweep {
@@ -227,7 +228,8 @@ fn take_all<K: Known>(
     Ok(sweep)
 }
 
-/// The new rows of lines that stand in the order of their places, or the first line that contradicts.
+/// The new rows of lines that stand in the order of
+/// their places, or the first line that contradicts.
 pub(crate) fn unite<K: Known>(
     alloc: Global,
     mut lines: Vec<PlacedLine>,

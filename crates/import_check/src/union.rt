@@ -14,11 +14,13 @@ use std::alloc::Global;
 
 /// The rows of a release that aren't known.
 ///
-/// All files are read first, in the order handed over: the first line at fault refuses the release (`Row`). Then the lines
-/// with one key have to hold one row, the known one if there is one: the first line that doesn't refuses it (`Contradiction`).
-/// Memory may run out at any time, and a known row may be out of reach (`Known`). Nothing is changed by a refusal.
+/// All files are read first, in the order handed over: the first line at fault refuses the release
+/// (`Row`). Then the lines with one key have to hold one row, the known one if there is one: the
+/// first line that doesn't refuses it (`Contradiction`). Memory may run out at any time, and a
+/// known row may be out of reach (`Known`). Nothing is changed by a refusal.
 ///
-/// The lines are sorted once and gone through once, and what is known is asked once for each key, in ascending order.
+/// The lines are sorted once and gone through once, and what
+/// is known is asked once for each key, in ascending order.
 pub fn new_rows<K: Known>(
     alloc: Global,
     release: &Release,
@@ -30,8 +32,8 @@ pub fn new_rows<K: Known>(
     // The new rows ascend and none of their keys is known, whatever row is given for a known key.
     ensures apart { K.is_sound known.old
         → IfOk result (λ fresh. IsApart (K.rows known.old) fresh.rows.items) }
-    // All files are read before what is known is asked. The line that is named is the first that is at fault,
-    // or else the first that contradicts.
+    // All files are read before what is known is asked. The line that is named
+    // is the first that is at fault, or else the first that contradicts.
     ensures refused { IfErr result
         (IsRefusal (K.is_honest known.old) (K.rows known.old) release.now) }
 

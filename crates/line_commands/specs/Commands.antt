@@ -58,14 +58,20 @@ SpellsAfter kind (Some id) text = IsIdOf kind id × SpellsId kind id text
 abbrev pub SpellsArguments : Command → List (List ℕ) → Type 0
 SpellsArguments (Import name) texts = IsName name × (texts ≡ name ∷ [])
 SpellsArguments (Get kind id date) texts =
-    (text : List ℕ) × IsIdOf kind id × SpellsId kind id text × IsTime date × (texts ≡ letter kind ∷ text ∷ decimal date ∷ [])
-SpellsArguments (History kind id) texts = (text : List ℕ) × IsIdOf kind id × SpellsId kind id text × (texts ≡ letter kind ∷ text ∷ [])
-SpellsArguments (Children concept date) texts = IsConcept concept × IsTime date × (texts ≡ decimal concept ∷ decimal date ∷ [])
+    (text : List ℕ) × IsIdOf kind id × SpellsId kind id text × IsTime date
+    × (texts ≡ letter kind ∷ text ∷ decimal date ∷ [])
+SpellsArguments (History kind id) texts =
+    (text : List ℕ) × IsIdOf kind id × SpellsId kind id text × (texts ≡ letter kind ∷ text ∷ [])
+SpellsArguments (Children concept date) texts =
+    IsConcept concept × IsTime date × (texts ≡ decimal concept ∷ decimal date ∷ [])
 SpellsArguments (Terms date limit prefix) texts =
-    IsTime date × (1 ≤ limit) × (limit ≤ 1000) × (1 ≤ length prefix) × IsUtf8 prefix × (texts ≡ decimal date ∷ decimal limit ∷ prefix ∷ [])
-SpellsArguments (Replaced id date) texts = IsComponent id × IsTime date × (texts ≡ decimal id ∷ decimal date ∷ [])
+    IsTime date × (1 ≤ limit) × (limit ≤ 1000) × (1 ≤ length prefix) × IsUtf8 prefix
+    × (texts ≡ decimal date ∷ decimal limit ∷ prefix ∷ [])
+SpellsArguments (Replaced id date) texts =
+    IsComponent id × IsTime date × (texts ≡ decimal id ∷ decimal date ∷ [])
 SpellsArguments (Page kind date after limit) texts =
-    (text : List ℕ) × SpellsAfter kind after text × IsTime date × (1 ≤ limit) × (limit ≤ 1000) × (texts ≡ letter kind ∷ decimal date ∷ text ∷ decimal limit ∷ [])
+    (text : List ℕ) × SpellsAfter kind after text × IsTime date × (1 ≤ limit) × (limit ≤ 1000)
+    × (texts ≡ letter kind ∷ decimal date ∷ text ∷ decimal limit ∷ [])
 SpellsArguments (Pin None) texts = texts ≡ []
 SpellsArguments (Pin (Some number)) texts = (number < 2 ^ 32) × (texts ≡ decimal number ∷ [])
 SpellsArguments (Step rows) texts = (1 ≤ rows) × (rows ≤ 100000) × (texts ≡ decimal rows ∷ [])

@@ -6,12 +6,15 @@ use Rattle.line_commands.specs.Requests.{Asks, IsUnread}
 
 -- a line asks one thing
 abbrev pub OneReading : Type 0
-OneReading = (line : List ℕ) (session other : ℕ) (command also : Command) → Asks line session command → Asks line other also → (session ≡ other) × (command ≡ also)
+OneReading = (line : List ℕ) (session other : ℕ) (command also : Command)
+    → Asks line session command → Asks line other also → (session ≡ other) × (command ≡ also)
 
 -- a line that asks something isn't refused
 abbrev pub AskedIsRead : Type 0
-AskedIsRead = (line : List ℕ) (session : ℕ) (command : Command) (reason : Unread) → Asks line session command → IsUnread line reason → ⊥
+AskedIsRead = (line : List ℕ) (session : ℕ) (command : Command) (reason : Unread)
+    → Asks line session command → IsUnread line reason → ⊥
 
 -- a line that asks nothing has one first reason
 abbrev pub OneRefusal : Type 0
-OneRefusal = (line : List ℕ) (reason other : Unread) → IsUnread line reason → IsUnread line other → reason ≡ other
+OneRefusal = (line : List ℕ) (reason other : Unread) → IsUnread line reason → IsUnread line other
+    → reason ≡ other

@@ -50,14 +50,16 @@ abbrev pub HasSession : List ℕ → Type 0
 HasSession line = (session : ℕ) × (session < 64) × StartsWithWord (decimal session) line
 
 abbrev pub HasCommand : List ℕ → Type 0
-HasCommand line = (session : ℕ) × (command : Command) × (session < 64) × StartsWithWord (spaced (decimal session ∷ word_of command ∷ [])) line
+HasCommand line = (session : ℕ) × (command : Command) × (session < 64)
+    × StartsWithWord (spaced (decimal session ∷ word_of command ∷ [])) line
 
 -- the first reason why a line asks nothing
 abbrev pub IsUnread : List ℕ → Unread → Type 0
 IsUnread line unread.Long = 4096 < length line
 IsUnread line unread.Session = (length line ≤ 4096) × ¬ (HasSession line)
 IsUnread line unread.Command = (length line ≤ 4096) × HasSession line × ¬ (HasCommand line)
-IsUnread line unread.Arguments = (length line ≤ 4096) × HasCommand line × ((session : ℕ) (command : Command) → Asks line session command → ⊥)
+IsUnread line unread.Arguments = (length line ≤ 4096) × HasCommand line
+    × ((session : ℕ) (command : Command) → Asks line session command → ⊥)
 
 -- the number and the name by which the protocol knows the reason
 abbrev pub unread_number : Unread → ℕ

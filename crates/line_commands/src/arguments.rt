@@ -1,4 +1,5 @@
-//! The arguments of each command. Each function says what stands behind its command's word, or none where it spells no such command.
+//! The arguments of each command. Each function says what stands
+//! behind its command's word, or none where it spells no such command.
 
 ghost use Rattle.std.specs.Prelude.{Some, None, codes, option_map};
 ghost use Rattle.line_commands.specs.Private.{IsReadAs, text_of_word};

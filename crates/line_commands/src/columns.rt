@@ -1,4 +1,5 @@
-//! Single arguments: each function gives the one value that a text spells, or none where it spells none.
+//! Single arguments: each function gives the one value
+//! that a text spells, or none where it spells none.
 
 ghost use Rattle.std.specs.Prelude.{◌≡◌, ◌≢◌, ◌≤◌, ◌<◌, ◌^◌, ℕ, Option, MatchOption, decimal};
 ghost use Rattle.rf2_values.specs.Time.{IsTime};

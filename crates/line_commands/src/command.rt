@@ -43,7 +43,8 @@ pub enum Command<'a> {
         after: Option<u128>,
         limit: u32,
     },
-    /// The session looks at the first so many imports from now on: at those that there are, where no number is given.
+    /// The session looks at the first so many imports from now on:
+    /// at those that there are, where no number is given.
     Pin {
         number: Option<u32>,
     },

@@ -1,4 +1,5 @@
-//! What a line of the protocol asks: a session's number, a command's word and its arguments, parted by single spaces.
+//! What a line of the protocol asks: a session's number, a
+//! command's word and its arguments, parted by single spaces.
 #![tactic(auto)]
 
 mod arguments;

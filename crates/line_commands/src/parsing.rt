@@ -8,7 +8,8 @@ use crate::unread::Unread;
 use crate::words::{command_word, first_word};
 use crate::{arguments, columns};
 
-/// What the line asks, or the first reason why it asks nothing. The line is given without its end; nothing more is taken off.
+/// What the line asks, or the first reason why it asks nothing. The line is given without its end;
+/// nothing more is taken off.
 pub fn parse(line: &[u8]) -> Result<Request<'_>, Unread>
     ensures found { IfOk result (λ r. Asks line.now r.session (command_of r.command)) }
     ensures refused { IfErr result (IsUnread line.now) }

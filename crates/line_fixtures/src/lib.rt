@@ -1,4 +1,5 @@
-//! What the tests of lines share: the script and its replies, the example releases, a store whose lines are served, and streams. Nothing here has a clause.
+//! What the tests of lines share: the script and its replies, the example releases,
+//! a store whose lines are served, and streams. Nothing here has a clause.
 #![tactic(auto)]
 
 mod releases;

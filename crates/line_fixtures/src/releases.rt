@@ -59,7 +59,8 @@ fn file_of(name: &str) -> Option<File> {
     Some(file)
 }
 
-/// What stands before and behind the column names of a Concept file without rows, by the release's name.
+/// What stands before and behind the column names of a
+/// Concept file without rows, by the release's name.
 fn ends_of(name: &str) -> Option<(&'static str, &'static str)> {
     match name {
         "names-without-an-end" => Some(("", "")),
@@ -77,7 +78,8 @@ fn names_between(alloc: Global, front: &str, end: &str) -> Result<Release, Alloc
     of_bytes(alloc, Kind::Concept, text.as_bytes())
 }
 
-/// By how many bytes the first sample's Concept file is cut short. Its last line ends in two columns of 18 digits, each behind a TAB, and CR LF.
+/// By how many bytes the first sample's Concept file is cut short. Its last
+/// line ends in two columns of 18 digits, each behind a TAB, and CR LF.
 fn cut_of(name: &str) -> Option<usize> {
     match name {
         "cut-in-a-row" => Some(40),

@@ -3,10 +3,12 @@
 use acceptance_fixtures::lines;
 use std::alloc::{AllocError, Global};
 
-/// A line and the lines of its reply, in which a bar stands for a TAB and a name in capitals for an identifier.
+/// A line and the lines of its reply, in which a bar stands
+/// for a TAB and a name in capitals for an identifier.
 pub type Turn = (&'static str, &'static [&'static str]);
 
-/// Imports of three releases, one of them while a merge goes on; what two sessions, of which one is pinned, are then told; and lines that are refused.
+/// Imports of three releases, one of them while a merge goes on; what two
+/// sessions, of which one is pinned, are then told; and lines that are refused.
 pub const SCRIPT: [Turn; 26] = [
     ("0 STATUS", &["OK 0 0 0 -"]),
     ("0 GET C 138875005 20230131", &["END 0"]),

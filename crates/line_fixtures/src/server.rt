@@ -18,7 +18,8 @@ pub fn roomy_disk(alloc: Global) -> Result<MemDisk, AllocError> {
     Ok(disk)
 }
 
-/// A store on a disk in memory that serves streams of lines. It is boxed, so that a test which lets it go is proved without what a store is made of.
+/// A store on a disk in memory that serves streams of lines. It is boxed, so
+/// that a test which lets it go is proved without what a store is made of.
 #[derive(Drop)]
 pub struct Server {
     alloc: Global,

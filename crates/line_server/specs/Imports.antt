@@ -12,7 +12,8 @@ use Rattle.history_store.specs.Answers.{StandsWith}
 -- the releases are accepted one after the other, and this is the history after them
 abbrev pub TakesAll : History → List Release → History → Type 0
 TakesAll h [] after = after ≡ h
-TakesAll h (release ∷ releases) after = (rows : List Version) × IsReleaseOf release rows × Accepts h rows × TakesAll (after_release h rows) releases after
+TakesAll h (release ∷ releases) after = (rows : List Version) × IsReleaseOf release rows
+    × Accepts h rows × TakesAll (after_release h rows) releases after
 
 -- a front part of a list
 abbrev pub IsFront : {X : Type 0} → List X → List X → Type 0
@@ -24,28 +25,37 @@ StandsAfter h releases c = (after : History) × TakesAll h releases after × Sta
 
 -- for the history with the first so many of them
 abbrev pub StandsForFront : History → List Release → List ℕ → Type 0
-StandsForFront h releases c = (front : List Release) × IsFront front releases × StandsAfter h front c
+StandsForFront h releases c =
+    (front : List Release) × IsFront front releases × StandsAfter h front c
 
 -- for the history with all of them and one more, in whose import the device failed
 abbrev pub StandsWithFailed : History → List Release → Option Release → List ℕ → Type 0
 StandsWithFailed h releases None c = ⊥
-StandsWithFailed h releases (Some release) c = (after : History) × TakesAll h releases after × StandsWith after release c
+StandsWithFailed h releases (Some release) c =
+    (after : History) × TakesAll h releases after × StandsWith after release c
 
 abbrev pub StandsForSome : History → List Release → Option Release → List ℕ → Type 0
-StandsForSome h releases failed c = StandsForFront h releases c ⊎ StandsWithFailed h releases failed c
+StandsForSome h releases failed c =
+    StandsForFront h releases c ⊎ StandsWithFailed h releases failed c
 
 abbrev pub StandsForAll : History → List Release → Option Release → List ℕ → Type 0
 StandsForAll h releases failed c = StandsAfter h releases c ⊎ StandsWithFailed h releases failed c
 
--- One call on a store, or several, imported these releases one after the other; and in the import of one more, if there is one, the device failed.
-pub record Imports {D : Type 0} (honest : D → Type 0) (moments : D → Moments) (old new : Stored D) (releases : List Release) (failed : Option Release) : Type 0 where
+-- One call on a store, or several, imported these releases one after the other;
+-- and in the import of one more, if there is one, the device failed.
+pub record Imports {D : Type 0} (honest : D → Type 0) (moments : D → Moments) (old new : Stored D)
+    (releases : List Release) (failed : Option Release) : Type 0 where
   pub history : honest old.disk → TakesAll old.history releases new.history
   pub none_failed : new.needs_reopen ≡ false → failed ≡ None
   -- a store that has to be opened again stays as it is, and so does its disk
   pub closed : old.needs_reopen ≡ true → (new ≡ old) × (releases ≡ []) × (failed ≡ None)
   pub honesty : honest old.disk ↔ honest new.disk
-  -- a stop at any moment leaves the history from before with the first so many of them, or with all and the one that failed
-  pub any_moment : honest old.disk → IsAcknowledged moments old → LeavesOnly (moments old.disk) (moments new.disk) (StandsForSome old.history releases failed)
+  -- a stop at any moment leaves the history from before with the
+  -- first so many of them, or with all and the one that failed
+  pub any_moment : honest old.disk → IsAcknowledged moments old
+      → LeavesOnly (moments old.disk) (moments new.disk) (StandsForSome old.history releases failed)
   -- a stop afterwards leaves all of them, and perhaps the one that failed
-  pub afterwards : honest old.disk → IsAcknowledged moments old → EachImage (moments new.disk).state (StandsForAll old.history releases failed)
-  pub acknowledged : honest old.disk → IsAcknowledged moments old → new.needs_reopen ≡ false → IsAcknowledged moments new
+  pub afterwards : honest old.disk → IsAcknowledged moments old
+      → EachImage (moments new.disk).state (StandsForAll old.history releases failed)
+  pub acknowledged : honest old.disk → IsAcknowledged moments old → new.needs_reopen ≡ false
+      → IsAcknowledged moments new

@@ -42,7 +42,8 @@ pub record Same {D : Type 0} (old new : Desk D) : Type 0 where
 
 -- the rows that a session sees
 abbrev pub shown : {D : Type 0} → Desk D → ℕ → List Version
-shown desk session = rows_at (pin_of desk.pins session desk.store.history.imports) desk.store.history.rows
+shown desk session =
+    rows_at (pin_of desk.pins session desk.store.history.imports) desk.store.history.rows
 
 abbrev pub found_row : Option Version → List Version
 found_row None = []
@@ -58,9 +59,11 @@ found (Replaced id date) rows = Some (Rows (replacements id date rows))
 found (Page kind date after limit) rows = Some (Rows (page kind date after limit rows))
 found _ rows = None
 
--- The answer is what is found: rows where rows are, which on an honest disk are these rows. Identifiers are found without the disk.
+-- The answer is what is found: rows where rows are, which on an honest disk are these rows.
+-- Identifiers are found without the disk.
 abbrev pub IsFinding : Type 0 → Option Answer → Answer → Type 0
-IsFinding honest (Some (Rows rows)) answer = (given : List Version) × (answer ≡ Rows given) × (honest → given ≡ rows)
+IsFinding honest (Some (Rows rows)) answer =
+    (given : List Version) × (answer ≡ Rows given) × (honest → given ≡ rows)
 IsFinding honest (Some (Ids ids)) answer = answer ≡ Ids ids
 IsFinding honest _ answer = ⊥
 
@@ -68,8 +71,10 @@ IsFinding honest _ answer = ⊥
 abbrev pub IsPinned : {D : Type 0} → Desk D → Desk D → ℕ → Option ℕ → Type 0
 IsPinned old new session pin = new ≡ desk (slice_set old.pins session pin) old.store
 
--- An import answered this, for the release under the name: on every disk as far as files and counts go, and on an honest disk altogether.
-pub record IsImported {D : Type 0} (honest : Type 0) (releases : Releases) (name : List ℕ) (result : Result Receipt Refusal) (old new : Desk D) : Type 0 where
+-- An import answered this, for the release under the name: on every
+-- disk as far as files and counts go, and on an honest disk altogether.
+pub record IsImported {D : Type 0} (honest : Type 0) (releases : Releases) (name : List ℕ)
+    (result : Result Receipt Refusal) (old new : Desk D) : Type 0 where
   pub release : Release
   pub has : releases name ≡ Some (files_of release)
   pub at_all : IsImportAtAll result old.store new.store release
@@ -86,78 +91,115 @@ left_of merge = number_or_none (option_map (λ m. m.left) merge)
 
 -- the number of imports, of rows and of segments, and what is left to a merge
 abbrev pub status_of : {D : Type 0} → Stored D → List (List ℕ)
-status_of s = decimal s.history.imports ∷ decimal (length s.history.rows) ∷ decimal (length s.shelf.entries) ∷ left_of s.shelf.merge ∷ []
+status_of s = decimal s.history.imports ∷ decimal (length s.history.rows)
+    ∷ decimal (length s.shelf.entries) ∷ left_of s.shelf.merge ∷ []
 
 -- when a command is answered, and what comes after
-abbrev pub IsAnswer : {D : Type 0} → Type 0 → Releases → ℕ → Command → Answer → Desk D → Desk D → Type 0
+abbrev pub IsAnswer : {D : Type 0} → Type 0 → Releases → ℕ → Command → Answer → Desk D → Desk D
+    → Type 0
 IsAnswer honest releases session (Import name) answer old new =
     (receipt : Receipt) × IsImported honest releases name (Ok receipt) old new
     × (answer ≡ Done (decimal receipt.number ∷ decimal receipt.new ∷ decimal receipt.repeated ∷ []))
 IsAnswer honest releases session (Pin None) answer old new =
-    IsPinned old new session (Some old.store.history.imports) × (answer ≡ Done (decimal old.store.history.imports ∷ []))
+    IsPinned old new session (Some old.store.history.imports)
+    × (answer ≡ Done (decimal old.store.history.imports ∷ []))
 IsAnswer honest releases session (Pin (Some number)) answer old new =
-    (number ≤ old.store.history.imports) × IsPinned old new session (Some number) × (answer ≡ Done (decimal number ∷ []))
-IsAnswer honest releases session Unpin answer old new = IsPinned old new session None × (answer ≡ Done [])
+    (number ≤ old.store.history.imports) × IsPinned old new session (Some number)
+    × (answer ≡ Done (decimal number ∷ []))
+IsAnswer honest releases session Unpin answer old new =
+    IsPinned old new session None × (answer ≡ Done [])
 IsAnswer honest releases session Merge answer old new =
-    (left : ℕ) × IsBeginningOf (Ok left) old.store new.store × (new.pins ≡ old.pins) × (answer ≡ Done (decimal left ∷ []))
+    (left : ℕ) × IsBeginningOf (Ok left) old.store new.store × (new.pins ≡ old.pins)
+    × (answer ≡ Done (decimal left ∷ []))
 IsAnswer honest releases session (Step rows) answer old new =
-    (left : ℕ) × IsSteppingOf (Ok left) old.store new.store rows × (new.pins ≡ old.pins) × (answer ≡ Done (decimal left ∷ []))
+    (left : ℕ) × IsSteppingOf (Ok left) old.store new.store rows × (new.pins ≡ old.pins)
+    × (answer ≡ Done (decimal left ∷ []))
 IsAnswer honest releases session Publish answer old new =
-    IsPublishingOf (Ok tt) old.store new.store × (honest → new.store.history ≡ old.store.history) × (new.pins ≡ old.pins) × (answer ≡ Done [])
-IsAnswer honest releases session Abandon answer old new = IsAbandoningOf (Ok tt) old.store new.store × (new.pins ≡ old.pins) × (answer ≡ Done [])
+    IsPublishingOf (Ok tt) old.store new.store × (honest → new.store.history ≡ old.store.history)
+    × (new.pins ≡ old.pins) × (answer ≡ Done [])
+IsAnswer honest releases session Abandon answer old new =
+    IsAbandoningOf (Ok tt) old.store new.store × (new.pins ≡ old.pins) × (answer ≡ Done [])
 IsAnswer honest releases session Trim answer old new =
-    (bytes : ℕ) × IsTrimmingOf (Ok bytes) old.store new.store × (new.pins ≡ old.pins) × (answer ≡ Done [])
-IsAnswer honest releases session Status answer old new = (old.store.needs_reopen ≡ false) × (new ≡ old) × (answer ≡ Done (status_of old.store))
+    (bytes : ℕ) × IsTrimmingOf (Ok bytes) old.store new.store × (new.pins ≡ old.pins)
+    × (answer ≡ Done [])
+IsAnswer honest releases session Status answer old new =
+    (old.store.needs_reopen ≡ false) × (new ≡ old) × (answer ≡ Done (status_of old.store))
 IsAnswer honest releases session command answer old new =
-    (old.store.needs_reopen ≡ false) × Same old new × IsFinding honest (found command (shown old session)) answer
+    (old.store.needs_reopen ≡ false) × Same old new
+    × IsFinding honest (found command (shown old session)) answer
 
 -- ---- what is refused
 
 -- the store has to be opened again
 abbrev pub IsClosed : {D : Type 0} → Refusal → Desk D → Desk D → Type 0
-IsClosed refusal old new = (refusal ≡ store.ReopenNeeded) × (old.store.needs_reopen ≡ true) × (new ≡ old)
+IsClosed refusal old new =
+    (refusal ≡ store.ReopenNeeded) × (old.store.needs_reopen ≡ true) × (new ≡ old)
 
 -- memory lacks
 abbrev pub IsLacking : {D : Type 0} → Refusal → Desk D → Desk D → Type 0
-IsLacking refusal old new = (refusal ≡ store.OutOfMemory) × (old.store.needs_reopen ≡ false) × Same old new
+IsLacking refusal old new =
+    (refusal ≡ store.OutOfMemory) × (old.store.needs_reopen ≡ false) × Same old new
 
 -- A query is refused as a call is that reads. On an honest disk nothing is damaged.
-pub record IsUnfound {D : Type 0} (honest : Type 0) (refusal : Refusal) (old new : Desk D) : Type 0 where
+pub record IsUnfound {D : Type 0} (honest : Type 0) (refusal : Refusal)
+    (old new : Desk D) : Type 0 where
   pub cause : IsReadRefusal refusal old.store
   pub refused : IsRefused refusal old.store new.store
   pub undamaged : honest → refusal ≢ store.Damaged
   pub pins : new.pins ≡ old.pins
 
--- When a command is refused as the store refuses. Of an import the source is asked first, and memory may lack there too. On an honest disk no step of a merge finds damage.
-abbrev pub IsStoreRefusal : {D : Type 0} → Type 0 → Releases → Command → Refusal → Desk D → Desk D → Type 0
+-- When a command is refused as the store refuses. Of an import the source is asked first,
+-- and memory may lack there too. On an honest disk no step of a merge finds damage.
+abbrev pub IsStoreRefusal : {D : Type 0} → Type 0 → Releases → Command → Refusal → Desk D → Desk D
+    → Type 0
 IsStoreRefusal honest releases (Import name) store.OutOfMemory old new = Same old new
-IsStoreRefusal honest releases (Import name) refusal old new = IsImported honest releases name (Err refusal) old new
+IsStoreRefusal honest releases (Import name) refusal old new =
+    IsImported honest releases name (Err refusal) old new
 IsStoreRefusal honest releases (Pin number) refusal old new = ⊥
 IsStoreRefusal honest releases Unpin refusal old new = ⊥
-IsStoreRefusal honest releases Merge refusal old new = IsBeginningOf (Err refusal) old.store new.store × (new.pins ≡ old.pins)
+IsStoreRefusal honest releases Merge refusal old new =
+    IsBeginningOf (Err refusal) old.store new.store × (new.pins ≡ old.pins)
 IsStoreRefusal honest releases (Step rows) refusal old new =
-    IsSteppingOf (Err refusal) old.store new.store rows × (honest → refusal ≢ store.Damaged) × (new.pins ≡ old.pins)
-IsStoreRefusal honest releases Publish refusal old new = IsPublishingOf (Err refusal) old.store new.store × (new.pins ≡ old.pins)
-IsStoreRefusal honest releases Abandon refusal old new = IsAbandoningOf (Err refusal) old.store new.store × (new.pins ≡ old.pins)
-IsStoreRefusal honest releases Trim refusal old new = IsTrimmingOf (Err refusal) old.store new.store × (new.pins ≡ old.pins)
+    IsSteppingOf (Err refusal) old.store new.store rows × (honest → refusal ≢ store.Damaged)
+    × (new.pins ≡ old.pins)
+IsStoreRefusal honest releases Publish refusal old new =
+    IsPublishingOf (Err refusal) old.store new.store × (new.pins ≡ old.pins)
+IsStoreRefusal honest releases Abandon refusal old new =
+    IsAbandoningOf (Err refusal) old.store new.store × (new.pins ≡ old.pins)
+IsStoreRefusal honest releases Trim refusal old new =
+    IsTrimmingOf (Err refusal) old.store new.store × (new.pins ≡ old.pins)
 IsStoreRefusal honest releases Status refusal old new = IsClosed refusal old new
-IsStoreRefusal honest releases (Children concept date) refusal old new = IsClosed refusal old new ⊎ IsLacking refusal old new
+IsStoreRefusal honest releases (Children concept date) refusal old new =
+    IsClosed refusal old new ⊎ IsLacking refusal old new
 IsStoreRefusal honest releases command refusal old new = IsUnfound honest refusal old new
 
 -- when a command is refused, and what comes after
-abbrev pub IsRefusal : {D : Type 0} → Type 0 → Releases → Command → LineRefusal → Desk D → Desk D → Type 0
+abbrev pub IsRefusal : {D : Type 0} → Type 0 → Releases → Command → LineRefusal → Desk D → Desk D
+    → Type 0
 IsRefusal honest releases command (refusals.Unread reason) old new = ⊥
-IsRefusal honest releases command refusals.PinRange old new = (number : ℕ) × (command ≡ Pin (Some number)) × (old.store.history.imports < number) × (new ≡ old)
-IsRefusal honest releases command refusals.NoFolder old new = (name : List ℕ) × (command ≡ Import name) × (releases name ≡ None) × (new ≡ old)
-IsRefusal honest releases command (refusals.Store refusal) old new = IsStoreRefusal honest releases command refusal old new
+IsRefusal honest releases command refusals.PinRange old new = (number : ℕ)
+    × (command ≡ Pin (Some number)) × (old.store.history.imports < number) × (new ≡ old)
+IsRefusal honest releases command refusals.NoFolder old new =
+    (name : List ℕ) × (command ≡ Import name) × (releases name ≡ None) × (new ≡ old)
+IsRefusal honest releases command (refusals.Store refusal) old new =
+    IsStoreRefusal honest releases command refusal old new
 
--- The command comes out so. `ERR 1` and `ERR 2` show that memory lacked or the device failed; where neither is said, there is one outcome on an honest disk.
-abbrev pub IsOutcome : {D : Type 0} → Type 0 → Releases → ℕ → Command → Result Answer LineRefusal → Desk D → Desk D → Type 0
-IsOutcome honest releases session command (Ok answer) old new = IsAnswer honest releases session command answer old new
-IsOutcome honest releases session command (Err refusal) old new = IsRefusal honest releases command refusal old new
+-- The command comes out so. `ERR 1` and `ERR 2` show that memory lacked or the device failed;
+-- where neither is said, there is one outcome on an honest disk.
+abbrev pub IsOutcome : {D : Type 0} → Type 0 → Releases → ℕ → Command → Result Answer LineRefusal
+    → Desk D → Desk D → Type 0
+IsOutcome honest releases session command (Ok answer) old new =
+    IsAnswer honest releases session command answer old new
+IsOutcome honest releases session command (Err refusal) old new =
+    IsRefusal honest releases command refusal old new
 
--- A line that asks something is answered as its command comes out. Of any other the first reason is said why it asks nothing, and nothing changes.
-abbrev pub Replies : {D : Type 0} → Type 0 → Releases → List ℕ → Result Answer LineRefusal → Desk D → Desk D → Type 0
+-- A line that asks something is answered as its command comes out. Of any
+-- other the first reason is said why it asks nothing, and nothing changes.
+abbrev pub Replies : {D : Type 0} → Type 0 → Releases → List ℕ → Result Answer LineRefusal → Desk D
+    → Desk D → Type 0
 Replies honest releases text outcome old new =
-    ((session : ℕ) × (command : Command) × Asks text session command × IsOutcome honest releases session command outcome old new)
-    ⊎ ((reason : Unread) × IsUnread text reason × (outcome ≡ Err (refusals.Unread reason)) × (new ≡ old))
+    ((session : ℕ) × (command : Command) × Asks text session command
+    × IsOutcome honest releases session command outcome old new)
+    ⊎
+    ((reason : Unread) × IsUnread text reason × (outcome ≡ Err (refusals.Unread reason))
+    × (new ≡ old))

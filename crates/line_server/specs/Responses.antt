@@ -15,10 +15,13 @@ use Rattle.line_server.specs.Turns.{CountsOutcome, LeavesDisk}
 
 -- the release is the one that the command asks to import
 abbrev pub IsNamed : Releases → Command → Release → Type 0
-IsNamed releases command release = (name : List ℕ) × (command ≡ Import name) × (releases name ≡ Some (files_of release))
+IsNamed releases command release =
+    (name : List ℕ) × (command ≡ Import name) × (releases name ≡ Some (files_of release))
 
 -- the command comes out so, as these releases have it
-pub record ComesOut {D : Type 0} (honest : Type 0) (releases : Releases) (session : ℕ) (command : Command) (outcome : Result Answer LineRefusal) (taken : List Release) (failed : Option Release) (old new : Desk D) : Type 0 where
+pub record ComesOut {D : Type 0} (honest : Type 0) (releases : Releases) (session : ℕ)
+    (command : Command) (outcome : Result Answer LineRefusal) (taken : List Release)
+    (failed : Option Release) (old new : Desk D) : Type 0 where
   pub outcome_is : IsOutcome honest releases session command outcome old new
   pub imported : AllByRecursion (IsNamed releases command) taken
   pub failed_is : IfSome failed (IsNamed releases command)
@@ -28,15 +31,19 @@ abbrev pub IsToldBy : Result Said LineRefusal → Result Answer LineRefusal → 
 IsToldBy (Ok reply) outcome = reply ≡ said outcome
 IsToldBy (Err refusal) outcome = outcome ≡ Err refusal
 
--- A command was carried out: as some source's releases have it, and where the source is honest, as its own have it.
-pub record IsResponse {D : Type 0} (result : Result Said LineRefusal) (honest_source : Type 0) (has : Releases) (honest : D → Type 0) (moments : D → Moments) (failures : D → ℕ) (session : ℕ) (command : Command) (old new : Desk D) : Type 0 where
+-- A command was carried out: as some source's releases have
+-- it, and where the source is honest, as its own have it.
+pub record IsResponse {D : Type 0} (result : Result Said LineRefusal) (honest_source : Type 0)
+    (has : Releases) (honest : D → Type 0) (moments : D → Moments) (failures : D → ℕ) (session : ℕ)
+    (command : Command) (old new : Desk D) : Type 0 where
   pub outcome : Result Answer LineRefusal
   pub taken : List Release
   pub failed : Option Release
   pub told : IsToldBy result outcome
   pub releases : Releases
   pub out : ComesOut (honest old.store.disk) releases session command outcome taken failed old new
-  pub own : honest_source → ComesOut (honest old.store.disk) has session command outcome taken failed old new
+  pub own : honest_source
+      → ComesOut (honest old.store.disk) has session command outcome taken failed old new
   pub imports : Imports honest moments old.store new.store taken failed
   pub one : length taken ≤ 1
   pub counts : CountsOutcome outcome (failures old.store.disk) (failures new.store.disk)
@@ -44,12 +51,18 @@ pub record IsResponse {D : Type 0} (result : Result Said LineRefusal) (honest_so
   pub grows : old.store.history.imports ≤ new.store.history.imports
 
 -- whatever the source has, and whoever asks
-abbrev pub IsCarriedOut : {D : Type 0} → Result Said LineRefusal → (D → Type 0) → (D → Moments) → (D → ℕ) → Command → Stored D → Stored D → Type 0
+abbrev pub IsCarriedOut : {D : Type 0} → Result Said LineRefusal → (D → Type 0) → (D → Moments)
+    → (D → ℕ) → Command → Stored D → Stored D → Type 0
 IsCarriedOut result honest moments failures command old new =
-    (has : Releases) (session : ℕ) (pins : List (Option ℕ)) → IsResponse result (Unit {0}) has honest moments failures session command (desk pins old) (desk pins new)
+    (has : Releases) (session : ℕ) (pins : List (Option ℕ))
+    → IsResponse result (Unit {0}) has honest moments failures session command (desk pins old)
+    (desk pins new)
 
 -- to a session that looks at so many imports
-abbrev pub IsQueried : {D : Type 0} → Result Said LineRefusal → (D → Type 0) → (D → Moments) → (D → ℕ) → Command → ℕ → Stored D → Stored D → Type 0
+abbrev pub IsQueried : {D : Type 0} → Result Said LineRefusal → (D → Type 0) → (D → Moments)
+    → (D → ℕ) → Command → ℕ → Stored D → Stored D → Type 0
 IsQueried result honest moments failures command pin old new =
-    (has : Releases) (session : ℕ) (pins : List (Option ℕ)) → pin_of pins session old.history.imports ≡ pin
-    → IsResponse result (Unit {0}) has honest moments failures session command (desk pins old) (desk pins new)
+    (has : Releases) (session : ℕ) (pins : List (Option ℕ))
+    → pin_of pins session old.history.imports ≡ pin
+    → IsResponse result (Unit {0}) has honest moments failures session command (desk pins old)
+    (desk pins new)

@@ -63,7 +63,8 @@ abbrev pub last_of : Result Answer LineRefusal → List ℕ
 last_of (Ok (Rows rows)) = line (codes "END" ∷ decimal (length rows) ∷ [])
 last_of (Ok (Ids ids)) = line (codes "END" ∷ decimal (length ids) ∷ [])
 last_of (Ok (Done words)) = line (codes "OK" ∷ words)
-last_of (Err refusal) = line (codes "ERR" ∷ decimal (number_of refusal) ∷ name_of refusal ∷ place_of refusal)
+last_of (Err refusal) =
+    line (codes "ERR" ∷ decimal (number_of refusal) ∷ name_of refusal ∷ place_of refusal)
 
 abbrev pub said : Result Answer LineRefusal → Said
 said outcome = record { body = body_of outcome; last = last_of outcome }

@@ -17,8 +17,9 @@ abbrev pub AreLines : Result ℕ ServeFault → List (List ℕ) → List ℕ →
 AreLines (Ok n) lines input = lines ≡ lines_in input
 AreLines (Err fault) lines input = IsFront lines (lines_in input)
 
--- What came of the input, and how many lines were answered. After Ok nothing is left. After a fault of the reader each line that ended was answered;
--- after too many reads also, and each of them gave a byte. Without memory nothing was read.
+-- What came of the input, and how many lines were answered. After Ok nothing is left. After a fault
+-- of the reader each line that ended was answered; after too many reads also, and each of them gave
+-- a byte. Without memory nothing was read.
 abbrev pub IsRead : Result ℕ ServeFault → ℕ → List ℕ → Option (List ℕ) → ℕ → Type 0
 IsRead (Ok n) most came rest answered = IsAtEnd rest
 IsRead (Err faults.OutOfMemory) most came rest answered = (came ≡ []) × (answered ≡ 0)
@@ -35,14 +36,20 @@ abbrev pub IsCount : Result ℕ ServeFault → ℕ → Type 0
 IsCount (Ok n) answered = n ≡ min answered (2 ^ 64 - 1)
 IsCount (Err fault) answered = Unit {0}
 
--- Lines were answered in order, from sessions that aren't pinned. Where the input is known, they are its lines; where the output is known, their replies were written.
-pub record IsServed {D : Type 0} (result : Result ℕ ServeFault) (most : ℕ) (honest_source : Type 0) (has : Releases) (honest : D → Type 0) (moments : D → Moments) (failures : D → ℕ) (input rest old new : Option (List ℕ)) (before after : Stored D) : Type 0 where
+-- Lines were answered in order, from sessions that aren't pinned. Where the input is
+-- known, they are its lines; where the output is known, their replies were written.
+pub record IsServed {D : Type 0} (result : Result ℕ ServeFault) (most : ℕ) (honest_source : Type 0)
+    (has : Releases) (honest : D → Type 0) (moments : D → Moments) (failures : D → ℕ)
+    (input rest old new : Option (List ℕ)) (before after : Stored D) : Type 0 where
   pub turns : List Turn
   pub pins : List (Option ℕ)
-  pub run : Run honest_source has honest moments failures (desk (replicate 64 None) before) turns (desk pins after)
+  pub run : Run honest_source has honest moments failures (desk (replicate 64 None) before) turns
+      (desk pins after)
   pub lines : IfSome input (AreLines result (lines_asked turns))
-  pub read : (came : List ℕ) × Consumes input rest came × IsRead result most came rest (length turns)
+  pub read : (came : List ℕ) × Consumes input rest came
+      × IsRead result most came rest (length turns)
   pub written : IsWritten result old new (replies turns)
   pub count : IsCount result (length turns)
-  -- a stop at any moment leaves the history from before with the first so many of the releases that the lines imported
+  -- a stop at any moment leaves the history from before with
+  -- the first so many of the releases that the lines imported
   pub imports : Imports honest moments before after (imported turns) (failed_in turns)

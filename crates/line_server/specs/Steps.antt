@@ -24,9 +24,14 @@ IsPut (Ok x) old new bytes = Appends old new bytes
 IsPut (Err e) old new bytes = AppendsSome old new bytes
 
 -- one line was answered, and its reply was written
-pub record IsLineServed {D T E : Type 0} (result : Result T E) (honest_source : Type 0) (has : Releases) (honest : D → Type 0) (moments : D → Moments) (failures : D → ℕ) (line : List ℕ) (pins : List (Option ℕ)) (store : Stored D) (pins_after : List (Option ℕ)) (store_after : Stored D) (old new : Option (List ℕ)) : Type 0 where
+pub record IsLineServed {D T E : Type 0} (result : Result T E) (honest_source : Type 0)
+    (has : Releases) (honest : D → Type 0) (moments : D → Moments) (failures : D → ℕ)
+    (line : List ℕ) (pins : List (Option ℕ)) (store : Stored D) (pins_after : List (Option ℕ))
+    (store_after : Stored D) (old new : Option (List ℕ)) : Type 0 where
   pub outcome : Result Answer LineRefusal
   pub releases : List Release
   pub failed : Option Release
-  pub turn : IsTurn honest_source has honest moments failures (desk pins store) (record { line = line; outcome = outcome; releases = releases; failed = failed }) (desk pins_after store_after)
+  pub turn : IsTurn honest_source has honest moments failures (desk pins store)
+      (record { line = line; outcome = outcome; releases = releases; failed = failed })
+      (desk pins_after store_after)
   pub put : IsPut result old new (bytes_of (said outcome))

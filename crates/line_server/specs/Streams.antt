@@ -9,4 +9,5 @@ ends_in bytes = count_by (λ b. b == 10) bytes
 
 -- known bytes grew by a front part of these, and not by all
 abbrev pub AppendsSome : Option (List ℕ) → Option (List ℕ) → List ℕ → Type 0
-AppendsSome old new bytes = (front : List ℕ) × (rest : List ℕ) × (bytes ≡ front ++ rest) × (1 ≤ length rest) × Appends old new front
+AppendsSome old new bytes = (front : List ℕ) × (rest : List ℕ) × (bytes ≡ front ++ rest)
+    × (1 ≤ length rest) × Appends old new front

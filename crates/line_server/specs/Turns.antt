@@ -16,7 +16,8 @@ use Rattle.line_server.specs.Said.{Answer, Said, said, bytes_of}
 use Rattle.line_server.specs.Replies.{Desk, Replies, desk}
 use Rattle.line_server.specs.Imports.{Imports}
 
--- a line, how it is answered, the release that it imported, if it did, and the one in whose import the device failed
+-- a line, how it is answered, the release that it imported,
+-- if it did, and the one in whose import the device failed
 pub record Turn : Type 0 where
   pub line : List ℕ
   pub outcome : Result Answer LineRefusal
@@ -25,10 +26,12 @@ pub record Turn : Type 0 where
 
 -- the release is the one that the line asks to import
 abbrev pub IsAskedFor : Releases → List ℕ → Release → Type 0
-IsAskedFor releases line release = (session : ℕ) × (name : List ℕ) × Asks line session (Import name) × (releases name ≡ Some (files_of release))
+IsAskedFor releases line release = (session : ℕ) × (name : List ℕ) × Asks line session (Import name)
+    × (releases name ≡ Some (files_of release))
 
 -- the turn goes as these releases have it
-pub record GoesBy {D : Type 0} (honest : Type 0) (releases : Releases) (old : Desk D) (turn : Turn) (new : Desk D) : Type 0 where
+pub record GoesBy {D : Type 0} (honest : Type 0) (releases : Releases) (old : Desk D) (turn : Turn)
+    (new : Desk D) : Type 0 where
   pub replies : Replies honest releases turn.line turn.outcome old new
   pub imported : AllByRecursion (IsAskedFor releases turn.line) turn.releases
   pub failed : IfSome turn.failed (IsAskedFor releases turn.line)
@@ -44,39 +47,59 @@ IfRefused (Ok answer) so = Unit {0}
 IfRefused (Err (refusals.Store store.DiskFault)) so = Unit {0}
 IfRefused (Err refusal) so = so
 
--- What a command leaves of an honest disk. IMPORT, STEP and PUBLISH may change what a stop leaves, but not where they are refused for another reason than the device. After TRIM a read gives what it gave before, up to the last
--- block that is listed or reserved, and nothing behind that. Every other command leaves what a stop may leave as it was.
-abbrev pub LeavesDisk : {D : Type 0} → (D → Type 0) → (D → Moments) → Command → Result Answer LineRefusal → Stored D → Stored D → Type 0
-LeavesDisk honest moments (Import name) outcome old new = honest old.disk → IfRefused outcome (moments new.disk ≡ moments old.disk)
-LeavesDisk honest moments (Step rows) outcome old new = honest old.disk → IfRefused outcome (moments new.disk ≡ moments old.disk)
-LeavesDisk honest moments Publish outcome old new = honest old.disk → IfRefused outcome (moments new.disk ≡ moments old.disk)
+-- What a command leaves of an honest disk. IMPORT, STEP and PUBLISH may change what a stop leaves,
+-- but not where they are refused for another reason than the device. After TRIM a read gives what
+-- it gave before, up to the last block that is listed or reserved, and nothing behind that. Every
+-- other command leaves what a stop may leave as it was.
+abbrev pub LeavesDisk : {D : Type 0} → (D → Type 0) → (D → Moments) → Command
+    → Result Answer LineRefusal → Stored D → Stored D → Type 0
+LeavesDisk honest moments (Import name) outcome old new =
+    honest old.disk → IfRefused outcome (moments new.disk ≡ moments old.disk)
+LeavesDisk honest moments (Step rows) outcome old new =
+    honest old.disk → IfRefused outcome (moments new.disk ≡ moments old.disk)
+LeavesDisk honest moments Publish outcome old new =
+    honest old.disk → IfRefused outcome (moments new.disk ≡ moments old.disk)
 LeavesDisk honest moments Trim outcome old new =
-    honest old.disk → OnOk outcome ((moments new.disk).state.now ≡ take (trimmed_len old.shelf) (moments old.disk).state.now) × IfRefused outcome (moments new.disk ≡ moments old.disk)
-LeavesDisk honest moments command outcome old new = honest old.disk → moments new.disk ≡ moments old.disk
+    honest old.disk
+    → OnOk outcome ((moments new.disk).state.now ≡ take (trimmed_len old.shelf)
+    (moments old.disk).state.now) × IfRefused outcome (moments new.disk ≡ moments old.disk)
+LeavesDisk honest moments command outcome old new =
+    honest old.disk → moments new.disk ≡ moments old.disk
 
--- One line was answered: as some source's releases have it, and where the source is honest, as its own have it.
-pub record IsTurn {D : Type 0} (honest_source : Type 0) (has : Releases) (honest : D → Type 0) (moments : D → Moments) (failures : D → ℕ) (old : Desk D) (turn : Turn) (new : Desk D) : Type 0 where
+-- One line was answered: as some source's releases have
+-- it, and where the source is honest, as its own have it.
+pub record IsTurn {D : Type 0} (honest_source : Type 0) (has : Releases) (honest : D → Type 0)
+    (moments : D → Moments) (failures : D → ℕ) (old : Desk D) (turn : Turn)
+    (new : Desk D) : Type 0 where
   pub releases : Releases
   pub goes : GoesBy (honest old.store.disk) releases old turn new
   pub own : honest_source → GoesBy (honest old.store.disk) has old turn new
   pub imports : Imports honest moments old.store new.store turn.releases turn.failed
   pub one : length turn.releases ≤ 1
   pub counts : CountsOutcome turn.outcome (failures old.store.disk) (failures new.store.disk)
-  pub disk : (session : ℕ) (command : Command) → Asks turn.line session command → LeavesDisk honest moments command turn.outcome old.store new.store
+  pub disk : (session : ℕ) (command : Command) → Asks turn.line session command
+      → LeavesDisk honest moments command turn.outcome old.store new.store
 
 -- a line was answered with this reply
-pub record IsAnswered {D : Type 0} (honest_source : Type 0) (has : Releases) (honest : D → Type 0) (moments : D → Moments) (failures : D → ℕ) (line : List ℕ) (reply : Said) (pins : List (Option ℕ)) (store : Stored D) (pins_after : List (Option ℕ)) (store_after : Stored D) : Type 0 where
+pub record IsAnswered {D : Type 0} (honest_source : Type 0) (has : Releases) (honest : D → Type 0)
+    (moments : D → Moments) (failures : D → ℕ) (line : List ℕ) (reply : Said)
+    (pins : List (Option ℕ)) (store : Stored D) (pins_after : List (Option ℕ))
+    (store_after : Stored D) : Type 0 where
   pub outcome : Result Answer LineRefusal
   pub releases : List Release
   pub failed : Option Release
   pub reply_is : reply ≡ said outcome
-  pub turn : IsTurn honest_source has honest moments failures (desk pins store) (record { line = line; outcome = outcome; releases = releases; failed = failed }) (desk pins_after store_after)
+  pub turn : IsTurn honest_source has honest moments failures (desk pins store)
+      (record { line = line; outcome = outcome; releases = releases; failed = failed })
+      (desk pins_after store_after)
 
 -- lines are answered one after the other
-abbrev pub Run : {D : Type 0} → Type 0 → Releases → (D → Type 0) → (D → Moments) → (D → ℕ) → Desk D → List Turn → Desk D → Type 0
+abbrev pub Run : {D : Type 0} → Type 0 → Releases → (D → Type 0) → (D → Moments) → (D → ℕ) → Desk D
+    → List Turn → Desk D → Type 0
 Run {D} honest_source has honest moments failures old [] new = new ≡ old
 Run {D} honest_source has honest moments failures old (turn ∷ turns) new =
-    (mid : Desk D) × IsTurn honest_source has honest moments failures old turn mid × Run honest_source has honest moments failures mid turns new
+    (mid : Desk D) × IsTurn honest_source has honest moments failures old turn mid
+    × Run honest_source has honest moments failures mid turns new
 
 abbrev pub lines_asked : List Turn → List (List ℕ)
 lines_asked turns = map (λ turn. turn.line) turns

@@ -127,7 +127,8 @@ fn respond<S: Source, D: Disk>(
     }
 }
 
-/// Answers a line, which is given without its end. No pin is above the number of imports, before or after.
+/// Answers a line, which is given without its end. No
+/// pin is above the number of imports, before or after.
 pub fn answer<S: Source, D: Disk>(
     alloc: Global,
     line: &[u8],

@@ -7,7 +7,8 @@ ghost use Rattle.line_server.specs.Steps.{kept};
 use std::alloc::{AllocError, Global};
 use std::marker::Model;
 
-/// How many bytes of a line are kept: as many as tell a line of 4,096 bytes and a CR from a longer one.
+/// How many bytes of a line are kept: as many as tell
+/// a line of 4,096 bytes and a CR from a longer one.
 const ROOM: usize = 4098;
 
 /// The first bytes of the line that is coming in.

@@ -10,7 +10,8 @@ pub fn pinned_is_undisturbed<D: Disk>()
     ensures { PinnedIsUndisturbed D D.is_honest }
 {}
 
-/// Each image of each moment of a run of lines stands for the history from before with the first so many of the releases that the lines imported.
+/// Each image of each moment of a run of lines stands for the history from
+/// before with the first so many of the releases that the lines imported.
 pub fn turns_import<D: Disk>()
     ensures { TurnsImport D D.is_honest D.moments D.failures }
 {}
@@ -30,7 +31,8 @@ pub fn one_reply<D: Disk>()
     ensures { OneReply D D.is_honest }
 {}
 
-/// Whatever lines were answered, a stop before, within or after the next one loses no import that was acknowledged, and leaves none in part.
+/// Whatever lines were answered, a stop before, within or after the next
+/// one loses no import that was acknowledged, and leaves none in part.
 pub fn acknowledged_imports_stay<D: Disk>()
     ensures { AcknowledgedImportsStay D D.is_honest D.moments D.failures }
 {}

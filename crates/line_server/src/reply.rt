@@ -5,7 +5,8 @@ ghost use Rattle.std.specs.Prelude.{◌≡◌, ◌≤◌, length};
 use arrayvec::ArrayString;
 use std::marker::Model;
 
-/// The lines that are written for a line, each with its LF: those of rows or identifiers, and a last one, which takes no memory.
+/// The lines that are written for a line, each with its LF: those
+/// of rows or identifiers, and a last one, which takes no memory.
 #[derive(Drop)]
 pub struct Reply {
     body: Vec<u8>,

@@ -57,8 +57,9 @@ fn answer_line<W: Write, S: Source, D: Disk>(
     put_all(writer, reply.last())
 }
 
-/// Answers the lines of the input in order, each before its reply is written, and answers their number. It makes at most `max_reads`
-/// reads, of up to 4,096 bytes each, and keeps up to 4,098 bytes of a line that is coming in.
+/// Answers the lines of the input in order, each before its reply is written, and answers their
+/// number. It makes at most `max_reads` reads, of up to 4,096 bytes each, and keeps up to 4,098
+/// bytes of a line that is coming in.
 pub fn serve<R: Read, W: Write, S: Source, D: Disk>(
     alloc: Global,
     reader: &mut R,
@@ -72,7 +73,8 @@ pub fn serve<R: Read, W: Write, S: Source, D: Disk>(
         (R.remaining reader.old) (R.remaining reader.new)
         (W.contents writer.old) (W.contents writer.new) store.old store.new }
     // The buffer is made before anything else is done.
-    ensures memory { IsErrOf result OutOfMemory → (reader.new ≡ reader.old) × (writer.new ≡ writer.old)
+    ensures memory { IsErrOf result OutOfMemory
+        → (reader.new ≡ reader.old) × (writer.new ≡ writer.old)
         × (source.new ≡ source.old) × (store.new ≡ store.old) }
     ensures source { S.is_honest source.old → S.is_honest source.new }
     ensures stays { S.is_honest source.old → S.releases source.new ≡ S.releases source.old }

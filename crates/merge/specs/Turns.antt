@@ -1,4 +1,5 @@
--- Which of two lists the next place comes from: words of a private function, which no public clause cites.
+-- Which of two lists the next place comes from: words
+-- of a private function, which no public clause cites.
 use Rattle.std.specs.Prelude.{List, [], ◌∷◌, Option, Some, None, true, false, if◌then◌else◌}
 use Rattle.std.specs.Ordering.{is_lt}
 use Rattle.rf2_values.specs.Key.{key_cmp}

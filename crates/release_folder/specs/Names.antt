@@ -20,9 +20,11 @@ beginning kind.Association = codes "der2_cRefset_Association"
 pub record IsTaken (kind : Kind) (name : List ℕ) : Type 0 where
   pub begins : OccursAt name (beginning kind) 0
   pub holds : Contains name (codes "Delta") ⊎ Contains name (codes "Full")
-  pub ends : (length (codes ".txt") ≤ length name) × OccursAt name (codes ".txt") (length name - length (codes ".txt"))
+  pub ends : (length (codes ".txt") ≤ length name)
+      × OccursAt name (codes ".txt") (length name - length (codes ".txt"))
 
--- a file whose name says that it is one to take, of its kind, and of no more bytes than a count of 32 bits can say
+-- a file whose name says that it is one to take, of its
+-- kind, and of no more bytes than a count of 32 bits can say
 pub record IsTakenFile (file : ReleaseFile) : Type 0 where
   pub named : IsTaken file.kind (string_bytes file.name)
   pub small : length file.bytes.items ≤ 4294967295

@@ -21,20 +21,21 @@ const TERMINOLOGY: &str = "Terminology";
 /// The folder of a release that holds its association reference sets.
 const CONTENT: &str = "Refset/Content";
 
-/// The release in the folder `name` below `dir`: the files of the folders Terminology and then Refset/Content, the names
-/// of each in byte order, as far as their names are those of concept, description, relationship or association files of
-/// a Delta or a Full release.
+/// The release in the folder `name` below `dir`: the files of the folders Terminology and then
+/// Refset/Content, the names of each in byte order, as far as their names are those of concept,
+/// description, relationship or association files of a Delta or a Full release.
 pub fn read_folder<R: Files<File = File> + AllocGlobal + Clone + Drop>(
     rt: &R,
     alloc: Global,
     dir: &str,
     name: &str,
 ) -> Result<Release, FolderFault>
-    // Each file has a name to take and isn't too large, and there is one. What a folder holds no clause can say.
+    // Each file has a name to take and isn't too large, and there is one.
+    // What a folder holds no clause can say.
     ensures taken { IfOk result (λ release. All IsTakenFile release.files.items) }
     ensures some { IfOk result (λ release. release.files.items ≢ []) }
-    // The files of one folder stand before those of the other, each part in the byte order of names; `release_of`
-    // says which come first.
+    // The files of one folder stand before those of the other, each part
+    // in the byte order of names; `release_of` says which come first.
     ensures in_order { IfOk result (λ release. AreInOrder release.files.items) }
 {
     let root = format!(in alloc; "{dir}/{name}")?;
@@ -46,8 +47,8 @@ pub fn read_folder<R: Files<File = File> + AllocGlobal + Clone + Drop>(
     release_of(terminology, content)
 }
 
-/// The release of the files of its two folders: those of Terminology and then those of Refset/Content, each in the
-/// byte order of their names. With no file there is no release.
+/// The release of the files of its two folders: those of Terminology and then those of
+/// Refset/Content, each in the byte order of their names. With no file there is no release.
 pub fn release_of(
     terminology: Vec<ReleaseFile>,
     content: Vec<ReleaseFile>,

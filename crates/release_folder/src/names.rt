@@ -31,7 +31,8 @@ fn is_taken(kind: Kind, name: &[u8]) -> bool
     begins && holds && ends
 }
 
-/// The kind of the file with this name, if it is one to take: a text of a Delta or a Full release. Names are compared byte by byte.
+/// The kind of the file with this name, if it is one to take: a text of a Delta or a Full release.
+/// Names are compared byte by byte.
 pub fn kind_to_take(name: &[u8]) -> Option<Kind>
     ensures { MatchOption result
         ((kind : Kind) → IsTaken kind name.now → ⊥)

@@ -62,8 +62,8 @@ fn a_release_is_read_in_the_order_of_its_names(rt: HostRuntime) -> Result<(), Fa
 
 #[test]
 fn what_is_no_release_is_no_folder(rt: HostRuntime) -> Result<(), Fail> {
-    // Nothing there; a file in the folder's place; no file to take; a file in the place of a part; a folder with the
-    // name of a file to take.
+    // Nothing there; a file in the folder's place; no file to take; a file in the place of a part;
+    // a folder with the name of a file to take.
     fs::create_dir_all(&rt, "releases/empty/Terminology")?;
     fs::write(&rt, "releases/file", b"no folder".as_slice())?;
     fs::create_dir_all(&rt, "releases/part")?;
@@ -81,7 +81,8 @@ fn what_is_no_release_is_no_folder(rt: HostRuntime) -> Result<(), Fail> {
 
 #[test]
 fn files_of_one_kind_come_in_the_byte_order_of_their_names(rt: HostRuntime) -> Result<(), Fail> {
-    // Written in another order than the bytes have: capitals before small letters, and a name before one that goes on.
+    // Written in another order than the bytes have: capitals
+    // before small letters, and a name before one that goes on.
     let written = [
         (b"3".as_slice(), "sct2_Concept_Full_de_20200131.txt"),
         (b"1".as_slice(), "sct2_Concept_Delta_INT_20200131.txt"),

@@ -59,14 +59,16 @@ IsFirstLineFault kind text f =
     × ((¬ (IsUtf8 text) × (f ≡ fault.NotUtf8))
     ⊎ (IsUtf8 text × (text ≢ header kind) × (f ≡ fault.Header))))
 
--- Of the lines from line 2 on, line n is the first that has a fault, and f is its fault: those before it spell rows.
+-- Of the lines from line 2 on, line n is the first that has a fault, and f is its fault:
+-- those before it spell rows.
 abbrev pub IsFaultOfRows : Kind → List (List ℕ) → ℕ → LineFault → Type 0
 IsFaultOfRows kind lines n f =
     (rows : List Version) × (before : List (List ℕ)) × (text : List ℕ) × (after : List (List ℕ))
     × (lines ≡ before ++ text ∷ after) × SpellsEach kind rows before × IsFaultOf kind text f
     × (n ≡ length before + 2)
 
--- Line n, counted from 1, is the first that has a fault, and f is its fault. No line at all is a first line that isn't the header.
+-- Line n, counted from 1, is the first that has a fault, and f is its fault.
+-- No line at all is a first line that isn't the header.
 abbrev pub IsFaultOfLines : Kind → List (List ℕ) → ℕ → LineFault → Type 0
 IsFaultOfLines kind [] n f = (n ≡ 1) × (f ≡ fault.Header)
 IsFaultOfLines kind (first ∷ others) n f =

@@ -26,13 +26,15 @@ OneFaultOfLine =
 
 -- A line that spells a row has no fault.
 abbrev pub RowHasNoFault : Type 0
-RowHasNoFault = (v : Version) (text : List ℕ) (f : LineFault) → Spells v text → ¬ IsFaultOf (kind_of v) text f
+RowHasNoFault =
+    (v : Version) (text : List ℕ) (f : LineFault) → Spells v text → ¬ IsFaultOf (kind_of v) text f
 
 -- Each line spells a row of the kind or has a fault.
 abbrev pub RowOrFault : Type 0
 RowOrFault =
     (kind : Kind) (text : List ℕ)
-    → ((v : Version) × (kind_of v ≡ kind) × Spells v text) ⊎ ((f : LineFault) × IsFaultOf kind text f)
+    → ((v : Version) × (kind_of v ≡ kind) × Spells v text)
+    ⊎ ((f : LineFault) × IsFaultOf kind text f)
 
 -- ---- files
 
@@ -73,7 +75,8 @@ pub record IsLineText (text : List ℕ) : Type 0 where
 abbrev pub BytesAreTheirLines : Type 0
 BytesAreTheirLines = (bytes : List ℕ) → InLines (lines_in bytes) bytes
 
--- Bytes have these lines exactly where they are these texts in order, each with a line end, which the last one may lack.
+-- Bytes have these lines exactly where they are these texts in
+-- order, each with a line end, which the last one may lack.
 abbrev pub LinesAreFound : Type 0
 LinesAreFound =
     (texts : List (List ℕ)) (bytes : List ℕ)

@@ -97,7 +97,8 @@ abbrev pub HasIdFault : Kind → List ℕ → LineFault → Type 0
 HasIdFault kind.Concept text f = HasClassFault class.Concept text f
 HasIdFault kind.Description text f = HasClassFault class.Description text f
 HasIdFault kind.Relationship text f = HasClassFault class.Relationship text f
-HasIdFault kind.Association text f = ¬ (MayStand (Identifier kind.Association) text) × (f ≡ fault.MemberId)
+HasIdFault kind.Association text f =
+    ¬ (MayStand (Identifier kind.Association) text) × (f ≡ fault.MemberId)
 
 -- the fault of a text that may not stand in the column
 abbrev pub HasFault : Column → List ℕ → LineFault → Type 0

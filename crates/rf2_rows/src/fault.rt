@@ -7,8 +7,9 @@ ghost use Rattle.rf2_rows.specs.declared.fault.FileFault.TheVariants as filefaul
 use std::alloc::{AllocError, AllocFailed};
 use thiserror::Error;
 
-/// What is wrong with a line: its first fault. Length, UTF-8, the header (of the first line) and the number of columns come first,
-/// in this order; then the columns from the left, each with the fault of its own.
+/// What is wrong with a line: its first fault. Length, UTF-8, the header (of the first line) and
+/// the number of columns come first, in this order; then the columns from the left, each with the
+/// fault of its own.
 #[derive(Clone, Copy, Debug, PartialEq, Eq, Error)]
 pub enum LineFault {
     /// Counted without its line end.
@@ -21,7 +22,8 @@ pub enum LineFault {
     Header,
     #[error("another number of columns")]
     Columns,
-    /// No SCTID: other characters, a leading zero, too few or too many digits, or another check digit than Verhoeff's.
+    /// No SCTID: other characters, a leading zero, too few or
+    /// too many digits, or another check digit than Verhoeff's.
     #[error("the id isn't an SCTID")]
     Id,
     /// An SCTID whose partition is not that of the file's kind.
@@ -41,7 +43,8 @@ pub enum LineFault {
     /// In the column `id` of a reference set file.
     #[error("the member id isn't a UUID of 36 bytes")]
     MemberId,
-    /// In the columns `languageCode` and `term`; also a text with an LF, which only a line handed over by itself can hold.
+    /// In the columns `languageCode` and `term`; also a text with
+    /// an LF, which only a line handed over by itself can hold.
     #[error("the text is empty")]
     EmptyText,
 }

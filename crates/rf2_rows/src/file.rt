@@ -103,8 +103,8 @@ fn read(alloc: Global, kind: Kind, bytes: &[u8]) -> Result<Vec<Row>, FileFault>
     read_rows(alloc, kind, lines)
 }
 
-/// The rows of a release file of a kind, whole: an optional byte order mark, the column names, and one row a line. Lines end in CR LF
-/// or LF, which the last one may lack.
+/// The rows of a release file of a kind, whole: an optional byte order mark, the column
+/// names, and one row a line. Lines end in CR LF or LF, which the last one may lack.
 pub fn read_file(alloc: Global, kind: Kind, bytes: &[u8]) -> Result<Vec<Row>, FileFault>
     // What is read is spelled so.
     ensures found { IfOk result (λ rows. IsReleaseFile kind rows.items bytes.now) }

@@ -62,7 +62,8 @@ fn read_common(
 #[tactic(auto, using(crate::proofs::Faults::fault_here, crate::proofs::Faults::fault_later, crate::proofs::Faults::fault_past_three))]
 fn read_concept(definition_status: &[u8]) -> Result<Body, LineFault>
     ensures { MatchResult result
-        (λ b. (kind_of_body b ≡ kind.Concept) × IsBody b × (definition_status.now ∷ [] ≡ body_columns b))
+        (λ b. (kind_of_body b ≡ kind.Concept) × IsBody b
+        × (definition_status.now ∷ [] ≡ body_columns b))
         (FirstFault (columns_in (own_layout kind.Concept)) (definition_status.now ∷ [])) }
 {
     Ok(Body::Concept(Concept {
@@ -108,10 +109,13 @@ fn read_relationship(
 ) -> Result<Body, LineFault>
     ensures { MatchResult result
         (λ b. (kind_of_body b ≡ kind.Relationship) × IsBody b
-        × (source.now ∷ destination.now ∷ number.now ∷ type_id.now ∷ characteristic_type.now ∷ modifier.now ∷ []
+        ×
+        (source.now ∷ destination.now ∷ number.now ∷ type_id.now ∷ characteristic_type.now
+        ∷ modifier.now ∷ []
         ≡ body_columns b))
         (FirstFault (columns_in (own_layout kind.Relationship))
-        (source.now ∷ destination.now ∷ number.now ∷ type_id.now ∷ characteristic_type.now ∷ modifier.now ∷ [])) }
+        (source.now ∷ destination.now ∷ number.now ∷ type_id.now ∷ characteristic_type.now
+        ∷ modifier.now ∷ [])) }
 {
     Ok(Body::Relationship(Relationship {
         source: concept_reference(source)?,
@@ -192,7 +196,8 @@ fn read_columns(alloc: Global, kind: Kind, columns: &[&[u8]]) -> Result<Row, Row
     ))
 }
 
-/// The row that a line spells. The vector is room for its columns, and what it holds doesn't matter.
+/// The row that a line spells. The vector is room for
+/// its columns, and what it holds doesn't matter.
 pub(crate) fn read_line<'a>(
     alloc: Global,
     room: &mut Vec<&'a [u8]>,

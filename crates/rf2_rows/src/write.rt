@@ -86,7 +86,8 @@ fn canonical_line(alloc: Global, row: &Row) -> Result<Vec<u8>, AllocError>
     Ok(line)
 }
 
-/// Appends the row's canonical spelling, without a line end: as it was read, but member ids in lower case.
+/// Appends the row's canonical spelling, without a line end:
+/// as it was read, but member ids in lower case.
 pub fn write_row(alloc: Global, row: &Row, out: &mut Vec<u8>) -> Result<(), AllocError>
     ensures ok { OnOk result (out.new.items ≡ out.old.items ++ canonical row.now) }
     ensures err { OnErr result (out.new.items ≡ out.old.items) }

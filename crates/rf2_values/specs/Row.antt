@@ -121,7 +121,8 @@ pub record IsVersion (v : Version) : Type 0 where
 
 -- the texts are the spellings of the row's columns
 abbrev pub SpellsColumns : Version → List (List ℕ) → Type 0
-SpellsColumns v texts = (id : List ℕ) × SpellsId (kind_of v) v.id id × (texts ≡ id ∷ later_columns v)
+SpellsColumns v texts =
+    (id : List ℕ) × SpellsId (kind_of v) v.id id × (texts ≡ id ∷ later_columns v)
 
 -- the text is the spellings of the row's columns, joined by TAB, within 65,535 bytes
 pub record Spells (v : Version) (text : List ℕ) : Type 0 where

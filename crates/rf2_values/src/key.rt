@@ -11,8 +11,8 @@ use crate::row::Kind;
 use crate::time::EffectiveTime;
 use std::cmp::Ordering;
 
-/// What names a row among all rows: its kind, its id and its effective time, compared in this order.
-/// The fields stand in the order in which they take the least room.
+/// What names a row among all rows: its kind, its id and its effective time, compared
+/// in this order. The fields stand in the order in which they take the least room.
 #[derive(Clone, Copy, Debug, PartialEq, Eq)]
 pub struct Key {
     /// An SCTID as a number, or a member id as one of 128 bits.
@@ -50,7 +50,8 @@ impl Ord for Key {
 impl PartialOrd for Key {
     ghost partial_cmp = { as_partial_cmp key_cmp };
 
-    ghost laws = { partial_order_from_agreeing_total key_cmp keys_total (λ _ _. refl) (Prim.search (comparing, rules)) };
+    ghost laws = { partial_order_from_agreeing_total key_cmp keys_total (λ _ _. refl)
+        (Prim.search (comparing, rules)) };
 
     fn partial_cmp(&self, other: &Key) -> Option<Ordering> {
         Some(self.compare(other))

@@ -82,7 +82,8 @@ fn line_len(id: u128, time: EffectiveTime, active: bool, module_id: Sctid, body:
         + body_len(body)
 }
 
-/// How many bytes the texts among the columns take, each with the TAB before it. Numbers take at most 126 more.
+/// How many bytes the texts among the columns take, each with the TAB before it.
+/// Numbers take at most 126 more.
 fn texts_len(body: &Body) -> u128
     requires { IsBody body.now }
     ensures many { columns_len (body_columns body.now) ≤ result + 126 }
@@ -94,7 +95,8 @@ fn texts_len(body: &Body) -> u128
     }
 }
 
-/// Whether the canonical spelling of a row with these columns fits a line. Mostly its texts tell, without counting digits.
+/// Whether the canonical spelling of a row with these columns fits a line.
+/// Mostly its texts tell, without counting digits.
 pub fn is_short(id: u128, time: EffectiveTime, active: bool, module_id: Sctid, body: &Body) -> bool
     requires id { IsIdOf (kind_of_body body.now) id }
     requires time { IsTime time }

@@ -1,7 +1,8 @@
 //! Rows: one version of one component.
 //!
-//! The columns are those of the SNOMED CT Release File Specifications (RF2), in its sections "Concept File Specification",
-//! "Description File Specification", "Relationship File Specification" and "Association Reference Set".
+//! The columns are those of the SNOMED CT Release File Specifications (RF2), in its sections
+//! "Concept File Specification", "Description File Specification", "Relationship File
+//! Specification" and "Association Reference Set".
 
 ghost use Rattle.std.specs.Prelude.{◌≡◌, ◌↔◌, IsTrue, IfOk, SomeIff};
 ghost use Rattle.rf2_values.specs.Row.{version, IsVersion, kind_of, kind_of_body};
@@ -140,7 +141,8 @@ impl Model for Row {
 
     ghost invariant = { λ r. IsVersion (version r.id r.time r.active r.module_id r.body) };
 
-    ghost inverse = { λ v. record { id = v.id; time = v.time; active = v.active; module_id = v.module_id; body = v.body } };
+    ghost inverse = { λ v. record
+        { id = v.id; time = v.time; active = v.active; module_id = v.module_id; body = v.body } };
 }
 
 impl Row {

@@ -1,7 +1,7 @@
 //! SNOMED CT identifiers (SCTIDs), with the check digit of Verhoeff.
 //!
-//! The form is that of the SNOMED CT Release File Specifications, in its sections "SCTID Representation", "SCTID Constraints",
-//! "Check-digit" and "Partition Identifier".
+//! The form is that of the SNOMED CT Release File Specifications, in its sections "SCTID
+//! Representation", "SCTID Constraints", "Check-digit" and "Partition Identifier".
 
 ghost use Rattle.std.specs.Prelude.{◌≡◌, ℕ, ◌<◌, ◌≤◌, Option, Some, IfSome, SomeIff, decimal};
 ghost use Rattle.rf2_values.specs.Sctid.{IsSctid, check_digits, class_of};
@@ -23,7 +23,8 @@ const PRODUCTS: [[u8; 10]; 10] = [
     [9, 8, 7, 6, 5, 4, 3, 2, 1, 0],
 ];
 
-/// Verhoeff's permutations: what becomes of a digit at each of eight places, counted from the right.
+/// Verhoeff's permutations: what becomes of a digit
+/// at each of eight places, counted from the right.
 const TURNS: [[u8; 10]; 8] = [
     [0, 1, 2, 3, 4, 5, 6, 7, 8, 9],
     [1, 5, 7, 6, 2, 8, 3, 0, 9, 4],
@@ -95,7 +96,8 @@ impl Sctid {
         Sctid::of(number::parse(text)?)
     }
 
-    /// What it identifies, where its partition is one of 00, 01, 02 (short form) and 10, 11, 12 (long form, with a namespace).
+    /// What it identifies, where its partition is one of 00, 01, 02
+    /// (short form) and 10, 11, 12 (long form, with a namespace).
     pub fn class(self) -> Option<Class>
         ensures { result ≡ class_of self }
     {

@@ -6,7 +6,8 @@ ghost use Rattle.rf2_values.specs.Time.{IsTime};
 use crate::number;
 use std::marker::Model;
 
-/// The column `effectiveTime`: a day, as the number that its eight digits (year, month, day) spell. Each month may have 31 days.
+/// The column `effectiveTime`: a day, as the number that its eight digits (year, month, day) spell.
+/// Each month may have 31 days.
 #[derive(Clone, Copy, Debug, PartialEq, Eq, PartialOrd, Ord)]
 pub struct EffectiveTime {
     value: u32,

@@ -30,7 +30,8 @@ pub struct Scarcity {
 impl Scarcity {
     /// Takes most of the memory, and leaves enough for what a test does between two calls.
     pub fn new(alloc: Global) -> Result<Scarcity, AllocError> {
-        // A large piece that is given back makes the allocator serve all smaller ones from one heap.
+        // A large piece that is given back makes the
+        // allocator serve all smaller ones from one heap.
         let first: Vec<u8> = Vec::with_capacity(alloc, SPARE / 8)?;
         drop(first);
         let small = Vec::with_capacity(alloc, MOST)?;

@@ -1,4 +1,5 @@
-//! `sctd` keeps the release history of a SNOMED CT terminology in a file, and answers what each component said on any past date.
+//! `sctd` keeps the release history of a SNOMED CT terminology in
+//! a file, and answers what each component said on any past date.
 #![tactic(auto)]
 
 use command_line::run;
@@ -8,8 +9,9 @@ use std::process::ExitCode;
 use std::rt::HostRuntime;
 use std::{env, io};
 
-/// Opens the root folder three times. A stream that the program was started without has its number taken so, and no file that is opened from then on,
-/// as that of a store, stands in its place and takes the replies: it can be neither read nor written.
+/// Opens the root folder three times. A stream that the program was started without has its number
+/// taken so, and no file that is opened from then on, as that of a store, stands in its place and
+/// takes the replies: it can be neither read nor written.
 fn places_of_streams(rt: &HostRuntime) -> io::Result<[File; 3]> {
     Ok([fs::open(rt, "/")?, fs::open(rt, "/")?, fs::open(rt, "/")?])
 }

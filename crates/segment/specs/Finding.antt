@@ -1,4 +1,5 @@
--- What is found, and what a refusal says: words of the private readers of bytes, which no public clause cites.
+-- What is found, and what a refusal says: words of the
+-- private readers of bytes, which no public clause cites.
 use Rattle.std.specs.Prelude.{◌≡◌, ℕ, List, ◌++◌, Result, Ok, Err, Some}
 use Rattle.rf2_values.specs.declared.row.Body.{Body}
 use Rattle.rf2_values.specs.declared.row.Kind.{Kind}
@@ -10,7 +11,8 @@ use Rattle.segment.specs.declared.fault.SegmentFault.{SegmentFault}
 use Rattle.segment.specs.declared.fault.SegmentFault.TheVariants as faults
 use Rattle.segment.specs.Records.{Field, spelled, body_fields, fields_of, record_of, IsStamped}
 
--- a value for which P holds is found, or, unless memory ran out, there is no allowed value for which it does
+-- a value for which P holds is found, or, unless memory
+-- ran out, there is no allowed value for which it does
 abbrev pub Finds : {X : Type 0} → (X → Type 0) → (X → Type 0) → Result X SegmentFault → Type 0
 Finds Allowed P (Ok x) = P x
 Finds Allowed P (Err faults.OutOfMemory) = Unit {0}
@@ -22,14 +24,17 @@ HasFields kind fields b = (kind_of_body b ≡ kind) × (body_fields b ≡ fields
 
 -- a body of a kind whose fields these bytes are
 abbrev pub IsBodyIn : Kind → List ℕ → Body → Type 0
-IsBodyIn kind bytes b = (kind_of_body b ≡ kind) × (all_at (body_forms kind) bytes ≡ Some (body_fields b))
+IsBodyIn kind bytes b =
+    (kind_of_body b ≡ kind) × (all_at (body_forms kind) bytes ≡ Some (body_fields b))
 
 -- a row whose fields these bytes spell
 abbrev pub IsRowIn : List ℕ → StampedRow → Type 0
 IsRowIn bytes s = IsStamped s × (bytes ≡ spelled (fields_of s))
 
--- a row whose record bytes begin with, and the bytes after it, or, unless memory ran out, there is none
+-- a row whose record bytes begin with, and the bytes
+-- after it, or, unless memory ran out, there is none
 abbrev pub FindsRecord : List ℕ → Result (StampedRow × Bor (List ℕ)) SegmentFault → Type 0
 FindsRecord bytes (Ok p) = IsStamped p.0 × (bytes ≡ record_of p.0 ++ p.1.now)
 FindsRecord bytes (Err faults.OutOfMemory) = Unit {0}
-FindsRecord bytes (Err faults.BadSegment) = (s : StampedRow) (rest : List ℕ) → IsStamped s → bytes ≡ record_of s ++ rest → ⊥
+FindsRecord bytes (Err faults.BadSegment) =
+    (s : StampedRow) (rest : List ℕ) → IsStamped s → bytes ≡ record_of s ++ rest → ⊥

@@ -1,4 +1,5 @@
--- The fields that bytes begin with, by their forms alone: words of the private readers of bytes, which no public clause cites.
+-- The fields that bytes begin with, by their forms alone: words
+-- of the private readers of bytes, which no public clause cites.
 use Rattle.std.specs.Prelude.{ℕ, ◌+◌, List, [], ◌∷◌, length, take, drop, Option, Some, None, option_and_then, nat_lt, ◌==◌, ◌-◌, ◌*◌, ◌^◌, ◌<◌, if◌then◌else◌}
 use Rattle.std.specs.Int.{Width, w8, w16, w32, w64, w128, byte_len, from_be_bytes}
 use Rattle.rf2_values.specs.declared.row.Kind.{Kind}
@@ -85,13 +86,16 @@ record_bytes_at bytes = do
 -- ---- the fields of what the code reads, before any column's rule is applied
 
 abbrev pub raw_common_fields : RawCommon → List Field
-raw_common_fields r = Number w8 r.kind ∷ Number w128 r.id ∷ Number w32 r.time ∷ Number w32 r.import ∷ Number w8 r.active ∷ Number w64 r.module_id ∷ []
+raw_common_fields r = Number w8 r.kind ∷ Number w128 r.id ∷ Number w32 r.time ∷ Number w32 r.import
+    ∷ Number w8 r.active ∷ Number w64 r.module_id ∷ []
 
 abbrev pub raw_description_fields : RawDescription → List Field
-raw_description_fields r = Number w64 r.concept ∷ Number w64 r.type_id ∷ Number w64 r.case_significance ∷ Text r.language_code.now ∷ Text r.term.now ∷ []
+raw_description_fields r = Number w64 r.concept ∷ Number w64 r.type_id
+    ∷ Number w64 r.case_significance ∷ Text r.language_code.now ∷ Text r.term.now ∷ []
 
 abbrev pub raw_relationship_fields : RawRelationship → List Field
-raw_relationship_fields r = Number w64 r.source ∷ Number w64 r.destination ∷ Number w32 r.group ∷ Number w64 r.type_id ∷ Number w64 r.characteristic_type ∷ Number w64 r.modifier ∷ []
+raw_relationship_fields r = Number w64 r.source ∷ Number w64 r.destination ∷ Number w32 r.group
+    ∷ Number w64 r.type_id ∷ Number w64 r.characteristic_type ∷ Number w64 r.modifier ∷ []
 
 abbrev pub raw_association_fields : RawAssociation → List Field
 raw_association_fields r = Number w64 r.refset ∷ Number w64 r.referenced ∷ Number w64 r.target ∷ []

@@ -11,7 +11,8 @@ use Rattle.history_model.specs.declared.stamped.StampedRow.{StampedRow}
 use Rattle.history_model.specs.InOrder.{IsAscending}
 use Rattle.history_model.specs.History.{stamped_cmp}
 
--- what a record is made of: a number in the bytes of its width, the highest first, or a text after the number of its bytes in two bytes
+-- what a record is made of: a number in the bytes of its width, the
+-- highest first, or a text after the number of its bytes in two bytes
 pub data Field : Type 0 where
   Number : Width → ℕ → Field
   Text : List ℕ → Field
@@ -38,14 +39,20 @@ active_code true = 1
 -- the fields that each record has
 abbrev pub common_fields : StampedRow → List Field
 common_fields s =
-    Number w8 (kind_code (kind_of s.row)) ∷ Number w128 s.row.id ∷ Number w32 s.row.time ∷ Number w32 s.import ∷ Number w8 (active_code s.row.active) ∷ Number w64 s.row.module_id ∷ []
+    Number w8 (kind_code (kind_of s.row)) ∷ Number w128 s.row.id ∷ Number w32 s.row.time
+    ∷ Number w32 s.import ∷ Number w8 (active_code s.row.active) ∷ Number w64 s.row.module_id
+    ∷ []
 
 -- the fields of its kind
 abbrev pub body_fields : Body → List Field
 body_fields (bodies.Concept c) = Number w64 c.definition_status ∷ []
-body_fields (bodies.Description d) = Number w64 d.concept ∷ Number w64 d.type_id ∷ Number w64 d.case_significance ∷ Text d.language_code ∷ Text d.term ∷ []
-body_fields (bodies.Relationship r) = Number w64 r.source ∷ Number w64 r.destination ∷ Number w32 r.group ∷ Number w64 r.type_id ∷ Number w64 r.characteristic_type ∷ Number w64 r.modifier ∷ []
-body_fields (bodies.Association a) = Number w64 a.refset ∷ Number w64 a.referenced ∷ Number w64 a.target ∷ []
+body_fields (bodies.Description d) = Number w64 d.concept ∷ Number w64 d.type_id
+    ∷ Number w64 d.case_significance ∷ Text d.language_code ∷ Text d.term ∷ []
+body_fields (bodies.Relationship r) = Number w64 r.source ∷ Number w64 r.destination
+    ∷ Number w32 r.group ∷ Number w64 r.type_id ∷ Number w64 r.characteristic_type
+    ∷ Number w64 r.modifier ∷ []
+body_fields (bodies.Association a) =
+    Number w64 a.refset ∷ Number w64 a.referenced ∷ Number w64 a.target ∷ []
 
 -- all but the length
 abbrev pub fields_of : StampedRow → List Field
@@ -79,17 +86,22 @@ pub record IsRecordAt (bytes : List ℕ) (place : ℕ) (s : StampedRow) (next : 
 
 -- no bytes are two segments
 abbrev pub OneSegment : Type 0
-OneSegment = (rows others : List StampedRow) (bytes : List ℕ) → IsSegment rows bytes → IsSegment others bytes → rows ≡ others
+OneSegment = (rows others : List StampedRow) (bytes : List ℕ) → IsSegment rows bytes
+    → IsSegment others bytes → rows ≡ others
 
 -- no place has two records
 abbrev pub OneRecord : Type 0
-OneRecord = (bytes : List ℕ) (place : ℕ) (s other : StampedRow) (next after : ℕ) → IsRecordAt bytes place s next → IsRecordAt bytes place other after → (s ≡ other) × (next ≡ after)
+OneRecord = (bytes : List ℕ) (place : ℕ) (s other : StampedRow) (next after : ℕ)
+    → IsRecordAt bytes place s next → IsRecordAt bytes place other after
+    → (s ≡ other) × (next ≡ after)
 
 -- in a segment a row's record stands where those of the rows before it end
 abbrev pub EachAtItsPlace : Type 0
-EachAtItsPlace = (before after : List StampedRow) (s : StampedRow) (bytes : List ℕ) → IsSegment (before ++ s ∷ after) bytes
+EachAtItsPlace = (before after : List StampedRow) (s : StampedRow) (bytes : List ℕ)
+    → IsSegment (before ++ s ∷ after) bytes
     → IsRecordAt bytes (length (segment_of before)) s (length (segment_of (before ++ s ∷ [])))
 
 -- what spells two lists, one after the other, spells them joined
 abbrev pub PiecesJoin : Type 0
-PiecesJoin = (rows others : List StampedRow) → segment_of (rows ++ others) ≡ segment_of rows ++ segment_of others
+PiecesJoin = (rows others : List StampedRow)
+    → segment_of (rows ++ others) ≡ segment_of rows ++ segment_of others

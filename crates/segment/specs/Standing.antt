@@ -24,12 +24,14 @@ abbrev pub places_of : List StampedRow → List Posted
 places_of rows = map (λ x. x.1) (with_places 0 rows)
 
 -- the row stands at the place, in the list with this number
-pub record StandsAt (lists : List (List StampedRow)) (segment : ℕ) (at : Posted) (s : StampedRow) : Type 0 where
+pub record StandsAt (lists : List (List StampedRow)) (segment : ℕ) (at : Posted)
+    (s : StampedRow) : Type 0 where
   pub rows : List StampedRow
   pub list_is : slice_get lists segment ≡ Some rows
   pub there : Has (with_places 0 rows) (s, at)
 
--- what a place says of the row that stands there, and where the row's record is in the bytes of its list
+-- what a place says of the row that stands there, and
+-- where the row's record is in the bytes of its list
 pub record IsPlaceIn (bytes : List ℕ) (at : Posted) (s : StampedRow) : Type 0 where
   pub key_is : at.key ≡ key_of s.row
   pub import_is : at.import ≡ s.import
@@ -37,5 +39,7 @@ pub record IsPlaceIn (bytes : List ℕ) (at : Posted) (s : StampedRow) : Type 0 
 
 -- where a row stands, its record is at that byte of the segment
 abbrev pub EachStandsAtItsByte : Type 0
-EachStandsAtItsByte = (lists : List (List StampedRow)) (segment : ℕ) (at : Posted) (s : StampedRow) (rows : List StampedRow) (bytes : List ℕ)
-    → StandsAt lists segment at s → slice_get lists segment ≡ Some rows → IsSegment rows bytes → IsPlaceIn bytes at s
+EachStandsAtItsByte = (lists : List (List StampedRow)) (segment : ℕ) (at : Posted) (s : StampedRow)
+    (rows : List StampedRow) (bytes : List ℕ)
+    → StandsAt lists segment at s → slice_get lists segment ≡ Some rows → IsSegment rows bytes
+    → IsPlaceIn bytes at s

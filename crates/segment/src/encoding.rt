@@ -67,7 +67,9 @@ pub(crate) fn record_len(stamped: &StampedRow) -> u32
 
 fn put_description(out: &mut Vec<u8>, description: &Description) -> Result<(), AllocError>
     requires { AllByRecursion Fits (body_fields (bodies.Description description.now)) }
-    ensures { OnOk result (out.new.items ≡ out.old.items ++ spelled (body_fields (bodies.Description description.now))) }
+    ensures { OnOk result
+        (out.new.items ≡ out.old.items ++ spelled
+        (body_fields (bodies.Description description.now))) }
 {
     put_u64(out, description.concept.value())?;
     put_u64(out, description.type_id.value())?;
@@ -77,7 +79,9 @@ fn put_description(out: &mut Vec<u8>, description: &Description) -> Result<(), A
 }
 
 fn put_relationship(out: &mut Vec<u8>, relationship: &Relationship) -> Result<(), AllocError>
-    ensures { OnOk result (out.new.items ≡ out.old.items ++ spelled (body_fields (bodies.Relationship relationship.now))) }
+    ensures { OnOk result
+        (out.new.items ≡ out.old.items ++ spelled
+        (body_fields (bodies.Relationship relationship.now))) }
 {
     put_u64(out, relationship.source.value())?;
     put_u64(out, relationship.destination.value())?;

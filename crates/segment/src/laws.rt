@@ -23,7 +23,8 @@ pub fn pieces_join()
     ensures { PiecesJoin }
 {}
 
-/// Where a row stands, its record is at that byte of its list's segment, and the place has its key and its number.
+/// Where a row stands, its record is at that byte of its
+/// list's segment, and the place has its key and its number.
 pub fn each_stands_at_its_byte()
     ensures { EachStandsAtItsByte }
 {}

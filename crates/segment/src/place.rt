@@ -7,7 +7,8 @@ use crate::encoding::record_len;
 use history_model::StampedRow;
 use rf2_values::Key;
 
-/// Where a row's record stands in its segment, with what names the row and the number of its import.
+/// Where a row's record stands in its segment, with
+/// what names the row and the number of its import.
 #[derive(Clone, Copy, Debug, PartialEq, Eq)]
 pub struct Posted {
     pub key: Key,

@@ -47,7 +47,8 @@ pub(crate) struct RawAssociation {
 }
 
 pub(crate) fn read_common(bytes: &[u8]) -> Option<(RawCommon, &[u8])>
-    ensures { fields_at common_forms bytes.now ≡ option_map (λ p. (raw_common_fields p.0, p.1.now)) result }
+    ensures { fields_at common_forms bytes.now ≡ option_map
+        (λ p. (raw_common_fields p.0, p.1.now)) result }
 {
     let (kind, rest) = read_u8(bytes)?;
     let (id, rest) = read_u128(rest)?;
@@ -70,14 +71,16 @@ pub(crate) fn read_common(bytes: &[u8]) -> Option<(RawCommon, &[u8])>
 
 /// The definition status of a concept.
 pub(crate) fn read_concept(bytes: &[u8]) -> Option<u64>
-    ensures { all_at (body_forms kinds.Concept) bytes.now ≡ option_map (λ n. Number w64 n ∷ []) result }
+    ensures { all_at (body_forms kinds.Concept) bytes.now ≡ option_map
+        (λ n. Number w64 n ∷ []) result }
 {
     let (definition_status, rest) = read_u64(bytes)?;
     rest.is_empty().then_some(definition_status)
 }
 
 pub(crate) fn read_description(bytes: &[u8]) -> Option<RawDescription<'_>>
-    ensures { all_at (body_forms kinds.Description) bytes.now ≡ option_map raw_description_fields result }
+    ensures { all_at
+        (body_forms kinds.Description) bytes.now ≡ option_map raw_description_fields result }
 {
     let (concept, rest) = read_u64(bytes)?;
     let (type_id, rest) = read_u64(rest)?;
@@ -94,7 +97,8 @@ pub(crate) fn read_description(bytes: &[u8]) -> Option<RawDescription<'_>>
 }
 
 pub(crate) fn read_relationship(bytes: &[u8]) -> Option<RawRelationship>
-    ensures { all_at (body_forms kinds.Relationship) bytes.now ≡ option_map raw_relationship_fields result }
+    ensures { all_at
+        (body_forms kinds.Relationship) bytes.now ≡ option_map raw_relationship_fields result }
 {
     let (source, rest) = read_u64(bytes)?;
     let (destination, rest) = read_u64(rest)?;
@@ -113,7 +117,8 @@ pub(crate) fn read_relationship(bytes: &[u8]) -> Option<RawRelationship>
 }
 
 pub(crate) fn read_association(bytes: &[u8]) -> Option<RawAssociation>
-    ensures { all_at (body_forms kinds.Association) bytes.now ≡ option_map raw_association_fields result }
+    ensures { all_at
+        (body_forms kinds.Association) bytes.now ≡ option_map raw_association_fields result }
 {
     let (refset, rest) = read_u64(bytes)?;
     let (referenced, rest) = read_u64(rest)?;

@@ -5,13 +5,15 @@ ghost use Rattle.std.specs.Iterator.{YieldsFirst, item_count};
 
 use std::marker::Model;
 
-/// So many items are idle at least before room is given back: each time the rest may have to be moved.
+/// So many items are idle at least before room is given back:
+/// each time the rest may have to be moved.
 const FEWEST_IDLE: usize = 1024;
 
 /// And one part of so many of the room.
 const PARTS: usize = 16;
 
-/// The items of a vector that are left, by value and in its order. As they are taken, their room is given back to the system.
+/// The items of a vector that are left, by value and in its order.
+/// As they are taken, their room is given back to the system.
 #[derive(Drop)]
 pub struct ShrinkingList<T> {
     /// The last one first.

@@ -24,7 +24,8 @@ use Rattle.store_image.specs.Images.{StandsFor, IsStore}
 abbrev pub empty_listing : Listing
 empty_listing = record { epoch = 1; imports = 0; entries = [] }
 
--- the bytes of a new store: the two slots and nothing behind them. Slot A is the current one and lists the empty directory; beside its gate and its content all is zero.
+-- the bytes of a new store: the two slots and nothing behind them. Slot A is the current
+-- one and lists the empty directory; beside its gate and its content all is zero.
 pub record IsNewStore (file : List ℕ) : Type 0 where
   pub content : List ℕ
   pub lists_it : Lists content empty_listing
@@ -69,7 +70,8 @@ IsSynced (Err faults.NotEmpty) old new = ⊥
 IsSynced (Err faults.NotAStore) old new = new ≡ synced old
 IsSynced (Err faults.Damaged) old new = new ≡ synced old
 
--- Why bytes aren't opened: they are no store where no gate is open, and damaged where one is open and they stand for nothing.
+-- Why bytes aren't opened: they are no store where no gate is
+-- open, and damaged where one is open and they stand for nothing.
 abbrev pub IsNotOpened : ImageFault → List ℕ → Type 0
 IsNotOpened faults.OutOfMemory file = IsOpen A file ⊎ IsOpen B file
 IsNotOpened faults.DiskFault file = Unit {0}
@@ -79,7 +81,8 @@ IsNotOpened faults.Damaged file = (IsOpen A file ⊎ IsOpen B file) × ¬ (IsSto
 
 -- bytes that stand for something are opened, unless memory or the device fails
 abbrev pub StandingIsOpened : Type 0
-StandingIsOpened = (file : List ℕ) (h : History) (epoch : ℕ) (entries : List Entry) → StandsFor file h epoch entries
+StandingIsOpened = (file : List ℕ) (h : History) (epoch : ℕ) (entries : List Entry)
+    → StandsFor file h epoch entries
     → (e : ImageFault) → IsNotOpened e file → (e ≡ faults.OutOfMemory) ⊎ (e ≡ faults.DiskFault)
 
 -- the count of failures rises where the device failed, and else stays

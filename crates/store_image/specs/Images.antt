@@ -8,8 +8,9 @@ use Rattle.directory.specs.declared.entry.Entry.{Entry}
 use Rattle.store_image.specs.Stands.{Stands}
 use Rattle.store_image.specs.Says.{Says, pieces_of}
 
--- The bytes stand for the history, at this epoch and with these entries: the current slot's content lists them, and each entry's extent is the segment of some of the
--- rows, all of which together are the history's.
+-- The bytes stand for the history, at this epoch and with these entries: the current slot's content
+-- lists them, and each entry's extent is the segment of some of the rows, all of which together are
+-- the history's.
 pub record StandsFor (file : List ℕ) (h : History) (epoch : ℕ) (entries : List Entry) : Type 0 where
   pub slot : Slot
   pub content : List ℕ
@@ -27,4 +28,6 @@ IsStore file = (h : History) × StandsForHistory h file
 
 -- bytes stand for one history, epoch and list of entries at most
 abbrev pub StandsForOne : Type 0
-StandsForOne = (file : List ℕ) (h g : History) (epoch others : ℕ) (entries lists : List Entry) → StandsFor file h epoch entries → StandsFor file g others lists → (h ≡ g) × (epoch ≡ others) × (entries ≡ lists)
+StandsForOne = (file : List ℕ) (h g : History) (epoch others : ℕ) (entries lists : List Entry)
+    → StandsFor file h epoch entries → StandsFor file g others lists
+    → (h ≡ g) × (epoch ≡ others) × (entries ≡ lists)

@@ -40,10 +40,13 @@ pub record AreOpen (rests : List Rest) : Type 0 where
 
 -- a list was put among others, beside any that come later; or a key of it is in one of them
 abbrev pub Opens : Bool → List (List Key) → List (List Key) → List Key → Type 0
-Opens true old new keys = (later : List (List Key)) → EachKeyOnce (new ++ later) ↔ EachKeyOnce (old ++ keys ∷ later)
+Opens true old new keys =
+    (later : List (List Key)) → EachKeyOnce (new ++ later) ↔ EachKeyOnce (old ++ keys ∷ later)
 Opens false old new keys = (later : List (List Key)) → EachKeyOnce (old ++ keys ∷ later) → ⊥
 
 -- the place behind the greater first keys, or one where the key is the first
 abbrev pub IsPlaceOf : Key → List Rest → Result ℕ ℕ → Type 0
 IsPlaceOf key rests (Ok i) = (d : Rest) → (i < length rests) × ((get_or rests i d).first ≡ key)
-IsPlaceOf key rests (Err i) = (i ≤ length rests) × AllByRecursion (λ r. key_cmp key r.first ≡ Less) (take i rests) × AllByRecursion (λ r. key_cmp r.first key ≡ Less) (drop i rests)
+IsPlaceOf key rests (Err i) = (i ≤ length rests)
+    × AllByRecursion (λ r. key_cmp key r.first ≡ Less) (take i rests)
+    × AllByRecursion (λ r. key_cmp r.first key ≡ Less) (drop i rests)

@@ -20,7 +20,8 @@ pub record IsNext (d e : Listing) (lists : List (List StampedRow)) : Type 0 wher
   pub kept : IsKept e lists
 
 -- with one entry more, and its rows
-pub record IsAdded (d e : Listing) (lists : List (List StampedRow)) (entry : Entry) (rows : List StampedRow) : Type 0 where
+pub record IsAdded (d e : Listing) (lists : List (List StampedRow)) (entry : Entry)
+    (rows : List StampedRow) : Type 0 where
   pub epoch : e.epoch ≡ d.epoch + 1
   pub entries : e.entries ≡ d.entries ++ entry ∷ []
   pub listing : IsListing e
@@ -37,18 +38,24 @@ pub record IsRepeated (d e : Listing) : Type 0 where
 
 -- a directory with one entry more comes next, with the rows of that entry
 abbrev pub AddedIsNext : Type 0
-AddedIsNext = (d e : Listing) (lists : List (List StampedRow)) (entry : Entry) (rows : List StampedRow) → IsKept d lists → IsAdded d e lists entry rows → IsNext d e (lists ++ rows ∷ [])
+AddedIsNext =
+    (d e : Listing) (lists : List (List StampedRow)) (entry : Entry) (rows : List StampedRow)
+    → IsKept d lists → IsAdded d e lists entry rows → IsNext d e (lists ++ rows ∷ [])
 
 -- one with an import more comes next, with the same rows, of which all segments are on the disk
 abbrev pub RepeatedIsNext : Type 0
-RepeatedIsNext = (state : DiskState) (slot : Slot) (d e : Listing) (lists : List (List StampedRow)) → IsOnDisk state slot d lists → IsRepeated d e → IsNext d e lists × EachImage state (HoldsAll (pieces_of e.entries lists))
+RepeatedIsNext = (state : DiskState) (slot : Slot) (d e : Listing) (lists : List (List StampedRow))
+    → IsOnDisk state slot d lists → IsRepeated d e
+    → IsNext d e lists × EachImage state (HoldsAll (pieces_of e.entries lists))
 
 -- two of the lists replaced by the rows of both
-abbrev pub merged : List (List StampedRow) → ℕ → ℕ → List StampedRow → List StampedRow → List (List StampedRow)
+abbrev pub merged : List (List StampedRow) → ℕ → ℕ → List StampedRow → List StampedRow
+    → List (List StampedRow)
 merged lists i j a b = remove (slice_set lists i (union a b)) j
 
 -- with two entries replaced by one, which is the segment of the rows of both
-pub record IsMerged (d e : Listing) (lists : List (List StampedRow)) (i j : ℕ) (entry : Entry) (a b : List StampedRow) : Type 0 where
+pub record IsMerged (d e : Listing) (lists : List (List StampedRow)) (i j : ℕ) (entry : Entry)
+    (a b : List StampedRow) : Type 0 where
   pub epoch : e.epoch ≡ d.epoch + 1
   pub imports : e.imports ≡ d.imports
   pub entries : e.entries ≡ remove (slice_set d.entries i entry) j
@@ -61,13 +68,15 @@ pub record IsMerged (d e : Listing) (lists : List (List StampedRow)) (i j : ℕ)
 
 -- such a directory comes next, and it lists the same history
 abbrev pub MergedIsNext : Type 0
-MergedIsNext = (d e : Listing) (lists : List (List StampedRow)) (i j : ℕ) (entry : Entry) (a b : List StampedRow)
+MergedIsNext = (d e : Listing) (lists : List (List StampedRow)) (i j : ℕ) (entry : Entry)
+    (a b : List StampedRow)
     → IsKept d lists → IsMerged d e lists i j entry a b
     → IsNext d e (merged lists i j a b) × (history_of e (merged lists i j a b) ≡ history_of d lists)
 
 -- bytes that hold all segments that were listed, and the new one, hold all that it lists
 abbrev pub MergedIsHeld : Type 0
-MergedIsHeld = (d e : Listing) (lists : List (List StampedRow)) (i j : ℕ) (entry : Entry) (a b : List StampedRow)
+MergedIsHeld = (d e : Listing) (lists : List (List StampedRow)) (i j : ℕ) (entry : Entry)
+    (a b : List StampedRow)
     → IsKept d lists → IsMerged d e lists i j entry a b
     → (file : List ℕ) → HoldsAll (pieces_of d.entries lists) file
     → Holds (start_of (extent_of entry), segment_of (union a b)) file

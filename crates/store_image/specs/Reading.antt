@@ -74,11 +74,13 @@ IsNotNext faults.OutOfMemory imports rows bytes = Unit {0}
 IsNotNext faults.DiskFault imports rows bytes = Unit {0}
 IsNotNext faults.NotEmpty imports rows bytes = ⊥
 IsNotNext faults.NotAStore imports rows bytes = ⊥
-IsNotNext faults.Damaged imports rows bytes = BeginsWith rows bytes → (others : List StampedRow) → IsSegment others bytes → AreNumbered imports others → length rows < length others → ⊥
+IsNotNext faults.Damaged imports rows bytes = BeginsWith rows bytes → (others : List StampedRow)
+    → IsSegment others bytes → AreNumbered imports others → length rows < length others → ⊥
 
 -- the entry's extent is in the file, and is the segment of these rows
 abbrev pub IsAt : List ℕ → Entry → List StampedRow → Type 0
-IsAt file entry rows = IsSegmentOf entry rows × Holds (start_of (extent_of entry), segment_of rows) file
+IsAt file entry rows =
+    IsSegmentOf entry rows × Holds (start_of (extent_of entry), segment_of rows) file
 
 -- why the room of an entry isn't there, or why its segment isn't read
 abbrev pub IsNotReadAt : ImageFault → ℕ → Entry → List ℕ → Type 0
@@ -86,12 +88,14 @@ IsNotReadAt faults.OutOfMemory imports entry file = Unit {0}
 IsNotReadAt faults.DiskFault imports entry file = Unit {0}
 IsNotReadAt faults.NotEmpty imports entry file = ⊥
 IsNotReadAt faults.NotAStore imports entry file = ⊥
-IsNotReadAt faults.Damaged imports entry file = (rows : List StampedRow) → IsAt file entry rows → AreNumbered imports rows → ⊥
+IsNotReadAt faults.Damaged imports entry file =
+    (rows : List StampedRow) → IsAt file entry rows → AreNumbered imports rows → ⊥
 
 -- ---- the rows of all segments
 
 -- segments of these rows, as a store wants them
-pub record AreRead (imports : ℕ) (entries : List Entry) (lists : List (List StampedRow)) : Type 0 where
+pub record AreRead (imports : ℕ) (entries : List Entry)
+    (lists : List (List StampedRow)) : Type 0 where
   pub segments : AreSegments entries lists
   pub apart : AreLists lists
   pub numbered : AllByRecursion (AreNumbered imports) lists
@@ -102,4 +106,5 @@ AreNotRead faults.OutOfMemory imports entries file = Unit {0}
 AreNotRead faults.DiskFault imports entries file = Unit {0}
 AreNotRead faults.NotEmpty imports entries file = ⊥
 AreNotRead faults.NotAStore imports entries file = ⊥
-AreNotRead faults.Damaged imports entries file = (lists : List (List StampedRow)) → AreRead imports entries lists → HoldsAll (pieces_of entries lists) file → ⊥
+AreNotRead faults.Damaged imports entries file = (lists : List (List StampedRow))
+    → AreRead imports entries lists → HoldsAll (pieces_of entries lists) file → ⊥

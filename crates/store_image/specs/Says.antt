@@ -27,13 +27,15 @@ AreSegments (entry ∷ entries) (rows ∷ lists) = IsSegmentOf entry rows × Are
 abbrev pub pieces_of : List Entry → List (List StampedRow) → List (ℕ × List ℕ)
 pieces_of [] lists = []
 pieces_of (entry ∷ entries) [] = []
-pieces_of (entry ∷ entries) (rows ∷ lists) = (start_of (extent_of entry), segment_of rows) ∷ pieces_of entries lists
+pieces_of (entry ∷ entries) (rows ∷ lists) =
+    (start_of (extent_of entry), segment_of rows) ∷ pieces_of entries lists
 
 -- the rows of all lists, with the number of imports
 abbrev pub history_of : Listing → List (List StampedRow) → History
 history_of d lists = record { imports = d.imports; rows = listed lists }
 
--- a directory and the rows of the segments that it lists: no key is in two of them, and together they are a history
+-- a directory and the rows of the segments that it lists:
+-- no key is in two of them, and together they are a history
 pub record IsKept (d : Listing) (lists : List (List StampedRow)) : Type 0 where
   pub listing : IsListing d
   pub segments : AreSegments d.entries lists

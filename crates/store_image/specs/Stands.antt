@@ -13,6 +13,7 @@ abbrev pub HoldsAll : List (ℕ × List ℕ) → List ℕ → Type 0
 HoldsAll pieces file = All (λ piece. Holds piece file) pieces
 
 -- the slot is the current one, with this content, and each piece is there
-pub record Stands (current : Current) (content : List ℕ) (pieces : List (ℕ × List ℕ)) (file : List ℕ) : Type 0 where
+pub record Stands (current : Current) (content : List ℕ) (pieces : List (ℕ × List ℕ))
+    (file : List ℕ) : Type 0 where
   pub slot : IsCurrentWith current content file
   pub pieces_are : HoldsAll pieces file

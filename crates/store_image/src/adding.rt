@@ -21,26 +21,36 @@ use blocks::{BLOCK, Current, Slot, publish, write_through};
 use directory::{Directory, Entry};
 use disk_model::{Disk, DiskFault};
 
-/// Publishes the next directory, of which all segments are on the disk. `slot` is the current one, and the answer is the one that is current then.
+/// Publishes the next directory, of which all segments are on the disk.
+/// `slot` is the current one, and the answer is the one that is current then.
 pub fn publish_listing<D: Disk>(
     disk: &mut D,
     slot: Slot,
     next: &Directory,
 ) -> Result<Slot, DiskFault>
     // A stop at any moment leaves the old history or the new one.
-    ensures any_moment { D.is_honest disk.old → (d : Listing) (lists others : List (List StampedRow)) → IsOnDisk (D.moments disk.old).state slot d lists
-        → IsNext d next.now others → EachImage (D.moments disk.old).state (HoldsAll (pieces_of next.now.entries others))
-        → LeavesOnly (D.moments disk.old) (D.moments disk.new) (λ c. StandsForHistory (history_of d lists) c ⊎ StandsForHistory (history_of next.now others) c) }
+    ensures any_moment { D.is_honest disk.old
+        → (d : Listing) (lists others : List (List StampedRow))
+        → IsOnDisk (D.moments disk.old).state slot d lists
+        → IsNext d next.now others
+        → EachImage (D.moments disk.old).state (HoldsAll (pieces_of next.now.entries others))
+        → LeavesOnly (D.moments disk.old) (D.moments disk.new)
+        (λ c. StandsForHistory (history_of d lists) c
+        ⊎ StandsForHistory (history_of next.now others) c) }
     // After Ok each stop leaves the new one.
-    ensures on_disk { D.is_honest disk.old → (d : Listing) (lists others : List (List StampedRow)) → IsOnDisk (D.moments disk.old).state slot d lists
-        → IsNext d next.now others → EachImage (D.moments disk.old).state (HoldsAll (pieces_of next.now.entries others))
+    ensures on_disk { D.is_honest disk.old → (d : Listing) (lists others : List (List StampedRow))
+        → IsOnDisk (D.moments disk.old).state slot d lists
+        → IsNext d next.now others
+        → EachImage (D.moments disk.old).state (HoldsAll (pieces_of next.now.entries others))
         → OnOk result (IsOnDisk (D.moments disk.new).state (other slot) next.now others) }
     // What a stop leaves changes within the other slot alone.
     ensures one_slot { D.is_honest disk.old → (d : Listing) (lists : List (List StampedRow))
         → IsOnDisk (D.moments disk.old).state slot d lists → next.now.epoch ≡ d.epoch + 1
         → LeavesOnly (D.moments disk.old) (D.moments disk.new)
         (StemsWithin (D.moments disk.old).state (slot_range (other slot))) }
-    ensures elsewhere { D.is_honest disk.old → OnOk result (SameOutside (slot_range (other slot) ∷ []) (D.moments disk.old).state.now (D.moments disk.new).state.now) }
+    ensures elsewhere { D.is_honest disk.old
+        → OnOk result (SameOutside (slot_range (other slot) ∷ []) (D.moments disk.old).state.now
+        (D.moments disk.new).state.now) }
     ensures next { IfOk result (λ published. published ≡ other slot) }
     ensures honesty { D.is_honest disk.old ↔ D.is_honest disk.new }
     ensures failures { CountsEach result (D.failures disk.old) (D.failures disk.new) }
@@ -54,7 +64,8 @@ pub fn publish_listing<D: Disk>(
     Ok(published.slot)
 }
 
-/// Writes the bytes of a segment into its extent, and then publishes the directory that lists it. `slot` is the current one, and the answer is the one that is current then.
+/// Writes the bytes of a segment into its extent, and then publishes the directory that lists it.
+/// `slot` is the current one, and the answer is the one that is current then.
 pub fn add_segment<D: Disk>(
     disk: &mut D,
     slot: Slot,
@@ -65,14 +76,23 @@ pub fn add_segment<D: Disk>(
     requires entry { IsEntry entry }
     requires bytes { length bytes.now ≡ entry.bytes }
     // A stop at any moment leaves the old history or the new one.
-    ensures any_moment { D.is_honest disk.old → (d : Listing) (lists : List (List StampedRow)) (rows : List StampedRow) → IsOnDisk (D.moments disk.old).state slot d lists
+    ensures any_moment { D.is_honest disk.old
+        → (d : Listing) (lists : List (List StampedRow)) (rows : List StampedRow)
+        → IsOnDisk (D.moments disk.old).state slot d lists
         → IsAdded d next.now lists entry rows → bytes.now ≡ segment_of rows
-        → LeavesOnly (D.moments disk.old) (D.moments disk.new) (λ c. StandsForHistory (history_of d lists) c ⊎ StandsForHistory (history_of next.now (lists ++ rows ∷ [])) c) }
+        → LeavesOnly (D.moments disk.old) (D.moments disk.new)
+        (λ c. StandsForHistory (history_of d lists) c
+        ⊎ StandsForHistory (history_of next.now (lists ++ rows ∷ [])) c) }
     // After Ok each stop leaves the new one.
-    ensures on_disk { D.is_honest disk.old → (d : Listing) (lists : List (List StampedRow)) (rows : List StampedRow) → IsOnDisk (D.moments disk.old).state slot d lists
+    ensures on_disk { D.is_honest disk.old
+        → (d : Listing) (lists : List (List StampedRow)) (rows : List StampedRow)
+        → IsOnDisk (D.moments disk.old).state slot d lists
         → IsAdded d next.now lists entry rows → bytes.now ≡ segment_of rows
-        → OnOk result (IsOnDisk (D.moments disk.new).state (other slot) next.now (lists ++ rows ∷ [])) }
-    ensures elsewhere { D.is_honest disk.old → OnOk result (SameOutside (byte_range (extent_of entry) ∷ slot_range (other slot) ∷ []) (D.moments disk.old).state.now (D.moments disk.new).state.now) }
+        → OnOk result
+        (IsOnDisk (D.moments disk.new).state (other slot) next.now (lists ++ rows ∷ [])) }
+    ensures elsewhere { D.is_honest disk.old
+        → OnOk result (SameOutside (byte_range (extent_of entry) ∷ slot_range (other slot) ∷ [])
+        (D.moments disk.old).state.now (D.moments disk.new).state.now) }
     ensures next { IfOk result (λ published. published ≡ other slot) }
     ensures honesty { D.is_honest disk.old ↔ D.is_honest disk.new }
     ensures failures { CountsEach result (D.failures disk.old) (D.failures disk.new) }

@@ -1,4 +1,5 @@
-//! A segment that is written by parts before a directory lists it, and the publication that lists it.
+//! A segment that is written by parts before a directory
+//! lists it, and the publication that lists it.
 
 ghost use Rattle.std.specs.Prelude.{◌≡◌, ◌⊎◌, ◌↔◌, ◌+◌, ◌≤◌, ◌++◌, ◌∷◌, [], ℕ, List, length, IfOk, OnOk, OnErr};
 ghost use Rattle.disk_model.specs.Disk.{IsImage, LeavesOnly, Fails, followed_by, after_write, settled};
@@ -21,8 +22,8 @@ use blocks::{Extent, Slot, write_part};
 use directory::Directory;
 use disk_model::{Disk, DiskFault};
 
-/// Writes a part of a segment that no directory lists yet, `from` bytes behind its start, by one write and
-/// without a sync. A stop may lose what was written, and leaves all that is listed.
+/// Writes a part of a segment that no directory lists yet, `from` bytes behind its start, by one
+/// write and without a sync. A stop may lose what was written, and leaves all that is listed.
 pub fn write_ahead<D: Disk>(
     disk: &mut D,
     extent: Extent,
@@ -64,8 +65,8 @@ pub fn write_ahead<D: Disk>(
     write_part(disk, extent, from, bytes)
 }
 
-/// Syncs, and publishes the next directory, of which a read gives all segments. `slot` is the current one,
-/// and the answer is the one that is current then.
+/// Syncs, and publishes the next directory, of which a read gives all segments.
+/// `slot` is the current one, and the answer is the one that is current then.
 pub fn publish_written<D: Disk>(
     disk: &mut D,
     slot: Slot,

@@ -34,7 +34,8 @@ pub(crate) fn are_apart(alloc: Global, lists: &[Vec<Posted>]) -> Result<bool, Al
     run_out(&mut rests)
 }
 
-/// Goes on in what is left of the lists, from the least first key to the next, until a key is another one's too or nothing is left.
+/// Goes on in what is left of the lists, from the least first key to
+/// the next, until a key is another one's too or nothing is left.
 fn run_out(rests: &mut Vec<Rest<'_>>) -> Result<bool, AllocError>
     requires { AreOpen rests.old.items }
     ensures { IfOk result (λ apart. IsTrue apart ↔ EachKeyOnce (map keys_in rests.old.items)) }
@@ -47,15 +48,18 @@ fn run_out(rests: &mut Vec<Rest<'_>>) -> Result<bool, AllocError>
     Ok(true)
 }
 
-/// Puts a list among those that are gone over, the one with the least first key last. False where its first key is that of another one's.
+/// Puts a list among those that are gone over, the one with the least first key last.
+/// False where its first key is that of another one's.
 fn put_in<'a>(rests: &mut Vec<Rest<'a>>, list: &'a [Posted]) -> Result<bool, AllocError>
     requires rests { AreOpen rests.old.items }
     requires ascending { IsAscending key_cmp (keys_of list.now) }
     ensures rests { IfOk result (λ apart. IsTrue apart → AreOpen rests.new.items) }
     ensures lists { IfOk result
-        (λ apart. Opens apart (map keys_in rests.old.items) (map keys_in rests.new.items) (keys_of list.now)) }
+        (λ apart. Opens apart (map keys_in rests.old.items) (map keys_in rests.new.items)
+        (keys_of list.now)) }
     ensures left { IfOk result
-        (λ apart. IsTrue apart → keys_left rests.new.items ≡ keys_left rests.old.items + length list.now) }
+        (λ apart. IsTrue apart
+        → keys_left rests.new.items ≡ keys_left rests.old.items + length list.now) }
 {
     let Some((first, places)) = list.split_first() else {
         return Ok(true);

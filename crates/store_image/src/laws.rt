@@ -30,7 +30,8 @@ pub fn added_is_next()
     ensures { AddedIsNext }
 {}
 
-/// A directory with one import more, that brought no row, comes next, and its segments are on the disk.
+/// A directory with one import more, that brought no
+/// row, comes next, and its segments are on the disk.
 pub fn repeated_is_next()
     ensures { RepeatedIsNext }
 {}

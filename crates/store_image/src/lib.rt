@@ -1,5 +1,6 @@
-//! What the bytes of a disk stand for as a store: reading it, making an empty store, the three ways of writing the next directory, writing a segment ahead of its directory, and cutting off
-//! what no segment needs.
+//! What the bytes of a disk stand for as a store: reading it, making an empty store, the three ways
+//! of writing the next directory, writing a segment ahead of its directory, and cutting off what no
+//! segment needs.
 #![tactic(auto)]
 
 mod adding;

@@ -36,17 +36,21 @@ pub fn check_empty<D: Disk>(disk: &mut D) -> Result<(), ImageFault>
     Ok(())
 }
 
-/// Makes an empty store on a disk of no bytes: the length is looked at, then all room is taken, and then
-/// it writes. So `OutOfMemory` leaves the disk empty. A stop before it has answered may leave anything.
+/// Makes an empty store on a disk of no bytes: the length is looked at, then all room is taken, and
+/// then it writes. So `OutOfMemory` leaves the disk empty. A stop before it has answered may leave
+/// anything.
 pub fn make<D: Disk>(alloc: Global, disk: &mut D) -> Result<Made, ImageFault>
     ensures made { IfOk result (λ made. (made.slot ≡ Slot.A) × (made.directory ≡ empty_listing)) }
     ensures exact { D.is_honest disk.old → IsMade result (D.moments disk.old).state.now }
-    ensures on_disk { D.is_honest disk.old → IfOk result (λ made. IsOnDisk (D.moments disk.new).state made.slot made.directory []) }
+    ensures on_disk { D.is_honest disk.old
+        → IfOk result (λ made. IsOnDisk (D.moments disk.new).state made.slot made.directory []) }
     // Whatever a stop leaves stands for the empty history.
-    ensures stands { D.is_honest disk.old → OnOk result (EachImage (D.moments disk.new).state (λ c. StandsFor c no_history 1 [])) }
+    ensures stands { D.is_honest disk.old
+        → OnOk result (EachImage (D.moments disk.new).state (λ c. StandsFor c no_history 1 [])) }
     // A read then gives the two slots, and nothing behind them.
     ensures bytes { D.is_honest disk.old → OnOk result (IsNewStore (D.moments disk.new).state.now) }
-    ensures refused { D.is_honest disk.old → StaysIfRefused result (D.moments disk.old) (D.moments disk.new) }
+    ensures refused { D.is_honest disk.old
+        → StaysIfRefused result (D.moments disk.old) (D.moments disk.new) }
     // A disk with a byte stays as it is, whatever the answer: where the device fails, too.
     ensures untouched { D.is_honest disk.old → 1 ≤ length (D.moments disk.old).state.now
         → D.moments disk.new ≡ D.moments disk.old }

@@ -30,13 +30,17 @@ pub struct Loaded {
     pub shown: Vec<Shown>,
 }
 
-/// Reads what a disk stands for, after a sync. Each record is read once, through a buffer of fixed size, and its row is handed to the sink.
+/// Reads what a disk stands for, after a sync. Each record is read once,
+/// through a buffer of fixed size, and its row is handed to the sink.
 pub fn load<D: Disk, S: RowSink>(
     alloc: Global,
     disk: &mut D,
     sink: &mut S,
 ) -> Result<Loaded, ImageFault>
-    ensures exact { D.is_honest disk.old → MatchResult result (λ l. Shows l.slot l.directory l.shown.items (D.moments disk.old).state.now) (λ e. IsNotOpened e (D.moments disk.old).state.now) }
+    ensures exact { D.is_honest disk.old
+        → MatchResult result
+        (λ l. Shows l.slot l.directory l.shown.items (D.moments disk.old).state.now)
+        (λ e. IsNotOpened e (D.moments disk.old).state.now) }
     // What was read fits together, on every disk.
     ensures kept { IfOk result (λ l. IsKept l.directory l.shown.items) }
     ensures places { IfOk result
@@ -46,14 +50,18 @@ pub fn load<D: Disk, S: RowSink>(
         → S.has_taken sink.old segments [] → IfOk result
         (λ l. S.has_taken sink.new (segments ++ map (with_places 0) l.shown.items) []) }
     // A stop at any moment leaves what it might have left before.
-    ensures any_moment { D.is_honest disk.old → LeavesOnly (D.moments disk.old) (D.moments disk.new) (IsImage (D.moments disk.old).state) }
+    ensures any_moment { D.is_honest disk.old
+        → LeavesOnly (D.moments disk.old) (D.moments disk.new)
+        (IsImage (D.moments disk.old).state) }
     // It syncs once and changes nothing else, whatever it answers.
-    ensures synced { D.is_honest disk.old → IsSynced result (D.moments disk.old) (D.moments disk.new) }
+    ensures synced { D.is_honest disk.old
+        → IsSynced result (D.moments disk.old) (D.moments disk.new) }
     // So a read gives what it gave before.
     ensures unchanged { D.is_honest disk.old
         → (D.moments disk.new).state.now ≡ (D.moments disk.old).state.now }
     // After Ok each stop leaves what was read.
-    ensures on_disk { D.is_honest disk.old → IfOk result (λ l. IsOnDisk (D.moments disk.new).state l.slot l.directory l.shown.items) }
+    ensures on_disk { D.is_honest disk.old
+        → IfOk result (λ l. IsOnDisk (D.moments disk.new).state l.slot l.directory l.shown.items) }
     ensures honesty { D.is_honest disk.old ↔ D.is_honest disk.new }
     ensures failures { CountsFault result (D.failures disk.old) (D.failures disk.new) }
 {

@@ -127,7 +127,8 @@ fn read_segment<D: Disk, S: RowSink>(
     Ok(rows)
 }
 
-/// Whether the disk reaches as far as an entry says, and as many rows may have as many bytes. So memory is taken for no more places than the disk has records.
+/// Whether the disk reaches as far as an entry says, and as many rows may have as many bytes.
+/// So memory is taken for no more places than the disk has records.
 fn check_room<D: Disk>(disk: &mut D, entry: Entry) -> Result<(), ImageFault>
     ensures exact { D.is_honest disk.old → (imports : ℕ) → MatchResult result (λ _. Unit {0})
         (λ e. IsNotReadAt e imports entry (D.moments disk.old).state.now) }
@@ -185,7 +186,8 @@ fn read_rows<D: Disk, S: RowSink>(
     Ok(rows)
 }
 
-/// The row whose record begins at a place of the segment, behind those that were read, and the place after the record.
+/// The row whose record begins at a place of the segment,
+/// behind those that were read, and the place after the record.
 fn read_row<D: Disk, S: RowSink>(
     alloc: Global,
     disk: &mut D,

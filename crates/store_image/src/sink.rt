@@ -10,8 +10,10 @@ use std::alloc::AllocError;
 
 /// Takes the rows of a store, segment by segment in the directory's order, as they are read.
 pub trait RowSink {
-    /// It took the rows of these segments, each with its place, and of the segment that is being read these.
-    ghost has_taken: { Self → List (List (StampedRow × Posted)) → List (StampedRow × Posted) → Type 0 };
+    /// It took the rows of these segments, each with its
+    /// place, and of the segment that is being read these.
+    ghost has_taken: { Self → List (List (StampedRow × Posted)) → List (StampedRow × Posted)
+        → Type 0 };
 
     /// Takes the next row of the segment.
     fn take(&mut self, row: &StampedRow, at: Posted) -> Result<(), AllocError>

@@ -12,7 +12,8 @@ use segment::Posted;
 use std::alloc::{AllocError, Global};
 use std::test::Fail;
 
-/// What it was handed: of each row its id, the number of its import and its place, and how many segments ended before it.
+/// What it was handed: of each row its id, the number of its
+/// import and its place, and how many segments ended before it.
 #[derive(Drop)]
 struct Seen {
     rows: Vec<(u128, u32, u32, u32)>,
@@ -97,7 +98,8 @@ struct Unmerged {
     merged: Directory,
 }
 
-/// A store after two imports, the second one with these bytes as its segment. Slot A is the current one.
+/// A store after two imports, the second one with these bytes as its segment.
+/// Slot A is the current one.
 fn imported(alloc: Global, second: &[u8; 46]) -> Result<Unmerged, Fail> {
     let mut disk = MemDisk::new(alloc);
     let Made {

@@ -13,8 +13,8 @@ ghost use Rattle.store_image.specs.Trimmed.{EndBelow, IsTrimmed};
 
 use disk_model::{Disk, DiskFault};
 
-/// Cuts the disk to a length in bytes where it is longer, syncs, and answers how many bytes were cut off.
-/// Where it isn't longer, nothing changes it.
+/// Cuts the disk to a length in bytes where it is longer, syncs, and answers
+/// how many bytes were cut off. Where it isn't longer, nothing changes it.
 pub fn trim<D: Disk>(disk: &mut D, len: u64) -> Result<u64, DiskFault>
     requires { 16384 ≤ len }
     ensures cut_off { D.is_honest disk.old

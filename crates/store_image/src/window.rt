@@ -75,7 +75,8 @@ impl Window {
         Ok(())
     }
 
-    /// The row whose record begins at a place of the segment, and the place after the record, where the window has all of it.
+    /// The row whose record begins at a place of the segment, and
+    /// the place after the record, where the window has all of it.
     fn row_in(&self, alloc: Global, at: u32) -> Result<(StampedRow, u32), SegmentFault>
         requires { self.now.from ≤ at }
         ensures found { IfOk result
@@ -90,7 +91,8 @@ impl Window {
         Ok((row, self.from + next as u32))
     }
 
-    /// The row whose record begins at a place of the segment, and the place after the record. It reads on where the window doesn't have all of it.
+    /// The row whose record begins at a place of the segment, and the place after the record.
+    /// It reads on where the window doesn't have all of it.
     pub(crate) fn row_at<D: Disk>(
         &mut self,
         alloc: Global,

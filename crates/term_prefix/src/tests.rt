@@ -1,4 +1,5 @@
-//! Answers that are known from outside, made histories beside the plain program, and readers that fail.
+//! Answers that are known from outside, made histories
+//! beside the plain program, and readers that fail.
 
 use crate::making::{
     STREET, STREET_NAME, Watched, brought, concept, day, description, description_id, index_of,
@@ -136,7 +137,8 @@ fn pick_name(number: u32) -> &'static str {
     }
 }
 
-/// Rows of some imports, in key order: sixteen descriptions with many versions, some of them inactive.
+/// Rows of some imports, in key order: sixteen
+/// descriptions with many versions, some of them inactive.
 fn made_rows(alloc: Global) -> Result<Vec<StampedRow>, Fail> {
     let mut rows = Vec::new(alloc);
     for import in 1..7u32 {

@@ -42,7 +42,8 @@ impl Entry {
     }
 }
 
-/// The calls that changed a disk, and those that failed where they may have changed it, the oldest first.
+/// The calls that changed a disk, and those that failed
+/// where they may have changed it, the oldest first.
 #[derive(Drop)]
 pub(crate) struct Record {
     pub(crate) entries: Vec<Entry>,

@@ -1,7 +1,8 @@
 use super::MemDisk;
 use std::test::Fail;
 
-/// A reservation takes the room for the bytes, for the calls and for what they write, before any call is made.
+/// A reservation takes the room for the bytes, for the
+/// calls and for what they write, before any call is made.
 #[test]
 fn a_reservation_takes_the_room(rt: HostRuntime) -> Result<(), Fail> {
     let mut disk = MemDisk::from_bytes(rt.alloc(), vec![in rt.alloc(); 1, 2]?);
