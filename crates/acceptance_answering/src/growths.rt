@@ -3,9 +3,10 @@
 ghost use Rattle.line_server.specs.Pins.{AreWithin};
 
 use crate::means::Means;
-use acceptance_serving::script::{SCRIPT, Turn, put_lines, takes_none};
+use acceptance_fixtures::lines;
 use disk_model::MemDisk;
 use history_store::{Refusal, Store};
+use line_fixtures::{SCRIPT, Turn, roomy_disk, takes_none};
 use line_server::{Pins, Reply, Sample, answer};
 use std::alloc::{AllocError, Global};
 use std::test::Fail;
@@ -59,12 +60,11 @@ fn is_right(
     reply: &Reply,
     is_refused: bool,
 ) -> Result<bool, AllocError> {
-    let (line, lines) = turn;
+    let (line, want) = turn;
     if is_refused && takes_none(line) {
         return Ok(false);
     }
-    let mut want = Vec::new(alloc);
-    put_lines(&mut want, lines)?;
+    let want = lines(alloc, want)?;
     let mut said = Vec::from_slice(alloc, reply.body())?;
     said.extend_from_slice(reply.last())?;
     Ok(said == want)
@@ -126,8 +126,7 @@ fn answer_all(
 /// A store that is made with little memory, and again on the
 /// disk that comes back where it is refused, and whether it was.
 fn made(means: &mut Means) -> Result<(Box<Store<MemDisk>>, bool), Refusal> {
-    let mut disk = MemDisk::new(means.alloc());
-    disk.reserve(1_048_576, 1_000)?;
+    let disk = roomy_disk(means.alloc())?;
     means.leave()?;
     let made = Store::create(means.alloc(), disk);
     means.relax();

@@ -1,7 +1,34 @@
 //! Lines on a new store.
 
-use crate::server::{Server, Turn};
+use line_fixtures::{Server, Turn};
 use std::test::Fail;
+
+const EMPTY: &[Turn] = &[
+    ("0 STATUS", &["OK 0 0 0 -"]),
+    ("0 GET C 138875005 20230131", &["END 0"]),
+    ("0 HISTORY C 138875005", &["END 0"]),
+    ("0 PAGE C 20230131 - 10", &["END 0"]),
+];
+
+const IMPORTED_TWICE: &[Turn] = &[
+    ("0 IMPORT root", &["OK 1 1 0"]),
+    ("0 GET C 138875005 20200130", &["END 0"]),
+    (
+        "0 GET C 138875005 20200131",
+        &["ROW 138875005|20200131|1|CORE|PRIM", "END 1"],
+    ),
+    (
+        "0 GET C 138875005 99991231",
+        &["ROW 138875005|20200131|1|CORE|PRIM", "END 1"],
+    ),
+    ("0 IMPORT root", &["OK 2 0 1"]),
+    ("0 STATUS", &["OK 2 1 1 -"]),
+    (
+        "0 IMPORT root-of-another-module",
+        &["ERR 32 Contradiction 1 2"],
+    ),
+    ("0 STATUS", &["OK 2 1 1 -"]),
+];
 
 const CONTRADICTED: &[Turn] = &[
     ("0 IMPORT root", &["OK 1 1 0"]),
@@ -10,6 +37,30 @@ const CONTRADICTED: &[Turn] = &[
         &["ERR 32 Contradiction 1 2"],
     ),
     ("0 STATUS", &["OK 1 1 1 -"]),
+];
+
+const RELEASES_AT_FAULT: &[Turn] = &[
+    ("0 IMPORT month-13", &["ERR 26 Time 1 4"]),
+    ("0 IMPORT twice", &["ERR 32 Contradiction 1 3"]),
+    ("0 IMPORT wrong-digit", &["ERR 24 Id 1 2"]),
+    ("0 IMPORT leading-zero", &["ERR 24 Id 1 2"]),
+    ("0 IMPORT a-description", &["ERR 25 Partition 1 2"]),
+    ("0 IMPORT group-00", &["ERR 29 Number 1 2"]),
+    ("0 IMPORT no-term", &["ERR 31 EmptyText 1 2"]),
+    ("0 IMPORT short-member", &["ERR 30 MemberId 1 2"]),
+    ("0 IMPORT cut-in-a-row", &["ERR 23 Columns 1 4"]),
+    ("0 IMPORT cut-in-the-end", &["ERR 28 Reference 1 4"]),
+    ("0 IMPORT no-bytes", &["ERR 22 Header 1 1"]),
+    ("0 STATUS", &["OK 0 0 0 -"]),
+    ("0 IMPORT february-30", &["OK 1 1 0"]),
+];
+
+const NO_ROWS: &[Turn] = &[
+    ("0 IMPORT names", &["OK 1 0 0"]),
+    ("0 IMPORT names-with-lf", &["OK 2 0 0"]),
+    ("0 IMPORT names-without-an-end", &["OK 3 0 0"]),
+    ("0 IMPORT names-after-a-mark", &["OK 4 0 0"]),
+    ("0 IMPORT cut-before-the-end", &["OK 5 3 0"]),
 ];
 
 const CUT_IN_A_ROW: &[Turn] = &[
@@ -27,9 +78,76 @@ const CUT_IN_THE_END: &[Turn] = &[
     ("0 STATUS", &["OK 0 0 0 -"]),
 ];
 
+const QUESTIONS: &[Turn] = &[
+    ("0 IMPORT r1", &["OK 1 6 0"]),
+    (
+        "0 PAGE C 20200131 - 2",
+        &[
+            "ROW 1000004|20200131|1|CORE|PRIM",
+            "ROW 2000001|20200131|1|CORE|PRIM",
+            "END 2",
+        ],
+    ),
+    (
+        "0 PAGE C 20200131 2000001 2",
+        &["ROW 138875005|20200131|1|CORE|PRIM", "END 1"],
+    ),
+    ("0 IMPORT r2", &["OK 2 4 0"]),
+    (
+        "0 GET C 1000004 20210130",
+        &["ROW 1000004|20200131|1|CORE|PRIM", "END 1"],
+    ),
+    (
+        "0 GET C 1000004 20210131",
+        &["ROW 1000004|20210131|0|CORE|PRIM", "END 1"],
+    ),
+    (
+        "0 HISTORY C 1000004",
+        &[
+            "ROW 1000004|20200131|1|CORE|PRIM",
+            "ROW 1000004|20210131|0|CORE|PRIM",
+            "END 2",
+        ],
+    ),
+    (
+        "0 TERMS 20210130 10 STRASS",
+        &[
+            "ROW 1000015|20200131|1|CORE|1000004|de|SYN|Straße|ECI",
+            "END 1",
+        ],
+    ),
+    ("0 TERMS 20210131 10 STRASS", &["END 0"]),
+    (
+        "0 TERMS 20210131 10 we",
+        &[
+            "ROW 1000015|20210131|1|CORE|1000004|de|SYN|Weg|ECI",
+            "END 1",
+        ],
+    ),
+    (
+        "0 REPLACED 1000004 20210131",
+        &[
+            "ROW 0b6a0c2e-5d0f-4c53-9f6e-8d9d2a7b1c01|20210131|1|CORE|900000000000527005|1000004|2000001",
+            "END 1",
+        ],
+    ),
+    ("0 REPLACED 1000004 20210130", &["END 0"]),
+];
+
+const CHILDREN: &[Turn] = &[
+    ("0 IMPORT r1", &["OK 1 6 0"]),
+    // Two relationships say it.
+    ("0 CHILDREN 138875005 20200131", &["ID 1000004", "END 1"]),
+    ("0 IMPORT r2", &["OK 2 4 0"]),
+    ("0 CHILDREN 138875005 20210131", &["ID 1000004", "END 1"]),
+    ("0 IMPORT retired", &["OK 3 1 0"]),
+    ("0 CHILDREN 138875005 20210131", &["END 0"]),
+];
+
 const PINNED: &[Turn] = &[
     ("0 IMPORT r1", &["OK 1 6 0"]),
     ("0 IMPORT r2", &["OK 2 4 0"]),
+    ("0 PIN 9", &["ERR 44 PinRange"]),
     ("1 PIN 1", &["OK 1"]),
     ("0 IMPORT r3", &["OK 3 2 1"]),
     (
@@ -47,6 +165,8 @@ const PINNED: &[Turn] = &[
     ),
     // What the third one brings isn't there for the pinned session.
     ("1 GET C 3000005 20200831", &["END 0"]),
+    // The counts are the store's.
+    ("1 STATUS", &["OK 3 12 3 -"]),
     ("1 UNPIN", &["OK"]),
     (
         "0 GET C 1000004 20200831",
@@ -68,16 +188,9 @@ const PINNED: &[Turn] = &[
         "1 GET C 3000005 20200831",
         &["ROW 3000005|20200131|1|CORE|PRIM", "END 1"],
     ),
-];
-
-const CHILDREN: &[Turn] = &[
-    ("0 IMPORT r1", &["OK 1 6 0"]),
-    // Two relationships say it.
-    ("0 CHILDREN 138875005 20200131", &["ID 1000004", "END 1"]),
-    ("0 IMPORT r2", &["OK 2 4 0"]),
-    ("0 CHILDREN 138875005 20210131", &["ID 1000004", "END 1"]),
-    ("0 IMPORT retired", &["OK 3 1 0"]),
+    ("0 IMPORT retired", &["OK 4 1 0"]),
     ("0 CHILDREN 138875005 20210131", &["END 0"]),
+    ("2 PIN", &["OK 4"]),
 ];
 
 const NOTHING_TO_MERGE: &[Turn] = &[
@@ -93,23 +206,41 @@ const MERGED_TWICE_AT_ONCE: &[Turn] = &[
     ("0 IMPORT r2", &["OK 2 4 0"]),
     ("0 MERGE", &["OK 10"]),
     ("0 MERGE", &["ERR 10 MergeBusy"]),
+    ("1 MERGE", &["ERR 10 MergeBusy"]),
     ("0 PUBLISH", &["ERR 12 MergeUnfinished"]),
     ("0 STATUS", &["OK 2 10 2 10"]),
     ("0 ABANDON", &["OK"]),
     ("0 STATUS", &["OK 2 10 2 -"]),
 ];
 
+const LINES_AT_FAULT: &[Turn] = &[
+    ("", &["ERR 41 Session"]),
+    ("64 STATUS", &["ERR 41 Session"]),
+    ("0", &["ERR 42 Command"]),
+    ("0 status", &["ERR 42 Command"]),
+    ("0 GET C 1000015 20200131", &["ERR 43 Arguments"]),
+    ("0 PAGE C 20200131 - 1001", &["ERR 43 Arguments"]),
+    ("0 STEP 0", &["ERR 43 Arguments"]),
+    ("0 IMPORT r9", &["ERR 45 NoFolder"]),
+];
+
 #[test]
 fn lines_on_a_new_store(rt: HostRuntime) -> Result<(), Fail> {
     let examples = [
+        ("an empty store", EMPTY),
+        ("a release that is imported twice", IMPORTED_TWICE),
         ("a contradiction", CONTRADICTED),
+        ("releases at fault", RELEASES_AT_FAULT),
+        ("files without rows", NO_ROWS),
         ("a file cut in a row", CUT_IN_A_ROW),
         ("a file cut before its last line end", CUT_BEFORE_THE_END),
         ("a file cut in its last line end", CUT_IN_THE_END),
-        ("a pinned session", PINNED),
+        ("questions", QUESTIONS),
         ("children", CHILDREN),
+        ("a pinned session", PINNED),
         ("nothing to merge", NOTHING_TO_MERGE),
         ("a merge while one goes on", MERGED_TWICE_AT_ONCE),
+        ("lines at fault", LINES_AT_FAULT),
     ];
     for (name, turns) in &examples {
         let mut server = Server::new(rt.alloc())?;

@@ -1,20 +1,16 @@
-//! Worked examples as lines that are served, with stops and openings between them, and the
-//! script of the demonstration through streams of all sorts. It has no code of its own.
+//! Worked examples as lines that are served, with stops and openings between them.
+//! It has no code of its own.
 #![tactic(auto)]
 
 #[cfg(test)]
-mod demonstration;
-#[cfg(test)]
 mod examples;
+#[cfg(test)]
+mod merging;
 #[cfg(test)]
 mod openings;
 #[cfg(test)]
 mod publication;
 #[cfg(test)]
-mod releases;
-#[cfg(test)]
-mod server;
+mod segments;
 #[cfg(test)]
 mod stops;
-#[cfg(test)]
-mod streams;

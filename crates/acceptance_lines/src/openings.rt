@@ -1,8 +1,8 @@
 //! Disks that are opened or refused.
 
-use crate::server::{Server, Turn, after};
 use acceptance_fixtures::patched;
 use history_store::Refusal;
+use line_fixtures::{Server, Turn, after};
 use std::alloc::Global;
 use std::test::Fail;
 

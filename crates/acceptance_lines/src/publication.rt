@@ -1,19 +1,9 @@
 //! A merge beside an import, published, and stopped at each moment of its publication.
 
-use crate::server::{Server, Turn, after};
 use acceptance_fixtures::image_before_end;
 use disk_model::Choice;
+use line_fixtures::{Server, Turn, after, publication};
 use std::test::Fail;
-
-const MERGED: [Turn; 7] = [
-    ("0 IMPORT r1", &["OK 1 6 0"]),
-    ("0 IMPORT r2", &["OK 2 4 0"]),
-    ("0 MERGE", &["OK 10"]),
-    ("0 STEP 1", &["OK 9"]),
-    ("1 IMPORT r3", &["OK 3 2 1"]),
-    ("0 STEP 100", &["OK 0"]),
-    ("0 PUBLISH", &["OK"]),
-];
 
 /// Three segments, as before the publication, and two, as behind it.
 const BEFORE: [Turn; 1] = [("0 STATUS", &["OK 3 12 3 -"])];
@@ -30,7 +20,7 @@ const CONTENT: [u8; 64] = [
 
 #[test]
 fn a_merge_is_published(rt: HostRuntime) -> Result<(), Fail> {
-    let mut server = after(rt.alloc(), &MERGED)?.ok_or("other replies")?;
+    let mut server = after(rt.alloc(), publication())?.ok_or("other replies")?;
     assert!(rt; server.says(&BEHIND)?);
     let disk = server.close();
     assert_eq!(rt; disk.bytes().first(), Some(&0xa5));
@@ -46,7 +36,7 @@ fn a_merge_is_published(rt: HostRuntime) -> Result<(), Fail> {
 
 #[test]
 fn a_publication_is_stopped(rt: HostRuntime) -> Result<(), Fail> {
-    let server = after(rt.alloc(), &MERGED)?.ok_or("other replies")?;
+    let server = after(rt.alloc(), publication())?.ok_or("other replies")?;
     let disk = server.close();
     // A publication makes seven changing calls: the sixth opens the gate, and the last syncs it.
     // Filled with 165 a gate that isn't synced reads as open, and filled with 0 as closed. The

@@ -1,8 +1,8 @@
 //! An import that stops or fails.
 
-use crate::server::{Server, Turn, after};
 use acceptance_fixtures::image_after;
 use disk_model::{Choice, MemDisk};
+use line_fixtures::{Server, Turn, after};
 use std::alloc::Global;
 use std::test::Fail;
 

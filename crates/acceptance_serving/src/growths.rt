@@ -1,7 +1,7 @@
 //! Lines with little memory.
 
-use crate::script::{SCRIPT, script_replies, takes_none};
-use crate::session::Server;
+use history_store::Refusal;
+use line_fixtures::{SCRIPT, Server, input_of, replies_of, roomy_disk, takes_none};
 use line_server::ServeFault;
 use scarce_memory::Scarcity;
 use std::alloc::{AllocError, Global};
@@ -18,6 +18,11 @@ const TRIES: usize = 40_000;
 const OUTPUT: usize = 65_536;
 
 const OUT_OF_MEMORY: &[u8] = b"ERR 1 OutOfMemory\n";
+
+/// A new store on a disk that needs no memory.
+fn new_server(alloc: Global) -> Result<Server, Refusal> {
+    Server::create(alloc, roomy_disk(alloc)?)
+}
 
 /// What was written, reply by reply.
 fn replies_in(alloc: Global, output: &[u8]) -> Result<Vec<Vec<u8>>, AllocError> {
@@ -87,7 +92,7 @@ fn count_refused(replies: &[Vec<u8>]) -> Option<usize> {
 fn is_as_without(alloc: Global, replies: &[Vec<u8>]) -> Result<bool, Fail> {
     let input = input_without(alloc, replies)?;
     let want = replies_without(alloc, replies)?;
-    let mut server = Server::new(alloc)?;
+    let mut server = new_server(alloc)?;
     let said = server.served(input.as_slice())?;
     Ok(said == want && replies.len() == SCRIPT.len())
 }
@@ -103,11 +108,16 @@ enum Outcome {
 }
 
 /// Serves the script with so much memory.
-fn run(alloc: Global, scarcity: &mut Scarcity, input: &[u8], room: usize) -> Result<Outcome, Fail> {
-    let mut server = Server::new(alloc)?;
+fn run(
+    alloc: Global,
+    scarcity: &mut Scarcity,
+    mut input: &[u8],
+    room: usize,
+) -> Result<Outcome, Fail> {
+    let mut server = new_server(alloc)?;
     let mut output = Vec::with_capacity(alloc, OUTPUT)?;
     scarcity.leave(room)?;
-    let served = server.serve(input, &mut output);
+    let served = server.serve(&mut input, &mut output);
     scarcity.relax();
     match served {
         Ok(_) => {}
@@ -127,9 +137,9 @@ fn run(alloc: Global, scarcity: &mut Scarcity, input: &[u8], room: usize) -> Res
 #[test]
 fn each_growth_of_a_run(rt: HostRuntime) -> Result<(), Fail> {
     let mut scarcity = Scarcity::new(rt.alloc())?;
-    let input = input_without(rt.alloc(), &[])?;
-    let said = Server::new(rt.alloc())?.served(input.as_slice())?;
-    assert!(rt; said == script_replies(rt.alloc())?);
+    let input = input_of(rt.alloc(), &SCRIPT)?;
+    let said = new_server(rt.alloc())?.served(input.as_slice())?;
+    assert!(rt; said == replies_of(rt.alloc(), &SCRIPT)?);
     let mut is_whole = false;
     for number in 0..TRIES {
         let room = STEP * number;

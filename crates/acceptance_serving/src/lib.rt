@@ -1,11 +1,7 @@
-//! Lines that are served with little memory, and overlong ones.
-//! Its script is for other crates' tests too.
+//! Lines that are served with little memory, and overlong ones. It has no code of its own.
 #![tactic(auto)]
 
 #[cfg(test)]
 mod growths;
 #[cfg(test)]
 mod overlong;
-pub mod script;
-#[cfg(test)]
-mod session;

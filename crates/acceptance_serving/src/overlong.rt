@@ -1,6 +1,6 @@
 //! Lines at their greatest length, and longer ones.
 
-use crate::session::Server;
+use line_fixtures::Server;
 use std::alloc::{AllocError, Global};
 use std::test::Fail;
 

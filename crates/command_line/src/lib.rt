@@ -13,5 +13,6 @@ mod serving;
 mod tests;
 mod words;
 
+pub use demonstration::SCRIPT;
 pub use places::Places;
 pub use running::run;

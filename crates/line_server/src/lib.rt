@@ -12,10 +12,6 @@ mod refusal;
 mod reply;
 mod serving;
 mod source;
-#[cfg(test)]
-mod stream_tests;
-#[cfg(test)]
-mod tests;
 mod wording;
 
 pub use answering::answer;

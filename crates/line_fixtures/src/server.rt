@@ -1,37 +1,21 @@
 //! A store whose lines are served. Its calls have no clauses.
 
 use crate::releases::Examples;
-use acceptance_fixtures::lines;
+use crate::script::{Turn, input_of, replies_of};
 use disk_model::MemDisk;
 use history_store::{Refusal, Store};
 use line_server::{ServeFault, serve};
 use std::alloc::{AllocError, Global};
 use std::io::{Read, Write};
 
-/// The most reads that a run may make.
+/// The most reads that a run may make, where no other number is given.
 const READS: u32 = 1_000_000;
 
-/// A line and the lines of its reply, in which a bar stands
-/// for a TAB and a name in capitals for an identifier.
-pub type Turn = (&'static str, &'static [&'static str]);
-
-/// The lines, each with an LF.
-pub fn input_of(alloc: Global, turns: &[Turn]) -> Result<Vec<u8>, AllocError> {
-    let mut input = Vec::new(alloc);
-    for (line, _) in turns {
-        input.extend_from_slice(line.as_bytes())?;
-        input.push(b'\n')?;
-    }
-    Ok(input)
-}
-
-/// The replies to the lines.
-pub fn replies_of(alloc: Global, turns: &[Turn]) -> Result<Vec<u8>, AllocError> {
-    let mut replies = Vec::new(alloc);
-    for (_, reply) in turns {
-        replies.extend_from_slice(lines(alloc, *reply)?.as_slice())?;
-    }
-    Ok(replies)
+/// An empty disk in memory that needs no more memory for what lines do.
+pub fn roomy_disk(alloc: Global) -> Result<MemDisk, AllocError> {
+    let mut disk = MemDisk::new(alloc);
+    disk.reserve(1_048_576, 1_000)?;
+    Ok(disk)
 }
 
 /// A store on a disk in memory that serves streams of lines. It is boxed, so
@@ -54,12 +38,17 @@ impl Server {
         }
     }
 
-    /// A new store on an empty disk.
-    pub fn new(alloc: Global) -> Result<Server, Refusal> {
-        match Store::create(alloc, MemDisk::new(alloc)) {
+    /// A new store on this disk.
+    pub fn create(alloc: Global, disk: MemDisk) -> Result<Server, Refusal> {
+        match Store::create(alloc, disk) {
             Ok(store) => Server::boxed(alloc, store),
             Err((refusal, _)) => Err(refusal),
         }
+    }
+
+    /// A new store on an empty disk.
+    pub fn new(alloc: Global) -> Result<Server, Refusal> {
+        Server::create(alloc, MemDisk::new(alloc))
     }
 
     /// The store that a disk stands for.
@@ -75,9 +64,10 @@ impl Server {
         Server::opened(alloc, MemDisk::from_bytes(alloc, bytes.to_vec(alloc)?))
     }
 
-    /// Serves all lines of the input.
-    pub fn serve<R: Read, W: Write>(
+    /// Serves the lines of the input with at most so many reads.
+    pub fn serve_within<R: Read, W: Write>(
         &mut self,
+        reads: u32,
         input: &mut R,
         output: &mut W,
     ) -> Result<u64, ServeFault> {
@@ -87,8 +77,24 @@ impl Server {
             output,
             &mut Examples,
             &mut self.store,
-            READS,
+            reads,
         )
+    }
+
+    /// Serves all lines of the input.
+    pub fn serve<R: Read, W: Write>(
+        &mut self,
+        input: &mut R,
+        output: &mut W,
+    ) -> Result<u64, ServeFault> {
+        self.serve_within(READS, input, output)
+    }
+
+    /// What is written for the lines of the input.
+    pub fn served(&mut self, mut input: &[u8]) -> Result<Vec<u8>, ServeFault> {
+        let mut output = Vec::new(self.alloc);
+        self.serve(&mut input, &mut output)?;
+        Ok(output)
     }
 
     /// Serves the lines, and tells if their replies are these and nothing else is written.

@@ -1,11 +1,14 @@
 //! Lines and their replies.
 
+use acceptance_fixtures::lines;
 use std::alloc::{AllocError, Global};
 
-/// A line and the lines of its reply, in which a bar stands for a TAB.
+/// A line and the lines of its reply, in which a bar stands
+/// for a TAB and a name in capitals for an identifier.
 pub type Turn = (&'static str, &'static [&'static str]);
 
-/// Imports, a merge beside one of them, and questions of two sessions.
+/// Imports of three releases, one of them while a merge goes on; what two
+/// sessions, of which one is pinned, are then told; and lines that are refused.
 pub const SCRIPT: [Turn; 26] = [
     ("0 STATUS", &["OK 0 0 0 -"]),
     ("0 GET C 138875005 20230131", &["END 0"]),
@@ -20,24 +23,18 @@ pub const SCRIPT: [Turn; 26] = [
     ("0 STATUS", &["OK 3 12 2 -"]),
     (
         "0 GET C 1000004 20200831",
-        &[
-            "ROW 1000004|20200731|0|900000000000207008|900000000000074008",
-            "END 1",
-        ],
+        &["ROW 1000004|20200731|0|CORE|PRIM", "END 1"],
     ),
     (
         "1 GET C 1000004 20200831",
-        &[
-            "ROW 1000004|20200131|1|900000000000207008|900000000000074008",
-            "END 1",
-        ],
+        &["ROW 1000004|20200131|1|CORE|PRIM", "END 1"],
     ),
     (
         "0 HISTORY C 1000004",
         &[
-            "ROW 1000004|20200131|1|900000000000207008|900000000000074008",
-            "ROW 1000004|20200731|0|900000000000207008|900000000000074008",
-            "ROW 1000004|20210131|0|900000000000207008|900000000000074008",
+            "ROW 1000004|20200131|1|CORE|PRIM",
+            "ROW 1000004|20200731|0|CORE|PRIM",
+            "ROW 1000004|20210131|0|CORE|PRIM",
             "END 3",
         ],
     ),
@@ -45,7 +42,7 @@ pub const SCRIPT: [Turn; 26] = [
     (
         "0 TERMS 20200131 10 STRASS",
         &[
-            "ROW 1000015|20200131|1|900000000000207008|1000004|de|900000000000013009|Straße|900000000000448009",
+            "ROW 1000015|20200131|1|CORE|1000004|de|SYN|Straße|ECI",
             "END 1",
         ],
     ),
@@ -53,7 +50,7 @@ pub const SCRIPT: [Turn; 26] = [
     (
         "0 REPLACED 1000004 20210131",
         &[
-            "ROW 0b6a0c2e-5d0f-4c53-9f6e-8d9d2a7b1c01|20210131|1|900000000000207008|900000000000527005|1000004|2000001",
+            "ROW 0b6a0c2e-5d0f-4c53-9f6e-8d9d2a7b1c01|20210131|1|CORE|900000000000527005|1000004|2000001",
             "END 1",
         ],
     ),
@@ -67,7 +64,17 @@ pub const SCRIPT: [Turn; 26] = [
     ("0 TRIM", &["OK"]),
 ];
 
-/// Whether a line is never refused for want of memory.
+/// The turns of the program's demonstration, `sctd demo`.
+pub fn demonstration() -> &'static [Turn] {
+    &SCRIPT[..20]
+}
+
+/// The turns up to the publication of the merge.
+pub fn publication() -> &'static [Turn] {
+    &SCRIPT[..10]
+}
+
+/// Whether a line of the script is never refused for want of memory.
 pub fn takes_none(line: &str) -> bool {
     let commands = [
         " PIN", " UNPIN", " STATUS", " MERGE", " PUBLISH", " ABANDON", " TRIM",
@@ -76,22 +83,21 @@ pub fn takes_none(line: &str) -> bool {
     commands.iter().any(|command| line.contains(*command)) || refused.contains(&line)
 }
 
-/// The bytes of all replies.
-pub fn script_replies(alloc: Global) -> Result<Vec<u8>, AllocError> {
-    let mut bytes = Vec::new(alloc);
-    for (_, lines) in &SCRIPT {
-        put_lines(&mut bytes, *lines)?;
+/// The lines, each with an LF.
+pub fn input_of(alloc: Global, turns: &[Turn]) -> Result<Vec<u8>, AllocError> {
+    let mut input = Vec::new(alloc);
+    for (line, _) in turns {
+        input.extend_from_slice(line.as_bytes())?;
+        input.push(b'\n')?;
     }
-    Ok(bytes)
+    Ok(input)
 }
 
-/// Appends lines, with TABs for bars.
-pub fn put_lines(bytes: &mut Vec<u8>, lines: &[&str]) -> Result<(), AllocError> {
-    for line in lines {
-        for byte in line.as_bytes() {
-            bytes.push(if *byte == b'|' { b'\t' } else { *byte })?;
-        }
-        bytes.push(b'\n')?;
+/// The replies to the lines.
+pub fn replies_of(alloc: Global, turns: &[Turn]) -> Result<Vec<u8>, AllocError> {
+    let mut replies = Vec::new(alloc);
+    for (_, reply) in turns {
+        replies.extend_from_slice(lines(alloc, *reply)?.as_slice())?;
     }
-    Ok(())
+    Ok(replies)
 }

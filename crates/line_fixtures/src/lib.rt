@@ -1,0 +1,13 @@
+//! What the tests of lines share: the script and its replies, the example releases,
+//! a store whose lines are served, and streams. Nothing here has a clause.
+#![tactic(auto)]
+
+mod releases;
+mod script;
+mod server;
+mod streams;
+
+pub use releases::Examples;
+pub use script::{SCRIPT, Turn, demonstration, input_of, publication, replies_of, takes_none};
+pub use server::{Server, after, roomy_disk};
+pub use streams::{Narrow, Pieces};
