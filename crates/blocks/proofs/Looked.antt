@@ -1,6 +1,6 @@
 -- The blocks of a part, looked up one after the other.
 use Rattle.std.specs.Prelude.{Ok, Err, Option, Some, None}
-use Rattle.std.proofs.Common.{◌≡◌, ◌⊎◌, inl, inr, ℕ, suc, ◌+◌, ◌-◌, ◌*◌, ◌/◌, ◌%◌, ◌<◌, ◌≤◌, min, List, refl, sym, ◌∙◌, subst, arith}
+use Rattle.std.proofs.Common.{◌≡◌, ◌⊎◌, inl, inr, ℕ, suc, ◌+◌, ◌-◌, ◌*◌, ◌/◌, ◌%◌, ◌<◌, ◌≤◌, min, List, refl, sym, subst, arith}
 use Rattle.lru.specs.LruCache.{LruCache}
 use Rattle.blocks.specs.Cache.{kept_of, used, with_block, KeepsRead, LooksUp, LooksUpEach, LooksUpPart}
 

@@ -1,12 +1,9 @@
-use Rattle.std.proofs.Common.{◌≡◌, ◌≤◌, ◌+◌, ℕ, List, length, ap, subst, ◌∙◌, arith}
-use Rattle.std.proofs.lemmas.Result.{err_from_is_err_and}
+use Rattle.std.proofs.Common.{ℕ, List, length, ap, ◌∙◌}
 use Rattle.disk_model.specs.Disk.{DiskState, Moments}
 use Rattle.disk_model.proofs.Images.{same_but_all}
 use Rattle.disk_model.proofs.MomentSteps.{stayed, from_same}
-use Rattle.blocks.specs.Calls.{call_count}
 use Rattle.blocks.specs.Outside.{StemsWithin}
 use Rattle.blocks.specs.Slots.{slots_range}
-use Rattle.blocks.proofs.Counted.{at_most}
 use Rattle.store_image.proofs.Empty.{first_epoch, empty_on_disk, empty_stands, new_bytes}
 use Rattle.store_image.proofs.making.make.Goals as goal
 
