@@ -28,7 +28,8 @@ enum Question {
     Replacements(Asked),
 }
 
-/// How many rows are answered. What looks at the index alone is asked at the third import, and all else at the sixth.
+/// How many rows are answered. What looks at the index alone
+/// is asked at the third import, and all else at the sixth.
 fn ask(
     alloc: Global,
     made: &Indexed,

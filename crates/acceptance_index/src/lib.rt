@@ -1,5 +1,6 @@
-//! Worked examples of what an index of places answers, and searches of the postings beside it, over rows in memory; made histories beside the plain program; readers that fail.
-//! It has no code of its own.
+//! Worked examples of what an index of places answers, and searches of the postings beside it, over
+//! rows in memory; made histories beside the plain program; readers that fail. It has no code of
+//! its own.
 #![tactic(auto)]
 
 #[cfg(test)]

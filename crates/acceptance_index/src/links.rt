@@ -218,7 +218,8 @@ pub(crate) fn made_rows(alloc: Global) -> Result<Vec<StampedRow>, Fail> {
     imported(alloc, &releases)
 }
 
-/// How many children and associations of a concept there are; each answer is that of the plain program.
+/// How many children and associations of a concept there are;
+/// each answer is that of the plain program.
 fn compare_at(
     rt: &impl Abort,
     alloc: Global,

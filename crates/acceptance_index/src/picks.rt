@@ -1,4 +1,5 @@
-//! What an index of places answers: a component at a date, its versions, and pages; and how its lists change.
+//! What an index of places answers: a component at a date, its versions, and pages;
+//! and how its lists change.
 
 use crate::lists::{index_of, kept, places_of};
 use crate::releases::{brought, example, lists_of, three_lists};
@@ -89,7 +90,8 @@ const MADE: u128 = MEMBER + 16;
 
 const TIMES: [u32; 4] = [20_200_131, 20_200_731, 20_210_131, 20_210_731];
 
-/// Rows of five imports, in key order: twelve members with many versions, some of them inactive, and two concepts.
+/// Rows of five imports, in key order: twelve members with
+/// many versions, some of them inactive, and two concepts.
 fn made_rows(alloc: Global) -> Result<Vec<StampedRow>, Fail> {
     let mut rows = Vec::new(alloc);
     for (import, id) in [(3u32, STREET), (4, ROOT)] {

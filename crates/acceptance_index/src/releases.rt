@@ -30,7 +30,8 @@ fn second_release(alloc: Global) -> Result<Vec<Row>, Fail> {
     ]?)
 }
 
-/// A row comes again, and one between two versions. The other relationship ends too, and one of another type leads to the root.
+/// A row comes again, and one between two versions. The other
+/// relationship ends too, and one of another type leads to the root.
 fn third_release(alloc: Global) -> Result<Vec<Row>, Fail> {
     let id = relationship_id(100)?;
     Ok(vec![in alloc;

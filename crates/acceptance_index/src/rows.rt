@@ -119,7 +119,8 @@ pub(crate) fn association(
     row(member, time, active, body)
 }
 
-/// The identifier of a concept, a description or a relationship, by a number from 100 on. The partitions of these kinds are numbered as the kinds are.
+/// The identifier of a concept, a description or a relationship, by a number from 100 on.
+/// The partitions of these kinds are numbered as the kinds are.
 fn numbered(number: u32, kind: Kind) -> Result<u64, Fail> {
     let front = u64::from(number) * 1000 + u64::from(kind as u8) * 10;
     for digit in 0..10u64 {

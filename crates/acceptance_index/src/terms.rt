@@ -156,7 +156,8 @@ fn made_release(alloc: Global, import: u32) -> Result<Vec<Row>, Fail>
     Ok(release)
 }
 
-/// Rows of six imports, in key order: sixteen descriptions with many versions, some of them inactive.
+/// Rows of six imports, in key order: sixteen descriptions
+/// with many versions, some of them inactive.
 pub(crate) fn made_rows(alloc: Global) -> Result<Vec<StampedRow>, Fail> {
     let mut releases = Vec::new(alloc);
     for import in 1..7u32 {
