@@ -182,7 +182,7 @@ CALLS = [
     Call("command_line", "FolderSource::release", "folders.rt", "fn release(", SOURCE,
          "command_line", "a_file_keeps_what_was_imported"),
     Call("command_line", "run", "running.rt",
-         "pub fn run<", "fail(ServeFault::OutOfMemory, faults)", "command_line", "statuses"),
+         "pub fn run<", "(fail(ServeFault::OutOfMemory, faults), None)", "command_line", "statuses"),
 ]
 
 
