@@ -114,7 +114,7 @@ CALLS = [
          "pub fn new_rows<", "Err(ImportFault::OutOfMemory)",
          "import_check", "files_that_end_early"),
     Call("import_check", "KnownRows::row", "known.rt",
-         "Result<Option<Row>, KnownFault> {", "Err(KnownFault::OutOfMemory)",
+         "Result<Option<Row>, ReadFault> {", "Err(ReadFault::OutOfMemory)",
          "import_check", "releases_in_turn"),
     Call("release_folder", "read_folder", "folder.rt", "pub fn read_folder<", FOLDER,
          "release_folder", "a_release_is_read_in_the_order_of_its_names"),

@@ -5,20 +5,8 @@ use Rattle.rf2_values.specs.declared.key.Key.{Key}
 use Rattle.rf2_values.specs.Row.{kind_of}
 use Rattle.rf2_values.specs.Key.{kind_place}
 use Rattle.history_model.specs.declared.stamped.StampedRow.{StampedRow}
-use Rattle.as_of_index.specs.declared.reader.ReadFault.{ReadFault}
-use Rattle.as_of_index.specs.declared.reader.ReadFault.TheVariants as readfault
-
--- the count goes up with an answer `DiskFault`, and else stays
-abbrev pub CountsDiskFault : ReadFault → ℕ → ℕ → Type 0
-CountsDiskFault readfault.OutOfMemory old new = new ≡ old
-CountsDiskFault readfault.DiskFault old new = HasRisen old new
-CountsDiskFault readfault.Damaged old new = new ≡ old
-
--- the count goes up with an answer `Damaged`, and else stays
-abbrev pub CountsDamage : ReadFault → ℕ → ℕ → Type 0
-CountsDamage readfault.OutOfMemory old new = new ≡ old
-CountsDamage readfault.DiskFault old new = new ≡ old
-CountsDamage readfault.Damaged old new = HasRisen old new
+use Rattle.fault_counts.specs.declared.fault.ReadFault.{ReadFault}
+use Rattle.fault_counts.specs.declared.fault.ReadFault.TheVariants as readfault
 
 -- the row has the key
 abbrev pub is_row_at : Key → StampedRow → Bool

@@ -3,11 +3,11 @@
 ghost use Rattle.std.specs.Prelude.{◌≡◌, ◌≢◌, ◌↔◌, List, map, IfOk, IfErr};
 ghost use Rattle.history_model.specs.declared.stamped.StampedRow.{StampedRow};
 ghost use Rattle.as_of_index.specs.Chosen.{StandAtAll};
-ghost use Rattle.fault_counts.specs.Counting.{Counts};
-ghost use Rattle.as_of_index.specs.Reader.{CountsDiskFault, CountsDamage};
-ghost use Rattle.as_of_index.specs.declared.reader.ReadFault.TheVariants as readfault;
+ghost use Rattle.fault_counts.specs.Counting.{Counts, CountsDiskFault, CountsDamage};
+ghost use Rattle.fault_counts.specs.declared.fault.ReadFault.TheVariants as readfault;
 
-use crate::reader::{ReadFault, RowReader};
+use crate::reader::RowReader;
+use fault_counts::ReadFault;
 use rf2_values::Row;
 use segment::Posted;
 use std::alloc::Global;

@@ -11,7 +11,8 @@ ghost use Rattle.history_model.specs.Lists.{AreLists};
 ghost use Rattle.as_of_index.specs.Search.{is_under, SplitsAt};
 ghost use Rattle.as_of_index.specs.Reader.{is_row_at};
 
-use crate::reader::{ReadFault, RowReader};
+use crate::reader::RowReader;
+use fault_counts::ReadFault;
 use fault_counts::raised;
 use history_model::StampedRow;
 use rf2_values::Key;

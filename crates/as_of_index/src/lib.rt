@@ -16,5 +16,6 @@ pub use chosen::{Chosen, read_all};
 pub use index::{Index, MAX_LISTS};
 pub use kept::KeptRows;
 pub use listed::Listed;
-pub use reader::{ReadFault, RowReader};
+pub use fault_counts::ReadFault;
+pub use reader::RowReader;
 pub use segment::Posted;

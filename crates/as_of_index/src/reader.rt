@@ -3,41 +3,13 @@
 ghost use Rattle.std.specs.Prelude.{◌≡◌, ◌≢◌, ℕ, List, ◌↔◌, IfOk, IfErr, ◌<◌};
 ghost use Rattle.history_model.specs.declared.stamped.StampedRow.{StampedRow};
 ghost use Rattle.segment.specs.Standing.{StandsAt};
-ghost use Rattle.fault_counts.specs.Counting.{Counts};
-ghost use Rattle.as_of_index.specs.Reader.{CountsDiskFault, CountsDamage};
-ghost use Rattle.as_of_index.specs.declared.reader.ReadFault.TheVariants as readfault;
+ghost use Rattle.fault_counts.specs.Counting.{Counts, CountsDiskFault, CountsDamage};
+ghost use Rattle.fault_counts.specs.declared.fault.ReadFault.TheVariants as readfault;
 
+use fault_counts::ReadFault;
 use history_model::StampedRow;
 use segment::Posted;
-use std::alloc::{AllocError, AllocFailed, Global};
-use thiserror::Error;
-
-/// Why a row could not be had.
-#[derive(Clone, Copy, Debug, PartialEq, Eq, Error)]
-pub enum ReadFault {
-    #[error("out of memory")]
-    OutOfMemory,
-    #[error("the disk failed")]
-    DiskFault,
-    #[error("the store is damaged")]
-    Damaged,
-}
-
-impl From<AllocError> for ReadFault {
-    ghost from_gives = { λ _ e. e ≡ readfault.OutOfMemory };
-
-    fn from(_e: AllocError) -> ReadFault {
-        ReadFault::OutOfMemory
-    }
-}
-
-impl<T: Drop> From<AllocFailed<T>> for ReadFault {
-    ghost from_gives = { λ _ e. e ≡ readfault.OutOfMemory };
-
-    fn from(_e: AllocFailed<T>) -> ReadFault {
-        ReadFault::OutOfMemory
-    }
-}
+use std::alloc::Global;
 
 /// Lists of rows, lent to be read at their places. A call leaves them as they are.
 pub trait RowReader {

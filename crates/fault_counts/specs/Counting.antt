@@ -1,5 +1,7 @@
 -- What a count of faults does in a call.
 use Rattle.std.specs.Prelude.{◌≡◌, ℕ, ◌+◌, ◌-◌, ◌^◌, ◌≤◌, min, Result, MatchResult}
+use Rattle.fault_counts.specs.declared.fault.ReadFault.{ReadFault}
+use Rattle.fault_counts.specs.declared.fault.ReadFault.TheVariants as readfault
 
 -- a count of 64 bits has gone up; at its last value it stays, and that counts
 abbrev pub HasRisen : ℕ → ℕ → Type 0
@@ -12,3 +14,15 @@ Counts by result old new = MatchResult result (λ _. new ≡ old) (λ fault. by 
 -- a count that goes up with every fault
 abbrev pub CountsEach : {T E : Type 0} → Result T E → ℕ → ℕ → Type 0
 CountsEach result old new = Counts (λ _. HasRisen) result old new
+
+-- the count goes up with an answer `DiskFault`, and else stays
+abbrev pub CountsDiskFault : ReadFault → ℕ → ℕ → Type 0
+CountsDiskFault readfault.OutOfMemory old new = new ≡ old
+CountsDiskFault readfault.DiskFault old new = HasRisen old new
+CountsDiskFault readfault.Damaged old new = new ≡ old
+
+-- the count goes up with an answer `Damaged`, and else stays
+abbrev pub CountsDamage : ReadFault → ℕ → ℕ → Type 0
+CountsDamage readfault.OutOfMemory old new = new ≡ old
+CountsDamage readfault.DiskFault old new = new ≡ old
+CountsDamage readfault.Damaged old new = HasRisen old new

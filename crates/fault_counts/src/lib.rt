@@ -1,8 +1,13 @@
-//! A count of faults: one word for how it rises, for every crate whose calls count theirs.
+//! Counts of faults: one word for how they rise, for every crate whose calls count theirs, and
+//! the one fault of reading a row.
 #![tactic(auto)]
 
 ghost use Rattle.std.specs.Prelude.{◌≡◌, ◌+◌, ◌-◌, ◌^◌, min};
 ghost use Rattle.fault_counts.specs.Counting.{HasRisen};
+
+mod fault;
+
+pub use fault::ReadFault;
 
 /// The count after one fault more. At its last value it stays.
 pub fn raised(count: u64) -> u64

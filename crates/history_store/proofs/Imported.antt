@@ -12,7 +12,7 @@ use Rattle.import_check.specs.declared.release.Release.{Release}
 use Rattle.import_check.specs.declared.fresh.Fresh.{Fresh}
 use Rattle.import_check.specs.declared.fault.ImportFault.{ImportFault}
 use Rattle.import_check.specs.declared.fault.ImportFault.TheVariants as importfault
-use Rattle.import_check.specs.declared.fault.KnownFault.TheVariants as knownfault
+use Rattle.fault_counts.specs.declared.fault.ReadFault.TheVariants as readfault
 use Rattle.import_check.specs.Fresh.{IsRead, IsAcceptedAs, IsRefusal}
 use Rattle.import_check.proofs.Receipts.{fresh_rows_are_new}
 use Rattle.history_store.specs.declared.preparing.Prepared.{Prepared}
@@ -118,9 +118,9 @@ pub not_fresh : {D : Type 0} (s : Stored D) (release : Release) (honest : Type 0
 not_fresh {D} s release honest e still room up why = subst (λ x. IsImportRefusal x s release) (sym why.1) (each why.0 why.2) where
   each : (fault : ImportFault) → IsRefusal honest (full s.history) release fault → IsImportRefusal (refusal_of fault) s release
   each importfault.OutOfMemory is = (still, room)
-  each (importfault.Known knownfault.OutOfMemory) is = (still, room)
-  each (importfault.Known knownfault.DiskFault) is = (still, inl (room, is.0))
-  each (importfault.Known knownfault.Damaged) is = absurd (is.1 up refl)
+  each (importfault.Known readfault.OutOfMemory) is = (still, room)
+  each (importfault.Known readfault.DiskFault) is = (still, inl (room, is.0))
+  each (importfault.Known readfault.Damaged) is = absurd (is.1 up refl)
   each (importfault.Row file line fault) is = (still, (room, is))
   each (importfault.Contradiction file line key) is = (still, (room, key, is.1 up))
 
@@ -128,9 +128,9 @@ pub not_fresh_at_all : {D : Type 0} (s : Stored D) (release : Release) (honest :
 not_fresh_at_all {D} s release honest e still room why = subst (λ x. IsRefusalAtAll x s release) (sym why.1) (each why.0 why.2) where
   each : (fault : ImportFault) → IsRefusal honest (full s.history) release fault → IsRefusalAtAll (refusal_of fault) s release
   each importfault.OutOfMemory is = (still, room)
-  each (importfault.Known knownfault.OutOfMemory) is = (still, room)
-  each (importfault.Known knownfault.DiskFault) is = (still, room, is.0)
-  each (importfault.Known knownfault.Damaged) is = (still, room, is.0)
+  each (importfault.Known readfault.OutOfMemory) is = (still, room)
+  each (importfault.Known readfault.DiskFault) is = (still, room, is.0)
+  each (importfault.Known readfault.Damaged) is = (still, room, is.0)
   each (importfault.Row file line fault) is = (still, room, is)
   each (importfault.Contradiction file line key) is = (still, room, is.0)
 

@@ -1,11 +1,10 @@
 -- What is left of a store after a query.
 use Rattle.std.proofs.Common.{◌≡◌, ◌≢◌, ◌↔◌, ℕ, false, Result, Ok, Err, IfOk, IfErr, MatchResult, refl, sym, ap, subst, ◌∙◌}
 use Rattle.std.proofs.lemmas.Bool.{false≢true}
-use Rattle.fault_counts.specs.Counting.{Counts as CountsBy}
+use Rattle.fault_counts.specs.Counting.{Counts as CountsBy, CountsDiskFault}
 use Rattle.disk_model.specs.Disk.{Moments}
-use Rattle.as_of_index.specs.Reader.{CountsDiskFault}
-use Rattle.as_of_index.specs.declared.reader.ReadFault.{ReadFault}
-use Rattle.as_of_index.specs.declared.reader.ReadFault.TheVariants as readfault
+use Rattle.fault_counts.specs.declared.fault.ReadFault.{ReadFault}
+use Rattle.fault_counts.specs.declared.fault.ReadFault.TheVariants as readfault
 use Rattle.history_store.specs.declared.refusal.Refusal.{Refusal}
 use Rattle.history_store.specs.declared.refusal.Refusal.TheVariants as refusals
 use Rattle.history_store.specs.Reading.{MomentsStay}

@@ -18,7 +18,7 @@ use blocks::{BlockCache, Slot};
 use directory::Directory;
 use disk_model::Disk;
 use history_model::{Receipt, Shown};
-use import_check::{Fresh, ImportFault, KnownFault, Release};
+use import_check::{Fresh, ImportFault, Release};
 use rf2_rows::{EffectiveTime, Kind, Row, Sctid};
 use std::alloc::Global;
 use std::marker::Model;
@@ -273,7 +273,7 @@ impl<D: Disk> Store<D> {
         match fresh_rows(self.alloc, release, &self.index, &mut reader, pin) {
             Ok(fresh) => Ok(fresh),
             Err(fault) => {
-                if matches!(fault, ImportFault::Known(KnownFault::DiskFault)) {
+                if matches!(fault, ImportFault::Known(ReadFault::DiskFault)) {
                     self.needs_reopen = true;
                 }
                 Err(Refusal::from(fault))

@@ -8,8 +8,9 @@ use Rattle.import_check.specs.declared.release.Release.{Release}
 use Rattle.import_check.specs.declared.fresh.Fresh.{Fresh}
 use Rattle.import_check.specs.declared.fault.ImportFault.{ImportFault}
 use Rattle.import_check.specs.declared.fault.ImportFault.TheVariants as importfault
-use Rattle.import_check.specs.declared.fault.KnownFault.TheVariants as knownfault
-use Rattle.import_check.specs.Known.{IsUnknown, CountsDiskFault, CountsDamage}
+use Rattle.fault_counts.specs.declared.fault.ReadFault.TheVariants as readfault
+use Rattle.import_check.specs.Known.{IsUnknown}
+use Rattle.fault_counts.specs.Counting.{CountsDiskFault, CountsDamage}
 use Rattle.import_check.specs.Release.{SpellFiles, IsReleaseOf, IsFaultOfRelease, HasContradiction}
 
 -- the rows that are not known, each once and in key order, and how many of the others there are
@@ -47,7 +48,7 @@ pub record IsAcceptedAs (known : List Version) (release : Release) (fresh : Fres
 abbrev pub IsRefusal : (honest : Type 0) → List Version → Release → ImportFault → Type 0
 IsRefusal honest known release importfault.OutOfMemory = ⊤
 IsRefusal honest known release (importfault.Known fault) =
-    IsRead release × (honest → fault ≢ knownfault.Damaged)
+    IsRead release × (honest → fault ≢ readfault.Damaged)
 IsRefusal honest known release (importfault.Row file line fault) =
     IsFaultOfRelease release file line fault
 IsRefusal honest known release (importfault.Contradiction file line key) =

@@ -16,7 +16,7 @@ use Rattle.import_check.specs.declared.sweep.Sweep.{Sweep}
 use Rattle.import_check.specs.declared.fresh.Fresh.{Fresh}
 use Rattle.import_check.specs.declared.fault.ImportFault.{ImportFault}
 use Rattle.import_check.specs.declared.fault.ImportFault.TheVariants as importfault
-use Rattle.import_check.specs.declared.fault.KnownFault.TheVariants as knownfault
+use Rattle.fault_counts.specs.declared.fault.ReadFault.TheVariants as readfault
 use Rattle.import_check.specs.Release.{IsFirstContradiction}
 use Rattle.import_check.specs.Known.{IsUnknown}
 use Rattle.import_check.specs.Fresh.{IsApart}
@@ -166,14 +166,14 @@ KeepsApart known line old new =
 -- why lines are taken no further: memory ran out, or a known row can't be had
 abbrev pub IsCutShort : (honest : Type 0) → ImportFault → Type 0
 IsCutShort honest importfault.OutOfMemory = ⊤
-IsCutShort honest (importfault.Known fault) = honest → fault ≢ knownfault.Damaged
+IsCutShort honest (importfault.Known fault) = honest → fault ≢ readfault.Damaged
 IsCutShort honest (importfault.Row file line fault) = ⊥
 IsCutShort honest (importfault.Contradiction file line key) = ⊥
 
 -- why lines give no new rows: so, or one is the first that contradicts
 abbrev pub IsRefusalOf : (honest : Type 0) → List Version → List PlacedLine → ImportFault → Type 0
 IsRefusalOf honest known lines importfault.OutOfMemory = ⊤
-IsRefusalOf honest known lines (importfault.Known fault) = honest → fault ≢ knownfault.Damaged
+IsRefusalOf honest known lines (importfault.Known fault) = honest → fault ≢ readfault.Damaged
 IsRefusalOf honest known lines (importfault.Row file line fault) = ⊥
 IsRefusalOf honest known lines (importfault.Contradiction file line key) =
     honest → IsFirstContradiction known lines file line key

@@ -1,17 +1,17 @@
 //! What is known before a release.
 
 ghost use Rattle.std.specs.Prelude.{◌≡◌, ◌≢◌, ℕ, List, IfOk, IfErr, MatchResult, None, map};
-ghost use Rattle.import_check.specs.declared.fault.KnownFault.TheVariants as knownfault;
+ghost use Rattle.fault_counts.specs.declared.fault.ReadFault.TheVariants as readfault;
 ghost use Rattle.rf2_values.specs.Row.{Version};
 ghost use Rattle.history_model.specs.InOrder.{IsAscending};
 ghost use Rattle.history_model.specs.History.{IsConsistent, row_cmp, stamped_cmp};
 ghost use Rattle.history_model.proofs.Filtered.{IsAscending-map};
 ghost use Rattle.history_model.proofs.Snapshots.{IsConsistent-from_ascending};
-ghost use Rattle.fault_counts.specs.Counting.{Counts};
-ghost use Rattle.import_check.specs.Known.{IsRowAt, IsUnknown, CountsDiskFault, CountsDamage};
+ghost use Rattle.fault_counts.specs.Counting.{Counts, CountsDiskFault, CountsDamage};
+ghost use Rattle.import_check.specs.Known.{IsRowAt, IsUnknown};
 
-use crate::fault::KnownFault;
 use crate::search::place_near;
+use fault_counts::ReadFault;
 use history_model::StampedRow;
 use rf2_values::{Key, Row};
 use std::alloc::Global;
@@ -37,10 +37,10 @@ pub trait Known {
     ghost stays: { Self → Self → Type 0 };
 
     /// The known row with this key.
-    fn row(&mut self, alloc: Global, key: &Key) -> Result<Option<Row>, KnownFault>
+    fn row(&mut self, alloc: Global, key: &Key) -> Result<Option<Row>, ReadFault>
         ensures found { is_honest self.old → IfOk result (IsRowAt (rows self.old) key.now) }
         // Then only the device or memory keeps a row from being had.
-        ensures undamaged { is_honest self.old → IfErr result (λ e. e ≢ knownfault.Damaged) }
+        ensures undamaged { is_honest self.old → IfErr result (λ e. e ≢ readfault.Damaged) }
         // A key for which it gives no row is that of no row that is known.
         ensures absent { is_sound self.old
             → IfOk result (λ found. found ≡ None → IsUnknown (rows self.old) key.now) }
@@ -103,7 +103,7 @@ impl Known for KnownRows<'_> {
     ghost consistent = { λ known up. IsConsistent-from_ascending (map (λ s. s.row) known.rows.now)
         (IsAscending-map (λ s. s.row) row_cmp known.rows.now up) };
 
-    fn row(&mut self, alloc: Global, key: &Key) -> Result<Option<Row>, KnownFault> {
+    fn row(&mut self, alloc: Global, key: &Key) -> Result<Option<Row>, ReadFault> {
         match place_near(self.rows, self.near, *key) {
             Ok(place) => {
                 self.near = place;

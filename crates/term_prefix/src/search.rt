@@ -7,11 +7,10 @@ ghost use Rattle.history_model.specs.Searches.{IsPlace};
 ghost use Rattle.history_model.specs.History.{rows_at};
 ghost use Rattle.history_model.specs.Lists.{listed};
 ghost use Rattle.as_of_index.specs.Places.{Lists};
-ghost use Rattle.fault_counts.specs.Counting.{Counts};
-ghost use Rattle.as_of_index.specs.Reader.{CountsDiskFault, CountsDamage};
+ghost use Rattle.fault_counts.specs.Counting.{Counts, CountsDiskFault, CountsDamage};
 ghost use Rattle.as_of_index.specs.Chosen.{chosen, chosen_cmp};
 ghost use Rattle.as_of_index.specs.Postings.{numbered};
-ghost use Rattle.as_of_index.specs.declared.reader.ReadFault.TheVariants as readfault;
+ghost use Rattle.fault_counts.specs.declared.fault.ReadFault.TheVariants as readfault;
 ghost use Rattle.term_prefix.specs.Terms.{PostsTerms, term_keys, terms_among};
 ghost use Rattle.term_prefix.specs.Keeping.{begun, SaysTaken, SaysWanted, AreKept};
 
