@@ -1,5 +1,5 @@
 -- What each task does.
-use Rattle.std.specs.Prelude.{◌≡◌, ◌⊎◌, ◌↔◌, ◌≤◌, ℕ, List, [], ◌++◌, length, codes, replicate, Option, None, Result, Ok, Err, IfOk}
+use Rattle.std.specs.Prelude.{◌≡◌, ◌⊎◌, ◌↔◌, ◌≤◌, ℕ, List, [], ◌++◌, length, codes, Option, Result, Ok, Err, IfOk}
 use Rattle.disk_model.specs.Disk.{Moments, IsImage, LeavesOnly}
 use Rattle.store_image.specs.Answers.{IsNewStore}
 use Rattle.history_store.specs.declared.refusal.Refusal.{Refusal}
@@ -11,6 +11,7 @@ use Rattle.line_server.specs.declared.refusal.LineRefusal.TheVariants.{Store}
 use Rattle.line_server.specs.declared.serving.ServeFault.{ServeFault}
 use Rattle.line_server.specs.Sources.{Releases}
 use Rattle.line_server.specs.Said.{Answer, Done as AllDone}
+use Rattle.line_server.specs.Pins.{unpinned}
 use Rattle.line_server.specs.Replies.{desk}
 use Rattle.line_server.specs.Turns.{Turn, IsTurn}
 use Rattle.line_server.specs.Serving.{IsServed}
@@ -78,7 +79,7 @@ pub record IsImportTold {D : Type 0} (honest_source : Type 0) (has : Releases) (
   pub after : Stored D
   pub line : turn.line ≡ import_line name
   pub answered : IsTurn honest_source has honest moments failures
-      (desk (replicate 64 None) store) turn (desk pins after)
+      (desk unpinned store) turn (desk pins after)
   pub told : IsTold ended turn.outcome old new
   pub left_so : left ≡ after.disk
 

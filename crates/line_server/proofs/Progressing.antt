@@ -1,7 +1,6 @@
 -- How far serving has come.
 use Rattle.std.proofs.lemmas.Bool.{false≢true}
 use Rattle.std.proofs.Common.{◌≡◌, ℕ, Bool, ◌==◌, false, eqb, ◌<◌, ◌≤◌, ◌+◌, ◌-◌, ◌^◌, List, [], ◌∷◌, ◌++◌, length, length-append, append-nil, append_assoc, take, drop, get_or, take-append-drop, min, Option, Some, None, IfSome, refl, sym, ap, subst, ◌∙◌, arith, Result, Ok, Err}
-use Rattle.std.specs.Prelude.{replicate}
 use Rattle.std.specs.Io.KnownBytes.{Appends, Consumes, IsAtEnd}
 use Rattle.std.proofs.KnownBytes.{Appends-nil, Appends-trans, Consumes-nil, Consumes-trans}
 use Rattle.std.proofs.lemmas.List.{map-append, take_more, take_all, get_or_at, take_at}
@@ -17,6 +16,7 @@ use Rattle.line_server.specs.declared.serving.ServeFault.{ServeFault}
 use Rattle.line_server.specs.declared.serving.ServeFault.TheVariants as faults
 use Rattle.line_server.specs.Sources.{Releases}
 use Rattle.line_server.specs.Said.{Answer, said, bytes_of}
+use Rattle.line_server.specs.Pins.{unpinned}
 use Rattle.line_server.specs.Replies.{Desk, desk}
 use Rattle.line_server.specs.Imports.{IsFront}
 use Rattle.line_server.specs.Turns.{Turn, Run, IsTurn, lines_asked, replies}
@@ -156,7 +156,7 @@ module _ {D : Type 0} (honest_source : Type 0) (has : Releases) (honest : D → 
 
   module _ (most : ℕ) (input rest old : Option (List ℕ)) (before : Stored D) where
     abbrev start : Desk D
-    start = desk (replicate 64 None) before
+    start = desk unpinned before
 
     abbrev Out : Result ℕ ServeFault → Option (List ℕ) → Stored D → Type 0
     Out result new after = IsServed result most honest_source has honest moments failures input rest old new before after
@@ -242,7 +242,7 @@ module _ {D : Type 0} (honest_source : Type 0) (has : Releases) (honest : D → 
   -- no memory for the buffer
   pub not_started : (most : ℕ) (input old : Option (List ℕ)) (before : Stored D) → IsServed (Err faults.OutOfMemory) most honest_source has honest moments failures input input old old before before
   not_started most input old before =
-      out most input input old before (Err faults.OutOfMemory) old (replicate 64 None) before [] refl (first_lines input input [] [] [] faults.OutOfMemory (Consumes-nil input) (λ more. (lines_in more, refl)))
+      out most input input old before (Err faults.OutOfMemory) old unpinned before [] refl (first_lines input input [] [] [] faults.OutOfMemory (Consumes-nil input) (λ more. (lines_in more, refl)))
       [] (Consumes-nil input) (refl, refl) (Appends-nil old) tt
 
 -- ---- pieces

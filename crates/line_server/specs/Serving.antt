@@ -1,5 +1,5 @@
 -- What serving lines does.
-use Rattle.std.specs.Prelude.{◌≡◌, ◌^◌, ◌-◌, ◌≤◌, ℕ, List, [], ◌∷◌, ◌++◌, length, min, replicate, Option, None, IfSome, Result, Ok, Err}
+use Rattle.std.specs.Prelude.{◌≡◌, ◌^◌, ◌-◌, ◌≤◌, ℕ, List, [], ◌∷◌, ◌++◌, length, min, Option, IfSome, Result, Ok, Err}
 use Rattle.std.specs.Io.KnownBytes.{Appends, Consumes, IsAtEnd}
 use Rattle.disk_model.specs.Disk.{Moments}
 use Rattle.rf2_rows.specs.File.{lines_in}
@@ -8,6 +8,7 @@ use Rattle.line_server.specs.declared.serving.ServeFault.{ServeFault}
 use Rattle.line_server.specs.declared.serving.ServeFault.TheVariants as faults
 use Rattle.line_server.specs.Sources.{Releases}
 use Rattle.line_server.specs.Said.{said, bytes_of}
+use Rattle.line_server.specs.Pins.{unpinned}
 use Rattle.line_server.specs.Replies.{desk}
 use Rattle.line_server.specs.Imports.{IsFront, Imports}
 use Rattle.line_server.specs.Turns.{Turn, Run, lines_asked, replies, imported, failed_in}
@@ -47,7 +48,7 @@ pub record IsServed {D : Type 0} (result : Result ℕ ServeFault) (most : ℕ) (
     (input rest old new : Option (List ℕ)) (before after : Stored D) : Type 0 where
   pub turns : List Turn
   pub pins : List (Option ℕ)
-  pub run : Run honest_source has honest moments failures (desk (replicate 64 None) before) turns
+  pub run : Run honest_source has honest moments failures (desk unpinned before) turns
       (desk pins after)
   pub lines : IfSome input (AreLines result (lines_asked turns))
   pub read : (came : List ℕ) × Consumes input rest came

@@ -1,8 +1,9 @@
 -- Steps of serving. Only private functions cite these words.
-use Rattle.std.specs.Prelude.{ℕ, List, take, Option, Result}
+use Rattle.std.specs.Prelude.{ℕ, ◌+◌, List, take, Option, Result}
 use Rattle.disk_model.specs.Disk.{Moments}
 use Rattle.import_check.specs.declared.release.Release.{Release}
 use Rattle.history_store.specs.Stored.{Stored}
+use Rattle.line_commands.specs.Requests.{request_limit}
 use Rattle.line_server.specs.declared.refusal.LineRefusal.{LineRefusal}
 use Rattle.line_server.specs.Sources.{Releases}
 use Rattle.line_server.specs.Said.{Answer, said, bytes_of}
@@ -10,9 +11,9 @@ use Rattle.line_server.specs.Replies.{desk}
 use Rattle.line_server.specs.Turns.{IsTurn}
 use Rattle.line_server.specs.Streams.{IsPut}
 
--- how many bytes of a line are kept
+-- how many bytes of a line are kept: as many as tell one that isn't too long, with a CR, from others
 unfoldable pub room : ℕ
-room = 4098
+room = request_limit + 2
 
 abbrev pub kept : List ℕ → List ℕ
 kept line = take room line

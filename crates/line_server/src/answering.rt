@@ -2,7 +2,7 @@
 
 ghost use Rattle.std.specs.Prelude.{◌≡◌, ◌≤◌, ◌<◌, ℕ, List, Option, Some, MatchOption};
 ghost use Rattle.line_commands.specs.Commands.{Import, Status};
-ghost use Rattle.line_commands.specs.Requests.{command_of};
+ghost use Rattle.line_commands.specs.Requests.{command_of, sessions};
 ghost use Rattle.line_server.specs.Pins.{AreWithin, or_all};
 ghost use Rattle.line_server.specs.Sources.{Releases};
 ghost use Rattle.line_server.specs.Replies.{desk};
@@ -80,7 +80,7 @@ fn respond<S: Source, D: Disk>(
     source: &mut S,
     store: &mut Store<D>,
 ) -> Result<Reply, LineRefusal>
-    requires session { session < 64 }
+    requires session { session < sessions }
     requires within { AreWithin store.old.history.imports pins.old }
     ensures pins { AreWithin store.new.history.imports pins.new }
     ensures response { IsResponse result (S.is_honest source.old) (S.releases source.old)

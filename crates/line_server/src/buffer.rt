@@ -4,12 +4,13 @@ ghost use Rattle.std.specs.Prelude.{◌≡◌, ◌++◌, [], ◌∷◌, IfOk};
 ghost use Rattle.bstr.specs.Text.{no_cr};
 ghost use Rattle.line_server.specs.Steps.{kept};
 
+use line_commands::REQUEST_LIMIT;
 use std::alloc::{AllocError, Global};
 use std::marker::Model;
 
 /// How many bytes of a line are kept: as many as tell
-/// a line of 4,096 bytes and a CR from a longer one.
-const ROOM: usize = 4098;
+/// the longest line and a CR from a longer one.
+const ROOM: usize = REQUEST_LIMIT + 2;
 
 /// The first bytes of the line that is coming in.
 #[derive(Drop)]
