@@ -4,8 +4,7 @@ use Rattle.disk_model.specs.Disk.{Moments, EachImage, LeavesOnly}
 use Rattle.disk_model.proofs.MomentSteps.{weaker, at_end}
 use Rattle.blocks.specs.declared.slots.Slot.{Slot}
 use Rattle.blocks.specs.declared.slots.Current.{Current}
-use Rattle.blocks.specs.Outside.{StemsWithin}
-use Rattle.blocks.specs.Slots.{other, slot_range, epoch_of, IsCurrent, IsCurrentWith}
+use Rattle.blocks.specs.Slots.{other, epoch_of, IsCurrent, IsCurrentWith}
 use Rattle.blocks.specs.Publication.{next_of, IsOldOrNext}
 use Rattle.history_model.specs.declared.stamped.StampedRow.{StampedRow}
 use Rattle.directory.specs.Listings.{Listing}
@@ -24,14 +23,6 @@ shown_for_history slot d lists file shows = (d.epoch, d.entries, record { slot =
 -- the epoch before the one that the content lists
 pub epoch_before : (content : List ℕ) (d : Listing) (epoch : ℕ) → Lists content d → epoch ≡ d.epoch → epoch_of content ≡ epoch - 1 + 1
 epoch_before content d epoch lists same = omega (arith, listed_epoch content d lists, lists.is.epoch)
-
--- a publication changes the other slot alone
-pub one_slot : (old new : Moments) (slot : Slot) (d : Listing) (lists : List (List StampedRow)) (content : List ℕ) (epoch next : ℕ) → IsOnDisk old.state slot d lists → next ≡ d.epoch + 1 → epoch ≡ next
-    → (let k : Current = record { slot = slot; epoch = epoch - 1 } in EachImage old.state (IsCurrent k) → LeavesOnly old new (IsOldOrNext old.state k (next_of k) content)) → LeavesOnly old new (StemsWithin old.state (slot_range (other slot)))
-one_slot old new slot d lists content epoch next on following same runs =
-    let P : ℕ → Type 0 = λ n. let k : Current = record { slot = slot; epoch = n } in EachImage old.state (IsCurrent k) → LeavesOnly old new (IsOldOrNext old.state k (next_of k) content) in
-    let before : epoch - 1 ≡ d.epoch = omega (arith, following, same) in
-    weaker old new (IsOldOrNext old.state (current_of slot d) (next_of (current_of slot d)) content) (StemsWithin old.state (slot_range (other slot))) (λ c is. is.1) (subst P before runs (λ c image. (on.2 c image).slot.0))
 
 module _ (old new : Moments) (slot : Slot) (d e : Listing) (lists others : List (List StampedRow)) (content : List ℕ) (epoch : ℕ) (on : IsOnDisk old.state slot d lists) (following : IsNext d e others) (listed : Lists content e) (held : EachImage old.state (HoldsAll (pieces_of e.entries others))) (same : epoch ≡ e.epoch) where
   current : Current

@@ -44,12 +44,7 @@ pub fn publish_listing<D: Disk>(
         → IsNext d next.now others
         → EachImage (D.moments disk.old).state (HoldsAll (pieces_of next.now.entries others))
         → OnOk result (IsOnDisk (D.moments disk.new).state (other slot) next.now others) }
-    // What a stop leaves changes within the other slot alone.
-    ensures one_slot { D.is_honest disk.old → (d : Listing) (lists : List (List StampedRow))
-        → IsOnDisk (D.moments disk.old).state slot d lists → next.now.epoch ≡ d.epoch + 1
-        → LeavesOnly (D.moments disk.old) (D.moments disk.new)
-        (StemsWithin (D.moments disk.old).state (slot_range (other slot))) }
-    // The same whatever the disk has.
+    // What a stop leaves changes within the other slot alone, whatever the disk has.
     ensures inside { D.is_honest disk.old
         → LeavesOnly (D.moments disk.old) (D.moments disk.new)
         (StemsWithin (D.moments disk.old).state (slot_range (other slot))) }

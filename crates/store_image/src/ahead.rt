@@ -87,13 +87,8 @@ pub fn publish_written<D: Disk>(
         → IsOnDisk (D.moments disk.old).state slot d lists → IsNext d next.now others
         → HoldsAll (pieces_of next.now.entries others) (D.moments disk.old).state.now
         → OnOk result (IsOnDisk (D.moments disk.new).state (other slot) next.now others) }
-    // A stop leaves what it might have left before, or what a read gave but for the other slot.
-    ensures one_slot { D.is_honest disk.old → (d : Listing) (lists : List (List StampedRow))
-        → IsOnDisk (D.moments disk.old).state slot d lists → next.now.epoch ≡ d.epoch + 1
-        → LeavesOnly (D.moments disk.old) (D.moments disk.new)
-        (λ c. IsImage (D.moments disk.old).state c
-        ⊎ StemsWithin (settled (D.moments disk.old).state.now) (slot_range (other slot)) c) }
-    // The same whatever the disk has.
+    // Whatever the disk has, a stop leaves what it might have left
+    // before, or what a read gave but for the other slot.
     ensures inside { D.is_honest disk.old → LeavesOnly (D.moments disk.old) (D.moments disk.new)
         (λ c. IsImage (D.moments disk.old).state c
         ⊎ StemsWithin (settled (D.moments disk.old).state.now) (slot_range (other slot)) c) }

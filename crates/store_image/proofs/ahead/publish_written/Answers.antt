@@ -29,18 +29,6 @@ returns-clause-on_disk g c honest d lists others on next held =
     let made = c.in_ok-sync.ensures.made honest in
     c.publish_listing.ensures.on_disk (c.sync.ensures.honesty.0 honest) d lists others (synced_on_disk _ _ c.args.slot d lists on now made) next (synced_held _ _ (pieces_of c.args.next.now.entries others) made held)
 
-pub returns-in_err-sync-clause-one_slot : goal.returns-in_err-sync-clause-one_slot
-returns-in_err-sync-clause-one_slot g c honest d lists on following =
-    slot_synced _ _ (slot_range (other c.args.slot)) c.sync.result (g.met.D.Disk.now_is_image c.args.disk.now honest) (c.sync.ensures.made honest) (c.sync.ensures.failed honest)
-
-pub returns-clause-one_slot : goal.returns-clause-one_slot
-returns-clause-one_slot g c honest d lists on following =
-    let now = g.met.D.Disk.now_is_image c.args.disk.now honest in
-    let made = c.in_ok-sync.ensures.made honest in
-    joined _ _ _ _
-    (slot_synced _ _ (slot_range (other c.args.slot)) c.sync.result now (c.sync.ensures.made honest) (c.sync.ensures.failed honest))
-    (slot_published _ _ (slot_range (other c.args.slot)) made _ (c.publish_listing.ensures.one_slot (c.sync.ensures.honesty.0 honest) d lists (synced_on_disk _ _ c.args.slot d lists on now made) following))
-
 pub returns-clause-elsewhere : goal.returns-clause-elsewhere
 returns-clause-elsewhere g c honest =
     slot_elsewhere _ _ (slot_range (other c.args.slot)) (c.in_ok-sync.ensures.made honest) c.publish_listing.result _ (c.publish_listing.ensures.elsewhere (c.sync.ensures.honesty.0 honest))
