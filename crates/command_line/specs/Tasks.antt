@@ -1,6 +1,9 @@
 -- What each task does.
 use Rattle.std.specs.Prelude.{◌≡◌, ◌⊎◌, ◌↔◌, ◌≤◌, ℕ, List, [], ◌++◌, length, codes, Option, Result, Ok, Err, IfOk}
 use Rattle.disk_model.specs.Disk.{Moments, IsImage, LeavesOnly}
+use Rattle.blocks.specs.Calls.{MakesCalls}
+use Rattle.blocks.specs.Outside.{StemsWithin}
+use Rattle.blocks.specs.Slots.{slots_range}
 use Rattle.store_image.specs.Answers.{IsNewStore}
 use Rattle.history_store.specs.declared.refusal.Refusal.{Refusal}
 use Rattle.history_store.specs.declared.refusal.Refusal.TheVariants.{OutOfMemory}
@@ -23,14 +26,17 @@ use Rattle.command_line.specs.Endings.{IsTold}
 abbrev pub StoreOr : Type 0 → Type 0
 StoreOr D = Result (Stored D) (Refusal × D)
 
--- a store was made on this device, or not: a refusal leaves the
--- device as it was, and one with a byte stays as it is whatever comes
+-- a store was made on this device, or not: a refusal leaves the device as it was, one with
+-- a byte stays as it is whatever comes, and nothing changes behind the slots
 pub record IsMaking {D : Type 0} (honest : D → Type 0) (moments : D → Moments) (failures : D → ℕ)
     (device : D) (had : StoreOr D) : Type 0 where
   pub exact : honest device → IsMakingOf had (moments device).state.now
   pub refused : honest device → HandsBack moments had device
   pub untouched : honest device → 1 ≤ length (moments device).state.now
       → moments (device_of had) ≡ moments device
+  pub inside : honest device → LeavesOnly (moments device) (moments (device_of had))
+      (StemsWithin (moments device).state slots_range)
+  pub calls : honest device → MakesCalls had 9 (moments device) (moments (device_of had))
   pub bytes : honest device → IfOk had (λ s. IsNewStore (moments s.disk).state.now)
   pub acknowledged : honest device → IfOk had (IsAcknowledged moments)
   pub honesty : honest device ↔ honest (device_of had)

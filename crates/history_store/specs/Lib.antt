@@ -9,6 +9,7 @@ pub mod Prepared
 pub mod Answers
 pub mod Queries
 pub mod Written
+pub mod Calls
 pub mod MergeAnswers
 pub mod Refusals
 pub mod Laws

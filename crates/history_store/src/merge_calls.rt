@@ -1,6 +1,6 @@
 //! The calls of a merge, and trimming.
 
-ghost use Rattle.std.specs.Prelude.{◌≡◌, ◌≢◌, ◌↔◌, ◌-◌, ◌<◌, ◌≤◌, ◌∷◌, [], length, take, option_map};
+ghost use Rattle.std.specs.Prelude.{◌≡◌, ◌≢◌, ◌↔◌, ◌+◌, ◌-◌, ◌<◌, ◌≤◌, ◌∷◌, [], length, take, option_map};
 ghost use Rattle.std.specs.Prelude.{IfOk, IfErr, OnOk, true, false};
 ghost use Rattle.disk_model.specs.Disk.{LeavesOnly};
 
@@ -17,6 +17,7 @@ use store_image::{publish_written, trim};
 impl<D: Disk> Store<D> {
     ghost use Rattle.history_store.specs.Stored.{IsAcknowledged};
     ghost use Rattle.store_image.specs.Images.{StandsForHistory};
+    ghost use Rattle.blocks.specs.Calls.{call_count, MakesCalls};
     ghost use Rattle.blocks.specs.Outside.{SameOutside};
     ghost use Rattle.blocks.specs.Slots.{slots_range};
     ghost use Rattle.store_image.specs.Trimmed.{IsTrimmed};
@@ -71,6 +72,9 @@ impl<D: Disk> Store<D> {
         // Without a row to take nothing is read or written.
         ensures idle { IsIdle n self.old.shelf → self.new.disk ≡ self.old.disk }
         ensures closed { self.old.needs_reopen ≡ true → self.new ≡ self.old }
+        // One write at most changes the disk, and no other call.
+        ensures calls { D.is_honest self.old.disk
+            → call_count (D.moments self.new.disk) ≤ call_count (D.moments self.old.disk) + 1 }
         ensures honesty { D.is_honest self.old.disk ↔ D.is_honest self.new.disk }
         ensures failures { Counts result (D.failures self.old.disk) (D.failures self.new.disk) }
     {
@@ -123,6 +127,9 @@ impl<D: Disk> Store<D> {
         ensures refused { D.is_honest self.old.disk
             → KeepsMoments D.moments result self.old self.new }
         ensures closed { self.old.needs_reopen ≡ true → self.new ≡ self.old }
+        // A sync, and the six calls of a publication; where it is refused, no more.
+        ensures calls { D.is_honest self.old.disk
+            → MakesCalls result 7 (D.moments self.old.disk) (D.moments self.new.disk) }
         ensures honesty { D.is_honest self.old.disk ↔ D.is_honest self.new.disk }
         ensures failures { Counts result (D.failures self.old.disk) (D.failures self.new.disk) }
     {

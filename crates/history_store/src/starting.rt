@@ -2,6 +2,10 @@
 
 ghost use Rattle.std.specs.Prelude.{◌≡◌, ◌≢◌, ◌↔◌, ◌<◌, ◌≤◌, [], length, map, vec_items, IfOk, IfErr, OnOk};
 ghost use Rattle.lru.specs.LruCache.{lru_cache};
+ghost use Rattle.disk_model.specs.Disk.{LeavesOnly};
+ghost use Rattle.blocks.specs.Calls.{MakesCalls};
+ghost use Rattle.blocks.specs.Outside.{StemsWithin};
+ghost use Rattle.blocks.specs.Slots.{slots_range};
 ghost use Rattle.as_of_index.specs.Places.{ArePlaces, max_lists};
 ghost use Rattle.store_image.specs.Shown.{IsOnDisk};
 ghost use Rattle.store_image.specs.Answers.{empty_listing, IsNewStore};
@@ -97,6 +101,11 @@ pub(crate) fn start<D: Disk>(alloc: Global, disk: &mut D) -> Result<Started, Ref
         → IfErr result (λ e. IsNotMade e (D.moments disk.old).state.now) }
     ensures refused { D.is_honest disk.old → IfErr result (λ e. e ≢ refusals.DiskFault
         → D.moments disk.new ≡ D.moments disk.old) }
+    ensures inside { D.is_honest disk.old
+        → LeavesOnly (D.moments disk.old) (D.moments disk.new)
+        (StemsWithin (D.moments disk.old).state slots_range) }
+    ensures calls { D.is_honest disk.old
+        → MakesCalls result 9 (D.moments disk.old) (D.moments disk.new) }
     ensures honesty { D.is_honest disk.old ↔ D.is_honest disk.new }
     ensures failures { Counts result (D.failures disk.old) (D.failures disk.new) }
 {

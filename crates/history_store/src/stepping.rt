@@ -6,6 +6,7 @@ ghost use Rattle.std.specs.Prelude.{if◌then◌else◌, true, false};
 ghost use Rattle.std.specs.List.{AllZip};
 ghost use Rattle.disk_model.specs.Disk.{LeavesOnly};
 ghost use Rattle.blocks.specs.declared.slots.Slot.{Slot};
+ghost use Rattle.blocks.specs.Calls.{call_count, MakesCalls};
 ghost use Rattle.blocks.specs.Extents.{block_limit, byte_range};
 ghost use Rattle.blocks.specs.Outside.{SameOutside};
 ghost use Rattle.blocks.specs.Cache.{AgreesWith};
@@ -221,6 +222,8 @@ fn write_part<D: Disk>(
         (D.moments disk.old).state.now (D.moments disk.new).state.now) }
     // Memory is refused before the write.
     ensures unwritten { IfErr result (λ e. e ≢ refusals.DiskFault → disk.new ≡ disk.old) }
+    ensures calls { D.is_honest disk.old
+        → MakesCalls result 1 (D.moments disk.old) (D.moments disk.new) }
     ensures honesty { D.is_honest disk.old ↔ D.is_honest disk.new }
     ensures failures { Counts result (D.failures disk.old) (D.failures disk.new) }
 {
@@ -269,6 +272,8 @@ pub(crate) fn step<D: Disk>(
     // Without a row to take nothing is read or written.
     ensures idle { (n ≡ 0) ⊎ (count_left merge.old.places ≡ 0)
         → (disk.new ≡ disk.old) × (cache.new ≡ cache.old) }
+    ensures calls { D.is_honest disk.old
+        → call_count (D.moments disk.new) ≤ call_count (D.moments disk.old) + 1 }
     ensures honesty { D.is_honest disk.old ↔ D.is_honest disk.new }
     ensures failures { Counts result (D.failures disk.old) (D.failures disk.new) }
 {

@@ -79,10 +79,12 @@ impl<D: Disk> Store<D> {
     ghost use Rattle.history_store.specs.Shelf.{shelf_of};
     ghost use Rattle.history_store.specs.Stored.{Stored, IsAcknowledged, with_rows};
     ghost use Rattle.history_store.specs.Prepared.{IsNotSpent, IsPreparedFor};
-    ghost use Rattle.blocks.specs.Outside.{SameOutside};
+    ghost use Rattle.blocks.specs.Calls.{MakesCalls};
+    ghost use Rattle.blocks.specs.Outside.{SameOutside, StemsWithin};
     ghost use Rattle.blocks.specs.Slots.{slots_range};
     ghost use Rattle.store_image.specs.Answers.{IsNewStore};
     ghost use Rattle.history_store.specs.Written.{added_ranges};
+    ghost use Rattle.history_store.specs.Calls.{MakesImportCalls};
     ghost use Rattle.history_store.specs.Answers.{Counts, IsStep, device_of, CountsOpening};
     ghost use Rattle.history_store.specs.Answers.{IsMakingOf, IsOpeningOf, SyncsOnce, HandsBack};
     ghost use Rattle.history_store.specs.Answers.{IsReadingOf, IsStill, IsRefused};
@@ -102,6 +104,13 @@ impl<D: Disk> Store<D> {
         // A disk with a byte stays as it is, whatever the answer: where the device fails, too.
         ensures untouched { D.is_honest disk → 1 ≤ length (D.moments disk).state.now
             → D.moments (device_of result) ≡ D.moments disk }
+        // Whatever it answers, what a stop may leave doesn't change behind the slots,
+        // and nine calls at most may change the disk: after Ok these nine.
+        ensures inside { D.is_honest disk
+            → LeavesOnly (D.moments disk) (D.moments (device_of result))
+            (StemsWithin (D.moments disk).state slots_range) }
+        ensures calls { D.is_honest disk
+            → MakesCalls result 9 (D.moments disk) (D.moments (device_of result)) }
         // A read of a new store gives its two slots, and nothing behind them.
         ensures bytes { D.is_honest disk
             → IfOk result (λ s. IsNewStore (D.moments s.disk).state.now) }
@@ -310,6 +319,8 @@ impl<D: Disk> Store<D> {
             (D.moments self.old.disk).state.now (D.moments self.new.disk).state.now) }
         ensures acknowledged { D.is_honest self.old.disk → self.new.needs_reopen ≡ false
             → IsAcknowledged D.moments self.new }
+        ensures calls { D.is_honest self.old.disk
+            → MakesCalls result 6 (D.moments self.old.disk) (D.moments self.new.disk) }
         ensures honesty { D.is_honest self.old.disk ↔ D.is_honest self.new.disk }
         ensures failures { Counts result (D.failures self.old.disk) (D.failures self.new.disk) }
     {
@@ -345,6 +356,8 @@ impl<D: Disk> Store<D> {
             (D.moments self.old.disk).state.now (D.moments self.new.disk).state.now) }
         ensures acknowledged { D.is_honest self.old.disk → self.new.needs_reopen ≡ false
             → IsAcknowledged D.moments self.new }
+        ensures calls { D.is_honest self.old.disk
+            → MakesCalls result 8 (D.moments self.old.disk) (D.moments self.new.disk) }
         ensures honesty { D.is_honest self.old.disk ↔ D.is_honest self.new.disk }
         ensures failures { Counts result (D.failures self.old.disk) (D.failures self.new.disk) }
     {
@@ -402,6 +415,10 @@ impl<D: Disk> Store<D> {
             (D.moments self.old.disk).state.now (D.moments self.new.disk).state.now) }
         // A store that has to be opened again leaves everything as it is.
         ensures closed { self.old.needs_reopen ≡ true → self.new ≡ self.old }
+        // Eight calls that may change the disk where a row is new, and else six; where it is refused,
+        // no more.
+        ensures calls { D.is_honest self.old.disk → MakesImportCalls result
+            (D.moments self.old.disk) (D.moments self.new.disk) }
         ensures honesty { D.is_honest self.old.disk ↔ D.is_honest self.new.disk }
         ensures failures { Counts result (D.failures self.old.disk) (D.failures self.new.disk) }
     {

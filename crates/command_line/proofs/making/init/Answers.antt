@@ -6,7 +6,7 @@ returns-in-Ok g c =
     let made = c.create.ensures in
     record {
       had = c.create.result;
-      making = record { exact = made.made; refused = made.refused; untouched = made.untouched; bytes = made.bytes; acknowledged = made.acknowledged; honesty = made.honesty; counts = made.failures };
+      making = record { exact = made.made; refused = made.refused; untouched = made.untouched; inside = made.inside; calls = made.calls; bytes = made.bytes; acknowledged = made.acknowledged; honesty = made.honesty; counts = made.failures };
       left_so = rw c.in-Ok.is c.close.ensures.disk;
       told = rw c.in-Ok.is c.tell_done.ensures;
     }
@@ -16,7 +16,7 @@ returns-in-Err g c =
     let made = c.create.ensures in
     record {
       had = c.create.result;
-      making = record { exact = made.made; refused = made.refused; untouched = made.untouched; bytes = made.bytes; acknowledged = made.acknowledged; honesty = made.honesty; counts = made.failures };
+      making = record { exact = made.made; refused = made.refused; untouched = made.untouched; inside = made.inside; calls = made.calls; bytes = made.bytes; acknowledged = made.acknowledged; honesty = made.honesty; counts = made.failures };
       left_so = rw c.in-Err.is refl;
       told = rw c.in-Err.is c.refuse.ensures;
     }

@@ -6,7 +6,7 @@ returns-in-Ok g c =
     let made = c.create.ensures in
     record {
       had = c.create.result;
-      making = record { exact = made.made; refused = made.refused; untouched = made.untouched; bytes = made.bytes; acknowledged = made.acknowledged; honesty = made.honesty; counts = made.failures };
+      making = record { exact = made.made; refused = made.refused; untouched = made.untouched; inside = made.inside; calls = made.calls; bytes = made.bytes; acknowledged = made.acknowledged; honesty = made.honesty; counts = made.failures };
       serves = rw (c.in-Ok.is, c.close.ensures.disk) c.serve_all-ended.ensures;
     }
 
@@ -15,6 +15,6 @@ returns-in-Err g c =
     let made = c.create.ensures in
     record {
       had = c.create.result;
-      making = record { exact = made.made; refused = made.refused; untouched = made.untouched; bytes = made.bytes; acknowledged = made.acknowledged; honesty = made.honesty; counts = made.failures };
+      making = record { exact = made.made; refused = made.refused; untouched = made.untouched; inside = made.inside; calls = made.calls; bytes = made.bytes; acknowledged = made.acknowledged; honesty = made.honesty; counts = made.failures };
       serves = rw c.in-Err.is (c.refuse.ensures, refl, refl);
     }
