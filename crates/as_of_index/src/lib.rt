@@ -2,6 +2,7 @@
 //! rows are read through a reader that is lent.
 #![tactic(auto)]
 
+mod beside;
 mod chosen;
 mod cursors;
 mod index;
@@ -12,6 +13,7 @@ mod reader;
 mod search;
 mod several;
 
+pub use beside::Beside;
 pub use chosen::{Chosen, read_all};
 pub use index::{Index, MAX_LISTS};
 pub use kept::KeptRows;

@@ -13,7 +13,7 @@ ghost use Rattle.associations.specs.Edges.{links_in};
 ghost use Rattle.associations.specs.Children.{PostsLinks, link_keys, children_among};
 ghost use Rattle.associations.specs.Collecting.{TakesLinks, AreOnce, AreSources};
 
-use crate::links::Links;
+use crate::Links;
 use crate::postings::{Link, Sealed};
 use as_of_index::Index;
 use rf2_values::{EffectiveTime, Sctid};
@@ -99,5 +99,5 @@ pub fn children(
 {
     // It says that no key is listed twice.
     let _listed = index.lists();
-    sources(alloc, links.sealed(), index, concept.value(), time, pin)
+    sources(alloc, links.as_slice(), index, concept.value(), time, pin)
 }

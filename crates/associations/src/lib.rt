@@ -8,11 +8,14 @@
 
 mod hierarchy;
 pub mod laws;
-mod links;
 mod postings;
 mod substitutes;
 
 pub use hierarchy::children;
-pub use links::Links;
 pub use postings::{EdgeCount, Link, Postings, Reference, Sealed};
 pub use substitutes::replacements;
+
+use as_of_index::Beside;
+
+/// The postings of several lists of rows, in the order of these lists.
+pub type Links = Beside<Sealed>;

@@ -16,7 +16,7 @@ ghost use Rattle.associations.specs.Edges.{references_in};
 ghost use Rattle.associations.specs.Replacements.{PostsReferences, reference_keys, replacements_among};
 ghost use Rattle.associations.specs.Collecting.{ranked, TakesReferences, AreOnce, AreRanked};
 
-use crate::links::Links;
+use crate::Links;
 use crate::postings::{Reference, Sealed};
 use as_of_index::{Chosen, Index, ReadFault, RowReader, read_all};
 use rf2_values::{EffectiveTime, Row, Sctid};
@@ -135,6 +135,6 @@ pub fn replacements<R: RowReader>(
 {
     // It says that no key is listed twice.
     let _listed = index.lists();
-    let kept = chosen_all(alloc, links.sealed(), index, component.value(), time, pin)?;
+    let kept = chosen_all(alloc, links.as_slice(), index, component.value(), time, pin)?;
     read_all(alloc, reader, kept.as_slice())
 }

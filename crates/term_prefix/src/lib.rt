@@ -9,10 +9,13 @@ pub mod laws;
 mod postings;
 mod sealed;
 mod search;
-mod terms;
 mod text;
 
 pub use postings::Postings;
 pub use sealed::Sealed;
 pub use search::find;
-pub use terms::Terms;
+
+use as_of_index::Beside;
+
+/// The terms of several lists of rows, in the order of these lists.
+pub type Terms = Beside<Sealed>;

@@ -15,7 +15,7 @@ ghost use Rattle.term_prefix.specs.Terms.{PostsTerms, term_keys, terms_among};
 ghost use Rattle.term_prefix.specs.Keeping.{begun, SaysTaken, SaysWanted, AreKept};
 
 use crate::sealed::Sealed;
-use crate::terms::Terms;
+use crate::Terms;
 use crate::text::Term;
 use as_of_index::{Chosen, Index, ReadFault, RowReader, read_all};
 use caseless::default_case_fold_str;
@@ -168,7 +168,7 @@ pub fn find<R: RowReader>(
     let folded = default_case_fold_str(alloc, prefix)?;
     let kept = keep_all(
         alloc,
-        terms.lists.as_slice(),
+        terms.as_slice(),
         index,
         folded.as_bytes(),
         time,

@@ -1,38 +1,36 @@
-//! The terms of several lists of rows.
+//! What is kept of each list of rows beside its places.
 
 ghost use Rattle.std.specs.Prelude.{◌≡◌, ◌<◌, ◌++◌, ◌∷◌, [], length, IfOk, remove, slice_set};
 ghost use Rattle.as_of_index.specs.Places.{max_lists};
 
-use crate::sealed::Sealed;
-use as_of_index::MAX_LISTS;
+use crate::index::MAX_LISTS;
 use std::alloc::{AllocError, Global};
 use std::marker::Model;
 
-/// The terms of several lists of rows, in the order of these lists.
+/// One item for each list of an index, in the order of these lists.
 #[derive(Drop)]
-pub struct Terms {
-    pub(crate) lists: Vec<Sealed>,
+pub struct Beside<T> {
+    lists: Vec<T>,
 }
 
-impl Model for Terms {
+impl<T> Model for Beside<T> {
     ghost use Rattle.std.specs.Prelude.{List, vec_capacity, ◌≤◌};
     ghost use Rattle.as_of_index.specs.Places.{max_lists};
-    ghost use Rattle.term_prefix.specs.Terms.{TermAt};
 
-    ghost Value = { List (List TermAt) };
+    ghost Value = { List T };
 
     ghost view = { λ a. a.lists.items };
 
     ghost invariant = { λ a. max_lists ≤ vec_capacity a.lists };
 }
 
-impl Terms {
+impl<T: Drop> Beside<T> {
     /// No lists, with room for all that there may be.
-    pub fn new(alloc: Global) -> Result<Terms, AllocError>
-        ensures { IfOk result (λ terms. terms ≡ []) }
+    pub fn new(alloc: Global) -> Result<Beside<T>, AllocError>
+        ensures { IfOk result (λ lists. lists ≡ []) }
     {
         let lists = Vec::with_capacity(alloc, MAX_LISTS)?;
-        Ok(Terms { lists })
+        Ok(Beside { lists })
     }
 
     /// How many lists there are.
@@ -43,7 +41,7 @@ impl Terms {
     }
 
     /// Adds a list as the last. It takes no memory.
-    pub fn add(&mut self, list: Sealed)
+    pub fn add(&mut self, list: T)
         requires { length self.old < max_lists }
         ensures { self.new ≡ self.old ++ list ∷ [] }
     {
@@ -53,12 +51,19 @@ impl Terms {
     }
 
     /// Puts a list in the place of two, at the first's. It takes no memory.
-    pub fn replace_two(&mut self, i: usize, j: usize, list: Sealed)
+    pub fn replace_two(&mut self, i: usize, j: usize, list: T)
         requires places { i < j }
         requires within { j < length self.old }
         ensures { self.new ≡ remove (slice_set self.old i list) j }
     {
         self.lists[i] = list;
         let _removed = self.lists.remove(j);
+    }
+
+    /// All of them.
+    pub fn as_slice(&self) -> &[T]
+        ensures { result.now ≡ self.now }
+    {
+        self.lists.as_slice()
     }
 }
