@@ -16,9 +16,9 @@ ghost use Rattle.fault_counts.specs.declared.fault.ReadFault.TheVariants as read
 use crate::cursors::{cursors_at, latest_on, next_id};
 use crate::listed::Listed;
 use crate::reader::RowReader;
-use fault_counts::ReadFault;
 use crate::search::Start;
 use crate::several::{is_apart, latest, next_version};
+use fault_counts::ReadFault;
 use rf2_values::{EffectiveTime, Kind, Row};
 use segment::Posted;
 use std::alloc::{AllocError, Global};

@@ -12,8 +12,7 @@ ghost use Rattle.as_of_index.specs.Search.{is_under, SplitsAt};
 ghost use Rattle.as_of_index.specs.Reader.{is_row_at};
 
 use crate::reader::RowReader;
-use fault_counts::ReadFault;
-use fault_counts::raised;
+use fault_counts::{ReadFault, raised};
 use history_model::StampedRow;
 use rf2_values::Key;
 use segment::Posted;

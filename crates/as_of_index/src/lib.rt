@@ -15,9 +15,9 @@ mod several;
 
 pub use beside::Beside;
 pub use chosen::{Chosen, read_all};
+pub use fault_counts::ReadFault;
 pub use index::{Index, MAX_LISTS};
 pub use kept::KeptRows;
 pub use listed::Listed;
-pub use fault_counts::ReadFault;
 pub use reader::RowReader;
 pub use segment::Posted;

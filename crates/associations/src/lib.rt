@@ -11,11 +11,10 @@ pub mod laws;
 mod postings;
 mod substitutes;
 
+use as_of_index::Beside;
 pub use hierarchy::children;
 pub use postings::{EdgeCount, Link, Postings, Reference, Sealed};
 pub use substitutes::replacements;
-
-use as_of_index::Beside;
 
 /// The postings of several lists of rows, in the order of these lists.
 pub type Links = Beside<Sealed>;

@@ -415,8 +415,8 @@ impl<D: Disk> Store<D> {
             (D.moments self.old.disk).state.now (D.moments self.new.disk).state.now) }
         // A store that has to be opened again leaves everything as it is.
         ensures closed { self.old.needs_reopen ≡ true → self.new ≡ self.old }
-        // Eight calls that may change the disk where a row is new, and else six; where it is refused,
-        // no more.
+        // Eight calls that may change the disk where a row is new,
+        // and else six; where it is refused, no more.
         ensures calls { D.is_honest self.old.disk → MakesImportCalls result
             (D.moments self.old.disk) (D.moments self.new.disk) }
         ensures honesty { D.is_honest self.old.disk ↔ D.is_honest self.new.disk }

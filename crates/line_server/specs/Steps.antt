@@ -11,7 +11,7 @@ use Rattle.line_server.specs.Replies.{desk}
 use Rattle.line_server.specs.Turns.{IsTurn}
 use Rattle.line_server.specs.Streams.{IsPut}
 
--- how many bytes of a line are kept: as many as tell one that isn't too long, with a CR, from others
+-- how many bytes of a line are kept: as many as tell the longest line and a CR from a longer one
 unfoldable pub room : ℕ
 room = request_limit + 2
 

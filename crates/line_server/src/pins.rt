@@ -30,7 +30,9 @@ impl Pins {
         ensures none { result ≡ unpinned }
         ensures within { (imports : ℕ) → AreWithin imports result }
     {
-        Pins { places: [None; SESSIONS] }
+        Pins {
+            places: [None; SESSIONS],
+        }
     }
 
     /// The number of imports that a session looks at: its pin, or else all.

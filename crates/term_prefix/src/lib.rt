@@ -11,11 +11,10 @@ mod sealed;
 mod search;
 mod text;
 
+use as_of_index::Beside;
 pub use postings::Postings;
 pub use sealed::Sealed;
 pub use search::find;
-
-use as_of_index::Beside;
 
 /// The terms of several lists of rows, in the order of these lists.
 pub type Terms = Beside<Sealed>;

@@ -14,8 +14,8 @@ ghost use Rattle.fault_counts.specs.declared.fault.ReadFault.TheVariants as read
 ghost use Rattle.term_prefix.specs.Terms.{PostsTerms, term_keys, terms_among};
 ghost use Rattle.term_prefix.specs.Keeping.{begun, SaysTaken, SaysWanted, AreKept};
 
-use crate::sealed::Sealed;
 use crate::Terms;
+use crate::sealed::Sealed;
 use crate::text::Term;
 use as_of_index::{Chosen, Index, ReadFault, RowReader, read_all};
 use caseless::default_case_fold_str;
