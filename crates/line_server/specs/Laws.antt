@@ -1,5 +1,6 @@
 -- What holds of every run of lines, on an honest disk.
-use Rattle.std.specs.Prelude.{◌≡◌, ◌⊎◌, ℕ, ◌++◌, false, List, [], ◌∷◌, Option, Some, Result, Err, MatchResult}
+use Rattle.std.specs.Prelude.{◌≡◌, ◌⊎◌, ℕ, ◌++◌, false, ◌+◌, ◌≤◌, List, [], ◌∷◌, length, Option, Some, Result, Ok, Err, MatchResult, slice_index_or, None}
+use Rattle.std.specs.List.{AllByRecursion}
 use Rattle.disk_model.specs.Disk.{Moments, EachImage, LeavesOnly}
 use Rattle.history_model.specs.History.{History, rows_at}
 use Rattle.history_model.specs.declared.receipt.Receipt.{Receipt}
@@ -8,16 +9,18 @@ use Rattle.history_store.specs.declared.refusal.Refusal.{Refusal}
 use Rattle.history_store.specs.declared.refusal.Refusal.TheVariants as store
 use Rattle.history_store.specs.Stored.{Stored, IsAcknowledged}
 use Rattle.history_store.specs.Answers.{IsImportOf, IsOpeningOf}
-use Rattle.line_commands.specs.Commands.{Command}
+use Rattle.line_commands.specs.Commands.{Command, Import}
 use Rattle.line_commands.specs.Requests.{Asks}
 use Rattle.line_server.specs.declared.refusal.LineRefusal.{LineRefusal}
 use Rattle.line_server.specs.declared.refusal.LineRefusal.TheVariants as refusals
 use Rattle.line_server.specs.Pins.{pin_of}
 use Rattle.line_server.specs.Sources.{Releases}
 use Rattle.line_server.specs.Said.{Answer}
-use Rattle.line_server.specs.Replies.{Desk, Replies, Same, found, shown}
+use Rattle.line_server.specs.Replies.{Desk, Replies, Same, found, shown, desk}
 use Rattle.line_server.specs.Imports.{Imports, IsFront, TakesAll, StandsForSome, StandsForAll}
 use Rattle.line_server.specs.Turns.{Turn, IsTurn, Run, imported, failed_in, or_else}
+use Rattle.line_server.specs.Pinning.{IsPinnedTo, LeavesPin, StaysPinned}
+use Rattle.line_server.specs.Life.{Stage, IsStage, IsLife, AreKept, IsSubsequence, acknowledged}
 
 -- neither that memory lacked nor that the device failed is said
 abbrev pub IsSure : Result Answer LineRefusal → Type 0
@@ -121,3 +124,105 @@ AcknowledgedImportsAreOpened D honest moments failures =
     → (after : History) × TakesAll old.store.history (imported turns) after
     × LeavesOnly (moments mid.store.disk) (moments new.store.disk)
     (OpensWith D after turn.releases turn.failed)
+
+-- an import that was answered OK is the one that its turn imported
+abbrev pub OkIsImported : (D : Type 0) → (D → Type 0) → (D → Moments) → (D → ℕ) → Type 0
+OkIsImported D honest moments failures =
+    (has : Releases) (old new : Desk D) (turn : Turn) (session : ℕ) (name : List ℕ) (answer : Answer)
+    → honest old.store.disk → Asks turn.line session (Import name) → turn.outcome ≡ Ok answer
+    → IsTurn ⊥ has honest moments failures old turn new
+    → (release : Release) × (turn.releases ≡ release ∷ [])
+
+-- a line that was refused imported nothing
+abbrev pub RefusedIsNotImported : (D : Type 0) → (D → Type 0) → (D → Moments) → (D → ℕ) → Type 0
+RefusedIsNotImported D honest moments failures =
+    (has : Releases) (old new : Desk D) (turn : Turn) (refusal : LineRefusal)
+    → honest old.store.disk → turn.outcome ≡ Err refusal
+    → IsTurn ⊥ has honest moments failures old turn new → turn.releases ≡ []
+
+-- and what a turn imported, its line asked for, and it was answered OK
+abbrev pub ImportedIsOk : (D : Type 0) → (D → Type 0) → (D → Moments) → (D → ℕ) → Type 0
+ImportedIsOk D honest moments failures =
+    (has : Releases) (old new : Desk D) (turn : Turn) (release : Release)
+    → honest old.store.disk → turn.releases ≡ release ∷ []
+    → IsTurn ⊥ has honest moments failures old turn new
+    → (session : ℕ) × (name : List ℕ) × (answer : Answer) × Asks turn.line session (Import name)
+    × (turn.outcome ≡ Ok answer)
+
+-- what is said of a run where its source is honest holds without a word on the source
+abbrev pub RunNeedsNoSource : {D : Type 0} → Type 0 → Releases → (D → Type 0) → (D → Moments)
+    → (D → ℕ) → Type 0
+RunNeedsNoSource {D} honest_source has honest moments failures =
+    (old new : Desk D) (turns : List Turn)
+    → Run honest_source has honest moments failures old turns new
+    → Run ⊥ has honest moments failures old turns new
+
+-- Over any number of stops and openings, and while lines are answered after the last of them, the
+-- history is the one from the beginning with each release whose import was answered OK, in order,
+-- and with at most one other for each stop: one in whose import the device failed, or whose line
+-- the stop cut off.
+abbrev pub EachLifeKeepsItsImports : (D : Type 0) → (D → Type 0) → (D → Moments) → (D → ℕ) → Type 0
+EachLifeKeepsItsImports D honest moments failures =
+    (has : Releases) (first last : Stored D) (life : List Stage) (pins : List (Option ℕ))
+    (turns : List Turn) (now : Desk D)
+    → honest first.disk → IsAcknowledged moments first
+    → IsLife has honest moments failures first life last
+    → Run ⊥ has honest moments failures (desk pins last) turns now
+    → (releases : List Release) × AreKept life releases
+    × TakesAll first.history (releases ++ imported turns) now.store.history
+
+-- So each release whose import was answered OK is among
+-- them, in order, and of others at most one for each stop.
+abbrev pub KeptAreAcknowledged : Type 0
+KeptAreAcknowledged = (life : List Stage) (releases : List Release) → AreKept life releases
+    → IsSubsequence (acknowledged life) releases
+    × (length releases ≤ length (acknowledged life) + length life)
+
+-- And whatever the next stop leaves is opened with such a history,
+-- unless the opening runs out of memory or the device fails.
+abbrev pub EachLifeIsOpened : (D : Type 0) → (D → Type 0) → (D → Moments) → (D → ℕ) → Type 0
+EachLifeIsOpened D honest moments failures =
+    (has : Releases) (first last : Stored D) (life : List Stage) (pins : List (Option ℕ))
+    (stage : Stage) (bytes : List ℕ) (result : Result (Stored D) (Refusal × D))
+    → honest first.disk → IsAcknowledged moments first
+    → IsLife has honest moments failures first life last
+    → IsStage has honest moments failures (desk pins last) stage bytes
+    → IsOpeningOf result bytes
+    → MatchResult result
+    (λ s. (releases : List Release) × AreKept (life ++ stage ∷ []) releases
+    × TakesAll first.history releases s.history)
+    (λ e. (e.0 ≡ store.OutOfMemory) ⊎ (e.0 ≡ store.DiskFault))
+
+-- A session stays pinned while lines are answered none of which pins it or
+-- unpins it, and the history stays as it was up to the pin.
+abbrev pub RunKeepsPin : (D : Type 0) → (D → Type 0) → (D → Moments) → (D → ℕ) → Type 0
+RunKeepsPin D honest moments failures =
+    (has : Releases) (old new : Desk D) (turns : List Turn) (session pin : ℕ)
+    → honest old.store.disk → IsAcknowledged moments old.store → IsPinnedTo old session pin
+    → Run ⊥ has honest moments failures old turns new → AllByRecursion (LeavesPin session) turns
+    → (slice_index_or new.pins session None ≡ Some pin)
+    × AgreeUpTo pin new.store.history old.store.history
+
+-- As long as it stays pinned, each query of it is answered by what stood at the pin in the beginning.
+abbrev pub PinnedSeesItsImports : (D : Type 0) → (D → Type 0) → (D → Moments) → (D → ℕ) → Type 0
+PinnedSeesItsImports D honest moments failures =
+    (has : Releases) (session pin : ℕ) (start : Desk D) (turns : List Turn) (turn : Turn)
+    (command : Command) (query : Answer)
+    → StaysPinned has honest moments failures session pin start turns turn
+    → Asks turn.line session command
+    → found command (rows_at pin start.store.history.rows) ≡ Some query
+    → IsSure turn.outcome → turn.outcome ≡ Ok query
+
+-- So in any two runs from histories that agree up to the pin
+-- it is answered alike, whatever the other sessions do.
+abbrev pub PinnedRunsAreUndisturbed : (D : Type 0) → (D → Type 0) → (D → Moments) → (D → ℕ)
+    → Type 0
+PinnedRunsAreUndisturbed D honest moments failures =
+    (has others : Releases) (session pin : ℕ) (a b : Desk D) (before also : List Turn)
+    (one two : Turn) (command : Command) (query : Answer)
+    → StaysPinned has honest moments failures session pin a before one
+    → StaysPinned others honest moments failures session pin b also two
+    → AgreeUpTo pin a.store.history b.store.history
+    → one.line ≡ two.line → Asks one.line session command
+    → found command (rows_at pin a.store.history.rows) ≡ Some query
+    → IsSure one.outcome → IsSure two.outcome → one.outcome ≡ two.outcome

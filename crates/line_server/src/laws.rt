@@ -1,8 +1,11 @@
 //! Laws of the definitions, each the contract of a function that does nothing.
 
 ghost use Rattle.line_server.specs.Laws.{PinnedIsUndisturbed, TurnsImport, ImportsCompose, OneImport, OneReply};
-ghost use Rattle.line_server.specs.Laws.{AcknowledgedImportsStay, AcknowledgedImportsAreOpened};
+ghost use Rattle.line_server.specs.Laws.{AcknowledgedImportsStay, AcknowledgedImportsAreOpened, OkIsImported, RefusedIsNotImported, ImportedIsOk};
+ghost use Rattle.line_server.specs.Laws.{RunNeedsNoSource, EachLifeKeepsItsImports, KeptAreAcknowledged, EachLifeIsOpened};
+ghost use Rattle.line_server.specs.Laws.{RunKeepsPin, PinnedSeesItsImports, PinnedRunsAreUndisturbed};
 
+use crate::source::Source;
 use disk_model::Disk;
 
 /// A query is answered alike where the session looks at the same imports.
@@ -40,4 +43,58 @@ pub fn acknowledged_imports_stay<D: Disk>()
 /// A store that is opened of what such a stop leaves has each import that was acknowledged.
 pub fn acknowledged_imports_are_opened<D: Disk>()
     ensures { AcknowledgedImportsAreOpened D D.is_honest D.moments D.failures }
+{}
+
+/// An import that was answered OK is the one that its turn imported.
+pub fn ok_is_imported<D: Disk>()
+    ensures { OkIsImported D D.is_honest D.moments D.failures }
+{}
+
+/// A line that was refused imported nothing.
+pub fn refused_is_not_imported<D: Disk>()
+    ensures { RefusedIsNotImported D D.is_honest D.moments D.failures }
+{}
+
+/// What a line imported, it asked for, and it was answered OK.
+pub fn imported_is_ok<D: Disk>()
+    ensures { ImportedIsOk D D.is_honest D.moments D.failures }
+{}
+
+/// What serving says of its run, where the source is honest,
+/// is what the laws of runs and of a store's life ask for.
+pub fn run_needs_no_source<S: Source, D: Disk>()
+    ensures { (source : S) → RunNeedsNoSource
+        (S.is_honest source) (S.releases source) D.is_honest D.moments D.failures }
+{}
+
+/// Over any number of stops and openings no import that was answered OK is lost,
+/// and of the others at most one for each stop is kept, and that one whole.
+pub fn each_life_keeps_its_imports<D: Disk>()
+    ensures { EachLifeKeepsItsImports D D.is_honest D.moments D.failures }
+{}
+
+/// Each release whose import was answered OK is among those
+/// that are kept, and of others at most one for each stop.
+pub fn kept_are_acknowledged()
+    ensures { KeptAreAcknowledged }
+{}
+
+/// What a stop leaves is opened with such a history, any number of times.
+pub fn each_life_is_opened<D: Disk>()
+    ensures { EachLifeIsOpened D D.is_honest D.moments D.failures }
+{}
+
+/// Lines of others leave a session its pin, and what stood up to it.
+pub fn run_keeps_pin<D: Disk>()
+    ensures { RunKeepsPin D D.is_honest D.moments D.failures }
+{}
+
+/// A pinned session sees what stood at its pin, whatever lines were answered since.
+pub fn pinned_sees_its_imports<D: Disk>()
+    ensures { PinnedSeesItsImports D D.is_honest D.moments D.failures }
+{}
+
+/// A pinned session is answered alike in any two runs, whatever the others do.
+pub fn pinned_runs_are_undisturbed<D: Disk>()
+    ensures { PinnedRunsAreUndisturbed D D.is_honest D.moments D.failures }
 {}
