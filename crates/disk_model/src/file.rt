@@ -12,7 +12,10 @@ use std::rt::Files;
 /// How often one read is tried again after an interruption, before that counts as a failure.
 const MAX_INTERRUPTIONS: u32 = 1_000;
 
-/// A file of the system. It claims nothing of what the file holds.
+/// A file of the system, locked for as long as the disk is there: no other `FileDisk` has the same
+/// file, in this process or in another one. The system takes the lock back where the process ends,
+/// however it ends. Programs that take no lock aren't kept out. It claims nothing of what the file
+/// holds.
 #[derive(Drop)]
 pub struct FileDisk {
     file: File,
@@ -27,7 +30,7 @@ impl FileDisk {
         ensures { IfOk result (λ disk. failures_of disk ≡ 0) }
     {
         let file = OpenOptions::new().read(true).write(true).open(rt, path);
-        FileDisk::of(file)
+        FileDisk::of(file).map_err(|_| DiskFault)
     }
 
     /// A file for reading and writing, which is made empty where there is none.
@@ -39,16 +42,19 @@ impl FileDisk {
             .write(true)
             .create(true)
             .open(rt, path);
-        FileDisk::of(file)
+        FileDisk::of(file).map_err(|_| DiskFault)
     }
 
-    fn of(opened: io::Result<File>) -> Result<FileDisk, DiskFault>
+    /// Locks the file before anything of it is read. What is no regular file is refused.
+    fn of(opened: io::Result<File>) -> io::Result<FileDisk>
         ensures { IfOk result (λ disk. failures_of disk ≡ 0) }
     {
-        match opened {
-            Ok(file) => Ok(FileDisk { file, failures: 0 }),
-            Err(_) => Err(DiskFault),
+        let file = opened?;
+        if !file.metadata()?.is_file() {
+            return Err(io::Error::from(ErrorKind::InvalidInput));
         }
+        file.try_lock()?;
+        Ok(FileDisk { file, failures: 0 })
     }
 }
 
