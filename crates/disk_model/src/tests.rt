@@ -49,6 +49,19 @@ fn a_file_is_reopened_with_what_was_written(rt: HostRuntime) -> Result<(), Fail>
 }
 
 #[test]
+fn a_file_has_one_disk_at_a_time(rt: HostRuntime) -> Result<(), Fail> {
+    let mut first = FileDisk::open_or_make(&rt, "locked.bin")?;
+    assert!(rt; FileDisk::open(&rt, "locked.bin").is_err());
+    assert!(rt; FileDisk::open_or_make(&rt, "locked.bin").is_err());
+    first.write_at(0, &WRITTEN)?;
+    assert_eq!(rt; first.len()?, 7);
+    drop(first);
+    let mut second = FileDisk::open(&rt, "locked.bin")?;
+    assert_eq!(rt; second.len()?, 7);
+    Ok(())
+}
+
+#[test]
 fn images_after_each_call(rt: HostRuntime) -> Result<(), Fail> {
     let mut disk = MemDisk::from_bytes(rt.alloc(), vec![in rt.alloc(); 1, 2, 3, 4]?);
     disk.write_at(1, &[9])?;
