@@ -1,10 +1,11 @@
 -- How far serving has come.
 use Rattle.std.proofs.lemmas.Bool.{false≢true}
-use Rattle.std.proofs.Common.{◌≡◌, ℕ, Bool, ◌==◌, false, eqb, ◌<◌, ◌≤◌, ◌+◌, ◌-◌, ◌^◌, List, [], ◌∷◌, ◌++◌, length, length-append, append-nil, append_assoc, take, drop, get_or, take-append-drop, min, Option, Some, None, IfSome, refl, sym, ap, subst, ◌∙◌, arith, Result, Ok, Err}
+use Rattle.std.proofs.Common.{◌≡◌, ℕ, Bool, ◌==◌, false, eqb, cond, ◌*◌, ◌<◌, ◌≤◌, ◌+◌, ◌-◌, ◌^◌, List, [], ◌∷◌, ◌++◌, length, length-append, append-nil, append_assoc, take, drop, get_or, take-append-drop, min, Option, Some, None, IfSome, refl, sym, ap, subst, ◌∙◌, arith, Result, Ok, Err}
 use Rattle.std.specs.Io.KnownBytes.{Appends, Consumes, IsAtEnd}
 use Rattle.std.proofs.KnownBytes.{Appends-nil, Appends-trans, Consumes-nil, Consumes-trans}
-use Rattle.std.proofs.lemmas.List.{map-append, take_more, take_all, get_or_at, take_at}
-use Rattle.std.proofs.lemmas.List.Sums.{count_by_more_no, count_by_more_yes}
+use Rattle.std.proofs.lemmas.List.{length-take, map-append, take_more, take_all, get_or_at, take_at}
+use Rattle.std.proofs.lemmas.List.Sums.{count_by_more_no, count_by_more_yes, sum_by-append, sum_by-cons}
+use Rattle.std.proofs.lemmas.List.Elements.{All-head, All-tail}
 use Rattle.std.proofs.lemmas.Grind.{flat_map-append}
 use Rattle.bstr.specs.Text.{no_cr}
 use Rattle.disk_model.specs.Disk.{Moments}
@@ -23,8 +24,9 @@ use Rattle.line_server.specs.Turns.{Turn, Run, IsTurn, lines_asked, replies}
 use Rattle.line_server.specs.Streams.{ends_in, AppendsSome}
 use Rattle.line_server.specs.Serving.{IsServed, AreLines, IsRead, IsWritten, IsCount}
 use Rattle.line_server.specs.Steps.{kept, room}
-use Rattle.line_server.proofs.Alike.{turn_of, turn_alike}
-use Rattle.line_server.proofs.Cuts.{Cut, cut_none, cut_byte, cut_line, cut_end, cut_rest, cut_front, kept_more, kept_none, kept_some, kept_ended, kept_unended}
+use Rattle.line_server.specs.Feeding.{IsUnended, AreCut, IsFed}
+use Rattle.line_server.proofs.Alike.{turn_of, turn_alike, turn_now}
+use Rattle.line_server.proofs.Cuts.{cut_none, cut_part, cut_more, cut_byte, cut_line, cut_end, cut_rest, cut_front, kept_more, kept_none, kept_some, kept_ended, kept_unended}
 use Rattle.line_server.proofs.Imported.{run_imported}
 
 -- ---- how many lines end in what came
@@ -45,6 +47,17 @@ ends_feed seen =
     ∙ count_by_more_yes (λ x. eqb x 10) (seen ++ 10 ∷ []) (length seen) 0 (omega (arith, length-append seen (10 ∷ []))) (ap (λ (x : ℕ). eqb x 10) at)
     ∙ ap (λ (l : List ℕ). ends_in l + 1) (take_at seen (10 ∷ []) (length seen) refl)
 
+ends_both : (xs ys : List ℕ) → ends_in (xs ++ ys) ≡ ends_in xs + ends_in ys
+ends_both xs ys = sum_by-append (λ y. cond (eqb y 10) 1 0) xs ys
+
+none_more : (n : ℕ) → 0 + n ≡ n
+none_more n = omega arith
+
+none_ends : (part : List ℕ) → IsUnended part → ends_in part ≡ 0
+none_ends [] free = refl
+none_ends (x ∷ xs) free =
+    sum_by-cons (λ y. cond (eqb y 10) 1 0) x xs ∙ ap (λ (b : Bool). cond b 1 0 + ends_in xs) (All-head (λ b. eqb b 10 ≡ false) x xs free) ∙ none_more (ends_in xs) ∙ none_ends xs (All-tail (λ b. eqb b 10 ≡ false) x xs free)
+
 -- ---- the turns so far
 
 module _ {D : Type 0} (honest_source : Type 0) (has : Releases) (honest : D → Type 0) (moments : D → Moments) (failures : D → ℕ) where
@@ -52,7 +65,7 @@ module _ {D : Type 0} (honest_source : Type 0) (has : Releases) (honest : D → 
   pub record Progress (old new : Option (List ℕ)) (before now : Desk D) (seen buffer : List ℕ) (served : ℕ) : Type 0 where
     pub turns : List Turn
     pub part : List ℕ
-    pub cut : Cut seen (lines_asked turns) part
+    pub cut : AreCut seen (lines_asked turns) part
     pub ends : length turns ≡ ends_in seen
     pub buffer_is : buffer ≡ kept part
     pub run : Run honest_source has honest moments failures before turns now
@@ -83,6 +96,19 @@ module _ {D : Type 0} (honest_source : Type 0) (has : Releases) (honest : D → 
     cut = cut_none;
     ends = refl;
     buffer_is = refl;
+    run = refl;
+    written = Appends-nil old;
+    count = refl;
+  }
+
+  -- a part of a line alone has come
+  pub begins : (old : Option (List ℕ)) (before : Desk D) (part buffer : List ℕ) → IsUnended part → buffer ≡ kept part → Progress old old before before part buffer 0
+  begins old before part buffer free is = record {
+    turns = [];
+    part = part;
+    cut = cut_part part free;
+    ends = sym (none_ends part free);
+    buffer_is = is;
     run = refl;
     written = Appends-nil old;
     count = refl;
@@ -144,13 +170,114 @@ module _ {D : Type 0} (honest_source : Type 0) (has : Releases) (honest : D → 
         record {
           turns = h.turns ++ t ∷ [];
           part = [];
-          cut = subst (λ (ls : List (List ℕ)). Cut (seen ++ 10 ∷ []) ls []) (asked_more h.turns t) (cut_line seen (lines_asked h.turns) h.part h.cut);
+          cut = subst (λ (ls : List (List ℕ)). AreCut (seen ++ 10 ∷ []) ls []) (asked_more h.turns t) (cut_line seen (lines_asked h.turns) h.part h.cut);
           ends = length-append h.turns (t ∷ []) ∙ ap (λ (n : ℕ). n + 1) h.ends ∙ sym (ends_feed seen);
           buffer_is = refl;
           run = run_more before now after h.turns t h.run (gives_ended h.part buffer h.buffer_is g);
           written = subst (λ (bs : List ℕ). Appends old new bs) (replies_more h.turns t) (Appends-trans old mid new (replies h.turns) (bytes_of (said outcome)) h.written w);
           count = count_more h.turns t served h.count;
         }
+
+  -- ---- pieces
+
+  module _ (old mid : Option (List ℕ)) (before now : Desk D) (part piece : List ℕ) (free : IsUnended part) where
+    -- as many lines ended as ended behind the part
+    ends_behind : (taken : List ℕ) (n : ℕ) → n ≡ ends_in (part ++ taken) → n ≡ ends_in taken
+    ends_behind taken n e = let b = ends_both part taken in let z = none_ends part free in omega (arith, e, b, z)
+
+    -- all of the piece was taken
+    pub fed : {E : Type 0} (buffer : List ℕ) (answered : ℕ) → Progress old mid before now (part ++ piece) buffer answered → IsFed {E = E} (Ok answered) honest_source has honest moments failures part piece buffer before now old mid
+    fed buffer answered h = record {
+      turns = h.turns;
+      run = h.run;
+      taken = piece;
+      rest = h.part;
+      front = ([], sym (append-nil piece));
+      all = refl;
+      lines = h.cut;
+      number = ends_behind piece (length h.turns) h.ends;
+      kept_is = h.buffer_is;
+      replied = h.written;
+      count = h.count;
+      imports = run_imported honest moments failures honest_source has before now h.turns h.run;
+    }
+
+    -- the reply to a line wasn't written whole
+    pub not_replied : {E : Type 0} (fault : E) (new : Option (List ℕ)) (after : Desk D) (taken more buffer later : List ℕ) (answered : ℕ) (outcome : Result Answer LineRefusal) (releases : List Release) (failed : Option Release)
+        → Progress old mid before now (part ++ taken) buffer answered → piece ≡ (taken ++ 10 ∷ []) ++ more
+        → Gives outcome releases failed now after (no_cr buffer) → AppendsSome mid new (bytes_of (said outcome))
+        → IsFed (Err fault) honest_source has honest moments failures part piece later before after old new
+    not_replied fault new after taken more buffer later answered outcome releases failed h is g w =
+        let t = turn outcome releases failed now after (no_cr h.part) in
+        let run = run_more before now after h.turns t h.run (gives_ended outcome releases failed now after h.part buffer h.buffer_is g) in
+        record {
+          turns = h.turns ++ t ∷ [];
+          run = run;
+          taken = taken ++ 10 ∷ [];
+          rest = [];
+          front = (more, is);
+          all = tt;
+          lines = subst (λ (l : List ℕ). AreCut l (lines_asked (h.turns ++ t ∷ [])) []) (append_assoc part taken (10 ∷ []))
+              (subst (λ (ls : List (List ℕ)). AreCut ((part ++ taken) ++ 10 ∷ []) ls []) (asked_more h.turns t) (cut_line (part ++ taken) (lines_asked h.turns) h.part h.cut));
+          number = ends_behind (taken ++ 10 ∷ []) (length (h.turns ++ t ∷ []))
+              (length-append h.turns (t ∷ []) ∙ ap (λ (n : ℕ). n + 1) h.ends ∙ sym (ends_feed (part ++ taken)) ∙ ap ends_in (append_assoc part taken (10 ∷ [])));
+          kept_is = tt;
+          replied = (h.turns, t, mid, refl, h.written, w);
+          count = tt;
+          imports = run_imported honest moments failures honest_source has before after (h.turns ++ t ∷ []) run;
+        }
+
+  -- what holds for the source as it is now holds for the source as it was
+  module _ (source : Type 0) (now : Releases) (same : honest_source → source × (now ≡ has)) where
+    run_now : (turns : List Turn) (old new : Desk D) → Run source now honest moments failures old turns new → Run honest_source has honest moments failures old turns new
+    run_now [] old new run = run
+    run_now (turn ∷ turns) old new run =
+        (run.0, turn_now turn.outcome turn.releases turn.failed old run.0 honest_source has honest moments failures source now turn.line same run.1, run_now turns run.0 new run.2)
+
+    pub fed_now : {E : Type 0} (result : Result ℕ E) (part piece buffer : List ℕ) (before after : Desk D) (old new : Option (List ℕ)) → IsFed result source now honest moments failures part piece buffer before after old new
+        → IsFed result honest_source has honest moments failures part piece buffer before after old new
+    fed_now result part piece buffer before after old new f = record {
+      turns = f.turns;
+      run = run_now f.turns before after f.run;
+      taken = f.taken;
+      rest = f.rest;
+      front = f.front;
+      all = f.all;
+      lines = f.lines;
+      number = f.number;
+      kept_is = f.kept_is;
+      replied = f.replied;
+      count = f.count;
+      imports = f.imports;
+    }
+
+  -- several lines more
+  run_both : (old mid new : Desk D) (turns more : List Turn) → Run honest_source has honest moments failures old turns mid → Run honest_source has honest moments failures mid more new
+      → Run honest_source has honest moments failures old (turns ++ more) new
+  run_both old mid new [] more e r = subst (λ (s : Desk D). Run honest_source has honest moments failures s more new) e r
+  run_both old mid new (turn ∷ turns) more r s = (r.0, r.1, run_both r.0 mid new turns more r.2 s)
+
+  asked_both : (turns more : List Turn) → lines_asked turns ++ lines_asked more ≡ lines_asked (turns ++ more)
+  asked_both turns more = sym (map-append (λ turn. turn.line) turns more)
+
+  replies_both : (turns more : List Turn) → replies turns ++ replies more ≡ replies (turns ++ more)
+  replies_both turns more = sym (flat_map-append (λ (t : Turn). bytes_of (said t.outcome)) turns more)
+
+  module _ (old mid : Option (List ℕ)) (before now : Desk D) (seen buffer : List ℕ) (served : ℕ) (h : Progress old mid before now seen buffer served) where
+    -- a piece was fed
+    pub piece_more : {E : Type 0} (new : Option (List ℕ)) (after : Desk D) (piece later : List ℕ) (n : ℕ) → IsFed {E = E} (Ok n) honest_source has honest moments failures h.part piece later now after mid new
+        → Progress old new before after (seen ++ piece) later (min (served + n) (2 ^ 64 - 1))
+    piece_more new after piece later n f = record {
+      turns = h.turns ++ f.turns;
+      part = f.rest;
+      cut = subst (λ (ls : List (List ℕ)). AreCut (seen ++ piece) ls f.rest) (asked_both h.turns f.turns)
+          (cut_more seen piece h.part f.rest (lines_asked h.turns) (lines_asked f.turns) h.cut (subst (λ (l : List ℕ). AreCut (h.part ++ l) (lines_asked f.turns) f.rest) f.all f.lines));
+      ends = length-append h.turns f.turns ∙ ap (λ (n : ℕ). n + length f.turns) h.ends ∙ ap (λ (n : ℕ). ends_in seen + n) (f.number ∙ ap ends_in f.all) ∙ sym (ends_both seen piece);
+      buffer_is = f.kept_is;
+      run = run_both before now after h.turns f.turns h.run f.run;
+      written = subst (λ (bs : List ℕ). Appends old new bs) (replies_both h.turns f.turns) (Appends-trans old mid new (replies h.turns) (replies f.turns) h.written f.replied);
+      count = let a = h.count in let b = f.count in omega (arith, a, b, length-append h.turns f.turns);
+    }
 
   -- ---- the ways out
 
@@ -163,37 +290,37 @@ module _ {D : Type 0} (honest_source : Type 0) (has : Releases) (honest : D → 
 
     out : (result : Result ℕ ServeFault) (new : Option (List ℕ)) (pins : List (Option ℕ)) (after : Stored D) (turns : List Turn)
         → Run honest_source has honest moments failures start turns (desk pins after) → IfSome input (AreLines result (lines_asked turns))
-        → (came : List ℕ) → Consumes input rest came → IsRead result most came rest (length turns) → IsWritten result old new turns → IsCount result (length turns)
+        → (came : List ℕ) → Consumes input rest came → length came ≤ most * 4096 → IsRead result most came rest (length turns) → IsWritten result old new turns → IsCount result (length turns)
         → Out result new after
-    out result new pins after turns run lines came consumed read written count = record {
+    out result new pins after turns run lines came consumed few read written count = record {
       turns = turns;
       pins = pins;
       run = run;
       lines = lines;
-      read = (came, consumed, read);
+      read = (came, consumed, read, few);
       written = written;
       count = count;
       imports = run_imported honest moments failures honest_source has start (desk pins after) turns run;
     }
 
-    module _ (mid : Option (List ℕ)) (pins : List (Option ℕ)) (now : Stored D) (seen buffer : List ℕ) (served : ℕ) (h : Progress old mid start (desk pins now) seen buffer served) (c : Consumes input rest seen) where
+    module _ (mid : Option (List ℕ)) (pins : List (Option ℕ)) (now : Stored D) (seen buffer : List ℕ) (served : ℕ) (h : Progress old mid start (desk pins now) seen buffer served) (c : Consumes input rest seen) (few : length seen ≤ most * 4096) where
       fronts : (fault : ServeFault) → IfSome input (AreLines (Err fault) (lines_asked h.turns))
       fronts fault = first_lines input rest seen h.part (lines_asked h.turns) fault c (λ more. cut_front seen (lines_asked h.turns) h.part more h.cut)
 
       -- a read failed
       pub unread : Out (Err faults.Read) mid now
-      unread = out (Err faults.Read) mid pins now h.turns h.run (fronts faults.Read) seen c h.ends h.written tt
+      unread = out (Err faults.Read) mid pins now h.turns h.run (fronts faults.Read) seen c few h.ends h.written tt
 
       -- there were too many reads
       pub stopped : most ≤ length seen → Out (Err faults.Reads) mid now
-      stopped le = out (Err faults.Reads) mid pins now h.turns h.run (fronts faults.Reads) seen c (h.ends, le) h.written tt
+      stopped le = out (Err faults.Reads) mid pins now h.turns h.run (fronts faults.Reads) seen c few (h.ends, le) h.written tt
 
       module _ (end : IsAtEnd rest) where
         -- the input ended after a line's end
         pub ended : length buffer ≡ 0 → Out (Ok served) mid now
         ended none =
             let empty : h.part ≡ [] = kept_none h.part (ap length (sym h.buffer_is) ∙ none) in
-            out (Ok served) mid pins now h.turns h.run (all_lines input rest seen (lines_asked h.turns) served c end (cut_end seen (lines_asked h.turns) h.part h.cut empty)) seen c end h.written h.count
+            out (Ok served) mid pins now h.turns h.run (all_lines input rest seen (lines_asked h.turns) served c end (cut_end seen (lines_asked h.turns) h.part h.cut empty)) seen c few end h.written h.count
 
         -- it ended within a line, which was answered so
         module _ (outcome : Result Answer LineRefusal) (taken : List Release) (failed : Option Release) (new : Option (List ℕ)) (later : List (Option ℕ)) (after : Stored D) (some : 0 < length buffer)
@@ -211,41 +338,65 @@ module _ {D : Type 0} (honest_source : Type 0) (has : Releases) (honest : D → 
 
           pub ended_within : Appends mid new (bytes_of (said outcome)) → Out (Ok (min (served + 1) (2 ^ 64 - 1))) new after
           ended_within w =
-              out (Ok (min (served + 1) (2 ^ 64 - 1))) new later after (h.turns ++ last ∷ []) last_run last_lines seen c end
+              out (Ok (min (served + 1) (2 ^ 64 - 1))) new later after (h.turns ++ last ∷ []) last_run last_lines seen c few end
               (subst (λ (bs : List ℕ). Appends old new bs) (replies_more h.turns last) (Appends-trans old mid new (replies h.turns) (bytes_of (said outcome)) h.written w))
               (count_more h.turns last served h.count)
 
           pub unwritten_within : AppendsSome mid new (bytes_of (said outcome)) → Out (Err faults.Write) new after
           unwritten_within w =
-              out (Err faults.Write) new later after (h.turns ++ last ∷ []) last_run (all_are_first input (lines_asked (h.turns ++ last ∷ [])) faults.Write last_lines) seen c
+              out (Err faults.Write) new later after (h.turns ++ last ∷ []) last_run (all_are_first input (lines_asked (h.turns ++ last ∷ [])) faults.Write last_lines) seen c few
               tt
               (h.turns, last, mid, refl, h.written, w)
               tt
 
-    -- the reply to a line wasn't written whole, and more of the input had come
-    pub unwritten : (mid new : Option (List ℕ)) (pins later : List (Option ℕ)) (now after : Stored D) (seen buffer more : List ℕ) (served : ℕ) (outcome : Result Answer LineRefusal) (taken : List Release) (failed : Option Release)
-        → Progress old mid start (desk pins now) seen buffer served → Consumes input rest ((seen ++ 10 ∷ []) ++ more)
-        → Gives outcome taken failed (desk pins now) (desk later after) (no_cr buffer) → AppendsSome mid new (bytes_of (said outcome))
-        → Out (Err faults.Write) new after
-    unwritten mid new pins later now after seen buffer more served outcome taken failed h c g w =
-        let t = turn outcome taken failed (desk pins now) (desk later after) (no_cr h.part) in
-        let cut = subst (λ (ls : List (List ℕ)). Cut (seen ++ 10 ∷ []) ls []) (asked_more h.turns t) (cut_line seen (lines_asked h.turns) h.part h.cut) in
-        out (Err faults.Write) new later after (h.turns ++ t ∷ [])
-        (run_more start (desk pins now) (desk later after) h.turns t h.run (gives_ended outcome taken failed (desk pins now) (desk later after) h.part buffer h.buffer_is g))
-        (first_lines input rest ((seen ++ 10 ∷ []) ++ more) [] (lines_asked (h.turns ++ t ∷ [])) faults.Write c
-        (λ others. subst (λ (l : List ℕ). IsFront (lines_asked (h.turns ++ t ∷ [])) (lines_in l)) (sym (append_assoc (seen ++ 10 ∷ []) more others)) (cut_front (seen ++ 10 ∷ []) (lines_asked (h.turns ++ t ∷ [])) [] (more ++ others) cut)))
-        ((seen ++ 10 ∷ []) ++ more) c
-        tt
-        (h.turns, t, mid, refl, h.written, w)
+    -- the reply to a line of a piece wasn't written whole
+    pub unwritten : {E : Type 0} (fault : E) (mid new : Option (List ℕ)) (pins later : List (Option ℕ)) (now after : Stored D) (seen buffer piece left : List ℕ) (served : ℕ) (h : Progress old mid start (desk pins now) seen buffer served)
+        → IsFed (Err fault) honest_source has honest moments failures h.part piece left (desk pins now) (desk later after) mid new
+        → Consumes input rest (seen ++ piece) → length (seen ++ piece) ≤ most * 4096 → Out (Err faults.Write) new after
+    unwritten fault mid new pins later now after seen buffer piece left served h f c few =
+        let turns = h.turns ++ f.turns in
+        let cut = subst (λ (ls : List (List ℕ)). AreCut (seen ++ f.taken) ls f.rest) (asked_both h.turns f.turns)
+        (cut_more seen f.taken h.part f.rest (lines_asked h.turns) (lines_asked f.turns) h.cut f.lines) in
+        let whole : seen ++ piece ≡ (seen ++ f.taken) ++ f.front.0 = ap (λ (l : List ℕ). seen ++ l) f.front.1 ∙ sym (append_assoc seen f.taken f.front.0) in
+        let w = f.replied in
+        out (Err faults.Write) new later after turns
+        (run_both start (desk pins now) (desk later after) h.turns f.turns h.run f.run)
+        (first_lines input rest (seen ++ piece) f.rest (lines_asked turns) faults.Write c
+        (λ others. subst (λ (l : List ℕ). IsFront (lines_asked turns) (lines_in l)) (sym (ap (λ (l : List ℕ). l ++ others) whole ∙ append_assoc (seen ++ f.taken) f.front.0 others)) (cut_front (seen ++ f.taken) (lines_asked turns) f.rest (f.front.0 ++ others) cut)))
+        (seen ++ piece) c few
+        tt (
+          h.turns ++ w.0,
+          w.1,
+          w.2,
+          ap (λ (ts : List Turn). h.turns ++ ts) w.3 ∙ sym (append_assoc h.turns w.0 (w.1 ∷ [])),
+          subst (λ (bs : List ℕ). Appends old w.2 bs) (replies_both h.turns w.0) (Appends-trans old mid w.2 (replies h.turns) (replies w.0) h.written w.4),
+          w.5,
+        )
         tt
 
   -- no memory for the buffer
   pub not_started : (most : ℕ) (input old : Option (List ℕ)) (before : Stored D) → IsServed (Err faults.OutOfMemory) most honest_source has honest moments failures input input old old before before
   not_started most input old before =
       out most input input old before (Err faults.OutOfMemory) old unpinned before [] refl (first_lines input input [] [] [] faults.OutOfMemory (Consumes-nil input) (λ more. (lines_in more, refl)))
-      [] (Consumes-nil input) (refl, refl) (Appends-nil old) tt
+      [] (Consumes-nil input) (omega arith) (refl, refl) (Appends-nil old) tt
 
 -- ---- pieces
+
+-- how many bytes came of so many reads
+pub few_bytes : (n reads most : ℕ) → n ≤ reads * 4096 → reads ≤ most → n ≤ most * 4096
+few_bytes n reads most few le = omega (arith, few, le)
+
+pub few_before : (n reads most : ℕ) → n ≤ reads * 4096 → reads < most → n ≤ most * 4096
+few_before n reads most few lt = omega (arith, few, lt)
+
+pub few_after : (n reads most : ℕ) → n ≤ (reads + 1) * 4096 → reads < most → n ≤ most * 4096
+few_after n reads most few lt = omega (arith, few, lt)
+
+pub few_taken : (n : ℕ) (buf : List ℕ) → length buf ≡ 4096 → length (take n buf) ≤ 4096
+few_taken n buf long = omega (arith, long, length-take n buf)
+
+pub few_more : (seen came : List ℕ) (reads : ℕ) → length seen ≤ reads * 4096 → length came ≤ 4096 → length (seen ++ came) ≤ (reads + 1) * 4096
+few_more seen came reads few short = omega (arith, few, short, length-append seen came)
 
 -- a read of no byte, with room for some, is the end
 pub at_end : (input mid rest : Option (List ℕ)) (seen buf : List ℕ) (n : ℕ) → Consumes input mid seen → Consumes mid rest (take n buf) × (n ≡ 0 → 0 < length buf → IsAtEnd rest) → n ≡ 0 → 0 < length buf → Consumes input rest seen × IsAtEnd rest

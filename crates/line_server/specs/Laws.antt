@@ -128,7 +128,8 @@ AcknowledgedImportsAreOpened D honest moments failures =
 -- an import that was answered OK is the one that its turn imported
 abbrev pub OkIsImported : (D : Type 0) → (D → Type 0) → (D → Moments) → (D → ℕ) → Type 0
 OkIsImported D honest moments failures =
-    (has : Releases) (old new : Desk D) (turn : Turn) (session : ℕ) (name : List ℕ) (answer : Answer)
+    (has : Releases) (old new : Desk D) (turn : Turn) (session : ℕ) (name : List ℕ)
+    (answer : Answer)
     → honest old.store.disk → Asks turn.line session (Import name) → turn.outcome ≡ Ok answer
     → IsTurn ⊥ has honest moments failures old turn new
     → (release : Release) × (turn.releases ≡ release ∷ [])
@@ -203,7 +204,8 @@ RunKeepsPin D honest moments failures =
     → (slice_index_or new.pins session None ≡ Some pin)
     × AgreeUpTo pin new.store.history old.store.history
 
--- As long as it stays pinned, each query of it is answered by what stood at the pin in the beginning.
+-- As long as it stays pinned, each query of it is
+-- answered by what stood at the pin in the beginning.
 abbrev pub PinnedSeesItsImports : (D : Type 0) → (D → Type 0) → (D → Moments) → (D → ℕ) → Type 0
 PinnedSeesItsImports D honest moments failures =
     (has : Releases) (session pin : ℕ) (start : Desk D) (turns : List Turn) (turn : Turn)

@@ -92,7 +92,8 @@ IsUnacknowledged stage release = (failed_in stage.answered ≡ Some release)
 -- no release, or one such
 abbrev pub MayRemain : Stage → List Release → Type 0
 MayRemain stage releases =
-    (releases ≡ []) ⊎ ((release : Release) × (releases ≡ release ∷ []) × IsUnacknowledged stage release)
+    (releases ≡ [])
+    ⊎ ((release : Release) × (releases ≡ release ∷ []) × IsUnacknowledged stage release)
 
 -- the releases that are in the history after these stages, in order: of each
 -- stage all whose import was answered OK, and perhaps one more after them

@@ -1,5 +1,5 @@
 -- What serving lines does.
-use Rattle.std.specs.Prelude.{◌≡◌, ◌^◌, ◌-◌, ◌≤◌, ℕ, List, [], ◌∷◌, ◌++◌, length, min, Option, IfSome, Result, Ok, Err}
+use Rattle.std.specs.Prelude.{◌≡◌, ◌^◌, ◌*◌, ◌-◌, ◌≤◌, ℕ, List, [], ◌∷◌, ◌++◌, length, min, Option, IfSome, Result, Ok, Err}
 use Rattle.std.specs.Io.KnownBytes.{Appends, Consumes, IsAtEnd}
 use Rattle.disk_model.specs.Disk.{Moments}
 use Rattle.rf2_rows.specs.File.{lines_in}
@@ -51,8 +51,9 @@ pub record IsServed {D : Type 0} (result : Result ℕ ServeFault) (most : ℕ) (
   pub run : Run honest_source has honest moments failures (desk unpinned before) turns
       (desk pins after)
   pub lines : IfSome input (AreLines result (lines_asked turns))
+  -- no read is of more than 4,096 bytes
   pub read : (came : List ℕ) × Consumes input rest came
-      × IsRead result most came rest (length turns)
+      × IsRead result most came rest (length turns) × (length came ≤ most * 4096)
   pub written : IsWritten result old new turns
   pub count : IsCount result (length turns)
   -- a stop at any moment leaves the history from before with

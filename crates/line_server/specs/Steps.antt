@@ -1,4 +1,4 @@
--- Steps of serving. Only private functions cite these words.
+-- Steps of serving: what is kept of a line, and one line that is served.
 use Rattle.std.specs.Prelude.{ℕ, ◌+◌, List, take, Option, Result}
 use Rattle.disk_model.specs.Disk.{Moments}
 use Rattle.import_check.specs.declared.release.Release.{Release}
@@ -15,6 +15,7 @@ use Rattle.line_server.specs.Streams.{IsPut}
 unfoldable pub room : ℕ
 room = request_limit + 2
 
+-- the first bytes of a line, which tell it from every other line that isn't too long
 abbrev pub kept : List ℕ → List ℕ
 kept line = take room line
 

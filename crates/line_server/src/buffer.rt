@@ -39,7 +39,7 @@ impl LineBuffer {
     }
 
     /// Takes the next byte of the line, and passes over what is past the room.
-    pub fn push(&mut self, byte: u8)
+    pub(crate) fn push(&mut self, byte: u8)
         ensures { self.new ≡ kept (self.old ++ byte ∷ []) }
     {
         if self.bytes.len() < ROOM {
@@ -49,7 +49,8 @@ impl LineBuffer {
         }
     }
 
-    /// What came of the line.
+    /// What has come of the line: its first bytes, as many as tell the
+    /// longest line and a CR from a longer one.
     pub fn as_bytes(&self) -> &[u8]
         ensures { result.now ≡ self.now }
     {
@@ -57,7 +58,7 @@ impl LineBuffer {
     }
 
     /// The line, where LF ends it: one CR before that is no part of it.
-    pub fn ended(&self) -> &[u8]
+    pub(crate) fn ended(&self) -> &[u8]
         ensures { result.now ≡ no_cr self.now }
     {
         match self.bytes.as_slice() {
@@ -66,7 +67,7 @@ impl LineBuffer {
         }
     }
 
-    pub fn clear(&mut self)
+    pub(crate) fn clear(&mut self)
         ensures { self.new ≡ [] }
     {
         self.bytes.clear();

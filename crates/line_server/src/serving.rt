@@ -2,13 +2,10 @@
 
 ghost use Rattle.std.specs.Prelude.{◌≡◌, IsErrOf};
 ghost use Rattle.line_server.specs.declared.serving.ServeFault.TheVariants.{OutOfMemory};
-ghost use Rattle.line_server.specs.Pins.{AreWithin};
 ghost use Rattle.line_server.specs.Serving.{IsServed};
-ghost use Rattle.line_server.specs.Steps.{IsLineServed};
 
-use crate::answering::answer;
 use crate::buffer::LineBuffer;
-use crate::outgoing::WriteFault;
+use crate::feeding::{answer_line, feed};
 use crate::pins::Pins;
 use crate::source::Source;
 use disk_model::Disk;
@@ -34,31 +31,9 @@ pub enum ServeFault {
     Reads,
 }
 
-/// Answers a line, and writes the reply.
-fn answer_line<W: Write, S: Source, D: Disk>(
-    alloc: Global,
-    line: &[u8],
-    pins: &mut Pins,
-    source: &mut S,
-    store: &mut Store<D>,
-    writer: &mut W,
-) -> Result<(), WriteFault>
-    requires { AreWithin store.old.history.imports pins.old }
-    ensures pins { AreWithin store.new.history.imports pins.new }
-    ensures served { IsLineServed result
-        (S.is_honest source.old) (S.releases source.old) D.is_honest D.moments D.failures
-        line.now pins.old store.old pins.new store.new
-        (W.contents writer.old) (W.contents writer.new) }
-    ensures source { S.is_honest source.old → S.is_honest source.new }
-    ensures stays { S.is_honest source.old → S.releases source.new ≡ S.releases source.old }
-{
-    let reply = answer(alloc, line, pins, source, store);
-    reply.write_to(writer)
-}
-
 /// Answers the lines of the input in order, each before its reply is written, and answers their
 /// number. It makes at most `max_reads` reads, of up to 4,096 bytes each, and keeps up to 4,098
-/// bytes of a line that is coming in.
+/// bytes of a line that is coming in. What a read gave is fed (`feed`) before the next read.
 pub fn serve<R: Read, W: Write, S: Source, D: Disk>(
     alloc: Global,
     reader: &mut R,
@@ -98,18 +73,17 @@ pub fn serve<R: Read, W: Write, S: Source, D: Disk>(
                 Err(_) => Err(ServeFault::Write),
             };
         }
-        let came = &piece[..n];
-        for &byte in came {
-            if byte == b'\n' {
-                match answer_line(alloc, line.ended(), &mut pins, source, store, writer) {
-                    Ok(()) => {}
-                    Err(_) => return Err(ServeFault::Write),
-                }
-                line.clear();
-                served = served.saturating_add(1);
-            } else {
-                line.push(byte);
-            }
+        match feed(
+            alloc,
+            &piece[..n],
+            &mut line,
+            &mut pins,
+            source,
+            store,
+            writer,
+        ) {
+            Ok(answered) => served = served.saturating_add(answered),
+            Err(_) => return Err(ServeFault::Write),
         }
     }
     Err(ServeFault::Reads)

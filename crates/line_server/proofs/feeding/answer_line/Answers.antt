@@ -1,5 +1,5 @@
 use Rattle.line_server.proofs.Sent.{put_alike}
-use Rattle.line_server.proofs.serving.answer_line.Goals as goal
+use Rattle.line_server.proofs.feeding.answer_line.Goals as goal
 
 pub returns-clause-served : goal.returns-clause-served
 returns-clause-served g c =

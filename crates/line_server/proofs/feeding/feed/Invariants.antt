@@ -1,0 +1,16 @@
+use Rattle.std.proofs.Common.{◌≡◌, List, ℕ, ◌++◌, take}
+use Rattle.line_server.specs.Pins.{AreWithin}
+use Rattle.line_server.specs.Replies.{desk}
+use Rattle.line_server.specs.Steps.{kept}
+use Rattle.line_server.specs.Feeding.{IsUnended}
+use Rattle.line_server.proofs.Progressing.{Progress}
+use Rattle.line_server.proofs.feeding.feed.Given as goal
+
+-- whatever part of a line had come before, the bytes so far are in lines that were answered, or in what has come of the next
+abbrev pub invariant-loop-byte : goal.invariant-loop-byte
+invariant-loop-byte g l =
+    ((part : List ℕ) → IsUnended part → l.fn.line ≡ kept part
+    → Progress (g.S.Source.is_honest l.fn.source) (g.S.Source.releases l.fn.source) g.D.Disk.is_honest g.D.Disk.moments g.D.Disk.failures (g.W.Write.contents l.fn.writer) (g.W.Write.contents l.writer)
+    (desk l.fn.pins l.fn.store) (desk l.pins l.store) (part ++ take l.byte-index l.piece) l.line l.answered)
+    × AreWithin l.store.history.imports l.pins
+    × (g.S.Source.is_honest l.fn.source → g.S.Source.is_honest l.source × (g.S.Source.releases l.source ≡ g.S.Source.releases l.fn.source))

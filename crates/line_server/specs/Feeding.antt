@@ -1,0 +1,55 @@
+-- What taking a piece of the input does.
+use Rattle.std.specs.Prelude.{◌≡◌, ◌⊎◌, ◌==◌, ◌^◌, ◌-◌, false, ℕ, List, [], ◌∷◌, ◌++◌, length, min, All, Option, Result, Ok, Err, IfOk, OnOk}
+use Rattle.std.specs.Io.KnownBytes.{Appends}
+use Rattle.disk_model.specs.Disk.{Moments}
+use Rattle.rf2_rows.specs.File.{lines_in}
+use Rattle.line_server.specs.Sources.{Releases}
+use Rattle.line_server.specs.Said.{said, bytes_of}
+use Rattle.line_server.specs.Replies.{Desk}
+use Rattle.line_server.specs.Imports.{IsFront, Imports}
+use Rattle.line_server.specs.Turns.{Turn, Run, lines_asked, replies, imported, failed_in}
+use Rattle.line_server.specs.Streams.{ends_in, AppendsSome}
+use Rattle.line_server.specs.Steps.{kept}
+
+-- no line ends in the bytes
+abbrev pub IsUnended : List ℕ → Type 0
+IsUnended part = All (λ b. (b == 10) ≡ false) part
+
+-- the bytes are these lines, each with its end, and then what has come of the next one
+pub record AreCut (bytes : List ℕ) (lines : List (List ℕ)) (part : List ℕ) : Type 0 where
+  pub ended : List ℕ
+  pub whole : bytes ≡ ended ++ part
+  pub ends : (ended ≡ []) ⊎ ((front : List ℕ) × (ended ≡ front ++ 10 ∷ []))
+  pub lines_are : lines ≡ lines_in ended
+  pub free : IsUnended part
+
+-- Each reply was written; or the writer failed, and the
+-- last reply alone wasn't written, or in part.
+abbrev pub AreReplied : {T E : Type 0} → Result T E → Option (List ℕ) → Option (List ℕ) → List Turn
+    → Type 0
+AreReplied (Ok x) old new turns = Appends old new (replies turns)
+AreReplied (Err e) old new turns =
+    (done : List Turn) × (last : Turn) × (mid : Option (List ℕ)) × (turns ≡ done ++ last ∷ [])
+    × Appends old mid (replies done) × AppendsSome mid new (bytes_of (said last.outcome))
+
+-- A piece of the input came behind a part of a line. Each line that ended in the piece was
+-- answered, in order, and its reply was written; what has come of the next line is kept. After a
+-- fault of the writer that is so of the piece up to the line whose reply wasn't written.
+pub record IsFed {D E : Type 0} (result : Result ℕ E) (honest_source : Type 0) (has : Releases)
+    (honest : D → Type 0) (moments : D → Moments) (failures : D → ℕ) (part piece buffer : List ℕ)
+    (before after : Desk D) (old new : Option (List ℕ)) : Type 0 where
+  pub turns : List Turn
+  pub run : Run honest_source has honest moments failures before turns after
+  -- how far the piece was taken, and what has come of the next line there
+  pub taken : List ℕ
+  pub rest : List ℕ
+  pub front : IsFront taken piece
+  pub all : OnOk result (taken ≡ piece)
+  pub lines : AreCut (part ++ taken) (lines_asked turns) rest
+  pub number : length turns ≡ ends_in taken
+  pub kept_is : OnOk result (buffer ≡ kept rest)
+  pub replied : AreReplied result old new turns
+  pub count : IfOk result (λ n. n ≡ min (length turns) (2 ^ 64 - 1))
+  -- a stop at any moment leaves the history from before with
+  -- the first so many of the releases that the lines imported
+  pub imports : Imports honest moments before.store after.store (imported turns) (failed_in turns)

@@ -1,0 +1,78 @@
+//! Pieces of the input.
+
+ghost use Rattle.std.specs.Prelude.{◌≡◌, ℕ, List};
+ghost use Rattle.line_server.specs.Pins.{AreWithin};
+ghost use Rattle.line_server.specs.Replies.{desk};
+ghost use Rattle.line_server.specs.Steps.{kept, IsLineServed};
+ghost use Rattle.line_server.specs.Feeding.{IsUnended, IsFed};
+
+use crate::answering::answer;
+use crate::buffer::LineBuffer;
+use crate::outgoing::WriteFault;
+use crate::pins::Pins;
+use crate::source::Source;
+use disk_model::Disk;
+use history_store::Store;
+use std::alloc::Global;
+use std::io::Write;
+
+/// Answers a line, and writes the reply.
+pub(crate) fn answer_line<W: Write, S: Source, D: Disk>(
+    alloc: Global,
+    line: &[u8],
+    pins: &mut Pins,
+    source: &mut S,
+    store: &mut Store<D>,
+    writer: &mut W,
+) -> Result<(), WriteFault>
+    requires { AreWithin store.old.history.imports pins.old }
+    ensures pins { AreWithin store.new.history.imports pins.new }
+    ensures served { IsLineServed result
+        (S.is_honest source.old) (S.releases source.old) D.is_honest D.moments D.failures
+        line.now pins.old store.old pins.new store.new
+        (W.contents writer.old) (W.contents writer.new) }
+    ensures source { S.is_honest source.old → S.is_honest source.new }
+    ensures stays { S.is_honest source.old → S.releases source.new ≡ S.releases source.old }
+{
+    let reply = answer(alloc, line, pins, source, store);
+    reply.write_to(writer)
+}
+
+/// Takes a piece of the input. Before it returns, each line that ended in the piece is answered and
+/// its reply written, so that who waits for a reply before the next line has it. It answers the
+/// number of these lines. What has come of the next line waits in the buffer; where the input ends
+/// there, that is the last line.
+pub fn feed<W: Write, S: Source, D: Disk>(
+    alloc: Global,
+    piece: &[u8],
+    line: &mut LineBuffer,
+    pins: &mut Pins,
+    source: &mut S,
+    store: &mut Store<D>,
+    writer: &mut W,
+) -> Result<u64, WriteFault>
+    requires { AreWithin store.old.history.imports pins.old }
+    ensures pins { AreWithin store.new.history.imports pins.new }
+    // Whatever had come of a line, of which the buffer keeps the first bytes.
+    ensures fed { (part : List ℕ) → IsUnended part → line.old ≡ kept part → IsFed result
+        (S.is_honest source.old) (S.releases source.old) D.is_honest D.moments D.failures
+        part piece.now line.new (desk pins.old store.old) (desk pins.new store.new)
+        (W.contents writer.old) (W.contents writer.new) }
+    ensures source { S.is_honest source.old → S.is_honest source.new }
+    ensures stays { S.is_honest source.old → S.releases source.new ≡ S.releases source.old }
+{
+    let mut answered = 0u64;
+    for &byte in piece {
+        if byte == b'\n' {
+            match answer_line(alloc, line.ended(), pins, source, store, writer) {
+                Ok(()) => {}
+                Err(fault) => return Err(fault),
+            }
+            line.clear();
+            answered = answered.saturating_add(1);
+        } else {
+            line.push(byte);
+        }
+    }
+    Ok(answered)
+}
