@@ -6,16 +6,20 @@ check_guide.py PROGRAM [GUIDE]
 PROGRAM is the built program sctd. Each line that begins with `$ ` in a ```console block of the
 guide, with the lines after it that begin with `> `, is run by bash in one fresh folder, in order;
 what it writes to standard output and standard error has to be the lines up to the next command,
-byte for byte. Standard library alone.
+byte for byte, and it has to end within a minute. Standard library alone.
 """
 
 import difflib
 import os
+import signal
 import subprocess
 import sys
 import tempfile
 
 ROOT = os.path.dirname(os.path.dirname(os.path.abspath(__file__)))
+
+# How long a command may take.
+SECONDS = 60
 
 
 class Example:
@@ -48,6 +52,20 @@ def examples(text):
     return found
 
 
+def run(command, folder, around):
+    """What a command prints, and with it all that it started, and whether it ended in time."""
+    made = subprocess.Popen(
+        ["bash", "-c", command], cwd=folder, env=around, start_new_session=True,
+        stdin=subprocess.DEVNULL, stdout=subprocess.PIPE, stderr=subprocess.STDOUT,
+    )
+    try:
+        printed, ended = made.communicate(timeout=SECONDS)[0], True
+    except subprocess.TimeoutExpired:
+        os.killpg(made.pid, signal.SIGKILL)
+        printed, ended = made.communicate()[0], False
+    return printed.decode("utf-8", "backslashreplace"), ended
+
+
 def main(words):
     if len(words) not in (1, 2):
         print(__doc__.strip(), file=sys.stderr)
@@ -63,11 +81,9 @@ def main(words):
         os.symlink(os.path.abspath(words[0]), os.path.join(tools, "sctd"))
         around = dict(os.environ, SCTD=ROOT, PATH=tools + os.pathsep + os.environ["PATH"], LC_ALL="C")
         for example in wanted:
-            run = subprocess.run(
-                ["bash", "-c", example.command], cwd=work, env=around,
-                stdin=subprocess.DEVNULL, stdout=subprocess.PIPE, stderr=subprocess.STDOUT, timeout=60,
-            )
-            printed = run.stdout.decode("utf-8", "backslashreplace")
+            printed, ended = run(example.command, work, around)
+            if not ended:
+                printed += "(it had not ended after %d seconds)\n" % SECONDS
             if printed != example.wanted:
                 wrong += 1
                 print("line %d: %s" % (example.number, example.command.split("\n")[0]))

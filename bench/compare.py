@@ -5,9 +5,16 @@ compare.py PROGRAM FOLDER [ROWS ..]
 
 PROGRAM is the built program sctd. For each number of rows (235000, if none is given) the releases
 of make_release.py are made in FOLDER, if they aren't there, and imported by both sides into a file
-each. Then questions drawn from a fixed seed are asked, half of them from a session that is pinned
-to the first import. Both sides write the lines of a session; they are compared byte by byte. The
-times of sctd's questions are less those of an opening. Standard library alone.
+each: the replies to the imports have to count the rows as this script does. Then questions drawn
+from a fixed seed are asked, half of them from a session that is pinned to the first import. Both
+sides write the lines of a session; they are compared byte by byte.
+
+The questions of `sctd` go to one process, which has answered a STATUS before the first is timed; its
+processor's time is what the system says of that process (in hundredths of a second). SQLite's side
+runs in Python, in this process: the time in which it reads the files of a release stands apart, and
+the time of a question holds what Python does to write its lines. Its indexes are made after the rows of
+the first import, and it may keep as many bytes of pages in memory as `sctd` holds. The status is 1
+where an answer is another one. Standard library alone.
 """
 
 import os
@@ -15,6 +22,7 @@ import random
 import sqlite3
 import subprocess
 import sys
+import threading
 import time
 
 HERE = os.path.dirname(os.path.abspath(__file__))
@@ -27,20 +35,25 @@ COLUMNS = {
     "D": ("id", "time", "active", "module", "concept", "language", "type", "term", "significance"),
     "R": ("id", "time", "active", "module", "source", "destination", "part", "type", "characteristic", "modifier"),
     "A": ("id", "time", "active", "module", "refset", "referenced", "target"),
+    "V": ("id", "time", "active", "module", "source", "value", "part", "type", "characteristic", "modifier"),
 }
-TABLES = {"C": "concept", "D": "description", "R": "relationship", "A": "association"}
-TEXTS = ("language", "term")
+TABLES = {"C": "concept", "D": "description", "R": "relationship", "A": "association", "V": "concrete"}
+TEXTS = ("language", "term", "value")
 BEGINNINGS = {
     "C": "sct2_Concept_",
     "D": "sct2_Description_",
     "R": "sct2_Relationship_",
     "A": "der2_cRefset_Association",
+    "V": "sct2_RelationshipConcreteValues_",
 }
 INDEXES = (
     "CREATE INDEX terms ON description (folded) WHERE active = 1",
     "CREATE INDEX children ON relationship (destination, source) WHERE active = 1 AND type = %d" % IS_A,
     "CREATE INDEX replacements ON association (referenced) WHERE active = 1",
 )
+
+
+IMPORTS = (("import the Full release", "full"), ("import a Delta of 100 rows", "delta"))
 
 
 class Clock:
@@ -79,8 +92,6 @@ class Sqlite:
             self.base.execute(
                 "CREATE TABLE %s (%s, PRIMARY KEY (id, time)) WITHOUT ROWID" % (table, ", ".join(columns))
             )
-        for index in INDEXES:
-            self.base.execute(index)
         self.queries = {}
         for kind, table in TABLES.items():
             shown = ", ".join(COLUMNS[kind])
@@ -110,11 +121,15 @@ class Sqlite:
                     " AND x.destination = :id" % IS_A + newest + " ORDER BY x.source"
                 )
 
-    def take(self, folder):
-        """Imports a release in one transaction. Its rows are trusted to be new."""
+    def keep(self, size):
+        """Lets it keep so many bytes of pages in memory."""
+        self.base.execute("PRAGMA cache_size = -%d" % (size // 1024))
+
+    def take(self, release):
+        """Imports the rows of a release in one transaction. They are trusted to be new."""
         self.imports += 1
         self.base.execute("BEGIN")
-        for kind, rows in release_rows(folder).items():
+        for kind, rows in release.items():
             width = len(COLUMNS[kind]) + 1 + (kind == "D")
             if kind == "D":
                 rows = ([*row, self.imports, row[7].casefold()] for row in rows)
@@ -122,6 +137,8 @@ class Sqlite:
                 rows = ([*row, self.imports] for row in rows)
             marks = ", ".join("?" * width)
             self.base.executemany("INSERT INTO %s VALUES (%s)" % (TABLES[kind], marks), rows)
+        for index in INDEXES if self.imports == 1 else ():
+            self.base.execute(index)
         self.base.execute("COMMIT")
 
     def asked(self, line, pin):
@@ -196,8 +213,59 @@ class Sctd:
     def take(self, name):
         return self.run("import", ["--releases", self.place, name])
 
+
+class Served:
+    """The program, serving a store. It is made once its opening has ended."""
+
+    def __init__(self, sctd):
+        start = time.monotonic()
+        self.child = subprocess.Popen(
+            [sctd.program, "serve", "--store", sctd.path, "--releases", sctd.place],
+            stdin=subprocess.PIPE, stdout=subprocess.PIPE,
+        )
+        self.replies(["0 STATUS"])
+        self.opening = (time.monotonic() - start, self.used())
+
+    def used(self):
+        """Its seconds of the processor."""
+        with open("/proc/%d/stat" % self.child.pid, encoding="ascii") as file:
+            words = file.read().rpartition(")")[2].split()
+        return (int(words[11]) + int(words[12])) / os.sysconf("SC_CLK_TCK")
+
+    def held(self):
+        """How many bytes it holds in memory."""
+        with open("/proc/%d/statm" % self.child.pid, encoding="ascii") as file:
+            return int(file.read().split()[1]) * os.sysconf("SC_PAGE_SIZE")
+
     def replies(self, lines):
-        return self.run("serve", ["--releases", self.place], "".join(line + "\n" for line in lines).encode())
+        """What it writes for lines. They are sent beside the reading, since it answers at once."""
+        text = "".join(line + "\n" for line in lines).encode()
+        sender = threading.Thread(target=self.send, args=(text,))
+        sender.start()
+        left, told = len(lines), []
+        while left:
+            piece = self.child.stdout.readline()
+            if not piece:
+                raise SystemExit("sctd ended with %d replies to come" % left)
+            told.append(piece)
+            left -= not piece.startswith((b"ROW ", b"ID "))
+        sender.join()
+        return b"".join(told)
+
+    def send(self, text):
+        self.child.stdin.write(text)
+        self.child.stdin.flush()
+
+    def timed(self, lines):
+        """The same, with its wall and processor seconds."""
+        start, used = time.monotonic(), self.used()
+        told = self.replies(lines)
+        return told, (time.monotonic() - start, self.used() - used)
+
+    def end(self):
+        self.child.stdin.close()
+        if self.child.wait() != 0:
+            raise SystemExit("sctd serve: status %d" % self.child.returncode)
 
 
 class Questions:
@@ -213,11 +281,11 @@ class Questions:
         return self.chance.choice(self.rows[kind])[place]
 
     def lookup(self):
-        kind = self.chance.choice("CDRA")
+        kind = self.chance.choice("CDVRA")
         return "GET %s %s %s" % (kind, self.column(kind, 0), self.date())
 
     def history(self):
-        kind = self.chance.choice("CDRA")
+        kind = self.chance.choice("CDVRA")
         return "HISTORY %s %s" % (kind, self.column(kind, 0))
 
     def page(self):
@@ -254,31 +322,47 @@ def compare(program, folder, rows):
     if os.path.exists(base):
         os.remove(base)
     ours, theirs = Sctd(program, place), Sqlite(base)
-    alike = True
-
-    def show(title, our_times, their_times, same):
-        shown = tuple(our_times) + tuple(their_times)
-        print("| %d | %s | %.2f | %.2f | %.2f | %.2f | %s |" % ((rows, title) + shown + (same,)), flush=True)
-
-    for title, name in (("import the Full release", "full"), ("import a Delta of 100 rows", "delta")):
+    table = Table(rows)
+    releases = {}
+    for number, (title, name) in enumerate(IMPORTS, 1):
+        clock = Clock()
+        releases[name] = release_rows(os.path.join(place, name))
+        reading = clock.read()
         told, times = ours.take(name)
         clock = Clock()
-        theirs.take(os.path.join(place, name))
-        show(title, times, clock.read(), told.decode().strip())
-    _, opening = ours.replies([])
-    show("open", opening, (0, 0), "")
-    drawn = Questions(release_rows(os.path.join(place, "full")), random.Random(11)).drawn()
-    for title, lines in drawn:
+        theirs.take(releases[name])
+        wanted = b"OK %d %d 0\n" % (number, sum(map(len, releases[name].values())))
+        table.show(title, times, clock.read(), told, wanted)
+        table.show("read its files in Python", None, reading, b"", b"")
+    served = Served(ours)
+    table.show("open", served.opening, None, b"", b"")
+    theirs.keep(served.held())
+    for title, lines in Questions(releases["full"], random.Random(11)).drawn():
         lines = ["1 PIN 1"] + lines
-        told, times = ours.replies(lines)
+        told, times = served.timed(lines)
         clock = Clock()
         wanted = theirs.replies(lines)
-        same = told == wanted
-        alike = alike and same
-        less = [used - spent for used, spent in zip(times, opening)]
-        show(title, less, clock.read(), "%d lines, %s" % (told.count(b"\n"), "the same" if same else "NOT the same"))
+        table.show(title, times, clock.read(), told, wanted)
     print("bytes of the files: sctd %d, SQLite %d" % (os.path.getsize(ours.path), os.path.getsize(base)))
-    return alike
+    print("bytes in memory: sctd %d, and as many of pages for SQLite" % served.held())
+    served.end()
+    return table.alike
+
+
+class Table:
+    """The lines that are printed, and whether all answers were alike."""
+
+    def __init__(self, rows):
+        self.rows, self.alike = rows, True
+
+    def show(self, title, our_times, their_times, told, wanted):
+        """Prints a line: times of both, or none of one side that does no such thing."""
+        shown = ["%.2f" % part for part in our_times] if our_times else ["", ""]
+        shown += ["%.2f" % part for part in their_times] if their_times else ["", ""]
+        self.alike = self.alike and told == wanted
+        same = "the same" if told == wanted else "NOT the same"
+        answers = "%d lines, %s" % (told.count(b"\n"), same) if wanted or told else ""
+        print("| %d | %s | %s | %s |" % (self.rows, title, " | ".join(shown), answers), flush=True)
 
 
 def main(words):

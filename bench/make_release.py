@@ -3,7 +3,7 @@
 
 make_release.py FOLDER ROWS [SEED]
 
-FOLDER/full holds a Full release of about ROWS rows of all four kinds, several versions of many of
+FOLDER/full holds a Full release of about ROWS rows of all five kinds, several versions of many of
 them, and FOLDER/delta a Delta of 100 rows: new versions and new components. The same ROWS and SEED
 give the same bytes. Seeds from 1 to 7 give releases that share no component. Standard library alone.
 """
@@ -32,15 +32,19 @@ HEADERS = {
     "R": "id effectiveTime active moduleId sourceId destinationId relationshipGroup typeId"
     " characteristicTypeId modifierId",
     "A": "id effectiveTime active moduleId refsetId referencedComponentId targetComponentId",
+    "V": "id effectiveTime active moduleId sourceId value relationshipGroup typeId"
+    " characteristicTypeId modifierId",
 }
 NAMES = {
     "C": "Terminology/sct2_Concept_{}_INT_{}.txt",
     "D": "Terminology/sct2_Description_{}-en_INT_{}.txt",
     "R": "Terminology/sct2_Relationship_{}_INT_{}.txt",
     "A": "Refset/Content/der2_cRefset_Association{}_INT_{}.txt",
+    "V": "Terminology/sct2_RelationshipConcreteValues_{}_INT_{}.txt",
 }
+KINDS = "CDRAV"
 # How many rows of a hundred are of each kind, roughly as in an international edition.
-SHARES = {"C": 15, "D": 45, "R": 35, "A": 5}
+SHARES = {"C": 15, "D": 45, "R": 34, "A": 5, "V": 1}
 DATES = ["%d%s31" % (year, month) for year in range(2010, 2026) for month in ("01", "07")]
 WORDS = (
     "acute chronic left right structure finding disorder procedure entire fracture of bone heart "
@@ -81,15 +85,16 @@ class Edition:
         self.random = random.Random(seed)
         self.shift = (seed - 1) % 7
         self.concepts = [ROOT]
-        self.made = {"C": [], "D": [], "R": [], "A": []}
-        self.items = {"C": 1000, "D": 1000, "R": 1000}
+        self.made = {kind: [] for kind in KINDS}
+        # Relationships with and without values share one row of numbers, as they share a partition.
+        self.items = {"00": 1000, "01": 1000, "02": 1000}
 
     def name(self, kind):
         if kind == "A":
             return str(uuid.UUID(int=self.random.getrandbits(128)))
-        partition = {"C": "00", "D": "01", "R": "02"}[kind]
-        self.items[kind] += 1
-        return sctid(self.items[kind] * 7 + self.shift, partition)
+        partition = {"C": "00", "D": "01", "R": "02", "V": "02"}[kind]
+        self.items[partition] += 1
+        return sctid(self.items[partition] * 7 + self.shift, partition)
 
     def body(self, kind):
         chance = self.random
@@ -105,6 +110,10 @@ class Edition:
             place = int(len(self.concepts) * chance.random() ** 3)
             what = IS_A if chance.random() < 0.6 else chance.choice(self.concepts)
             return [concept, self.concepts[place], chance.choice([0, 0, 1, 2]), what, INFERRED, MODIFIER]
+        if kind == "V":
+            value = "#%s" % chance.choice(["5", "0.5", "12.5", "250", "1000"])
+            what = chance.choice(self.concepts)
+            return [concept, value, chance.choice([0, 1, 2]), what, INFERRED, MODIFIER]
         return [chance.choice([SAME_AS, REPLACED_BY]), concept, chance.choice(self.concepts)]
 
     def component(self, kind):
@@ -121,7 +130,7 @@ def line(made, date, active, body=None):
 
 
 def write(folder, release, date, rows):
-    for kind in "CDRA":
+    for kind in KINDS:
         path = os.path.join(folder, NAMES[kind].format(release, date))
         os.makedirs(os.path.dirname(path), exist_ok=True)
         with open(path, "w", encoding="utf-8", newline="") as file:
@@ -132,9 +141,9 @@ def write(folder, release, date, rows):
 
 def full(edition, count):
     """Rows of a Full release: each component's versions, one after the other."""
-    rows = {kind: [] for kind in "CDRA"}
-    left = {kind: count * SHARES[kind] // 100 for kind in "CDRA"}
-    for kind in "CDRA":
+    rows = {kind: [] for kind in KINDS}
+    left = {kind: count * SHARES[kind] // 100 for kind in KINDS}
+    for kind in KINDS:
         while left[kind] > 0:
             made = edition.component(kind)
             versions = min(left[kind], edition.random.choice([1, 1, 1, 2, 2, 3]))
@@ -150,17 +159,21 @@ def full(edition, count):
 
 
 def delta(edition):
-    """A hundred rows: new versions of known components, and new components."""
-    rows = {kind: [] for kind in "CDRA"}
+    """A hundred rows: new versions of known components, and new components, each of another one."""
+    rows = {kind: [] for kind in KINDS}
+    taken = set()
     for number in range(100):
-        kind = "CCDDDDDRRRRA"[number % 12]
+        kind = "CCDDDDDRRRRAV"[number % 13]
         if number % 2:
             made = edition.component(kind)
             rows[kind].append(line(made, "20260131", 1))
         else:
             made = edition.made[kind][number * 7919 % len(edition.made[kind])]
+            if made[0] in taken:
+                made = edition.component(kind)
             rows[kind].append(line(made, "20260131", number // 2 % 2))
-    return {kind: sorted(set(rows[kind]), key=rows[kind].index) for kind in "CDRA"}
+        taken.add(made[0])
+    return rows
 
 
 def main(words):
@@ -172,8 +185,8 @@ def main(words):
     write(os.path.join(words[0], "full"), "Full", "20250731", rows)
     new = delta(edition)
     write(os.path.join(words[0], "delta"), "Delta", "20260131", new)
-    counts = " ".join("%s %d" % (kind, len(rows[kind])) for kind in "CDRA")
-    print("full: %s; delta: %d rows" % (counts, sum(len(new[kind]) for kind in "CDRA")))
+    counts = " ".join("%s %d" % (kind, len(rows[kind])) for kind in KINDS)
+    print("full: %s; delta: %d rows" % (counts, sum(len(new[kind]) for kind in KINDS)))
     return 0
 
 

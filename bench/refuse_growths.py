@@ -4,11 +4,14 @@
 refuse_growths.py PROGRAM [LINES [SEED]]
 
 A store is made, and a session of LINES random lines (40 where none are given), as those of soak.py,
-is served again and again on a copy of it: in the Nth run the Nth call of malloc, calloc or realloc
-gets no memory, for N = 1, 2, .. until a run makes fewer calls. What has to hold of each run: the
-program refuses to start with `ERR 1 OutOfMemory`, or each line is answered as the model of soak.py
-answers it, but for lines that say `ERR 1 OutOfMemory` and change nothing, of which there is at most
-one; and afterwards the store is opened with what the model then holds.
+is served again and again on a copy of it; behind them it asks for the terms of each first letter,
+the children and the replacements of each component that has any, and some histories, so that
+what a refusal made the program forget shows. In the Nth run the Nth call of malloc, calloc or
+realloc gets no memory, for N = 1, 2, .. until a run makes fewer calls. What has to hold of each
+run: the program refuses to start with `ERR 1 OutOfMemory`, or each line is answered as the model of
+soak.py answers it, but for lines that say `ERR 1 OutOfMemory` and change nothing, of which there is
+at most one; and afterwards the store is opened with what the model then holds. Some runs have to be
+refused at their start, and some in a line: else nothing was tried, and the status is 1.
 
 It needs Linux, glibc and a C compiler (`cc`), builds a library of a few lines for LD_PRELOAD, and
 ends by itself. Standard library alone.
@@ -72,7 +75,29 @@ class Runs:
         for _ in range(count):
             self.lines.append(self.made.line())
             self.made.model.reply(self.lines[-1])
+        self.lines += self.questions()
         self.refused_lines = self.refused_starts = 0
+
+    def questions(self):
+        """What is asked behind the random lines, by a session that they don't pin."""
+        model, day = self.made.model, soak.LAST_DATE
+        shown = {kind: self.versions(kind) for kind in "CDVRA"}
+        letters = sorted({columns[7][0].casefold() for columns in shown["D"]})
+        parents = sorted({columns[5] for columns in shown["R"]})
+        replaced = sorted({columns[5] for columns in shown["A"]})
+        lines = ["10 TERMS %s 1000 %s" % (day, letter) for letter in letters]
+        lines += ["10 CHILDREN %s %s" % (parent, day) for parent in parents]
+        lines += ["10 REPLACED %s %s" % (component, day) for component in replaced]
+        for kind in "CDVRA":
+            lines += ["10 HISTORY %s %s" % (kind, name) for name in self.made.names(kind)[:20]]
+        for line in lines:
+            model.reply(line)
+        return lines
+
+    def versions(self, kind):
+        """The columns of each version of each component."""
+        of = self.made.model.kinds[kind].of
+        return [columns for dates in of.values() for _, columns in dates.values()]
 
     def words(self, store):
         folder = self.made.releases.folder
@@ -129,7 +154,7 @@ class Runs:
     def look(self, store, model):
         """Opens the store once more, and compares what it holds."""
         model.state, model.pins = model.state.reopened(), {}
-        lines = ["0 STATUS"] + ["0 PAGE %s 99991231 - 1000" % kind for kind in "CDRA"]
+        lines = ["0 STATUS"] + ["0 PAGE %s 99991231 - 1000" % kind for kind in "CDVRA"]
         done, _ = self.serve(store, lines, 0)
         said = [model.reply(line) for line in lines]
         if list(replies_in(done.stdout)) != said:
@@ -158,6 +183,9 @@ def main(words):
     print("lines refused %d" % runs.refused_lines)
     unseen = number - 1 - runs.refused_starts - runs.refused_lines
     print("refusals that show in no reply %d" % unseen)
+    if not runs.refused_starts or not runs.refused_lines:
+        print("NOTHING TRIED: no run was refused at its start, or none in a line")
+        return 1
     return 0
 
 

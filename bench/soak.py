@@ -5,20 +5,25 @@ soak.py PROGRAM [SECONDS [SEED [FOLDER]]]
 
 PROGRAM is the built `sctd` (crates/sctd/out/sctd). It serves a store in FOLDER (a fresh folder
 below the system's temporary one, where none is given) for SECONDS (60 where none are given).
-Sessions import random releases, some of them faulty or contradicting, ask at random dates and
-pins, merge in steps and trim, in batches of lines that are sent at once. Some batches, and some
-openings, are cut short by `kill -9` at a random moment; then the program serves the same file
-again. A model in this script answers each line too. What has to hold:
+Runs with an odd SEED begin with a store of version 1 of the layout. Sessions import random
+releases, some of them faulty or contradicting, ask at random dates and pins, merge in steps and
+trim, in batches of lines that are sent at once. From time to time a second `sctd import` is tried
+on the file. Some batches, and some openings, are cut short by `kill -9` at a random moment; then
+the program serves the same file again. A model in this script answers each line too. What has to
+hold:
 
 - each reply is the model's, byte for byte, as far as replies came;
 - after a kill the store is what the model is after the first so many of the lines that were sent,
   at least those whose replies came: each import is there whole or not at all, in order;
+- the second `sctd` is refused, and the file is as it was;
 - then all that two pins show at two dates is the model's, and at the end each version of each
   component.
 
-It ends by itself, prints its figures, and has the status 1 at the first reply that is another one.
-The same SEED gives the same lines; the moments of the kills are those of the machine. Standard
-library alone.
+It ends by itself, prints its figures, and has the status 1 at the first reply that is another one
+and at bytes behind the last reply, and 3 where no import or no publication was cut short: until
+both were, a run goes on for up to four times SECONDS. The same SEED gives the same lines up to the first
+kill: the moments of the kills are those of the machine, and what comes behind one goes on from what
+it left. Standard library alone.
 """
 
 import bisect
@@ -36,7 +41,12 @@ import make_release as rf2  # noqa: E402
 
 DATES = ["%d%s31" % (year, month) for year in range(2015, 2026) for month in ("01", "07")]
 LAST_DATE = "99991231"
-MOST_SEGMENTS = 128
+# The kinds in the order of their files in a release.
+KINDS = "CDVRA"
+MOST_SEGMENTS = 250
+# Where the versions of the layout stand in the two directories of a store, and version 1.
+VERSIONS_AT = (4111, 12303)
+VERSION_ONE = b"1"
 LINE_LIMIT = 4096
 
 
@@ -94,6 +104,12 @@ class State:
         return "OK %d %d %d %s" % (*self.counts(), left)
 
 
+def publications(states):
+    """How many merges were published from the first of these states to the last one."""
+    pairs = zip(states, states[1:])
+    return sum(len(new.segments) < len(old.segments) for old, new in pairs if old.merge is not None)
+
+
 def name_of(kind, text):
     """An identifier in its order: that of numbers."""
     return int(text.replace("-", ""), 16) if kind == "A" else int(text)
@@ -108,7 +124,7 @@ class Model:
 
     def __init__(self, releases):
         self.releases = releases
-        self.kinds = {kind: Versions() for kind in "CDRA"}
+        self.kinds = {kind: Versions() for kind in KINDS}
         self.state = State()
         self.pins = {}
 
@@ -118,7 +134,7 @@ class Model:
             return ["ERR 40 Long"]
         session, _, rest = line.partition(" ")
         command, _, words = rest.partition(" ")
-        if not session.isdigit() or int(session) > 63:
+        if not session.isdigit() or int(session) > 1023:
             return ["ERR 41 Session"]
         call = getattr(self, "do_" + command.lower(), None)
         if call is None or not command.isupper():
@@ -286,7 +302,7 @@ class Releases:
     def __init__(self, chance, folder):
         self.chance, self.folder = chance, folder
         self.edition = rf2.Edition(chance.getrandbits(32))
-        self.lines = {kind: [] for kind in "CDRA"}
+        self.lines = {kind: [] for kind in KINDS}
         self.files = {}
 
     def columns(self, kind):
@@ -305,24 +321,24 @@ class Releases:
     def make(self):
         """The name of a new release; a few are faulty."""
         name = "r%d" % (len(self.files) + 1)
-        rows = {kind: [] for kind in "CDRA"}
+        rows = {kind: [] for kind in KINDS}
         for _ in range(self.chance.choice([0, 1, 5, 20, 60, 200])):
-            kind = self.chance.choice("CDDDRRRA")
+            kind = self.chance.choice("CDDDRRRAV")
             rows[kind].append(self.columns(kind))
         if self.chance.random() < 0.9:
-            rows = {kind: self.consistent(rows[kind]) for kind in "CDRA"}
+            rows = {kind: self.consistent(rows[kind]) for kind in KINDS}
         fault = self.spoil(rows) if self.chance.random() < 0.1 else None
-        texts = {kind: ["\t".join(columns) for columns in rows[kind]] for kind in "CDRA"}
+        texts = {kind: ["\t".join(columns) for columns in rows[kind]] for kind in KINDS}
         rf2.write(os.path.join(self.folder, name), "Delta", self.chance.choice(DATES), texts)
-        self.files[name] = (fault, [(kind, rows[kind]) for kind in "CDRA"])
+        self.files[name] = (fault, [(kind, rows[kind]) for kind in KINDS])
         if not fault:
-            for kind in "CDRA":
+            for kind in KINDS:
                 self.lines[kind] += rows[kind]
         return name
 
     def consistent(self, rows):
         """Without the rows that say otherwise than one that was written before."""
-        known = {(c[0], c[1]): c for kind in "CDRA" for c in self.lines[kind]}
+        known = {(c[0], c[1]): c for kind in KINDS for c in self.lines[kind]}
         kept = []
         for columns in rows:
             if known.setdefault((columns[0], columns[1]), columns) == columns:
@@ -374,10 +390,12 @@ class Program:
         self.close_pipes()
 
     def end(self):
+        """Ends the input, and gives the status and what came behind the last reply."""
         self.process.stdin.close()
+        rest = self.process.stdout.read()
         status = self.process.wait(timeout=60)
         self.process.stdout.close()
-        return status
+        return status, rest
 
     def close_pipes(self):
         try:
@@ -392,7 +410,7 @@ class Soak:
     """One run."""
 
     def __init__(self, program, seed, folder):
-        self.program, self.folder = program, folder
+        self.program, self.folder, self.seed = program, folder, seed
         self.chance = random.Random(seed)
         self.releases = Releases(self.chance, os.path.join(folder, "releases"))
         self.model = Model(self.releases.files)
@@ -401,7 +419,8 @@ class Soak:
         self.took = 0.05
         self.counts = dict.fromkeys(
             "openings kills_in_openings kills_in_batches lines imports imports_cut_kept "
-            "imports_cut_lost publications publications_cut trims dumps".split(),
+            "imports_cut_lost publications publications_cut_kept publications_cut_lost trims "
+            "dumps seconds_refused".split(),
             0,
         )
 
@@ -421,12 +440,12 @@ class Soak:
 
     def strange(self, kind):
         """An identifier that no release has."""
-        return str(rf2.sctid(3000, {"C": "00", "D": "01", "R": "02"}[kind]))
+        return str(rf2.sctid(3000, {"C": "00", "D": "01", "R": "02", "V": "02"}[kind]))
 
     def question(self, session):
         chance = self.chance
         date = chance.choice(DATES + [LAST_DATE])
-        kind = chance.choice("CDRA")
+        kind = chance.choice(KINDS)
         what = chance.randrange(10)
         if what < 4:
             return "%d GET %s %s %s" % (session, kind, self.component(kind), date)
@@ -463,8 +482,8 @@ class Soak:
                 return chance.choice(["0 PUBLISH"] * 6 + ["0 MERGE", "0 ABANDON"])
             steps = ["0 STEP 1", "0 STEP 40", "0 PUBLISH"] + ["0 STEP 100000"] * 4
             return chance.choice(steps)
-        strange = ["0 STATUS", "0 TRIM", "64 STATUS", "0 status", "0 IMPORT none", "", "x" * 5000]
-        return chance.choice(strange)
+        strange = ["0 STATUS", "0 TRIM", "1023 STATUS", "1024 STATUS", "0 status", "0 IMPORT none"]
+        return chance.choice(strange + ["", "x" * 5000])
 
     def batch(self):
         """Lines, the replies that the model gives, and the model's state after each."""
@@ -503,11 +522,8 @@ class Soak:
         return len(replies)
 
     def count(self, states):
-        for old, new in zip(states, states[1:]):
-            self.counts["imports"] += new.imports - old.imports
-            self.counts["publications"] += old.merge is not None and len(new.segments) < len(
-                old.segments
-            )
+        self.counts["imports"] += states[-1].imports - states[0].imports
+        self.counts["publications"] += publications(states)
 
     def killed_batch(self):
         lines, replies, states = self.batch()
@@ -540,7 +556,8 @@ class Soak:
         kept = done.imports - states[answered].imports
         self.counts["imports_cut_kept"] += kept
         self.counts["imports_cut_lost"] += states[-1].imports - done.imports
-        self.counts["publications_cut"] += len(done.segments) < len(states[answered].segments)
+        self.counts["publications_cut_kept"] += publications(states[answered : allowed[0] + 1])
+        self.counts["publications_cut_lost"] += publications(states[allowed[0] :])
         self.model.go_back(done)
         self.dump()
 
@@ -550,7 +567,7 @@ class Soak:
         imports = self.model.state.imports
         for pin in {imports, self.chance.randint(0, imports)}:
             self.check("9 PIN %d" % pin)
-            for kind in "CDRA":
+            for kind in KINDS:
                 self.pages(kind, self.chance.choice(DATES))
                 self.pages(kind, LAST_DATE)
         self.check("9 UNPIN")
@@ -570,7 +587,7 @@ class Soak:
 
     def histories(self):
         """Compares every version of every component."""
-        for kind in "CDRA":
+        for kind in KINDS:
             lines = ["0 HISTORY %s %s" % (kind, name) for name in self.names(kind)]
             for start in range(0, len(lines), 50):
                 part = lines[start : start + 50]
@@ -587,11 +604,16 @@ class Soak:
         )
         if made.returncode or made.stdout != b"OK\n":
             raise Wrong("init: %r, status %d" % (made.stdout, made.returncode))
+        if self.seed % 2:
+            self.make_version_one()
         self.start()
-        end = time.monotonic() + seconds
-        while time.monotonic() < end:
-            if self.chance.random() < 0.25:
+        begun = time.monotonic()
+        while time.monotonic() < begun + seconds * (4 if self.untried() else 1):
+            what = self.chance.random()
+            if what < 0.25:
                 self.killed_batch()
+            elif what < 0.3:
+                self.second_import()
             else:
                 lines, replies, states = self.batch()
                 self.ask(lines, replies)
@@ -599,8 +621,35 @@ class Soak:
                 self.counts["trims"] += lines.count("0 TRIM")
         self.check("0 UNPIN")
         self.histories()
-        if self.served.end():
-            raise Wrong("the program ended with another status than 0")
+        status, rest = self.served.end()
+        if rest:
+            raise Wrong("behind the last reply: %r" % rest[:300])
+        if status:
+            raise Wrong("the program ended with the status %d" % status)
+
+    def make_version_one(self):
+        """Makes of the new store one of version 1: that of the layout before this one."""
+        with open(self.store, "r+b") as file:
+            for at in VERSIONS_AT:
+                file.seek(at - 7)
+                if file.read(7) == b"SCTHIST":
+                    file.write(VERSION_ONE)
+
+    def second_import(self):
+        """A second program on the file is refused, and changes nothing."""
+        self.check("0 STATUS")
+        with open(self.store, "rb") as file:
+            before = file.read()
+        name = self.releases.make()
+        words = ["import", "--store", self.store, "--releases", self.releases.folder, name]
+        done = subprocess.run(
+            [self.program] + words, stdout=subprocess.PIPE, stderr=subprocess.DEVNULL, check=False
+        )
+        with open(self.store, "rb") as file:
+            after = file.read()
+        if (done.returncode, done.stdout) != (1, b"ERR 2 DiskFault\n") or before != after:
+            raise Wrong("a second program: %r, status %d" % (done.stdout, done.returncode))
+        self.counts["seconds_refused"] += 1
 
     def figures(self, seconds):
         state = self.model.state
@@ -609,6 +658,14 @@ class Soak:
             print("%s %d" % (name, count))
         print("at the end: imports %d, rows %d, segments %d" % state.counts())
         print("bytes of the store %d" % os.path.getsize(self.store))
+
+    def untried(self):
+        """What was to be cut short and never was."""
+        cut = {
+            name: self.counts[name + "_cut_kept"] + self.counts[name + "_cut_lost"]
+            for name in ("imports", "publications")
+        }
+        return [name for name in cut if not cut[name]]
 
 
 def main(words):
@@ -631,7 +688,9 @@ def main(words):
     soak.figures(seconds)
     if len(words) <= 4:
         shutil.rmtree(folder)
-    return 0
+    for name in soak.untried():
+        print("NOT TRIED: no kill cut any %s short" % name)
+    return 3 if soak.untried() else 0
 
 
 if __name__ == "__main__":

@@ -15,7 +15,7 @@ const ROOT: [u8; 46] =
 
 /// The front of the content of epoch 2, with one import and one segment.
 const CONTENT: [u8; 48] = [
-    0, 0, 0, 0, 0, 0, 0, 2, 0x53, 0x43, 0x54, 0x48, 0x49, 0x53, 0x54, 0x31, 0, 0, 0, 1, 0, 0, 0, 1,
+    0, 0, 0, 0, 0, 0, 0, 2, 0x53, 0x43, 0x54, 0x48, 0x49, 0x53, 0x54, 0x32, 0, 0, 0, 1, 0, 0, 0, 1,
     0, 0, 0, 0, 0, 0, 0, 0, 0, 0, 0, 4, 0, 0, 0, 0x2e, 0, 0, 0, 1, 0, 0, 0, 0,
 ];
 

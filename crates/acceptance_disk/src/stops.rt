@@ -1,16 +1,37 @@
 //! What a device that fails or stops inside an import leaves.
 
-use acceptance_fixtures::{Example, image_before_end, root_disk, root_release};
+use acceptance_fixtures::{Example, image_before_end, lines, root_disk, root_release};
 use disk_model::{Choice, MemDisk};
 use history_store::Refusal;
 use rf2_rows::Kind;
 use std::alloc::Global;
 use std::test::Fail;
 
+/// Whether a store has no import and no row, or one import, and the root concept as its one row.
+fn is_none_or_one(alloc: Global, store: &mut Example) -> Result<bool, Refusal> {
+    let imports = store.imports();
+    let found = store.history(Kind::Concept, 138_875_005, imports)?;
+    let want = match imports {
+        0 => Vec::new(alloc),
+        _ => lines(alloc, &["138875005|20200131|1|CORE|PRIM"])?,
+    };
+    let before = store.history(Kind::Concept, 138_875_005, 0)?;
+    Ok(imports < 2 && store.row_count() == u64::from(imports) && found == want && before.is_empty())
+}
+
+/// How many imports are opened in these bytes, none or one, with the rows of just so many.
+fn imports_of(alloc: Global, image: &[u8]) -> Result<u32, Fail> {
+    let mut store = Example::of_bytes(alloc, image)?;
+    if !is_none_or_one(alloc, &mut store)? {
+        return Err(Fail::from("other rows"));
+    }
+    Ok(store.imports())
+}
+
 /// How many imports are opened where the device stopped with so many changing calls left.
 fn imports_before(alloc: Global, disk: &MemDisk, left: u64, choice: Choice) -> Result<u32, Fail> {
     let image = image_before_end(disk, left, choice)?;
-    Ok(Example::of_bytes(alloc, &image)?.imports())
+    imports_of(alloc, &image)
 }
 
 #[test]
@@ -68,10 +89,11 @@ fn a_failed_import_closes_the_store(rt: HostRuntime) -> Result<(), Fail> {
     assert_eq!(rt; disk.changes(), 12);
     for choice in [Choice::Lost, Choice::Kept, Choice::Filled(165)] {
         let image = disk.image_now(choice)?;
-        assert_eq!(rt; Example::of_bytes(rt.alloc(), &image)?.imports(), 0);
+        assert_eq!(rt; imports_of(rt.alloc(), &image)?, 0);
     }
     let mut store = Example::opened(rt.alloc(), disk)?;
     assert_eq!(rt; store.import(&release)?.number, 1);
+    assert!(rt; is_none_or_one(rt.alloc(), &mut store)?);
     Ok(())
 }
 
@@ -85,10 +107,8 @@ fn a_failed_import_may_still_be_there(rt: HostRuntime) -> Result<(), Fail> {
         let release = root_release(rt.alloc())?;
         assert_eq!(rt; store.import(&release), Err(Refusal::DiskFault));
         assert_eq!(rt; store.imports(), 0);
-        assert_eq!(rt;
-            Example::opened(rt.alloc(), store.close())?.imports(),
-            imports
-        );
+        let disk = store.close();
+        assert_eq!(rt; imports_of(rt.alloc(), disk.bytes())?, imports);
     }
     Ok(())
 }

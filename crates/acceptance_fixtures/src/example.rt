@@ -89,6 +89,11 @@ impl Example {
         self.store.row_count()
     }
 
+    /// The version of the layout on the disk.
+    pub fn version(&self) -> u32 {
+        self.store.version()
+    }
+
     /// Whether the store has to be opened again.
     pub fn needs_reopen(&self) -> bool {
         self.store.needs_reopen()

@@ -7,9 +7,11 @@ mod example;
 mod merging;
 mod queries;
 mod releases;
+mod samples;
 mod text;
 
 pub use disks::{image_after, image_before_end, patched};
 pub use example::{Example, root_disk};
-pub use releases::{of_bytes, of_files, one_file, root_release, sampled};
+pub use releases::{MISUSED, of_bytes, of_files, one_file, root_release, sampled};
+pub use samples::holds;
 pub use text::{header, line, line_of, lines, lines_of};

@@ -1,9 +1,10 @@
-//! The questions, as lines. A pin above the number of imports is that
-//! number, and a number that isn't a date or an identifier finds nothing.
+//! The questions, as lines. A pin above the number of imports, and a number
+//! that isn't a date or an identifier, are mistakes of the test.
 
 ghost use Rattle.std.specs.Prelude.{◌≤◌};
 
 use crate::example::Example;
+use crate::releases::MISUSED;
 use crate::text::{line_of, lines_of};
 use disk_model::MemDisk;
 use history_store::{Refusal, Store};
@@ -16,7 +17,25 @@ fn pinned(store: &Store<MemDisk>, pin: u32) -> u32
     pin.min(store.imports())
 }
 
+/// The date that a number is.
+fn date_of(number: u32) -> Result<EffectiveTime, Refusal> {
+    EffectiveTime::of(number).ok_or(MISUSED)
+}
+
+/// The identifier that a number is.
+fn id_of(number: u64) -> Result<Sctid, Refusal> {
+    Sctid::of(number).ok_or(MISUSED)
+}
+
 impl Example {
+    /// A pin that is shown.
+    fn check_pin(&self, pin: u32) -> Result<(), Refusal> {
+        if pin > self.imports() {
+            return Err(MISUSED);
+        }
+        Ok(())
+    }
+
     /// The component's row at the date.
     pub fn row(
         &mut self,
@@ -25,9 +44,8 @@ impl Example {
         date: u32,
         pin: u32,
     ) -> Result<Option<Row>, Refusal> {
-        let Some(time) = EffectiveTime::of(date) else {
-            return Ok(None);
-        };
+        let time = date_of(date)?;
+        self.check_pin(pin)?;
         let pin = pinned(&self.store, pin);
         self.store.lookup(kind, id, time, pin)
     }
@@ -46,6 +64,7 @@ impl Example {
 
     /// The lines of the component's versions, each with an LF.
     pub fn history(&mut self, kind: Kind, id: u128, pin: u32) -> Result<Vec<u8>, Refusal> {
+        self.check_pin(pin)?;
         let pin = pinned(&self.store, pin);
         let rows = self.store.history(kind, id, pin)?;
         Ok(lines_of(self.alloc, &rows)?)
@@ -60,9 +79,8 @@ impl Example {
         after: Option<u128>,
         limit: u32,
     ) -> Result<Vec<u8>, Refusal> {
-        let Some(time) = EffectiveTime::of(date) else {
-            return Ok(Vec::new(self.alloc));
-        };
+        let time = date_of(date)?;
+        self.check_pin(pin)?;
         let pin = pinned(&self.store, pin);
         let rows = self.store.page(kind, time, pin, after, limit)?;
         Ok(lines_of(self.alloc, &rows)?)
@@ -76,9 +94,8 @@ impl Example {
         pin: u32,
         limit: u32,
     ) -> Result<Vec<u8>, Refusal> {
-        let Some(time) = EffectiveTime::of(date) else {
-            return Ok(Vec::new(self.alloc));
-        };
+        let time = date_of(date)?;
+        self.check_pin(pin)?;
         let pin = pinned(&self.store, pin);
         let rows = self.store.terms(prefix, time, pin, limit)?;
         Ok(lines_of(self.alloc, &rows)?)
@@ -86,18 +103,16 @@ impl Example {
 
     /// The identifiers of a concept's children.
     pub fn children(&mut self, id: u64, date: u32, pin: u32) -> Result<Vec<u64>, Refusal> {
-        let (Some(id), Some(time)) = (Sctid::of(id), EffectiveTime::of(date)) else {
-            return Ok(Vec::new(self.alloc));
-        };
+        let (id, time) = (id_of(id)?, date_of(date)?);
+        self.check_pin(pin)?;
         let pin = pinned(&self.store, pin);
         self.store.children(id, time, pin)
     }
 
     /// The lines of a component's associations, each with an LF.
     pub fn replacements(&mut self, id: u64, date: u32, pin: u32) -> Result<Vec<u8>, Refusal> {
-        let (Some(id), Some(time)) = (Sctid::of(id), EffectiveTime::of(date)) else {
-            return Ok(Vec::new(self.alloc));
-        };
+        let (id, time) = (id_of(id)?, date_of(date)?);
+        self.check_pin(pin)?;
         let pin = pinned(&self.store, pin);
         let rows = self.store.replacements(id, time, pin)?;
         Ok(lines_of(self.alloc, &rows)?)

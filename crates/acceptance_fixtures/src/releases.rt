@@ -1,6 +1,7 @@
 //! Releases.
 
 use crate::text::{header, line};
+use history_store::Refusal;
 use import_check::{Release, ReleaseFile, sample};
 use rf2_rows::Kind;
 use std::alloc::{AllocError, Global};
@@ -54,12 +55,14 @@ pub fn root_release(alloc: Global) -> Result<Release, AllocError> {
     one_file(alloc, Kind::Concept, &["138875005|20200131|1|CORE|PRIM"])
 }
 
-/// The sample release of this name, r1, r2 or r3; a release of no files for any other name.
-pub fn sampled(alloc: Global, name: &str) -> Result<Release, AllocError> {
+/// What is answered where a test asks for a sample, a date, an identifier
+/// or a pin that there isn't: no call on an open store is refused so.
+pub const MISUSED: Refusal = Refusal::NotAStore;
+
+/// The sample release of this name, r1, r2 or r3. Any other name is a mistake of the test.
+pub fn sampled(alloc: Global, name: &str) -> Result<Release, Refusal> {
     match sample(alloc, name)? {
         Some(release) => Ok(release),
-        None => Ok(Release {
-            files: Vec::new(alloc),
-        }),
+        None => Err(MISUSED),
     }
 }

@@ -72,5 +72,8 @@ pub fn header(kind: Kind) -> &'static str {
         Kind::Association => {
             "id|effectiveTime|active|moduleId|refsetId|referencedComponentId|targetComponentId"
         }
+        Kind::Concrete => {
+            "id|effectiveTime|active|moduleId|sourceId|value|relationshipGroup|typeId|characteristicTypeId|modifierId"
+        }
     }
 }

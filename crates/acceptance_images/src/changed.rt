@@ -4,6 +4,7 @@ use acceptance_fixtures::{Example, root_disk};
 use disk_model::MemDisk;
 use history_store::Refusal;
 use std::alloc::{AllocError, Global};
+use std::process::Abort;
 use std::test::Fail;
 
 /// How many imports the disk of these bytes is opened with.
@@ -82,39 +83,127 @@ fn merged_disk(alloc: Global) -> Result<MemDisk, Refusal> {
     Ok(store.close())
 }
 
-/// What an opening of a changed disk may answer.
-fn is_answer(opened: Result<u32, Refusal>) -> bool {
-    matches!(opened, Ok(_) | Err(Refusal::NotAStore | Refusal::Damaged))
+/// Bytes of the merged disk's slots of which each other one is damage: of the newer content block
+/// the mark, the number of entries but for its last byte, and zeros and the two entries.
+const CHECKED: [(usize, usize); 3] = [(4_104, 4_112), (4_116, 4_119), (4_120, 4_160)];
+
+/// Where the records of the merged disk begin: ten of the merge's output, and two of the third
+/// import.
+const RECORDS: [usize; 12] = [
+    24_576, 24_622, 24_668, 24_714, 24_760, 24_835, 24_906, 24_988, 25_070, 25_152, 28_672, 28_718,
+];
+
+/// Where both segments lie.
+const SEGMENTS: [(usize, usize); 2] = [(24_576, 25_214), (28_672, 28_764)];
+
+/// The number of imports, which nothing contradicts that isn't below 3; and
+/// the last byte of the number of entries, of which there may be none.
+const SINGLE: [(usize, u8, Result<u32, Refusal>); 12] = [
+    (4_112, 0xa5, Ok(0xa500_0003)),
+    (4_112, 0xff, Ok(0xff00_0003)),
+    (4_113, 0xa5, Ok(0x00a5_0003)),
+    (4_113, 0xff, Ok(0x00ff_0003)),
+    (4_114, 0xa5, Ok(0x0000_a503)),
+    (4_114, 0xff, Ok(0x0000_ff03)),
+    (4_115, 0, Err(Refusal::Damaged)),
+    (4_115, 0xa5, Ok(0xa5)),
+    (4_115, 0xff, Ok(0xff)),
+    (4_119, 0, Ok(3)),
+    (4_119, 0xa5, Err(Refusal::Damaged)),
+    (4_119, 0xff, Err(Refusal::Damaged)),
+];
+
+/// Whether a place lies in one of some ranges.
+fn is_within(ranges: &[(usize, usize)], place: usize) -> bool {
+    ranges
+        .iter()
+        .any(|(from, to)| *from <= place && place < *to)
 }
 
-/// The first of these places at which some byte leads to
-/// another answer than a store, "no store" and "damaged".
-fn first_other(alloc: Global, bytes: &[u8], from: usize, to: usize) -> Result<Option<usize>, Fail> {
-    for place in from..to {
-        for byte in [0, 0xa5, 0xff] {
-            let changed = replaced(alloc, bytes, place, &[byte])?;
-            if !is_answer(opened(alloc, changed)) {
-                return Ok(Some(place));
-            }
+/// Whether it is damage that a byte stands so far behind a record's begin: in its length, its
+/// kind and its import number each other byte is, and where it says whether it is active 2 and
+/// more.
+fn is_damage(behind: usize, byte: u8) -> bool {
+    behind < 5 || (25 <= behind && behind < 29) || (behind == 29 && byte > 1)
+}
+
+/// Whether it is damage that a byte stands at a place of a record.
+fn is_damaged_record(place: usize, byte: u8) -> bool {
+    RECORDS.iter().any(|start| place >= *start && is_damage(place.saturating_sub(*start), byte))
+}
+
+/// What the merged disk is opened as with another byte at a place, where the layout says it. All
+/// that neither the newer content block nor a listed record holds plays no part: without its
+/// gate, too, the older slot lists three imports.
+fn wanted(place: usize, byte: u8) -> Option<Result<u32, Refusal>> {
+    for (at, by, answer) in &SINGLE {
+        if *at == place && *by == byte {
+            return Some(*answer);
         }
     }
-    Ok(None)
+    if is_within(&CHECKED, place) || is_damaged_record(place, byte) {
+        return Some(Err(Refusal::Damaged));
+    }
+    if is_within(&SEGMENTS, place) {
+        return None;
+    }
+    Some(Ok(3))
+}
+
+/// Whether a disk is opened as it has to be with another byte at a place.
+/// Where the layout doesn't say which, a store of three imports or damage.
+fn is_answer(place: usize, byte: u8, opened: Result<u32, Refusal>) -> bool {
+    match wanted(place, byte) {
+        Some(answer) => opened == answer,
+        None => matches!(opened, Ok(3) | Err(Refusal::Damaged)),
+    }
+}
+
+/// How many other bytes were tried at a place.
+fn tried(rt: &impl Abort, alloc: Global, bytes: &[u8], place: usize) -> Result<u32, Fail> {
+    let mut count = 0u32;
+    for byte in [0, 0xa5, 0xff] {
+        if bytes.get(place) != Some(&byte) {
+            let changed = replaced(alloc, bytes, place, &[byte])?;
+            let answer = opened(alloc, changed);
+            assert!(rt;
+                is_answer(place, byte, answer),
+                "{byte} at {place}: {answer:?}"
+            );
+            count = count.saturating_add(1);
+        }
+    }
+    Ok(count)
+}
+
+/// How many other bytes were tried at these places.
+fn all_tried(
+    rt: &impl Abort,
+    alloc: Global,
+    bytes: &[u8],
+    from: usize,
+    to: usize,
+) -> Result<u32, Fail> {
+    let mut count = 0u32;
+    for place in from..to {
+        count = count.saturating_add(tried(rt, alloc, bytes, place)?);
+    }
+    Ok(count)
 }
 
 #[test]
 fn each_byte_of_the_slots_is_changed(rt: HostRuntime) -> Result<(), Fail> {
     let disk = merged_disk(rt.alloc())?;
     assert_eq!(rt; disk.bytes().len(), 28_764);
-    assert_eq!(rt; first_other(rt.alloc(), disk.bytes(), 0, 16_384)?, None);
+    let count = all_tried(&rt, rt.alloc(), disk.bytes(), 0, 16_384)?;
+    assert_eq!(rt; count, 32_808);
     Ok(())
 }
 
 #[test]
 fn each_byte_of_the_segments_is_changed(rt: HostRuntime) -> Result<(), Fail> {
     let disk = merged_disk(rt.alloc())?;
-    assert_eq!(rt;
-        first_other(rt.alloc(), disk.bytes(), 16_384, 28_764)?,
-        None
-    );
+    let count = all_tried(&rt, rt.alloc(), disk.bytes(), 16_384, 28_764)?;
+    assert_eq!(rt; count, 25_583);
     Ok(())
 }

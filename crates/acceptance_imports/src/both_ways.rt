@@ -59,6 +59,10 @@ fn after(
             assert_eq!(rt; Ok((receipt.new, receipt.repeated)), want);
             assert_eq!(rt; Ok((fresh.rows.len() as u64, fresh.repeated)), want);
             let after = plain::after_release(alloc, imports, &rows, &lines)?;
+            let count = fresh.rows.len();
+            assert_eq!(rt; after.len().checked_sub(rows.len()), Some(count));
+            let new = after.iter().filter(|s| s.import == imports + 1);
+            assert_eq!(rt; new.count(), count);
             let new = after.iter().filter(|s| s.import == imports + 1);
             for (ours, theirs) in fresh.rows.iter().zip(new) {
                 assert!(rt; ours.is_same(&theirs.row));

@@ -14,27 +14,27 @@ fn of_year(alloc: Global, year: u32) -> Result<Release, AllocError> {
 }
 
 #[test]
-fn a_directory_lists_128_segments(rt: HostRuntime) -> Result<(), Fail> {
+fn a_directory_lists_250_segments(rt: HostRuntime) -> Result<(), Fail> {
     let mut store = Example::new(rt.alloc())?;
-    for year in 1_901..2_029 {
+    for year in 1_801..2_051 {
         let release = of_year(rt.alloc(), year)?;
         assert_eq!(rt; store.import(&release)?.new, 1);
     }
-    assert_eq!(rt; store.segments(), 128);
-    let further = of_year(rt.alloc(), 2_029)?;
+    assert_eq!(rt; store.segments(), 250);
+    let further = of_year(rt.alloc(), 2_051)?;
     assert_eq!(rt; store.import(&further), Err(Refusal::TooManySegments));
     assert_eq!(rt; Refusal::TooManySegments.code(), 6);
-    assert_eq!(rt; store.imports(), 128);
+    assert_eq!(rt; store.imports(), 250);
     // A release of repeated rows needs no segment.
     let repeated = of_year(rt.alloc(), 1_950)?;
     assert_eq!(rt;
         store.import(&repeated)?,
         Receipt {
-            number: 129,
+            number: 251,
             new: 0,
             repeated: 1
         }
     );
-    assert_eq!(rt; store.row_count(), 128);
+    assert_eq!(rt; store.row_count(), 250);
     Ok(())
 }

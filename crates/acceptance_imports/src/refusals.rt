@@ -4,7 +4,7 @@ use acceptance_fixtures::{Example, header, line, of_bytes, one_file, sampled};
 use history_store::Refusal;
 use import_check::Release;
 use rf2_rows::{Kind, LineFault};
-use std::alloc::{AllocError, Global};
+use std::alloc::Global;
 use std::test::Fail;
 
 /// The refusal of a file's line.
@@ -119,7 +119,7 @@ fn a_row_that_says_otherwise_is_refused(rt: HostRuntime) -> Result<(), Fail> {
 }
 
 /// The first sample's concept file, cut to a length and with other bytes after it.
-fn cut_concepts(alloc: Global, less: usize, more: &[u8]) -> Result<Option<Release>, AllocError> {
+fn cut_concepts(alloc: Global, less: usize, more: &[u8]) -> Result<Option<Release>, Refusal> {
     let release = sampled(alloc, "r1")?;
     let Some(file) = release.files.first() else {
         return Ok(None);

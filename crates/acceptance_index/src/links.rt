@@ -349,22 +349,22 @@ fn what_is_posted_twice_counts_once(rt: HostRuntime) -> Result<(), Fail> {
 fn links_of_as_many_lists_as_may_be(rt: HostRuntime) -> Result<(), Fail> {
     let alloc = rt.alloc();
     let mut lists = Vec::new(alloc);
-    for number in 0..128u32 {
+    for number in 0..250u32 {
         let source = pick_concept(number % 3);
-        let id = relationship_id(300 - number)?;
+        let id = relationship_id(400 - number)?;
         let row = relationship(id, 20_200_131, true, (source, ROOT), IS_A)?;
         lists.push(vec![in alloc; StampedRow { row, import: 1 }]?)?;
     }
     let mut links = links_of(alloc, &lists)?;
-    assert!(rt; lists.len() == 128 && links.lists() == 128);
+    assert!(rt; lists.len() == 250 && links.lists() == 250);
     let index = index_of(alloc, &lists)?;
     let root = Asked::of(ROOT, LAST_DAY, 1)?;
     let three = vec![in alloc; STREET, OTHER, THIRD]?;
     assert!(rt; below(alloc, &links, &index, &root)? == three);
 
     // In the place of the first list's and its own, the last list's are of no row of the first.
-    links.replace_two(0, 127, posted_links(alloc, &lists[127])?.seal());
-    assert_eq!(rt; links.lists(), 127);
+    links.replace_two(0, 249, posted_links(alloc, &lists[249])?.seal());
+    assert_eq!(rt; links.lists(), 249);
     assert!(rt; below(alloc, &links, &index, &root)? == three);
     Ok(())
 }

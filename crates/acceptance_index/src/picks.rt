@@ -248,7 +248,7 @@ fn made_histories_in_one_list_and_in_many(rt: HostRuntime) -> Result<(), Fail> {
     let rows = made_rows(alloc)?;
     let answered = compare(&rt, alloc, &rows, &spread(alloc, &rows, 1)?)?;
     assert!(rt; answered > 100, "{answered} rows");
-    for lists in [3, 128] {
+    for lists in [3, 250] {
         assert_eq!(rt;
             compare(&rt, alloc, &rows, &spread(alloc, &rows, lists)?)?,
             answered

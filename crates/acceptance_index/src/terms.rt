@@ -253,15 +253,15 @@ fn terms_of_as_many_lists_as_may_be(rt: HostRuntime) -> Result<(), Fail> {
     let alloc = rt.alloc();
     let mut lists = Vec::new(alloc);
     let mut ids = Vec::new(alloc);
-    for number in 0..128u32 {
-        let id = description_id(300 - number)?;
+    for number in 0..250u32 {
+        let id = description_id(400 - number)?;
         let row = description(alloc, id, 20_200_131, true, "Straße")?;
         lists.push(vec![in alloc; StampedRow { row, import: 1 }]?)?;
         ids.push(id)?;
     }
     ids.reverse();
     let mut terms = terms_of(alloc, &lists)?;
-    assert_eq!(rt; terms.lists(), 128);
+    assert_eq!(rt; terms.lists(), 250);
     ids.truncate(100);
     assert!(rt; ids_found(alloc, &terms, &lists, "strass")? == ids);
 
@@ -270,8 +270,8 @@ fn terms_of_as_many_lists_as_may_be(rt: HostRuntime) -> Result<(), Fail> {
     if let Some(place) = lists.get_mut(3) {
         *place = moved;
     }
-    terms.replace_two(3, 127, list);
-    assert_eq!(rt; terms.lists(), 127);
+    terms.replace_two(3, 249, list);
+    assert_eq!(rt; terms.lists(), 249);
     let left = ids_found(alloc, &terms, &lists, "STRASS")?;
     assert!(rt; left.len() == 100 && left.first() == ids.first());
     Ok(())

@@ -55,6 +55,55 @@ const RELEASES_AT_FAULT: &[Turn] = &[
     ("0 IMPORT february-30", &["OK 1 1 0"]),
 ];
 
+/// A relationship with a concrete value beside a relationship of the same number.
+const VALUES: &[Turn] = &[
+    ("0 IMPORT r1", &["OK 1 6 0"]),
+    ("0 IMPORT r2", &["OK 2 4 0"]),
+    ("0 IMPORT r3", &["OK 3 2 1"]),
+    ("0 IMPORT strength", &["OK 4 1 0"]),
+    (
+        "0 GET V 1000027 20210731",
+        &[
+            "ROW 1000027|20210731|1|CORE|1000004|#5|0|3000005|INF|MOD",
+            "END 1",
+        ],
+    ),
+    ("0 GET V 1000027 20210730", &["END 0"]),
+    (
+        "0 GET R 1000027 20210731",
+        &[
+            "ROW 1000027|20200131|1|CORE|1000004|138875005|0|116680003|INF|MOD",
+            "END 1",
+        ],
+    ),
+    (
+        "0 HISTORY V 1000027",
+        &[
+            "ROW 1000027|20210731|1|CORE|1000004|#5|0|3000005|INF|MOD",
+            "END 1",
+        ],
+    ),
+    (
+        "0 PAGE V 20210731 - 10",
+        &[
+            "ROW 1000027|20210731|1|CORE|1000004|#5|0|3000005|INF|MOD",
+            "END 1",
+        ],
+    ),
+    ("0 PAGE V 20210731 1000027 10", &["END 0"]),
+    ("0 CHILDREN 138875005 20210731", &["ID 1000004", "END 1"]),
+    ("0 GET V 1000004 20210731", &["ERR 43 Arguments"]),
+    ("0 IMPORT no-value", &["ERR 31 EmptyText 1 2"]),
+    ("0 IMPORT strength-of-a-concept", &["ERR 25 Partition 1 2"]),
+    ("0 STATUS", &["OK 4 13 4 -"]),
+];
+
+/// A value of the type "is a" is no parent.
+const PARENT_AS_A_VALUE: &[Turn] = &[
+    ("0 IMPORT parent-as-a-value", &["OK 1 1 0"]),
+    ("0 CHILDREN 138875005 20210731", &["END 0"]),
+];
+
 const NO_ROWS: &[Turn] = &[
     ("0 IMPORT names", &["OK 1 0 0"]),
     ("0 IMPORT names-with-lf", &["OK 2 0 0"]),
@@ -215,7 +264,7 @@ const MERGED_TWICE_AT_ONCE: &[Turn] = &[
 
 const LINES_AT_FAULT: &[Turn] = &[
     ("", &["ERR 41 Session"]),
-    ("64 STATUS", &["ERR 41 Session"]),
+    ("1024 STATUS", &["ERR 41 Session"]),
     ("0", &["ERR 42 Command"]),
     ("0 status", &["ERR 42 Command"]),
     ("0 GET C 1000015 20200131", &["ERR 43 Arguments"]),
@@ -240,6 +289,8 @@ fn lines_on_a_new_store(rt: HostRuntime) -> Result<(), Fail> {
         ("a pinned session", PINNED),
         ("nothing to merge", NOTHING_TO_MERGE),
         ("a merge while one goes on", MERGED_TWICE_AT_ONCE),
+        ("relationships with concrete values", VALUES),
+        ("a parent as a value", PARENT_AS_A_VALUE),
         ("lines at fault", LINES_AT_FAULT),
     ];
     for (name, turns) in &examples {

@@ -10,10 +10,65 @@ const BEFORE: [Turn; 1] = [("0 STATUS", &["OK 3 12 3 -"])];
 
 const BEHIND: [Turn; 1] = [("0 STATUS", &["OK 3 12 2 -"])];
 
+/// All rows, before the publication and behind it.
+const ROWS: [Turn; 8] = [
+    (
+        "0 HISTORY C 138875005",
+        &["ROW 138875005|20200131|1|CORE|PRIM", "END 1"],
+    ),
+    (
+        "0 HISTORY C 1000004",
+        &[
+            "ROW 1000004|20200131|1|CORE|PRIM",
+            "ROW 1000004|20200731|0|CORE|PRIM",
+            "ROW 1000004|20210131|0|CORE|PRIM",
+            "END 3",
+        ],
+    ),
+    (
+        "0 HISTORY C 2000001",
+        &["ROW 2000001|20200131|1|CORE|PRIM", "END 1"],
+    ),
+    (
+        "0 HISTORY C 3000005",
+        &["ROW 3000005|20200131|1|CORE|PRIM", "END 1"],
+    ),
+    (
+        "0 HISTORY D 1000015",
+        &[
+            "ROW 1000015|20200131|1|CORE|1000004|de|SYN|Straße|ECI",
+            "ROW 1000015|20210131|1|CORE|1000004|de|SYN|Weg|ECI",
+            "END 2",
+        ],
+    ),
+    (
+        "0 HISTORY R 1000027",
+        &[
+            "ROW 1000027|20200131|1|CORE|1000004|138875005|0|116680003|INF|MOD",
+            "END 1",
+        ],
+    ),
+    (
+        "0 HISTORY R 2000029",
+        &[
+            "ROW 2000029|20200131|1|CORE|1000004|138875005|0|116680003|INF|MOD",
+            "ROW 2000029|20210131|0|CORE|1000004|138875005|0|116680003|INF|MOD",
+            "END 2",
+        ],
+    ),
+    (
+        "0 HISTORY A 0b6a0c2e-5d0f-4c53-9f6e-8d9d2a7b1c01",
+        &[
+            "ROW 0b6a0c2e-5d0f-4c53-9f6e-8d9d2a7b1c01|20210131|1|CORE|900000000000527005|1000004|2000001",
+            "END 1",
+        ],
+    ),
+];
+
 /// The front of the content of epoch 5: the mark, three imports and two segments. The
 /// first has 638 bytes and 10 rows in block 6, the second 92 bytes and 2 rows in block 7.
 const CONTENT: [u8; 64] = [
-    0, 0, 0, 0, 0, 0, 0, 5, 0x53, 0x43, 0x54, 0x48, 0x49, 0x53, 0x54, 0x31, 0, 0, 0, 3, 0, 0, 0, 2,
+    0, 0, 0, 0, 0, 0, 0, 5, 0x53, 0x43, 0x54, 0x48, 0x49, 0x53, 0x54, 0x32, 0, 0, 0, 3, 0, 0, 0, 2,
     0, 0, 0, 0, 0, 0, 0, 0, 0, 0, 0, 6, 0, 0, 2, 0x7e, 0, 0, 0, 10, 0, 0, 0, 0, 0, 0, 0, 7, 0, 0,
     0, 92, 0, 0, 0, 2, 0, 0, 0, 0,
 ];
@@ -57,6 +112,7 @@ fn a_publication_is_stopped(rt: HostRuntime) -> Result<(), Fail> {
                 &BEFORE
             };
             assert!(rt; server.says(want)?, "{left} calls before the end");
+            assert!(rt; server.says(&ROWS)?, "{left} calls before the end");
         }
     }
     Ok(())

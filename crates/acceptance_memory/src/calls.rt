@@ -1,6 +1,6 @@
 //! Calls of the store, and what they answer.
 
-use acceptance_fixtures::{Example, lines};
+use acceptance_fixtures::{Example, line, lines};
 use history_store::{Receipt, Refusal};
 use import_check::Release;
 use rf2_rows::Kind;
@@ -31,6 +31,9 @@ pub enum Answer {
     Imported(Receipt),
     /// A number, 0 where the call answers none.
     Number(u64),
+    /// The line of a row without an LF, no bytes where there is none.
+    Line(Vec<u8>),
+    /// Lines, each with an LF.
     Lines(Vec<u8>),
     Ids(Vec<u64>),
 }
@@ -40,16 +43,9 @@ pub enum Answer {
 pub enum Wanted {
     Imported(u32, u64, u64),
     Number(u64),
+    Line(&'static str),
     Lines(&'static [&'static str]),
     Ids(&'static [u64]),
-}
-
-/// The kinds of a call that take no memory.
-pub fn takes_none(call: Call) -> bool {
-    matches!(
-        call,
-        Call::MergeBegin | Call::MergePublish | Call::MergeAbandon | Call::Trim
-    )
 }
 
 /// Makes a call that may change the store.
@@ -78,7 +74,7 @@ fn change(call: Call, releases: &[Release], store: &mut Example) -> Result<Answe
 pub fn make(call: Call, releases: &[Release], store: &mut Example) -> Result<Answer, Refusal> {
     let pin = store.imports();
     match call {
-        Call::Row(kind, id, date, pin) => Ok(Answer::Lines(store.line_at(kind, id, date, pin)?)),
+        Call::Row(kind, id, date, pin) => Ok(Answer::Line(store.line_at(kind, id, date, pin)?)),
         Call::History(kind, id, pin) => Ok(Answer::Lines(store.history(kind, id, pin)?)),
         Call::Page(kind, date, limit) => {
             Ok(Answer::Lines(store.page(kind, date, pin, None, limit)?))
@@ -88,16 +84,6 @@ pub fn make(call: Call, releases: &[Release], store: &mut Example) -> Result<Ans
         Call::Replacements(id, date) => Ok(Answer::Lines(store.replacements(id, date, pin)?)),
         _ => change(call, releases, store),
     }
-}
-
-/// Whether the lines are these, with or without a last LF.
-fn are_lines(alloc: Global, found: &[u8], wanted: &[&str]) -> Result<bool, AllocError> {
-    let whole = lines(alloc, wanted)?;
-    let bare = match whole.as_slice() {
-        [front @ .., b'\n'] => front,
-        all => all,
-    };
-    Ok(found == whole.as_slice() || found == bare)
 }
 
 /// Whether an answer is the wanted one.
@@ -112,7 +98,10 @@ pub fn is_wanted(alloc: Global, answer: &Answer, wanted: Wanted) -> Result<bool,
             Ok(*receipt == want)
         }
         (Answer::Number(found), Wanted::Number(number)) => Ok(*found == number),
-        (Answer::Lines(found), Wanted::Lines(rows)) => are_lines(alloc, found.as_slice(), rows),
+        (Answer::Line(found), Wanted::Line(row)) => {
+            Ok(found.as_slice() == line(alloc, row)?.as_bytes())
+        }
+        (Answer::Lines(found), Wanted::Lines(rows)) => Ok(*found == lines(alloc, rows)?),
         (Answer::Ids(found), Wanted::Ids(ids)) => Ok(found.as_slice() == ids),
         _ => Ok(false),
     }

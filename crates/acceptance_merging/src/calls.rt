@@ -1,7 +1,8 @@
 //! Calls on a store as a text lists them, each with its answer, as in `step 1: 9; publish: no 12`.
 //!
-//! The answer is the number of rows that are new or left, or of bytes that were cut
-//! off, 0 where there is nothing to say, or `no` with the number of the refusal.
+//! The answer is the number of rows that are new or left, or of bytes that were cut off, 0 where
+//! there is nothing to say, or `no` with the number of the refusal. Another word than those
+//! below, and a number that lacks or is one too many, are mistakes of the test.
 //! - `r1`, `r2` and `r3` import the sample of that name, `years 2001 3` a release of three versions
 //!   of the root concept, of 2001, 2002 and 2003, and `term 100` one of a description whose term
 //!   has 100 bytes;
@@ -13,7 +14,7 @@
 //!   `lists`, which is 1 where the newer content block is as the words behind it say.
 
 use crate::contents::lists;
-use acceptance_fixtures::{Example, one_file};
+use acceptance_fixtures::{Example, one_file, sampled};
 use history_store::Refusal;
 use import_check::Release;
 use rf2_rows::Kind;
@@ -48,27 +49,57 @@ fn versions(store: &mut Example) -> Result<u64, Refusal> {
     Ok(rows.iter().filter(|byte| **byte == b'\n').count() as u64)
 }
 
-/// The number that a word spells, or 0.
-pub fn number(word: Option<&str>) -> u32 {
-    word.unwrap_or("").parse::<u32>().unwrap_or(0)
+/// The number that a word spells.
+pub fn number(word: Option<&str>) -> Result<u32, Fail> {
+    let word = word.ok_or("a number lacks")?;
+    match word.parse::<u32>() {
+        Ok(number) => Ok(number),
+        Err(_) => Err(Fail::new(word)),
+    }
+}
+
+/// What a store answers to a release: how many rows are new.
+fn imported(store: &mut Example, release: &Release) -> Result<u64, Refusal> {
+    Ok(store.import(release)?.new)
+}
+
+/// Makes a call with numbers behind its name.
+fn made_with(
+    alloc: Global,
+    store: &mut Example,
+    name: &str,
+    numbers: &str,
+) -> Result<Result<u64, Refusal>, Fail> {
+    let mut words = numbers.split(' ');
+    let first = number(words.next())?;
+    let answer = match name {
+        "years" => {
+            let count = number(words.next())?;
+            imported(store, &years(alloc, first, count)?)
+        }
+        "term" => imported(store, &long_term(alloc, first)?),
+        "step" => store.merge_step(first),
+        _ => return Err(Fail::new(name)),
+    };
+    match words.next() {
+        None => Ok(answer),
+        Some(word) => Err(Fail::new(word)),
+    }
 }
 
 /// Makes a call of the store.
-fn made(alloc: Global, store: &mut Example, call: &str) -> Result<u64, Refusal> {
-    let mut words = call.split(' ');
-    let name = words.next().unwrap_or("");
-    let first = number(words.next());
-    let second = number(words.next());
-    match name {
-        "years" => Ok(store.import(&years(alloc, first, second)?)?.new),
-        "term" => Ok(store.import(&long_term(alloc, first)?)?.new),
-        "versions" => versions(store),
-        "begin" => store.merge_begin(),
-        "step" => store.merge_step(first),
-        "publish" => store.merge_publish().map(|()| 0),
-        "abandon" => store.merge_abandon().map(|()| 0),
-        "trim" => store.trim(),
-        sample => Ok(store.import_sample(sample)?.new),
+fn made(alloc: Global, store: &mut Example, call: &str) -> Result<Result<u64, Refusal>, Fail> {
+    if let Some((name, numbers)) = call.split_once(' ') {
+        return made_with(alloc, store, name, numbers);
+    }
+    match call {
+        "r1" | "r2" | "r3" => Ok(imported(store, &sampled(alloc, call)?)),
+        "versions" => Ok(versions(store)),
+        "begin" => Ok(store.merge_begin()),
+        "publish" => Ok(store.merge_publish().map(|()| 0)),
+        "abandon" => Ok(store.merge_abandon().map(|()| 0)),
+        "trim" => Ok(store.trim()),
+        _ => Err(Fail::new(call)),
     }
 }
 
@@ -99,31 +130,31 @@ fn shown(alloc: Global, store: &Example, call: &str) -> Result<Option<String>, A
     }
 }
 
-/// What is asked of a disk.
-fn held(alloc: Global, bytes: &[u8], call: &str) -> Result<String, AllocError> {
+/// What is asked of a disk: 0 for `open`, which asks nothing.
+fn held(alloc: Global, bytes: &[u8], call: &str) -> Result<String, Fail> {
     let count = match call.split_once(' ') {
         Some((_, words)) => u64::from(lists(alloc, bytes, words)?),
         None if call == "length" => bytes.len() as u64,
         None => 0,
     };
-    format!(in alloc; "{count}")
+    Ok(format!(in alloc; "{count}")?)
 }
 
 /// A store closed and opened again, and what was asked of its disk.
-fn reopened(alloc: Global, store: Example, call: &str) -> Result<(Example, String), Refusal> {
+fn reopened(alloc: Global, store: Example, call: &str) -> Result<(Example, String), Fail> {
     let disk = store.close();
     let answer = held(alloc, disk.bytes(), call)?;
     Ok((Example::opened(alloc, disk)?, answer))
 }
 
 /// The store after one call, and the answer.
-fn turn(alloc: Global, mut store: Example, call: &str) -> Result<(Example, String), Refusal> {
+fn turn(alloc: Global, mut store: Example, call: &str) -> Result<(Example, String), Fail> {
     if call == "open" || call == "length" || call.starts_with("lists ") {
         return reopened(alloc, store, call);
     }
     let answer = match shown(alloc, &store, call)? {
         Some(answer) => answer,
-        None => spelled(alloc, made(alloc, &mut store, call))?,
+        None => spelled(alloc, made(alloc, &mut store, call)?)?,
     };
     Ok((store, answer))
 }

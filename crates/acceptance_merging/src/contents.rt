@@ -3,22 +3,29 @@
 //! 3, 6 638 10, 7 92 2`.
 
 use crate::calls::number;
-use std::alloc::{AllocError, Global};
+use std::alloc::Global;
+use std::test::Fail;
 
 /// Adds the first block, the bytes and the rows of a segment, and four zeros.
-fn put_entry(block: &mut Vec<u8>, entry: &str) -> Result<(), AllocError> {
+fn put_entry(block: &mut Vec<u8>, entry: &str) -> Result<(), Fail> {
+    let mut words = 0usize;
     for word in entry.split(' ') {
-        block.extend_from_slice(&number(Some(word)).to_be_bytes())?;
+        block.extend_from_slice(&number(Some(word))?.to_be_bytes())?;
+        words = words.saturating_add(1);
     }
-    block.extend_from_slice(&[0; 4])
+    if words != 3 {
+        return Err(Fail::new(entry));
+    }
+    block.extend_from_slice(&[0; 4])?;
+    Ok(())
 }
 
 /// A content block: the epoch, the mark, the number of imports, the number
 /// of entries and eight zeros; the entries; and zeros up to its end.
-fn content(alloc: Global, epoch: u64, imports: u32, entries: &str) -> Result<Vec<u8>, AllocError> {
-    let count = entries.split(',').count().min(128) as u32;
+fn content(alloc: Global, epoch: u64, imports: u32, entries: &str) -> Result<Vec<u8>, Fail> {
+    let count = entries.split(',').count().min(250) as u32;
     let mut block = epoch.to_be_bytes().to_vec(alloc)?;
-    block.extend_from_slice(b"SCTHIST1")?;
+    block.extend_from_slice(b"SCTHIST2")?;
     block.extend_from_slice(&imports.to_be_bytes())?;
     block.extend_from_slice(&count.to_be_bytes())?;
     block.extend_from_slice(&[0; 8])?;
@@ -31,13 +38,14 @@ fn content(alloc: Global, epoch: u64, imports: u32, entries: &str) -> Result<Vec
 
 /// Whether the newer slot is open and lists what the words say. The
 /// slot of an odd epoch is the first, that of an even one the second.
-pub fn lists(alloc: Global, bytes: &[u8], words: &str) -> Result<bool, AllocError> {
-    let Some((front, entries)) = words.split_once(',') else {
-        return Ok(false);
-    };
+pub fn lists(alloc: Global, bytes: &[u8], words: &str) -> Result<bool, Fail> {
+    let (front, entries) = words.split_once(',').ok_or("entries lack")?;
     let mut numbers = front.split(' ');
-    let epoch = number(numbers.next());
-    let imports = number(numbers.next());
+    let epoch = number(numbers.next())?;
+    let imports = number(numbers.next())?;
+    if let Some(word) = numbers.next() {
+        return Err(Fail::new(word));
+    }
     let gate = if epoch % 2 == 1 { 0 } else { 8_192 };
     let want = content(alloc, u64::from(epoch), imports, entries)?;
     let content = bytes.get(gate + 4_096..gate + 8_192);

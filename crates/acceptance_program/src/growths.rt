@@ -26,7 +26,15 @@ type Refusal = (&'static str, &'static str);
 const UNTOLD: Refusal = ("", OUT_OF_MEMORY);
 
 /// What a task may say: what the disk takes lacks, or what the store takes.
-const TASK: [Refusal; 3] = [UNTOLD, ("ERR 2 DiskFault\n", ""), (OUT_OF_MEMORY, "")];
+const TASK: [Refusal; 4] = [
+    UNTOLD,
+    ("ERR 2 DiskFault\n", "sctd: scarce/store: out of memory\n"),
+    (
+        "ERR 2 DiskFault\n",
+        "sctd: scarce/store: Cannot allocate memory (os error 12)\n",
+    ),
+    (OUT_OF_MEMORY, "sctd: scarce/store: memory ran out\n"),
+];
 
 /// What came of runs with ever more memory.
 #[derive(Debug, Drop)]
@@ -94,21 +102,29 @@ fn each_growth_of_a_task(rt: HostRuntime) -> Result<(), Fail> {
     let file = "scarce/r1/Terminology/sct2_Concept_Full_INT_20200131.txt";
     fs::write(&rt, file, CONCEPTS)?;
     let mut scarcity = Scarcity::new(rt.alloc())?;
-    // The words, the input, and what is written once there is enough.
+    // The words, the input, and what is written, also of faults, once there is enough.
     let steps = [
-        ("sctd init --store scarce/store", "", "OK\n"),
+        ("sctd init --store scarce/store", "", "OK\n", ""),
         (
             "sctd import --store scarce/store --releases scarce r1",
             "",
             "OK 1 1 0\n",
+            "",
+        ),
+        (
+            "sctd status --store scarce/store",
+            "",
+            "OK 1 1 1 -\n",
+            "sctd: scarce/store: layout 2, 16430 bytes\n",
         ),
         (
             "sctd serve --store scarce/store --releases scarce",
             "0 STATUS\n0 PIN\n",
             "OK 1 1 1 -\nOK 1\n",
+            "",
         ),
     ];
-    for (line, input, output) in &steps {
+    for (line, input, output, faults) in &steps {
         let words = words_of(rt.alloc(), *line)?;
         let tried = run_until_enough(
             &rt,
@@ -120,7 +136,7 @@ fn each_growth_of_a_task(rt: HostRuntime) -> Result<(), Fail> {
         )?;
         assert!(rt; tried.refused > 0, "{line}");
         match &tried.last {
-            Some(last) => assert!(rt; last.is(0, *output, ""), "{line}: {tried:?}"),
+            Some(last) => assert!(rt; last.is(0, *output, *faults), "{line}: {tried:?}"),
             None => assert!(rt; false, "{line}"),
         }
     }

@@ -30,37 +30,52 @@ fn run_words<O: Write>(
 #[test]
 fn refusals_and_their_status(rt: HostRuntime) -> Result<(), Fail> {
     fs::write(&rt, "statuses-open-gate", b"\xa5".as_slice())?;
-    // The words, the status, the output.
+    // The words, the status, the output, and what people are told.
     let cases = [
-        ("sctd init --store statuses-store", 0, "OK\n"),
-        ("sctd init --store statuses-store", 1, "ERR 4 NotEmpty\n"),
+        ("sctd init --store statuses-store", 0, "OK\n", ""),
+        (
+            "sctd init --store statuses-store",
+            1,
+            "ERR 4 NotEmpty\n",
+            "sctd: statuses-store: the file isn't empty\n",
+        ),
         (
             "sctd init --store statuses-open-gate",
             1,
             "ERR 4 NotEmpty\n",
+            "sctd: statuses-open-gate: the file isn't empty\n",
         ),
         (
             "sctd import --store statuses-absent --releases none r1",
             1,
             "ERR 2 DiskFault\n",
+            "sctd: statuses-absent: No such file or directory (os error 2)\n",
         ),
         (
             "sctd import --store statuses-open-gate --releases none r1",
             1,
             "ERR 8 Damaged\n",
+            "sctd: statuses-open-gate: the store is damaged; take your copy\n",
         ),
         (
             "sctd serve --store statuses-open-gate --releases none",
             1,
             "ERR 8 Damaged\n",
+            "sctd: statuses-open-gate: the store is damaged; take your copy\n",
+        ),
+        (
+            "sctd status --store statuses-open-gate",
+            1,
+            "ERR 8 Damaged\n",
+            "sctd: statuses-open-gate: the store is damaged; take your copy\n",
         ),
     ];
-    for (line, status, want) in &cases {
+    for (line, status, want, why) in &cases {
         let mut output = Vec::new(rt.alloc());
         let (got, faults) = run_words(&rt, *line, b"", &mut output)?;
         assert_eq!(rt; got, *status, "{line}");
         assert!(rt; output.as_slice() == want.as_bytes(), "{line}");
-        assert!(rt; faults.is_empty(), "{line}");
+        assert!(rt; faults.as_slice() == why.as_bytes(), "{line}");
     }
     Ok(())
 }
@@ -75,6 +90,8 @@ fn words_that_are_no_command(rt: HostRuntime) -> Result<(), Fail> {
         "sctd init statuses-none",
         "sctd import --store statuses-none r1",
         "sctd serve --store statuses-none",
+        "sctd status",
+        "sctd status --store statuses-none --releases none",
         "sctd demo more",
     ];
     for line in lines {
@@ -117,12 +134,13 @@ fn output_that_cannot_be_written(rt: HostRuntime) -> Result<(), Fail> {
         ("sctd import --store statuses-short --releases none r1", 15),
         ("sctd serve --store statuses-short --releases none", 10),
         ("sctd serve --store statuses-absent --releases none", 15),
+        ("sctd status --store statuses-short", 10),
     ];
     for (line, room) in &cases {
         let mut output = Short { room: *room };
         let (status, faults) = run_words(&rt, *line, b"0 STATUS\n", &mut output)?;
         assert_eq!(rt; status, 1, "{line}");
-        assert!(rt; faults.as_slice() == b"ERR 51 Write\n".as_slice(), "{line}");
+        assert!(rt; faults.ends_with(b"ERR 51 Write\n".as_slice()), "{line}");
     }
     Ok(())
 }

@@ -1,5 +1,7 @@
 //! Lines with little memory.
 
+use crate::without::{FIRST, SECOND, THIRD, came, wanted};
+use acceptance_fixtures::lines;
 use history_store::Refusal;
 use line_fixtures::{SCRIPT, Server, input_of, replies_of, roomy_disk, takes_none};
 use line_server::ServeFault;
@@ -16,8 +18,6 @@ const TRIES: usize = 40_000;
 
 /// The most bytes that the replies have.
 const OUTPUT: usize = 65_536;
-
-const OUT_OF_MEMORY: &[u8] = b"ERR 1 OutOfMemory\n";
 
 /// A new store on a disk that needs no memory.
 fn new_server(alloc: Global) -> Result<Server, Refusal> {
@@ -48,36 +48,11 @@ fn replies_in(alloc: Global, output: &[u8]) -> Result<Vec<Vec<u8>>, AllocError> 
     Ok(replies)
 }
 
-/// The lines of the script, but for those that were refused for want of memory.
-fn input_without(alloc: Global, replies: &[Vec<u8>]) -> Result<Vec<u8>, AllocError> {
-    let mut input = Vec::new(alloc);
-    for (place, (line, _)) in SCRIPT.iter().enumerate() {
-        let is_refused =
-            matches!(replies.get(place), Some(said) if said.as_slice() == OUT_OF_MEMORY);
-        if !is_refused {
-            input.extend_from_slice(line.as_bytes())?;
-            input.push(b'\n')?;
-        }
-    }
-    Ok(input)
-}
-
-/// The replies, but for those that say that memory lacks.
-fn replies_without(alloc: Global, replies: &[Vec<u8>]) -> Result<Vec<u8>, AllocError> {
-    let mut output = Vec::new(alloc);
-    for said in replies {
-        if said.as_slice() != OUT_OF_MEMORY {
-            output.extend_from_slice(said.as_slice())?;
-        }
-    }
-    Ok(output)
-}
-
 /// How many lines were refused for want of memory, where only such lines were that may be.
 fn count_refused(replies: &[Vec<u8>]) -> Option<usize> {
     let mut refused = 0usize;
     for (place, (line, _)) in SCRIPT.iter().enumerate() {
-        if matches!(replies.get(place), Some(said) if said.as_slice() == OUT_OF_MEMORY) {
+        if !came(replies, place) {
             if takes_none(*line) {
                 return None;
             }
@@ -87,14 +62,17 @@ fn count_refused(replies: &[Vec<u8>]) -> Option<usize> {
     Some(refused)
 }
 
-/// Whether the lines that weren't refused for want of memory
-/// are answered as where the refused ones never came.
-fn is_as_without(alloc: Global, replies: &[Vec<u8>]) -> Result<bool, Fail> {
-    let input = input_without(alloc, replies)?;
-    let want = replies_without(alloc, replies)?;
-    let mut server = new_server(alloc)?;
-    let said = server.served(input.as_slice())?;
-    Ok(said == want && replies.len() == SCRIPT.len())
+/// Whether there is a reply to each line, and each
+/// that came is answered as where the refused ones never came.
+fn is_as_without(alloc: Global, replies: &[Vec<u8>]) -> Result<bool, AllocError> {
+    for (place, (_, usual)) in SCRIPT.iter().enumerate() {
+        let want = lines(alloc, wanted(replies, place, usual))?;
+        let is_wanted = matches!(replies.get(place), Some(said) if *said == want);
+        if came(replies, place) && !is_wanted {
+            return Ok(false);
+        }
+    }
+    Ok(replies.len() == SCRIPT.len())
 }
 
 /// What came of a run.
@@ -102,9 +80,16 @@ fn is_as_without(alloc: Global, replies: &[Vec<u8>]) -> Result<bool, Fail> {
 enum Outcome {
     /// No line was refused for want of memory.
     Whole,
-    /// The buffer was, or so many lines.
-    Refused(usize),
+    /// The buffer was, and no line was read.
+    NotBegun,
+    /// So many lines were refused, and whether all imports were.
+    Refused(usize, bool),
     Wrong,
+}
+
+/// Whether each import was refused.
+fn has_no_import(replies: &[Vec<u8>]) -> bool {
+    !came(replies, FIRST) && !came(replies, SECOND) && !came(replies, THIRD)
 }
 
 /// Serves the script with so much memory.
@@ -121,37 +106,71 @@ fn run(
     scarcity.relax();
     match served {
         Ok(_) => {}
-        Err(ServeFault::OutOfMemory) if output.is_empty() => return Ok(Outcome::Refused(0)),
+        Err(ServeFault::OutOfMemory) if output.is_empty() => return Ok(Outcome::NotBegun),
         Err(_) => return Ok(Outcome::Wrong),
     }
     let replies = replies_in(alloc, output.as_slice())?;
     match count_refused(replies.as_slice()) {
         Some(refused) if is_as_without(alloc, replies.as_slice())? => match refused {
             0 => Ok(Outcome::Whole),
-            _ => Ok(Outcome::Refused(refused)),
+            _ => Ok(Outcome::Refused(refused, has_no_import(replies.as_slice()))),
         },
         _ => Ok(Outcome::Wrong),
     }
 }
 
+/// What came of the runs up to one in which nothing was refused.
+#[derive(Clone, Copy, Debug, PartialEq, Eq)]
+struct Runs {
+    /// How many weren't begun.
+    not_begun: usize,
+    /// In how many lines were refused.
+    refused: usize,
+    /// In how many of these all imports were.
+    without_imports: usize,
+    /// The most lines that were refused in one.
+    most: usize,
+}
+
+impl Runs {
+    /// Counts one more run in which so many lines were refused.
+    fn count(&mut self, lines: usize, is_without: bool) {
+        self.refused = self.refused.saturating_add(1);
+        self.without_imports = self.without_imports.saturating_add(usize::from(is_without));
+        self.most = self.most.max(lines);
+    }
+}
+
+/// Serves the script with ever more memory, until no line is refused; none where a run goes wrong.
+fn run_with_each_room(alloc: Global, input: &[u8]) -> Result<Option<Runs>, Fail> {
+    let mut scarcity = Scarcity::new(alloc)?;
+    let mut runs = Runs {
+        not_begun: 0,
+        refused: 0,
+        without_imports: 0,
+        most: 0,
+    };
+    for number in 0..TRIES {
+        match run(alloc, &mut scarcity, input, STEP * number)? {
+            Outcome::Whole => return Ok(Some(runs)),
+            Outcome::NotBegun => runs.not_begun = runs.not_begun.saturating_add(1),
+            Outcome::Refused(lines, is_without) => runs.count(lines, is_without),
+            Outcome::Wrong => return Ok(None),
+        }
+    }
+    Ok(None)
+}
+
 #[test]
 fn each_growth_of_a_run(rt: HostRuntime) -> Result<(), Fail> {
-    let mut scarcity = Scarcity::new(rt.alloc())?;
     let input = input_of(rt.alloc(), &SCRIPT)?;
     let said = new_server(rt.alloc())?.served(input.as_slice())?;
     assert!(rt; said == replies_of(rt.alloc(), &SCRIPT)?);
-    let mut is_whole = false;
-    for number in 0..TRIES {
-        let room = STEP * number;
-        match run(rt.alloc(), &mut scarcity, input.as_slice(), room)? {
-            Outcome::Whole => {
-                is_whole = true;
-                break;
-            }
-            Outcome::Refused(_) => {}
-            Outcome::Wrong => assert!(rt; false, "with {room} bytes"),
-        }
-    }
-    assert!(rt; is_whole);
+    let runs = run_with_each_room(rt.alloc(), input.as_slice())?.ok_or("a run went wrong")?;
+    // The buffer has 4,098 bytes.
+    assert!(rt; runs.not_begun >= 250, "{runs:?}");
+    assert!(rt; runs.refused >= 250 && runs.most >= 5, "{runs:?}");
+    assert!(rt; runs.without_imports > 0, "{runs:?}");
+    assert!(rt; runs.without_imports < runs.refused, "{runs:?}");
     Ok(())
 }

@@ -5,3 +5,5 @@
 mod growths;
 #[cfg(test)]
 mod overlong;
+#[cfg(test)]
+mod without;

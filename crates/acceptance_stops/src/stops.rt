@@ -1,7 +1,7 @@
 //! The script, stopped at each moment.
 
-use crate::script::{CHOICES, RELEASES, SCRIPT, holds, make};
-use acceptance_fixtures::{Example, image_after};
+use crate::script::{CHOICES, RELEASES, SCRIPT, make};
+use acceptance_fixtures::{Example, holds, image_after};
 use disk_model::{Choice, MemDisk};
 use history_store::Refusal;
 use std::alloc::Global;

@@ -125,18 +125,19 @@ fn ends_and_faults(rt: HostRuntime) -> Result<(), Fail> {
 
 #[test]
 fn long_lines(rt: HostRuntime) -> Result<(), Fail> {
-    let ends: [(usize, &[u8], &[u8]); 9] = [
-        (4_096, b"\n", b"END 0\n"),
-        (4_096, b"\r\n", b"END 0\n"),
-        (4_096, b"", b"END 0\n"),
-        (4_096, b"\r", b"ERR 40 Long\n"),
-        (4_096, b"\r\r\n", b"ERR 40 Long\n"),
-        (4_097, b"\n", b"ERR 40 Long\n"),
-        (4_097, b"\r\n0 STATUS\n", b"ERR 40 Long\nOK 0 0 0 -\n"),
-        (4_097, b"", b"ERR 40 Long\n"),
-        (9_999, b"\n0 STATUS", b"ERR 40 Long\nOK 0 0 0 -\n"),
+    // So many bytes, what follows them, how many lines these are, and what is written.
+    let ends: [(usize, &[u8], u64, &[u8]); 9] = [
+        (4_096, b"\n", 1, b"END 0\n"),
+        (4_096, b"\r\n", 1, b"END 0\n"),
+        (4_096, b"", 1, b"END 0\n"),
+        (4_096, b"\r", 1, b"ERR 40 Long\n"),
+        (4_096, b"\r\r\n", 1, b"ERR 40 Long\n"),
+        (4_097, b"\n", 1, b"ERR 40 Long\n"),
+        (4_097, b"\r\n0 STATUS\n", 2, b"ERR 40 Long\nOK 0 0 0 -\n"),
+        (4_097, b"", 1, b"ERR 40 Long\n"),
+        (9_999, b"\n0 STATUS", 2, b"ERR 40 Long\nOK 0 0 0 -\n"),
     ];
-    for (length, end, want) in &ends {
+    for (length, end, lines, want) in &ends {
         let mut line = Vec::from_slice(rt.alloc(), b"0 TERMS 20210131 10 ")?;
         line.resize(*length, b'a')?;
         line.extend_from_slice(*end)?;
@@ -146,7 +147,7 @@ fn long_lines(rt: HostRuntime) -> Result<(), Fail> {
             failure: None,
         };
         let (answer, output) = served(rt.alloc(), input, 1_000, 4_096, 4_096)?;
-        assert!(rt; answer.is_ok(), "{length}");
+        assert_eq!(rt; answer, Ok(*lines), "{length}");
         assert!(rt; output.as_slice() == *want, "{length} {end:?}");
     }
     Ok(())

@@ -14,4 +14,5 @@ pub mod First
 pub mod Keyed
 pub mod Apart
 pub mod Current
+pub mod Early
 pub mod Pushing

@@ -25,7 +25,7 @@ use std::alloc::{AllocError, Global};
 use std::marker::Model;
 
 /// How many lists an index has room for.
-pub const MAX_LISTS: usize = 128;
+pub const MAX_LISTS: usize = 250;
 
 /// The places of several segments' rows, no key of which is listed twice.
 #[derive(Drop)]
@@ -69,6 +69,13 @@ fn is_shown(p: &Posted, pin: u32) -> bool
     ensures { IsTrue result ↔ (p.now.import ≤ pin) }
 {
     p.import <= pin
+}
+
+/// Whether the version holds from the date on or before it, and the pin shows it.
+fn is_early(p: &Posted, time: EffectiveTime, pin: u32) -> bool
+    ensures { IsTrue result ↔ ((p.now.key.time ≤ time) × (p.now.import ≤ pin)) }
+{
+    p.key.time <= time && p.import <= pin
 }
 
 impl Index {
@@ -148,6 +155,10 @@ impl Index {
         ensures { (lists : List (List StampedRow)) → Lists self.now lists
             → IsTrue result ↔ IsCurrentAt lists time pin segment at }
     {
+        let _listed = self.lists();
+        if !is_early(&at, time, pin) {
+            return false;
+        }
         match self.picked(at.key.kind, at.key.id, time, pin) {
             Some((n, p)) => is_same_place(n, &p, segment, &at),
             None => false,

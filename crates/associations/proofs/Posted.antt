@@ -59,6 +59,7 @@ link_body row at (body.Relationship r) l a e h =
       | false ↦ λ t k. absurd k
     ] refl h
 link_body row at (body.Association x) l a e h = absurd h
+link_body row at (body.Concrete x) l a e h = absurd h
 
 link_row : (row : Version) (at : Posted) (l : Link) → Has (posted_link row at) l → IsLinkOf l row × (l.at ≡ at)
 link_row row at l h =
@@ -83,6 +84,7 @@ reference_body row at (body.Association x) r a e h = elim h [
       ))
   | inr f ↦ absurd f
 ]
+reference_body row at (body.Concrete x) r a e h = absurd h
 
 reference_row : (row : Version) (at : Posted) (r : Reference) → Has (posted_reference row at) r → IsReferenceOf r row × (r.at ≡ at)
 reference_row row at r h =
@@ -115,6 +117,7 @@ all_link_body concept at (body.Relationship r) e =
     let l : Link = record { destination = r.destination; source = r.source; at = at } in
     (l, subst (λ b. Has (if b then l ∷ [] else []) l) (sym (both (r.destination == concept) (r.type_id == is_a) e).1) (inl refl), refl)
 all_link_body concept at (body.Association a) e = absurd (cc)
+all_link_body concept at (body.Concrete c) e = absurd (cc)
 
 all_link : (concept : ℕ) (row : Version) (at : Posted) → is_child_of concept row ≡ true → (l : Link) × Has (posted_link row at) l × (l.at ≡ at)
 all_link concept row at e =
@@ -127,6 +130,7 @@ all_reference_body d at (body.Concept c) e = absurd (cc)
 all_reference_body d at (body.Description x) e = absurd (cc)
 all_reference_body d at (body.Relationship r) e = absurd (cc)
 all_reference_body d at (body.Association a) e = (record { referenced = a.referenced; refset = a.refset; target = a.target; at = at }, inl refl, refl)
+all_reference_body d at (body.Concrete c) e = absurd (cc)
 
 all_reference : (d : ℕ) (row : Version) (at : Posted) → is_replacement_of d row ≡ true → (r : Reference) × Has (posted_reference row at) r × (r.at ≡ at)
 all_reference d row at e =

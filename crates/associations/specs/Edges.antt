@@ -65,6 +65,7 @@ link_of_body (body.Concept c) at = []
 link_of_body (body.Description d) at = []
 link_of_body (body.Relationship r) at = if r.type_id == is_a then link r at ∷ [] else []
 link_of_body (body.Association a) at = []
+link_of_body (body.Concrete c) at = []
 
 -- an association is a reference
 abbrev pub reference_of_body : Body → Posted → List Reference
@@ -72,6 +73,7 @@ reference_of_body (body.Concept c) at = []
 reference_of_body (body.Description d) at = []
 reference_of_body (body.Relationship r) at = []
 reference_of_body (body.Association a) at = reference a at ∷ []
+reference_of_body (body.Concrete c) at = []
 
 -- what is posted of a row: what an active one says
 abbrev pub posted_link : Version → Posted → List Link

@@ -70,7 +70,8 @@ impl Model for Sealed {
 
     ghost view = { λ a. record { links = a.links.items; references = a.references.items } };
 
-    ghost invariant = { λ a. IsSealed (record { links = a.links.items; references = a.references.items }) };
+    ghost invariant = { λ a.
+        IsSealed (record { links = a.links.items; references = a.references.items }) };
 }
 
 fn link_of(relationship: &Relationship, at: Posted) -> Link

@@ -1,6 +1,6 @@
-//! Times what is asked of an index over made places, in 2, 8 and 128 lists. Its word is the number
-//! of places that are picked and paged; beside them stand a twentieth as many descriptions, and as
-//! many children of one concept. Without a word there are 2,000, and nothing is printed.
+//! Times what is asked of an index over made places, in 2, 8, 128 and 250 lists. Its word is the
+//! number of places that are picked and paged; beside them stand a twentieth as many descriptions,
+//! and as many children of one concept. Without a word there are 2,000, and nothing is printed.
 #![tactic(auto)]
 
 mod asking;
@@ -39,7 +39,7 @@ fn main(rt: HostRuntime) -> io::Result<()> {
         Some(word) => word.parse::<u64>().ok().unwrap_or(SMALL),
         None => SMALL,
     };
-    for lists in [2u64, 8, 128] {
+    for lists in [2u64, 8, 128, 250] {
         run(&rt, size, lists, word.is_none())?;
     }
     Ok(())

@@ -21,16 +21,16 @@ use Rattle.command_line.specs.declared.words.Refused.{Refused}
 use Rattle.command_line.specs.declared.words.Refused.TheVariants as refusals
 use Rattle.command_line.specs.Endings.{IsTold}
 use Rattle.command_line.specs.Words.{AskFor, AskForNone}
-use Rattle.command_line.specs.Tasks.{IsMade, IsImport, IsServing, IsServingNew}
+use Rattle.command_line.specs.Tasks.{IsMade, IsImport, IsStatus, IsServing, IsServingNew}
 
--- it was told that what stands under a name can't be had
+-- it was told that what is asked for under a name can't be had
 abbrev pub IsMissing : Result Ending ServeFault → Option (List ℕ) → Option (List ℕ) → Type 0
 IsMissing ended old new = IsTold ended (Err (Store DiskFault)) old new
 
 -- it was done on what stands under a name, which was left so; or that can't be had
 abbrev pub IsDoneAt : {D : Type 0} → (D → Type 0) → (D → D → Type 0) → Type 0 → Option D → Type 0
-IsDoneAt {D} gives done missing left =
-    ((device : D) × (after : D) × gives device × done device after × (left ≡ Some after))
+IsDoneAt {D} had done missing left =
+    ((device : D) × (after : D) × had device × done device after × (left ≡ Some after))
     ⊎ (missing × (left ≡ None))
 
 -- the lines of the script were served, as lines that come in
@@ -44,35 +44,44 @@ pub record IsDemonstrated (script : List ℕ) (ended : Result Ending ServeFault)
   pub serving : IsServingNew ⊤ sample_files
       (λ _. Unit {0}) memory_moments failure_count disk left ended (Some script) rest old new
 
--- the task was done so, and the device that it was done on was left so;
+-- the task was done so, and the device that it was done on was left so: a store is made on what
+-- was made under its name and keeps it, and all else is done on what stood under its name;
 -- only a server reads, and the demonstration is done on none
-abbrev pub Does : {D : Type 0} → (List ℕ → D → Type 0) → Type 0 → (List ℕ → Releases) → (D → Type 0)
-    → (D → Moments) → (D → ℕ) → List ℕ → Task → Option D → Result Ending ServeFault
+abbrev pub Does : {D : Type 0} → (List ℕ → D → Type 0) → (List ℕ → Type 0)
+    → (List ℕ → D → Type 0) → (List ℕ → Type 0) → (List ℕ → Type 0)
+    → Type 0 → (List ℕ → Releases) → (D → Type 0) → (D → Moments) → (D → ℕ) → List ℕ
+    → Task → Option D → Result Ending ServeFault
     → Option (List ℕ) → Option (List ℕ) → Option (List ℕ) → Option (List ℕ) → Type 0
-Does gives honest_source has honest moments failures script
+Does stands withholds makes keeps loses honest_source has honest moments failures script
     (tasks.Init store) left ended input rest old new =
-    IsDoneAt (gives store.now)
+    IsDoneAt (λ device. makes store.now device × keeps store.now)
     (λ device after. IsMade honest moments failures device after ended old new)
-    (IsMissing ended old new) left
+    (IsMissing ended old new × loses store.now) left
     × (rest ≡ input)
-Does gives honest_source has honest moments failures script
+Does stands withholds makes keeps loses honest_source has honest moments failures script
     (tasks.Import store releases name) left ended input rest old new =
-    IsDoneAt (gives store.now)
+    IsDoneAt (stands store.now)
     (λ device after. IsImport honest_source
     (has releases.now) honest moments failures name.now device after ended old new)
-    (IsMissing ended old new) left × (rest ≡ input)
-Does gives honest_source has honest moments failures script
+    (IsMissing ended old new × withholds store.now) left × (rest ≡ input)
+Does stands withholds makes keeps loses honest_source has honest moments failures script
+    (tasks.Status store) left ended input rest old new =
+    IsDoneAt (stands store.now)
+    (λ device after. IsStatus honest moments failures device after ended old new)
+    (IsMissing ended old new × withholds store.now) left × (rest ≡ input)
+Does stands withholds makes keeps loses honest_source has honest moments failures script
     (tasks.Serve store releases) left ended input rest old new =
-    IsDoneAt (gives store.now)
+    IsDoneAt (stands store.now)
     (λ device after. IsServing honest_source
     (has releases.now) honest moments failures device after ended input rest old new)
-    (IsMissing ended old new × (rest ≡ input)) left
-Does gives honest_source has honest moments failures script tasks.Demo left ended input rest old new
-    =
+    (IsMissing ended old new × (rest ≡ input) × withholds store.now) left
+Does stands withholds makes keeps loses honest_source has honest moments failures script
+    tasks.Demo left ended input rest old new =
     IsDemonstrated script ended old new × (left ≡ None) × (rest ≡ input)
 
 -- The words ask for a task, and it was done. The status is 0 only where it ended so.
-pub record IsRun {D : Type 0} (gives : List ℕ → D → Type 0) (honest_source : Type 0)
+pub record IsRun {D : Type 0} (stands : List ℕ → D → Type 0) (withholds : List ℕ → Type 0)
+    (makes : List ℕ → D → Type 0) (keeps loses : List ℕ → Type 0) (honest_source : Type 0)
     (has : List ℕ → Releases) (honest : D → Type 0) (moments : D → Moments) (failures : D → ℕ)
     (script : List ℕ) (words : List (List ℕ)) (left : Option D) (status : ℕ)
     (input rest old new : Option (List ℕ)) : Type 0 where
@@ -81,8 +90,8 @@ pub record IsRun {D : Type 0} (gives : List ℕ → D → Type 0) (honest_source
   pub ended : Result Ending ServeFault
   -- what was written, and went out at the end
   pub written : Option (List ℕ)
-  pub does : Does gives honest_source has honest moments failures script task left ended input rest
-      old written
+  pub does : Does stands withholds makes keeps loses honest_source has honest moments failures
+      script task left ended input rest old written
   pub kept : Keeps written new
   pub at_most : status ≤ 1
   pub done : status ≡ 0 → ended ≡ Ok Done

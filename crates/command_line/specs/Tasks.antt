@@ -1,5 +1,5 @@
 -- What each task does.
-use Rattle.std.specs.Prelude.{◌≡◌, ◌⊎◌, ◌↔◌, ◌≤◌, ℕ, List, [], ◌++◌, length, codes, Option, Result, Ok, Err, IfOk}
+use Rattle.std.specs.Prelude.{◌≡◌, ◌⊎◌, ◌↔◌, ◌≤◌, ⊤, ℕ, List, [], ◌++◌, length, codes, Option, None, Result, Ok, Err, IfOk}
 use Rattle.disk_model.specs.Disk.{Moments, IsImage, LeavesOnly}
 use Rattle.blocks.specs.Calls.{MakesCalls}
 use Rattle.blocks.specs.Outside.{StemsWithin}
@@ -69,43 +69,76 @@ pub record IsMade {D : Type 0} (honest : D → Type 0) (moments : D → Moments)
   pub left_so : left ≡ device_of had
   pub told : IsTold ended (making_told had) old new
 
+-- ---- one line
+
+-- The line was answered, where no session is pinned, the
+-- reply was told, and the device was left as it then was.
+pub record IsLineTold {D : Type 0} (honest_source : Type 0) (has : Releases) (honest : D → Type 0)
+    (moments : D → Moments) (failures : D → ℕ) (line : List ℕ) (store : Stored D) (left : D)
+    (ended : Result Ending ServeFault) (old new : Option (List ℕ)) : Type 0 where
+  pub turn : Turn
+  pub pins : List (Option ℕ)
+  pub after : Stored D
+  pub line_is : turn.line ≡ line
+  pub answered : IsTurn honest_source has honest moments failures
+      (desk unpinned store) turn (desk pins after)
+  pub told : IsTold ended turn.outcome old new
+  pub left_so : left ≡ after.disk
+
+-- it was done on the store; or it was told why there is none, and
+-- the device was left as the opening left it
+abbrev pub OnStore : {D : Type 0} → (Stored D → Type 0) → StoreOr D → D → Result Ending ServeFault
+    → Option (List ℕ) → Option (List ℕ) → Type 0
+OnStore done (Ok store) left ended old new = done store
+OnStore done (Err e) left ended old new = IsTold ended (Err (Store e.0)) old new × (left ≡ e.1)
+
+-- the store was opened from this device, and it was done on it
+pub record IsOnOpened {D : Type 0} (honest : D → Type 0) (moments : D → Moments) (failures : D → ℕ)
+    (done : Stored D → Type 0) (device left : D)
+    (ended : Result Ending ServeFault) (old new : Option (List ℕ)) : Type 0 where
+  pub had : StoreOr D
+  pub opening : IsOpening honest moments failures device had
+  pub does : OnStore done had left ended old new
+
 -- ---- import
 
 -- the line of a session that imports the release under a name
 abbrev pub import_line : List ℕ → List ℕ
 import_line name = codes "0 IMPORT " ++ name
 
--- The line that imports the release was answered, where no session is
--- pinned, the reply was told, and the device was left as it then was.
-pub record IsImportTold {D : Type 0} (honest_source : Type 0) (has : Releases) (honest : D → Type 0)
-    (moments : D → Moments) (failures : D → ℕ) (name : List ℕ) (store : Stored D) (left : D)
-    (ended : Result Ending ServeFault) (old new : Option (List ℕ)) : Type 0 where
-  pub turn : Turn
-  pub pins : List (Option ℕ)
-  pub after : Stored D
-  pub line : turn.line ≡ import_line name
-  pub answered : IsTurn honest_source has honest moments failures
-      (desk unpinned store) turn (desk pins after)
-  pub told : IsTold ended turn.outcome old new
-  pub left_so : left ≡ after.disk
-
--- so, or memory lacked for the line; or it was told why there is no store;
--- and the device was left as the store or its opening left it
+-- the line that imports the release was answered, or memory lacked for it
 abbrev pub Imports : {D : Type 0} → Type 0 → Releases → (D → Type 0) → (D → Moments) → (D → ℕ)
-    → List ℕ → StoreOr D → D → Result Ending ServeFault → Option (List ℕ) → Option (List ℕ) → Type 0
-Imports honest_source has honest moments failures name (Ok store) left ended old new =
-    IsImportTold honest_source has honest moments failures name store left ended old new
+    → List ℕ → D → Result Ending ServeFault → Option (List ℕ) → Option (List ℕ) → Stored D → Type 0
+Imports honest_source has honest moments failures name left ended old new store =
+    IsLineTold honest_source has honest moments failures (import_line name) store left ended old new
     ⊎ (IsTold ended (Err (Store OutOfMemory)) old new × (left ≡ store.disk))
-Imports honest_source has honest moments failures name (Err e) left ended old new =
-    IsTold ended (Err (Store e.0)) old new × (left ≡ e.1)
 
 -- the store was opened from this device, and the release was imported into it
-pub record IsImport {D : Type 0} (honest_source : Type 0) (has : Releases) (honest : D → Type 0)
-    (moments : D → Moments) (failures : D → ℕ) (name : List ℕ) (device left : D)
-    (ended : Result Ending ServeFault) (old new : Option (List ℕ)) : Type 0 where
-  pub had : StoreOr D
-  pub opening : IsOpening honest moments failures device had
-  pub imports : Imports honest_source has honest moments failures name had left ended old new
+abbrev pub IsImport : {D : Type 0} → Type 0 → Releases → (D → Type 0) → (D → Moments) → (D → ℕ)
+    → List ℕ → D → D → Result Ending ServeFault → Option (List ℕ) → Option (List ℕ) → Type 0
+IsImport honest_source has honest moments failures name device left ended old new =
+    IsOnOpened honest moments failures
+    (Imports honest_source has honest moments failures name left ended old new)
+    device left ended old new
+
+-- ---- status
+
+-- the line of a session that asks for the status
+abbrev pub status_line : List ℕ
+status_line = codes "0 STATUS"
+
+-- the line that asks for the status was answered, where there is no release
+abbrev pub TellsStatus : {D : Type 0} → (D → Type 0) → (D → Moments) → (D → ℕ) → D
+    → Result Ending ServeFault → Option (List ℕ) → Option (List ℕ) → Stored D → Type 0
+TellsStatus honest moments failures left ended old new store =
+    IsLineTold ⊤ (λ _. None) honest moments failures status_line store left ended old new
+
+-- the store was opened from this device, and its status was told
+abbrev pub IsStatus : {D : Type 0} → (D → Type 0) → (D → Moments) → (D → ℕ) → D → D
+    → Result Ending ServeFault → Option (List ℕ) → Option (List ℕ) → Type 0
+IsStatus honest moments failures device left ended old new =
+    IsOnOpened honest moments failures (TellsStatus honest moments failures left ended old new)
+    device left ended old new
 
 -- ---- serve
 

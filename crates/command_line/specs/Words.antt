@@ -38,6 +38,9 @@ import_command = with_rule
     (option (codes "releases")))
     (wanted (codes "name"))
 
+abbrev pub status_command : App
+status_command = with_rule (new_app (codes "status")) (option (codes "store"))
+
 abbrev pub demo_command : App
 demo_command = new_app (codes "demo")
 
@@ -48,9 +51,9 @@ empty_program =
 
 abbrev pub program : App
 program =
-    with_subcommand (with_subcommand (with_subcommand
+    with_subcommand (with_subcommand (with_subcommand (with_subcommand
     (with_subcommand empty_program init_command.top) import_command.top) serve_command.top)
-    demo_command.top
+    status_command.top) demo_command.top
 
 -- ---- what is built of them
 
@@ -74,6 +77,8 @@ Reads (Some read) (tasks.Import store releases name) =
 Reads (Some read) (tasks.Serve store releases) =
     (read.0 ≡ codes "serve") × (first_of (codes "store") read.1 ≡ Some store.now)
     × (first_of (codes "releases") read.1 ≡ Some releases.now)
+Reads (Some read) (tasks.Status store) =
+    (read.0 ≡ codes "status") × (first_of (codes "store") read.1 ≡ Some store.now)
 Reads (Some read) tasks.Demo = read.0 ≡ codes "demo"
 
 -- the words, of which the first is the program's name, are in order and ask for the task

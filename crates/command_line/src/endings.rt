@@ -8,6 +8,7 @@ ghost use Rattle.line_server.specs.Said.{Answer, Done as AllDone, said};
 ghost use Rattle.command_line.specs.declared.endings.Ending.TheVariants.{Done, Refused};
 ghost use Rattle.command_line.specs.Endings.{fault_number, fault_name, fault_line, IsTold};
 
+use crate::telling::Told;
 use history_store::Refusal;
 use line_server::{LineRefusal, Reply, ServeFault, done, refused};
 use std::alloc::Global;
@@ -85,10 +86,14 @@ fn name_of(fault: ServeFault) -> &'static str
 }
 
 /// Writes that all is done.
-pub(crate) fn tell_done<O: Write>(alloc: Global, output: &mut O) -> Result<Ending, ServeFault>
+pub(crate) fn tell_done<O: Write>(
+    alloc: Global,
+    output: &mut O,
+    told: &mut Told,
+) -> Result<Ending, ServeFault>
     ensures { IsTold result (Ok (AllDone [])) (O.contents output.old) (O.contents output.new) }
 {
-    tell(output, &done(alloc))
+    tell(output, &done(alloc), told)
 }
 
 /// Writes the line of a refusal.
@@ -96,20 +101,26 @@ pub(crate) fn refuse<O: Write>(
     alloc: Global,
     output: &mut O,
     refusal: Refusal,
+    told: &mut Told,
 ) -> Result<Ending, ServeFault>
     ensures { IsTold result (Err (Store refusal)) (O.contents output.old) (O.contents output.new) }
 {
-    tell(output, &refused(alloc, LineRefusal::Store(refusal)))
+    tell(output, &refused(alloc, LineRefusal::Store(refusal)), told)
 }
 
-/// Writes a reply.
-pub(crate) fn tell<O: Write>(output: &mut O, reply: &Reply) -> Result<Ending, ServeFault>
+/// Writes a reply, and notes what it says.
+pub(crate) fn tell<O: Write>(
+    output: &mut O,
+    reply: &Reply,
+    told: &mut Told,
+) -> Result<Ending, ServeFault>
     ensures { (outcome : Result Answer LineRefusal) → reply.now ≡ said outcome
         → IsTold result outcome (O.contents output.old) (O.contents output.new) }
 {
     if reply.write_to(output).is_err() {
         return Err(ServeFault::Write);
     }
+    told.note(reply);
     if reply.last().starts_with(b"ERR") {
         Ok(Ending::Refused)
     } else {

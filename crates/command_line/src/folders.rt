@@ -1,24 +1,46 @@
 //! Releases in unpacked folders.
 
 use crate::places::Places;
+use crate::telling::{Scene, Told, names_of, tell_why};
 use import_check::Release;
 use line_server::{Source, SourceFault};
 use std::alloc::Global;
+use std::io::Write;
 
 /// Has the releases in the folders below one.
 #[derive(Drop)]
-pub struct FolderSource<'a, P: Places> {
+pub struct FolderSource<'a, P: Places, E: Write> {
     pub places: &'a P,
     /// The folder that the releases' folders lie in.
     pub dir: &'a str,
+    /// Takes what stood in the way of a release.
+    pub faults: &'a mut E,
+    /// The names of the files of the release that was had last.
+    pub files: Vec<String>,
 }
 
-impl<P: Places> Source for FolderSource<'_, P> {
+impl<P: Places, E: Write> FolderSource<'_, P, E> {
+    /// Tells why a task on the store under a name was refused, if it was.
+    pub(crate) fn tell_why(&mut self, told: Told, store: &str, left: &P::Device) {
+        let scene = Scene {
+            store,
+            said: self.places.said(left),
+            files: &self.files,
+        };
+        tell_why(told, &scene, self.faults);
+    }
+}
+
+impl<P: Places, E: Write> Source for FolderSource<'_, P, E> {
     ghost is_honest = { λ s. P.is_honest s.places.now };
 
     ghost releases = { λ s. P.releases s.places.now s.dir.now };
 
     fn release(&mut self, alloc: Global, name: &str) -> Result<Release, SourceFault> {
-        self.places.release(alloc, self.dir, name)
+        let given = self.places.release(alloc, self.dir, name, self.faults);
+        if let Ok(release) = &given {
+            self.files = names_of(alloc, &release.files).unwrap_or(Vec::new(alloc));
+        }
+        given
     }
 }

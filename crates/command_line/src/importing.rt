@@ -1,12 +1,14 @@
 //! A release is imported.
 
-ghost use Rattle.std.specs.Prelude.{◌≡◌, IfOk, Ok, string_bytes};
+ghost use Rattle.std.specs.Prelude.{◌≡◌, IfOk, string_bytes};
 ghost use Rattle.command_line.specs.Tasks.{Imports, IsImport, import_line};
 
-use crate::endings::{Ending, refuse, tell};
+use crate::answering::answer_line;
+use crate::endings::{Ending, refuse};
+use crate::telling::Told;
 use disk_model::Disk;
 use history_store::{Refusal, Store};
-use line_server::{Pins, ServeFault, Source, answer};
+use line_server::{ServeFault, Source};
 use std::alloc::{AllocError, Global};
 use std::io::Write;
 
@@ -24,17 +26,16 @@ fn import_into<D: Disk + Drop, S: Source, O: Write>(
     source: &mut S,
     store: &mut Store<D>,
     output: &mut O,
+    told: &mut Told,
 ) -> Result<Ending, ServeFault>
     ensures { Imports (S.is_honest source.old) (S.releases source.old)
-        D.is_honest D.moments D.failures name.now (Ok store.old) store.new.disk result
-        (O.contents output.old) (O.contents output.new) }
+        D.is_honest D.moments D.failures name.now store.new.disk result
+        (O.contents output.old) (O.contents output.new) store.old }
 {
     let Ok(line) = line_of_import(alloc, name) else {
-        return refuse(alloc, output, Refusal::OutOfMemory);
+        return refuse(alloc, output, Refusal::OutOfMemory, told);
     };
-    let mut pins = Pins::new();
-    let reply = answer(alloc, line.as_bytes(), &mut pins, source, store);
-    tell(output, &reply)
+    answer_line(alloc, line.as_bytes(), source, store, output, told)
 }
 
 /// Imports a release into the store of a device, and tells the reply. The device comes back.
@@ -44,6 +45,7 @@ pub(crate) fn import<D: Disk + Drop, S: Source, O: Write>(
     name: &str,
     source: &mut S,
     output: &mut O,
+    told: &mut Told,
 ) -> (Result<Ending, ServeFault>, D)
     ensures { IsImport (S.is_honest source.old) (S.releases source.old)
         D.is_honest D.moments D.failures name.now device result.1 result.0
@@ -52,9 +54,9 @@ pub(crate) fn import<D: Disk + Drop, S: Source, O: Write>(
     match Store::open(alloc, device) {
         Ok(store) => {
             let mut store = store;
-            let ended = import_into(alloc, name, source, &mut store, output);
+            let ended = import_into(alloc, name, source, &mut store, output, told);
             (ended, store.close())
         }
-        Err((refusal, device)) => (refuse(alloc, output, refusal), device),
+        Err((refusal, device)) => (refuse(alloc, output, refusal, told), device),
     }
 }

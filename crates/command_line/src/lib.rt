@@ -1,14 +1,17 @@
 //! The command line of `sctd`: what its words ask for, and how that is done.
 #![tactic(auto)]
 
+mod answering;
 mod demonstration;
 mod endings;
 mod folders;
 mod importing;
+mod inspecting;
 mod making;
 mod places;
 mod running;
 mod serving;
+mod telling;
 #[cfg(test)]
 mod tests;
 mod words;

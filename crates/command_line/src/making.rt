@@ -3,6 +3,7 @@
 ghost use Rattle.command_line.specs.Tasks.{IsMade};
 
 use crate::endings::{Ending, refuse, tell_done};
+use crate::telling::Told;
 use disk_model::Disk;
 use history_store::Store;
 use line_server::ServeFault;
@@ -14,12 +15,13 @@ pub(crate) fn init<D: Disk + Drop, O: Write>(
     alloc: Global,
     device: D,
     output: &mut O,
+    told: &mut Told,
 ) -> (Result<Ending, ServeFault>, D)
     ensures { IsMade D.is_honest D.moments D.failures device result.1 result.0
         (O.contents output.old) (O.contents output.new) }
 {
     match Store::create(alloc, device) {
-        Ok(store) => (tell_done(alloc, output), store.close()),
-        Err((refusal, device)) => (refuse(alloc, output, refusal), device),
+        Ok(store) => (tell_done(alloc, output, told), store.close()),
+        Err((refusal, device)) => (refuse(alloc, output, refusal, told), device),
     }
 }

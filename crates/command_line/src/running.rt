@@ -1,18 +1,20 @@
 //! How what the words ask for is done.
 
-ghost use Rattle.std.specs.Prelude.{◌≡◌, ◌≤◌, ◌⊎◌, map, string_bytes};
-ghost use Rattle.command_line.specs.Tasks.{IsMade, IsImport, IsServing};
+ghost use Rattle.std.specs.Prelude.{◌≡◌, ◌≤◌, ◌⊎◌, IfOk, IfErr, map, string_bytes};
+ghost use Rattle.command_line.specs.Tasks.{IsMade, IsImport, IsStatus, IsServing};
 ghost use Rattle.command_line.specs.Runs.{IsDoneAt, IsMissing, IsDemonstrated, Does, IsRun, IsNoTask, IsExplained};
 
 use crate::demonstration::SCRIPT;
 use crate::endings::{Ending, fail, finish, refuse};
 use crate::folders::FolderSource;
 use crate::importing::import;
+use crate::inspecting::status;
 use crate::making::init;
 use crate::places::Places;
 use crate::serving::{serve_device, serve_new};
+use crate::telling::{Scene, Told, tell_layout, tell_why};
 use crate::words::{Refused, Task, task_of};
-use disk_model::MemDisk;
+use disk_model::{DiskFault, MemDisk};
 use history_store::Refusal;
 use line_server::{Sample, ServeFault};
 use std::alloc::Global;
@@ -32,7 +34,8 @@ pub fn run<P: Places, I: Read, O: Write, E: Write>(
     ensures status { result.0 ≤ 2 }
     // Words that are no command do nothing but to be told.
     ensures no_command { result.0 ≡ 2 → (input.new ≡ input.old) × (output.new ≡ output.old) }
-    ensures done { IsRun (P.gives places.now) (P.is_honest places.now) (P.releases places.now)
+    ensures done { IsRun (P.stands places.now) (P.withholds places.now) (P.makes places.now)
+        (P.keeps places.now) (P.loses places.now) (P.is_honest places.now) (P.releases places.now)
         P.Device.is_honest P.Device.moments P.Device.failures SCRIPT.now
         (map string_bytes words.now) result.1 result.0
         (I.remaining input.old) (I.remaining input.new)
@@ -43,7 +46,7 @@ pub fn run<P: Places, I: Read, O: Write, E: Write>(
 {
     match task_of(alloc, words) {
         Ok(task) => {
-            let (ended, left) = perform(places, alloc, &task, input, output);
+            let (ended, left) = perform(places, alloc, &task, input, output, faults);
             (finish(ended, output, faults), left)
         }
         Err(refused) => (explain(&refused, output, faults), None),
@@ -53,104 +56,186 @@ pub fn run<P: Places, I: Read, O: Write, E: Write>(
 /// How a task ended, and the device that it was done on, if there is one.
 type Ended<D> = (Result<Ending, ServeFault>, Option<D>);
 
-/// Does a task.
-fn perform<P: Places, I: Read, O: Write>(
+/// Does a task. Where it is refused, `faults` is told why.
+fn perform<P: Places, I: Read, O: Write, E: Write>(
     places: &P,
     alloc: Global,
     task: &Task<'_>,
     input: &mut I,
     output: &mut O,
+    faults: &mut E,
 ) -> Ended<P::Device>
-    ensures { Does (P.gives places.now) (P.is_honest places.now) (P.releases places.now)
+    ensures { Does (P.stands places.now) (P.withholds places.now) (P.makes places.now)
+        (P.keeps places.now) (P.loses places.now) (P.is_honest places.now) (P.releases places.now)
         P.Device.is_honest P.Device.moments P.Device.failures SCRIPT.now task.now
         result.1 result.0
         (I.remaining input.old) (I.remaining input.new)
         (O.contents output.old) (O.contents output.new) }
 {
     match task {
-        Task::Init { store } => init_at(places, alloc, *store, output),
+        Task::Init { store } => init_at(places, alloc, *store, output, faults),
         Task::Import {
             store,
             releases,
             name,
-        } => import_at(places, alloc, *store, *releases, *name, output),
+        } => import_at(places, alloc, *store, *releases, *name, output, faults),
         Task::Serve { store, releases } => {
-            serve_at(places, alloc, *store, *releases, input, output)
+            serve_at(places, alloc, *store, *releases, input, output, faults)
         }
+        Task::Status { store } => status_at(places, alloc, *store, output, faults),
         Task::Demo => (demo(alloc, output), None),
     }
 }
 
+/// What stands under a name, or a new one where nothing does. Its name is seen to stay
+/// before anything is written, so that a store that was made is found after a stop.
+fn new_device<P: Places, E: Write>(
+    places: &P,
+    alloc: Global,
+    path: &str,
+    faults: &mut E,
+) -> Result<P::Device, DiskFault>
+    ensures had { IfOk result (P.makes places.now path.now) }
+    ensures kept { IfOk result (λ _. P.keeps places.now path.now) }
+    ensures missing { IfErr result (λ _. P.loses places.now path.now) }
+{
+    let device = places.device_or_new(path, faults)?;
+    places.settle(alloc, path, faults)?;
+    Ok(device)
+}
+
 /// Makes a store under a name.
-fn init_at<P: Places, O: Write>(
+fn init_at<P: Places, O: Write, E: Write>(
     places: &P,
     alloc: Global,
     path: &str,
     output: &mut O,
+    faults: &mut E,
 ) -> Ended<P::Device>
-    ensures { IsDoneAt (P.gives places.now path.now)
+    ensures { IsDoneAt
+        (λ device. P.makes places.now path.now device × P.keeps places.now path.now)
         (λ device after. IsMade P.Device.is_honest P.Device.moments P.Device.failures
         device after result.0 (O.contents output.old) (O.contents output.new))
-        (IsMissing result.0 (O.contents output.old) (O.contents output.new)) result.1 }
+        (IsMissing result.0 (O.contents output.old) (O.contents output.new)
+        × P.loses places.now path.now) result.1 }
 {
-    match places.device_or_new(path) {
+    let mut told = Told::new();
+    match new_device(places, alloc, path, faults) {
         Ok(device) => {
-            let (ended, left) = init(alloc, device, output);
+            let (ended, left) = init(alloc, device, output, &mut told);
+            let scene = Scene {
+                store: path,
+                said: places.said(&left),
+                files: &[],
+            };
+            tell_why(told, &scene, faults);
             (ended, Some(left))
         }
-        Err(_) => (refuse(alloc, output, Refusal::DiskFault), None),
+        Err(_) => (refuse(alloc, output, Refusal::DiskFault, &mut told), None),
     }
 }
 
 /// Imports a release into the store under a name.
-fn import_at<P: Places, O: Write>(
+fn import_at<P: Places, O: Write, E: Write>(
     places: &P,
     alloc: Global,
     path: &str,
     dir: &str,
     name: &str,
     output: &mut O,
+    faults: &mut E,
 ) -> Ended<P::Device>
-    ensures { IsDoneAt (P.gives places.now path.now)
+    ensures { IsDoneAt (P.stands places.now path.now)
         (λ device after. IsImport (P.is_honest places.now) (P.releases places.now dir.now)
         P.Device.is_honest P.Device.moments P.Device.failures name.now device after result.0
         (O.contents output.old) (O.contents output.new))
-        (IsMissing result.0 (O.contents output.old) (O.contents output.new)) result.1 }
+        (IsMissing result.0 (O.contents output.old) (O.contents output.new)
+        × P.withholds places.now path.now) result.1 }
 {
-    match places.device(path) {
+    let mut told = Told::new();
+    let had = places.device(path, faults);
+    match had {
         Ok(device) => {
-            let mut source = FolderSource { places, dir };
-            let (ended, left) = import(alloc, device, name, &mut source, output);
+            let mut source = FolderSource {
+                places,
+                dir,
+                faults,
+                files: Vec::new(alloc),
+            };
+            let (ended, left) = import(alloc, device, name, &mut source, output, &mut told);
+            source.tell_why(told, path, &left);
             (ended, Some(left))
         }
-        Err(_) => (refuse(alloc, output, Refusal::DiskFault), None),
+        Err(_) => (refuse(alloc, output, Refusal::DiskFault, &mut told), None),
     }
 }
 
 /// Answers the lines of the input from the store under a name.
-fn serve_at<P: Places, I: Read, O: Write>(
+fn serve_at<P: Places, I: Read, O: Write, E: Write>(
     places: &P,
     alloc: Global,
     path: &str,
     dir: &str,
     input: &mut I,
     output: &mut O,
+    faults: &mut E,
 ) -> Ended<P::Device>
-    ensures { IsDoneAt (P.gives places.now path.now)
+    ensures { IsDoneAt (P.stands places.now path.now)
         (λ device after. IsServing (P.is_honest places.now) (P.releases places.now dir.now)
         P.Device.is_honest P.Device.moments P.Device.failures device after result.0
         (I.remaining input.old) (I.remaining input.new)
         (O.contents output.old) (O.contents output.new))
         (IsMissing result.0 (O.contents output.old) (O.contents output.new)
-        × (I.remaining input.new ≡ I.remaining input.old)) result.1 }
+        × (I.remaining input.new ≡ I.remaining input.old)
+        × P.withholds places.now path.now) result.1 }
 {
-    match places.device(path) {
+    let mut told = Told::new();
+    match places.device(path, faults) {
         Ok(device) => {
-            let mut source = FolderSource { places, dir };
-            let (ended, left) = serve_device(alloc, device, &mut source, input, output);
+            let mut source = FolderSource {
+                places,
+                dir,
+                faults,
+                files: Vec::new(alloc),
+            };
+            let (ended, left) = serve_device(alloc, device, &mut source, input, output, &mut told);
+            source.tell_why(told, path, &left);
             (ended, Some(left))
         }
-        Err(_) => (refuse(alloc, output, Refusal::DiskFault), None),
+        Err(_) => (refuse(alloc, output, Refusal::DiskFault, &mut told), None),
+    }
+}
+
+/// Tells the status of the store under a name.
+fn status_at<P: Places, O: Write, E: Write>(
+    places: &P,
+    alloc: Global,
+    path: &str,
+    output: &mut O,
+    faults: &mut E,
+) -> Ended<P::Device>
+    ensures { IsDoneAt (P.stands places.now path.now)
+        (λ device after. IsStatus P.Device.is_honest P.Device.moments P.Device.failures
+        device after result.0 (O.contents output.old) (O.contents output.new))
+        (IsMissing result.0 (O.contents output.old) (O.contents output.new)
+        × P.withholds places.now path.now) result.1 }
+{
+    let mut told = Told::new();
+    let found = places.device(path, faults);
+    match found {
+        Ok(device) => {
+            let size = places.size(path);
+            let (ended, left, layout) = status(alloc, device, output, &mut told);
+            let scene = Scene {
+                store: path,
+                said: places.said(&left),
+                files: &[],
+            };
+            tell_why(told, &scene, faults);
+            tell_layout(path, layout, size, faults);
+            (ended, Some(left))
+        }
+        Err(_) => (refuse(alloc, output, Refusal::DiskFault, &mut told), None),
     }
 }
 
@@ -160,7 +245,15 @@ fn demo<O: Write>(alloc: Global, output: &mut O) -> Result<Ending, ServeFault>
         (O.contents output.old) (O.contents output.new) }
 {
     let mut script = SCRIPT;
-    let (ended, _) = serve_new(alloc, MemDisk::new(alloc), &mut Sample, &mut script, output);
+    let mut told = Told::new();
+    let (ended, _) = serve_new(
+        alloc,
+        MemDisk::new(alloc),
+        &mut Sample,
+        &mut script,
+        output,
+        &mut told,
+    );
     ended
 }
 

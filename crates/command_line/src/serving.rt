@@ -4,6 +4,7 @@ ghost use Rattle.std.specs.Prelude.{Ok};
 ghost use Rattle.command_line.specs.Tasks.{Serves, IsServing, IsServingNew};
 
 use crate::endings::{Ending, refuse};
+use crate::telling::Told;
 use disk_model::Disk;
 use history_store::Store;
 use line_server::{ServeFault, Source, serve};
@@ -39,6 +40,7 @@ pub(crate) fn serve_device<D: Disk + Drop, S: Source, I: Read, O: Write>(
     source: &mut S,
     input: &mut I,
     output: &mut O,
+    told: &mut Told,
 ) -> (Result<Ending, ServeFault>, D)
     ensures { IsServing (S.is_honest source.old) (S.releases source.old)
         D.is_honest D.moments D.failures device result.1 result.0
@@ -51,7 +53,7 @@ pub(crate) fn serve_device<D: Disk + Drop, S: Source, I: Read, O: Write>(
             let ended = serve_all(alloc, source, &mut store, input, output);
             (ended, store.close())
         }
-        Err((refusal, device)) => (refuse(alloc, output, refusal), device),
+        Err((refusal, device)) => (refuse(alloc, output, refusal, told), device),
     }
 }
 
@@ -62,6 +64,7 @@ pub(crate) fn serve_new<D: Disk + Drop, S: Source, I: Read, O: Write>(
     source: &mut S,
     input: &mut I,
     output: &mut O,
+    told: &mut Told,
 ) -> (Result<Ending, ServeFault>, D)
     ensures { IsServingNew (S.is_honest source.old) (S.releases source.old)
         D.is_honest D.moments D.failures device result.1 result.0
@@ -74,6 +77,6 @@ pub(crate) fn serve_new<D: Disk + Drop, S: Source, I: Read, O: Write>(
             let ended = serve_all(alloc, source, &mut store, input, output);
             (ended, store.close())
         }
-        Err((refusal, device)) => (refuse(alloc, output, refusal), device),
+        Err((refusal, device)) => (refuse(alloc, output, refusal, told), device),
     }
 }

@@ -41,7 +41,7 @@ fn run_words(rt: &HostRuntime, line: &str, input: &[u8]) -> Result<Shown, Fail> 
 }
 
 const NO_COMMAND: &str = "error: 'sctd' requires a subcommand but one was not provided\n  \
-[subcommands: init, import, serve, demo, help]\n\n\
+[subcommands: init, import, serve, status, demo, help]\n\n\
 Usage: sctd <COMMAND>\n\n\
 For more information, try '--help'.\n";
 
@@ -54,6 +54,9 @@ Options:\n      \
 --releases <DIR>  The folder that holds a folder for each unpacked release\n  \
 -h, --help            Print help\n";
 
+const NAMES: &str =
+    "sctd: a release's name is letters, digits, _, - and ., in parts with one / between them\n";
+
 #[test]
 fn statuses(rt: HostRuntime) -> Result<(), Fail> {
     fs::write(&rt, "zeros", b"\0\0\0".as_slice())?;
@@ -62,37 +65,65 @@ fn statuses(rt: HostRuntime) -> Result<(), Fail> {
         ("sctd", 2, "", NO_COMMAND),
         ("sctd import --help", 0, HELP, ""),
         ("sctd init --store new", 0, "OK\n", ""),
-        ("sctd init --store new", 1, "ERR 4 NotEmpty\n", ""),
-        ("sctd init --store none/new", 1, "ERR 2 DiskFault\n", ""),
+        (
+            "sctd init --store new",
+            1,
+            "ERR 4 NotEmpty\n",
+            "sctd: new: the file isn't empty\n",
+        ),
+        (
+            "sctd init --store none/new",
+            1,
+            "ERR 2 DiskFault\n",
+            "sctd: none/new: No such file or directory (os error 2)\n",
+        ),
         (
             "sctd serve --store absent --releases none",
             1,
             "ERR 2 DiskFault\n",
-            "",
+            "sctd: absent: No such file or directory (os error 2)\n",
         ),
         (
             "sctd serve --store zeros --releases none",
             1,
             "ERR 7 NotAStore\n",
-            "",
+            "sctd: zeros: the file is no store\n",
+        ),
+        (
+            "sctd status --store absent",
+            1,
+            "ERR 2 DiskFault\n",
+            "sctd: absent: No such file or directory (os error 2)\n",
+        ),
+        (
+            "sctd status --store zeros",
+            1,
+            "ERR 7 NotAStore\n",
+            "sctd: zeros: the file is no store\n",
+        ),
+        (
+            "sctd status --store new",
+            0,
+            "OK 0 0 0 -\n",
+            "sctd: new: layout 2, 16384 bytes\n",
         ),
         (
             "sctd import --store zeros --releases none r1",
             1,
             "ERR 7 NotAStore\n",
-            "",
+            "sctd: zeros: the file is no store\n",
         ),
         (
             "sctd import --store new --releases none r1",
             1,
             "ERR 45 NoFolder\n",
-            "",
+            "sctd: none/r1: no such folder\n",
         ),
         (
             "sctd import --store new --releases none ..",
             1,
             "ERR 43 Arguments\n",
-            "",
+            NAMES,
         ),
         // A line that is refused within a session is no failure.
         (
@@ -158,6 +189,32 @@ fn a_file_keeps_what_was_imported(rt: HostRuntime) -> Result<(), Fail> {
         assert!(rt; got.output.as_slice() == output.as_bytes(), "{line}");
         assert!(rt; got.faults.is_empty(), "{line}");
     }
+    Ok(())
+}
+
+#[test]
+fn why_a_release_was_refused(rt: HostRuntime) -> Result<(), Fail> {
+    write_release(&rt, "releases/r1/Terminology", "r1")?;
+    let name = "sct2_Description_Delta-en_INT_20200131.txt";
+    let path = format!(in rt.alloc(); "releases/r1/Terminology/{name}")?;
+    let mut bytes = fs::read(&rt, path.as_str())?;
+    bytes.push(b'?')?;
+    fs::write(&rt, path.as_str(), bytes.as_slice())?;
+    fs::create_dir_all(&rt, "releases/package/Full/Terminology")?;
+    let made = run_words(&rt, "sctd init --store told", b"")?;
+    assert!(rt; made.status == 0 && made.faults.is_empty());
+    let refused = run_words(&rt, "sctd import --store told --releases releases r1", b"")?;
+    assert!(rt; refused.output.as_slice() == b"ERR 23 Columns 2 3\n".as_slice());
+    let told = format!(in rt.alloc(); "sctd: {name}, line 3: another number of columns\n")?;
+    assert!(rt; refused.faults.as_slice() == told.as_bytes());
+    // A server goes on, and tells it too.
+    let serve = "sctd serve --store told --releases releases";
+    let served = run_words(&rt, serve, b"0 IMPORT package\n0 STATUS\n")?;
+    assert_eq!(rt; served.status, 0);
+    assert!(rt; served.output.as_slice() == b"ERR 45 NoFolder\nOK 0 0 0 -\n".as_slice());
+    let told: &[u8] = b"sctd: releases/package: no folder Terminology or Refset/Content in it; \
+its folder Full is the one to name\n";
+    assert!(rt; served.faults.as_slice() == told);
     Ok(())
 }
 

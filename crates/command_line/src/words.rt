@@ -3,7 +3,8 @@
 ghost use Rattle.std.specs.Prelude.{◌≡◌, IfOk, IfErr, IfSome, map, codes, string_bytes};
 ghost use Rattle.clap.specs.Simple.{subcommand_rows_of};
 ghost use Rattle.command_line.specs.Words.{IsArgument, IsCommand, Reads, AskFor, AskForNone, wanted, option};
-ghost use Rattle.command_line.specs.Words.{init_command, import_command, serve_command, demo_command, empty_program, program};
+ghost use Rattle.command_line.specs.Words.{init_command, import_command, serve_command, status_command, demo_command};
+ghost use Rattle.command_line.specs.Words.{empty_program, program};
 
 use clap::error::ErrorKind;
 use clap::{Arg, ArgAction, ArgMatches, Command, Error};
@@ -26,6 +27,10 @@ pub enum Task<'a> {
     Serve {
         store: &'a str,
         releases: &'a str,
+    },
+    /// Tell how many imports, rows and segments a store has.
+    Status {
+        store: &'a str,
     },
     /// Answer the lines of a script, on a store in memory.
     Demo,
@@ -130,6 +135,14 @@ fn serve<'a>(alloc: Global) -> Result<Command<'a>, AllocError>
         .arg(releases(alloc))
 }
 
+fn status<'a>(alloc: Global) -> Result<Command<'a>, AllocError>
+    ensures { IfOk result (IsCommand status_command) }
+{
+    Command::new(alloc, "status")
+        .about("Opens a store, which checks it, and tells its imports, rows and segments")
+        .arg(store(alloc))
+}
+
 fn demo<'a>(alloc: Global) -> Command<'a>
     ensures { IsCommand demo_command result }
 {
@@ -155,6 +168,7 @@ fn commands<'a>(alloc: Global) -> Result<Command<'a>, AllocError>
         .subcommand(init(alloc)?)?
         .subcommand(import(alloc)?)?
         .subcommand(serve(alloc)?)?
+        .subcommand(status(alloc)?)?
         .subcommand(demo(alloc))
 }
 
@@ -175,6 +189,9 @@ fn named<'a>(matches: &ArgMatches<'a>) -> Option<Task<'a>>
         "serve" => Some(Task::Serve {
             store: found.get_str("store")?,
             releases: found.get_str("releases")?,
+        }),
+        "status" => Some(Task::Status {
+            store: found.get_str("store")?,
         }),
         "demo" => Some(Task::Demo),
         _ => None,

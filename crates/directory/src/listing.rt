@@ -3,17 +3,19 @@ ghost use Rattle.std.specs.Prelude.{◌≡◌, ◌+◌, ◌-◌, ◌≤◌, ◌<
 use crate::decoding::{read_entries, split_header};
 use crate::encoding::{write_entries, write_header};
 use crate::entry::Entry;
+use crate::layout::Layout;
 use std::alloc::{AllocError, Global};
 use std::marker::Model;
 use thiserror::Error;
 
-/// A directory lists no more entries than this.
-pub const MOST_ENTRIES: usize = 128;
+/// A directory has room for so many entries, whatever its version.
+pub const MOST_PLACES: usize = 250;
 
 /// The epoch, the number of imports and where the segments lie. It always is what a content
 /// block may list, and has room for the most entries, so that none of its changes takes memory.
 #[derive(Drop)]
 pub struct Directory {
+    layout: Layout,
     epoch: u64,
     imports: u32,
     entries: Vec<Entry>,
@@ -21,15 +23,25 @@ pub struct Directory {
 
 impl Model for Directory {
     ghost use Rattle.std.specs.Prelude.{vec_capacity, ◌≤◌};
-    ghost use Rattle.directory.specs.Listings.{Listing, IsListing, most_entries};
+    ghost use Rattle.directory.specs.Listings.{Listing, IsListing, most_places};
 
     ghost Value = { Listing };
 
-    ghost view = { λ d. record { epoch = d.epoch; imports = d.imports; entries = d.entries.items } };
+    ghost view = { λ d. record {
+      layout = d.layout;
+      epoch = d.epoch;
+      imports = d.imports;
+      entries = d.entries.items;
+    } };
 
     ghost invariant = { λ d. record {
-      is : IsListing (record { epoch = d.epoch; imports = d.imports; entries = d.entries.items });
-      room : most_entries ≤ vec_capacity d.entries;
+      is : IsListing (record {
+        layout = d.layout;
+        epoch = d.epoch;
+        imports = d.imports;
+        entries = d.entries.items;
+      });
+      room : most_places ≤ vec_capacity d.entries;
     } };
 }
 
@@ -57,16 +69,19 @@ impl From<AllocError> for DirectoryFault {
 }
 
 impl Directory {
-    ghost use Rattle.directory.specs.Listings.{Listing, IsListing, with_entry, with_two_replaced, with_two_back};
+    ghost use Rattle.directory.specs.Listings.{Listing, IsListing, number_of, upgraded, with_entry, with_two_replaced, with_two_back};
     ghost use Rattle.directory.specs.Content.{Lists, listing_bytes};
+    ghost use Rattle.directory.specs.declared.layout.Layout.TheVariants as layouts;
     ghost use Rattle.directory.specs.declared.listing.DirectoryFault.TheVariants as faults;
 
-    /// The directory of a new store: epoch 1, no imports, no entries.
+    /// The directory of a new store: version 2, epoch 1, no imports, no entries.
     pub fn new(alloc: Global) -> Result<Directory, AllocError>
-        ensures { IfOk result (λ d. d ≡ record { epoch = 1; imports = 0; entries = [] }) }
+        ensures { IfOk result
+            (λ d. d ≡ record { layout = layouts.Two; epoch = 1; imports = 0; entries = [] }) }
     {
-        let entries = Vec::with_capacity(alloc, MOST_ENTRIES)?;
+        let entries = Vec::with_capacity(alloc, MOST_PLACES)?;
         Ok(Directory {
+            layout: Layout::Two,
             epoch: 1,
             imports: 0,
             entries,
@@ -77,9 +92,10 @@ impl Directory {
     pub fn try_clone(&self, alloc: Global) -> Result<Directory, AllocError>
         ensures { IfOk result (λ d. d ≡ self.now) }
     {
-        let mut entries = Vec::with_capacity(alloc, MOST_ENTRIES)?;
+        let mut entries = Vec::with_capacity(alloc, MOST_PLACES)?;
         entries.extend_from_slice(self.entries.as_slice())?;
         Ok(Directory {
+            layout: self.layout,
             epoch: self.epoch,
             imports: self.imports,
             entries,
@@ -98,6 +114,7 @@ impl Directory {
         };
         let entries = read_entries(alloc, rest, header.count)?;
         Ok(Directory {
+            layout: header.layout,
             epoch: header.epoch,
             imports: header.imports,
             entries,
@@ -111,8 +128,35 @@ impl Directory {
             ++ replicate (4096 - length (listing_bytes self.now)) 0 }
     {
         block.fill(0);
-        write_header(block, self.epoch, self.imports, self.entries.len() as u32);
+        write_header(
+            block,
+            self.layout,
+            self.epoch,
+            self.imports,
+            self.entries.len() as u32,
+        );
         write_entries(self.entries.as_slice(), &mut block[32..]);
+    }
+
+    /// The version of its layout.
+    pub fn layout(&self) -> Layout
+        ensures { result ≡ self.now.layout }
+    {
+        self.layout
+    }
+
+    /// The number of that version.
+    pub fn version(&self) -> u32
+        ensures { result ≡ number_of self.now.layout }
+    {
+        self.layout.number()
+    }
+
+    /// Makes it one of version 2. The epoch stays.
+    pub fn upgrade(&mut self)
+        ensures { self.new ≡ upgraded self.old }
+    {
+        self.layout = Layout::Two;
     }
 
     /// The number of its publication: 1 for a new store, and one more for each that follows.
@@ -167,14 +211,24 @@ impl Directory {
         let _ = self.entries.remove(j);
     }
 
-    /// Takes a replacement back, as after a publication that failed: the epoch from before, and the
-    /// two entries at their places again. `first` stood at place `i`, and `second` at place `j`.
-    pub fn put_back(&mut self, epoch: u64, i: usize, j: usize, first: Entry, second: Entry)
+    /// Takes a replacement back, as after a publication that failed: the version and the epoch from
+    /// before, and the two entries at their places again. `first` stood at place `i`, and `second`
+    /// at place `j`.
+    pub fn put_back(
+        &mut self,
+        layout: Layout,
+        epoch: u64,
+        i: usize,
+        j: usize,
+        first: Entry,
+        second: Entry,
+    )
         requires places { i < j }
         requires within { j ≤ length self.old.entries }
-        requires listing { IsListing (with_two_back self.old epoch i j first second) }
-        ensures { self.new ≡ with_two_back self.old epoch i j first second }
+        requires listing { IsListing (with_two_back self.old layout epoch i j first second) }
+        ensures { self.new ≡ with_two_back self.old layout epoch i j first second }
     {
+        self.layout = layout;
         self.epoch = epoch;
         self.entries[i] = first;
         let Ok(()) = self.entries.insert(j, second) else {

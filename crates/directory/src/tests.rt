@@ -5,7 +5,7 @@ use std::test::Fail;
 /// The beginning of a content block of epoch 2 and one import,
 /// which lists one segment at block 4 of 46 bytes and one row.
 const ONE_SEGMENT: [u8; 48] = [
-    0, 0, 0, 0, 0, 0, 0, 2, 0x53, 0x43, 0x54, 0x48, 0x49, 0x53, 0x54, 0x31, 0, 0, 0, 1, 0, 0, 0, 1,
+    0, 0, 0, 0, 0, 0, 0, 2, 0x53, 0x43, 0x54, 0x48, 0x49, 0x53, 0x54, 0x32, 0, 0, 0, 1, 0, 0, 0, 1,
     0, 0, 0, 0, 0, 0, 0, 0, 0, 0, 0, 4, 0, 0, 0, 0x2e, 0, 0, 0, 1, 0, 0, 0, 0,
 ];
 
@@ -75,8 +75,8 @@ fn each_way_in_which_a_block_is_bad(rt: HostRuntime) -> Result<(), Fail> {
     assert_eq!(rt; good.entries(), [FIRST, SECOND].as_slice());
     for (place, byte, fault) in [
         (7, 0, "epoch 0"),
-        (15, b'2', "another mark"),
-        (23, 129, "too many entries"),
+        (15, b'3', "another mark"),
+        (23, 251, "too many entries"),
         (20, 1, "far too many entries"),
         (24, 1, "a zero field of the header"),
         (31, 1, "the end of that field"),
@@ -127,7 +127,8 @@ fn entries_go_last_and_close_up(rt: HostRuntime) -> Result<(), Fail> {
         }
     );
     directory.advance(0);
-    directory.put_back(1, 0, 1, FIRST, SECOND);
+    directory.put_back(Layout::One, 1, 0, 1, FIRST, SECOND);
+    assert_eq!(rt; directory.layout(), Layout::One);
     assert_eq!(rt; directory.epoch(), 1);
     assert_eq!(rt; directory.entries(), [FIRST, SECOND].as_slice());
     Ok(())
@@ -157,4 +158,29 @@ fn the_least_place_is_found(rt: HostRuntime) {
     assert_eq!(rt; first_fit(2, &live, reserved), Ok(9));
     assert_eq!(rt; first_fit(4_194_300, &[], None), Ok(4));
     assert_eq!(rt; first_fit(4_194_301, &[], None), Err(Full));
+}
+
+#[test]
+fn a_block_of_version_one(rt: HostRuntime) -> Result<(), Fail> {
+    let mut block = two_segments();
+    block[15] = b'1';
+    let mut read = Directory::decode(rt.alloc(), &block)?;
+    assert_eq!(rt; read.layout(), Layout::One);
+    assert_eq!(rt; read.version(), 1);
+    assert_eq!(rt; read.entries(), [FIRST, SECOND].as_slice());
+    let mut written = [7; 4096];
+    read.encode(&mut written);
+    assert_eq!(rt; written[15], b'1');
+    read.upgrade();
+    assert_eq!(rt; read.version(), 2);
+    read.encode(&mut written);
+    assert_eq!(rt; written[15], b'2');
+    block[23] = 129;
+    assert!(rt;
+        matches!(
+            Directory::decode(rt.alloc(), &block),
+            Err(DirectoryFault::BadDirectory)
+        )
+    );
+    Ok(())
 }

@@ -1,6 +1,10 @@
--- How often the calls of a file's disk have failed.
-use Rattle.std.specs.Prelude.{ℕ}
+-- How often the calls of a file's disk have failed, and what was said of the last that did.
+use Rattle.std.specs.Prelude.{ℕ, Option}
+use Rattle.std.specs.declared.io.Error.{Error}
 use Rattle.disk_model.specs.declared.file.FileDisk.{FileDisk}
 
 abbrev pub failures_of : FileDisk → ℕ
 failures_of d = d.failures
+
+abbrev pub fault_of : FileDisk → Option Error
+fault_of d = d.last

@@ -1,8 +1,9 @@
-ghost use Rattle.std.specs.Prelude.{◌≡◌, ◌≤◌, [], length, IfOk, IsErr, MatchResult};
+ghost use Rattle.std.specs.Prelude.{◌≡◌, ◌≤◌, [], Some, length, IfOk, IsErr, MatchResult};
 ghost use Rattle.fault_counts.specs.Counting.{CountsEach};
 ghost use Rattle.disk_model.specs.Change.{made};
 
-use crate::{Disk, DiskFault};
+use crate::opening::drop_cached_pages;
+use crate::{Disk, DiskFault, OpenFault};
 use fault_counts::raised;
 use std::fs::{File, OpenOptions};
 use std::io::{self, ErrorKind};
@@ -20,21 +21,22 @@ const MAX_INTERRUPTIONS: u32 = 1_000;
 pub struct FileDisk {
     file: File,
     failures: u64,
+    last: Option<io::Error>,
 }
 
 impl FileDisk {
-    ghost use Rattle.disk_model.specs.FileDisk.{failures_of};
+    ghost use Rattle.disk_model.specs.FileDisk.{failures_of, fault_of};
 
     /// A file that exists, for reading and writing.
-    pub fn open<R: Files<File = File>>(rt: &R, path: &str) -> Result<FileDisk, DiskFault>
+    pub fn open<R: Files<File = File>>(rt: &R, path: &str) -> Result<FileDisk, OpenFault>
         ensures { IfOk result (λ disk. failures_of disk ≡ 0) }
     {
         let file = OpenOptions::new().read(true).write(true).open(rt, path);
-        FileDisk::of(file).map_err(|_| DiskFault)
+        FileDisk::of(file)
     }
 
     /// A file for reading and writing, which is made empty where there is none.
-    pub fn open_or_make<R: Files<File = File>>(rt: &R, path: &str) -> Result<FileDisk, DiskFault>
+    pub fn open_or_make<R: Files<File = File>>(rt: &R, path: &str) -> Result<FileDisk, OpenFault>
         ensures { IfOk result (λ disk. failures_of disk ≡ 0) }
     {
         let file = OpenOptions::new()
@@ -42,19 +44,32 @@ impl FileDisk {
             .write(true)
             .create(true)
             .open(rt, path);
-        FileDisk::of(file).map_err(|_| DiskFault)
+        FileDisk::of(file)
     }
 
-    /// Locks the file before anything of it is read. What is no regular file is refused.
-    fn of(opened: io::Result<File>) -> io::Result<FileDisk>
+    /// Locks the file before anything of it is read, and lets what is read come from the device.
+    /// What is no regular file is refused.
+    fn of(opened: io::Result<File>) -> Result<FileDisk, OpenFault>
         ensures { IfOk result (λ disk. failures_of disk ≡ 0) }
     {
         let file = opened?;
         if !file.metadata()?.is_file() {
-            return Err(io::Error::from(ErrorKind::InvalidInput));
+            return Err(OpenFault::NotAFile);
         }
         file.try_lock()?;
-        Ok(FileDisk { file, failures: 0 })
+        drop_cached_pages(&file)?;
+        Ok(FileDisk {
+            file,
+            failures: 0,
+            last: None,
+        })
+    }
+
+    /// What the system said of the call that failed last, if one has failed.
+    pub fn fault(&self) -> Option<io::Error>
+        ensures { result ≡ fault_of self.now }
+    {
+        self.last
     }
 }
 
@@ -89,15 +104,21 @@ fn read_all(file: &File, at: u64, into: &mut [u8]) -> io::Result<usize>
     Ok(done)
 }
 
-/// Counts a failure.
-fn answer<T: Drop>(outcome: io::Result<T>, failures: &mut u64) -> Result<T, DiskFault>
+/// Counts a failure, and keeps what the system said of it.
+fn answer<T: Drop>(
+    outcome: io::Result<T>,
+    failures: &mut u64,
+    last: &mut Option<io::Error>,
+) -> Result<T, DiskFault>
     ensures failures { CountsEach result failures.old failures.new }
     ensures value { MatchResult outcome (λ x. result ≡ Ok x) (λ _. IsErr result) }
+    ensures fault { MatchResult outcome (λ _. last.new ≡ last.old) (λ e. last.new ≡ Some e) }
 {
     match outcome {
         Ok(value) => Ok(value),
-        Err(_) => {
+        Err(error) => {
             *failures = raised(*failures);
+            *last = Some(error);
             Err(DiskFault)
         }
     }
@@ -115,27 +136,35 @@ impl Disk for FileDisk {
     ghost now_is_image = { λ _ lie. absurd lie };
 
     fn len(&mut self) -> Result<u64, DiskFault> {
-        let metadata = answer(self.file.metadata(), &mut self.failures)?;
+        let metadata = answer(self.file.metadata(), &mut self.failures, &mut self.last)?;
         Ok(metadata.len())
     }
 
     fn read_at(&mut self, at: u64, into: &mut [u8]) -> Result<usize, DiskFault> {
-        answer(read_all(&self.file, at, into), &mut self.failures)
+        answer(
+            read_all(&self.file, at, into),
+            &mut self.failures,
+            &mut self.last,
+        )
     }
 
     fn write_at(&mut self, at: u64, bytes: &[u8]) -> Result<(), DiskFault> {
-        answer(self.file.write_all_at(bytes, at), &mut self.failures)
+        answer(
+            self.file.write_all_at(bytes, at),
+            &mut self.failures,
+            &mut self.last,
+        )
     }
 
     fn cut(&mut self, len: u64) -> Result<(), DiskFault> {
-        let metadata = answer(self.file.metadata(), &mut self.failures)?;
+        let metadata = answer(self.file.metadata(), &mut self.failures, &mut self.last)?;
         if len < metadata.len() {
-            answer(self.file.set_len(len), &mut self.failures)?;
+            answer(self.file.set_len(len), &mut self.failures, &mut self.last)?;
         }
         Ok(())
     }
 
     fn sync(&mut self) -> Result<(), DiskFault> {
-        answer(self.file.sync_all(), &mut self.failures)
+        answer(self.file.sync_all(), &mut self.failures, &mut self.last)
     }
 }

@@ -9,6 +9,7 @@ mod choice;
 mod disk;
 mod file;
 mod memory;
+mod opening;
 #[cfg(test)]
 mod tests;
 
@@ -16,3 +17,4 @@ pub use choice::Choice;
 pub use disk::{Disk, DiskFault, MAX_END};
 pub use file::FileDisk;
 pub use memory::MemDisk;
+pub use opening::{OpenFault, sync_folder_of};

@@ -1,6 +1,7 @@
 use super::*;
 use std::alloc::AllocError;
-use std::fs;
+use std::fs::{self, Files};
+use std::io::ErrorKind;
 use std::test::Fail;
 
 /// What a disk holds after the calls of `write_and_read`.
@@ -51,13 +52,52 @@ fn a_file_is_reopened_with_what_was_written(rt: HostRuntime) -> Result<(), Fail>
 #[test]
 fn a_file_has_one_disk_at_a_time(rt: HostRuntime) -> Result<(), Fail> {
     let mut first = FileDisk::open_or_make(&rt, "locked.bin")?;
-    assert!(rt; FileDisk::open(&rt, "locked.bin").is_err());
-    assert!(rt; FileDisk::open_or_make(&rt, "locked.bin").is_err());
+    assert!(rt; matches!(FileDisk::open(&rt, "locked.bin"), Err(OpenFault::Busy)));
+    assert!(rt;
+        matches!(
+            FileDisk::open_or_make(&rt, "locked.bin"),
+            Err(OpenFault::Busy)
+        )
+    );
     first.write_at(0, &WRITTEN)?;
     assert_eq!(rt; first.len()?, 7);
     drop(first);
     let mut second = FileDisk::open(&rt, "locked.bin")?;
     assert_eq!(rt; second.len()?, 7);
+    Ok(())
+}
+
+#[test]
+fn what_the_system_said_is_kept(rt: HostRuntime) -> Result<(), Fail> {
+    match FileDisk::open(&rt, "absent.bin") {
+        Err(OpenFault::System(error)) => assert_eq!(rt; error.kind(), ErrorKind::NotFound),
+        _ => assert!(rt; false, "it is there"),
+    }
+    fs::create_dir(&rt, "folder.bin")?;
+    assert!(rt;
+        matches!(
+            FileDisk::open_or_make(&rt, "folder.bin"),
+            Err(OpenFault::System(_))
+        )
+    );
+    assert!(rt; matches!(FileDisk::open(&rt, "/dev/null"), Err(OpenFault::NotAFile)));
+    let mut disk = FileDisk::open_or_make(&rt, "whole.bin")?;
+    assert!(rt; disk.fault().is_none());
+    Ok(())
+}
+
+#[test]
+fn the_folder_of_a_file_is_synced(rt: HostRuntime) -> Result<(), Fail> {
+    fs::create_dir_all(&rt, "outer/inner")?;
+    fs::write(&rt, "outer/inner/made.bin", b"".as_slice())?;
+    fs::write(&rt, "made.bin", b"".as_slice())?;
+    rt.symlink("inner/made.bin", "outer/link.bin")?;
+    for path in ["made.bin", "outer/inner/made.bin", "outer/link.bin"] {
+        sync_folder_of(&rt, rt.alloc(), path)?;
+    }
+    for path in ["absent.bin", "absent/made.bin", "made.bin/more.bin"] {
+        assert!(rt; sync_folder_of(&rt, rt.alloc(), path).is_err(), "{path}");
+    }
     Ok(())
 }
 

@@ -1,41 +1,48 @@
 -- What a store is opened as that was left at any moment.
-use Rattle.std.proofs.Common.{◌⊎◌, inl, inr, ℕ, List, refl}
+use Rattle.std.proofs.Common.{◌⊎◌, inl, inr, ℕ, List, Result, Ok, Err, refl}
 use Rattle.history_model.specs.History.{History}
 use Rattle.directory.specs.declared.entry.Entry.{Entry}
+use Rattle.directory.specs.declared.layout.Layout.{Layout}
+use Rattle.directory.specs.declared.layout.Layout.TheVariants as layouts
 use Rattle.segment.proofs.SegmentLaws.{one_segment}
 use Rattle.store_image.specs.Images.{StandsFor}
+use Rattle.store_image.proofs.First.{first_still_stands}
 use Rattle.store_image.proofs.Standing.{stands_for_one}
 use Rattle.blocks.proofs.Greatest.{some_gate}
 use Rattle.blocks.specs.Slots.{IsOpen, IsClosed}
 use Rattle.blocks.specs.declared.slots.Slot.TheVariants.{A, B}
 use Rattle.history_store.specs.declared.refusal.Refusal.TheVariants as refusals
-use Rattle.history_store.specs.Laws.{OpenedIsWhatStands, StandingIsOpened}
+use Rattle.history_store.specs.Laws.{FirstIsOpened, OpenedIsWhatStands, StandingIsOpened}
 
 pub opened_is_what_stands : {D : Type 0} → OpenedIsWhatStands D
-opened_is_what_stands s bytes h epoch entries stands is =
-    let one = stands_for_one one_segment bytes s.history h s.shelf.epoch epoch s.shelf.entries entries is.stands stands in
-    (one.0, λ i. record { epoch = one.1 i; entries = one.2 i; merge = is.no_merge i })
+opened_is_what_stands s bytes h layout epoch entries stands is =
+    let one = stands_for_one one_segment bytes s.history h s.shelf.layout layout s.shelf.epoch epoch s.shelf.entries entries is.stands stands in
+    (one.0, λ i. record { layout = one.1 i; epoch = one.2 i; entries = one.3 i; merge = is.no_merge i })
 
-gate_open : (bytes : List ℕ) (h : History) (epoch : ℕ) (entries : List Entry) → StandsFor bytes h epoch entries → IsOpen A bytes ⊎ IsOpen B bytes
-gate_open bytes h epoch entries stands = some_gate bytes stands.slot epoch stands.stands.slot.0
+gate_open : (bytes : List ℕ) (h : History) (layout : Layout) (epoch : ℕ) (entries : List Entry) → StandsFor bytes h layout epoch entries → IsOpen A bytes ⊎ IsOpen B bytes
+gate_open bytes h layout epoch entries stands = some_gate bytes stands.slot epoch stands.stands.slot.0
 
 no_gate : (bytes : List ℕ) → IsOpen A bytes ⊎ IsOpen B bytes → IsClosed A bytes × IsClosed B bytes → ⊥
 no_gate bytes (inl a) closed = closed.0 a
 no_gate bytes (inr b) closed = closed.1 b
 
 pub standing_is_opened : StandingIsOpened
-standing_is_opened bytes h epoch entries stands refusals.OutOfMemory why = inl refl
-standing_is_opened bytes h epoch entries stands refusals.DiskFault why = inr refl
-standing_is_opened bytes h epoch entries stands refusals.ReopenNeeded why = absurd why
-standing_is_opened bytes h epoch entries stands refusals.NotEmpty why = absurd why
-standing_is_opened bytes h epoch entries stands refusals.Full why = absurd why
-standing_is_opened bytes h epoch entries stands refusals.TooManySegments why = absurd why
-standing_is_opened bytes h epoch entries stands refusals.NotAStore why = absurd (no_gate bytes (gate_open bytes h epoch entries stands) why)
-standing_is_opened bytes h epoch entries stands refusals.Damaged why = absurd (why.1 (h, (epoch, entries, stands)))
-standing_is_opened bytes h epoch entries stands refusals.NothingToMerge why = absurd why
-standing_is_opened bytes h epoch entries stands refusals.MergeBusy why = absurd why
-standing_is_opened bytes h epoch entries stands refusals.NoMerge why = absurd why
-standing_is_opened bytes h epoch entries stands refusals.MergeUnfinished why = absurd why
-standing_is_opened bytes h epoch entries stands refusals.CountSpent why = absurd why
-standing_is_opened bytes h epoch entries stands (refusals.Line file line fault) why = absurd why
-standing_is_opened bytes h epoch entries stands (refusals.Contradiction file line) why = absurd why
+standing_is_opened bytes h layout epoch entries stands refusals.OutOfMemory why = inl refl
+standing_is_opened bytes h layout epoch entries stands refusals.DiskFault why = inr refl
+standing_is_opened bytes h layout epoch entries stands refusals.ReopenNeeded why = absurd why
+standing_is_opened bytes h layout epoch entries stands refusals.NotEmpty why = absurd why
+standing_is_opened bytes h layout epoch entries stands refusals.Full why = absurd why
+standing_is_opened bytes h layout epoch entries stands refusals.TooManySegments why = absurd why
+standing_is_opened bytes h layout epoch entries stands refusals.NotAStore why = absurd (no_gate bytes (gate_open bytes h layout epoch entries stands) why)
+standing_is_opened bytes h layout epoch entries stands refusals.Damaged why = absurd (why.1 (h, (layout, (epoch, entries, stands))))
+standing_is_opened bytes h layout epoch entries stands refusals.NothingToMerge why = absurd why
+standing_is_opened bytes h layout epoch entries stands refusals.MergeBusy why = absurd why
+standing_is_opened bytes h layout epoch entries stands refusals.NoMerge why = absurd why
+standing_is_opened bytes h layout epoch entries stands refusals.MergeUnfinished why = absurd why
+standing_is_opened bytes h layout epoch entries stands refusals.CountSpent why = absurd why
+standing_is_opened bytes h layout epoch entries stands (refusals.Line file line fault) why = absurd why
+standing_is_opened bytes h layout epoch entries stands (refusals.Contradiction file line) why = absurd why
+
+pub first_is_opened : {D : Type 0} → FirstIsOpened D
+first_is_opened bytes h epoch entries stood (Ok s) is = opened_is_what_stands s bytes h layouts.One epoch entries ((first_still_stands bytes h epoch entries).0 stood) is
+first_is_opened bytes h epoch entries stood (Err e) is = standing_is_opened bytes h layouts.One epoch entries ((first_still_stands bytes h epoch entries).0 stood) e.0 is

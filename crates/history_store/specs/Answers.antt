@@ -10,6 +10,8 @@ use Rattle.history_model.specs.declared.stamped.StampedRow.{StampedRow}
 use Rattle.history_model.specs.declared.receipt.Receipt.{Receipt}
 use Rattle.history_model.specs.History.{History, Accepts, after_release, ReceiptOf, no_history, full}
 use Rattle.history_model.specs.Lists.{new_rows}
+use Rattle.directory.specs.declared.layout.Layout.{Layout}
+use Rattle.directory.specs.declared.layout.Layout.TheVariants as layouts
 use Rattle.directory.specs.Listings.{most_entries}
 use Rattle.import_check.specs.declared.release.Release.{Release}
 use Rattle.import_check.specs.Release.{IsReleaseOf, IsFaultOfRelease, HasContradiction}
@@ -17,7 +19,7 @@ use Rattle.import_check.specs.declared.fault.ImportFault.{ImportFault}
 use Rattle.import_check.specs.Fresh.{IsRead, IsRefusal}
 use Rattle.history_store.specs.Refusals.{refusal_of}
 use Rattle.store_image.specs.Answers.{synced}
-use Rattle.store_image.specs.Images.{StandsFor, StandsForHistory, IsStore}
+use Rattle.store_image.specs.Images.{StandsFor, StandsAs, IsStore}
 use Rattle.history_store.specs.declared.refusal.Refusal.{Refusal}
 use Rattle.history_store.specs.declared.refusal.Refusal.TheVariants as refusals
 use Rattle.history_store.specs.Shelf.{Shelf, IsShelfAfter, HasNoEntry, HasNoPlace}
@@ -49,10 +51,17 @@ IsNotMade refusals.DiskFault bytes = Unit {0}
 IsNotMade refusals.NotEmpty bytes = 1 ≤ length bytes
 IsNotMade _ bytes = ⊥
 
+-- with what a making is refused, whatever disk it is tried on
+abbrev pub IsMakingCause : Refusal → Type 0
+IsMakingCause refusals.OutOfMemory = Unit {0}
+IsMakingCause refusals.DiskFault = Unit {0}
+IsMakingCause refusals.NotEmpty = Unit {0}
+IsMakingCause _ = ⊥
+
 -- a new store: nothing is imported, and it has no segment
 pub record IsNew {D : Type 0} (s : Stored D) : Type 0 where
   pub history : s.history ≡ no_history
-  pub shelf : s.shelf ≡ record { epoch = 1; entries = []; merge = None }
+  pub shelf : s.shelf ≡ record { layout = layouts.Two; epoch = 1; entries = []; merge = None }
   pub open_still : s.needs_reopen ≡ false
 
 -- every refusal but the failed device leaves the device as it was, and what a stop may leave of it
@@ -80,9 +89,17 @@ IsNotOpened refusals.NotAStore bytes = IsClosed A bytes × IsClosed B bytes
 IsNotOpened refusals.Damaged bytes = (IsOpen A bytes ⊎ IsOpen B bytes) × ¬ (IsStore bytes)
 IsNotOpened _ bytes = ⊥
 
+-- with what an opening is refused, whatever disk it is tried on
+abbrev pub IsOpeningCause : Refusal → Type 0
+IsOpeningCause refusals.OutOfMemory = Unit {0}
+IsOpeningCause refusals.DiskFault = Unit {0}
+IsOpeningCause refusals.NotAStore = Unit {0}
+IsOpeningCause refusals.Damaged = Unit {0}
+IsOpeningCause _ = ⊥
+
 -- the store holds what the bytes stand for
 pub record IsOpened {D : Type 0} (s : Stored D) (bytes : List ℕ) : Type 0 where
-  pub stands : StandsFor bytes s.history s.shelf.epoch s.shelf.entries
+  pub stands : StandsFor bytes s.history s.shelf.layout s.shelf.epoch s.shelf.entries
   pub no_merge : s.shelf.merge ≡ None
   pub open_still : s.needs_reopen ≡ false
 
@@ -167,16 +184,17 @@ IsImportOf (Ok receipt) old new release =
     × (old.needs_reopen ≡ false) × (new.needs_reopen ≡ false)
 IsImportOf (Err e) old new release = IsImportRefusal e old release × IsRefused e old new
 
--- the bytes stand for the history with an accepted release
+-- the bytes stand for the history with an accepted release, in version 2
 pub record StandsWith (h : History) (release : Release) (c : List ℕ) : Type 0 where
   pub rows : List Version
   pub is_release : IsReleaseOf release rows
   pub accepted : Accepts h rows
-  pub stands : StandsForHistory (after_release h rows) c
+  pub stands : StandsAs layouts.Two (after_release h rows) c
 
--- what a stop inside an import may leave
-abbrev pub IsBeforeOrAfter : History → Release → List ℕ → Type 0
-IsBeforeOrAfter h release c = StandsForHistory h c ⊎ StandsWith h release c
+-- what a stop inside an import may leave: the history
+-- from before in its version, or the one after it in version 2
+abbrev pub IsBeforeOrAfter : Layout → History → Release → List ℕ → Type 0
+IsBeforeOrAfter layout h release c = StandsAs layout h c ⊎ StandsWith h release c
 
 -- the store goes on to this history and shelf, or stays; memory may lack, or the device may fail
 abbrev pub IsStep : {D : Type 0} → Result (Unit {0}) Refusal → Stored D → Stored D → History → Shelf
@@ -223,10 +241,10 @@ IsRefusalAtAll refusals.ReopenNeeded s release = s.needs_reopen ≡ true
 IsRefusalAtAll refusals.NotEmpty s release = ⊥
 IsRefusalAtAll refusals.Full s release =
     (s.needs_reopen ≡ false) × IsNotSpent s.history.imports s.shelf.epoch
-    × IsRead release × (length s.shelf.entries < most_entries)
+    × IsRead release × (length s.shelf.entries < most_entries s.shelf.layout)
 IsRefusalAtAll refusals.TooManySegments s release =
     (s.needs_reopen ≡ false) × IsNotSpent s.history.imports s.shelf.epoch
-    × IsRead release × (length s.shelf.entries ≡ most_entries)
+    × IsRead release × (length s.shelf.entries ≡ most_entries s.shelf.layout)
 IsRefusalAtAll refusals.NotAStore s release = ⊥
 IsRefusalAtAll refusals.Damaged s release =
     (s.needs_reopen ≡ false) × IsNotSpent s.history.imports s.shelf.epoch × IsRead release
@@ -247,5 +265,5 @@ abbrev pub IsImportAtAll : {D : Type 0} → Result Receipt Refusal → Stored D 
     → Type 0
 IsImportAtAll (Ok receipt) old new release = (new.history.imports ≡ old.history.imports + 1)
     × (receipt.number ≡ new.history.imports) × (old.needs_reopen ≡ false)
-    × (new.needs_reopen ≡ false)
+    × (new.needs_reopen ≡ false) × (new.shelf.layout ≡ layouts.Two)
 IsImportAtAll (Err e) old new release = IsRefusalAtAll e old release × IsRefused e old new

@@ -9,7 +9,7 @@ ghost use Rattle.blocks.specs.Slots.{slots_range};
 ghost use Rattle.as_of_index.specs.Places.{ArePlaces, max_lists};
 ghost use Rattle.store_image.specs.Shown.{IsOnDisk};
 ghost use Rattle.store_image.specs.Answers.{empty_listing, IsNewStore};
-ghost use Rattle.history_store.specs.Answers.{Counts, IsNotMade};
+ghost use Rattle.history_store.specs.Answers.{Counts, IsMakingCause, IsNotMade};
 ghost use Rattle.history_store.specs.declared.refusal.Refusal.TheVariants as refusals;
 
 use crate::posting::{Posting, links_of, terms_of};
@@ -99,6 +99,7 @@ pub(crate) fn start<D: Disk>(alloc: Global, disk: &mut D) -> Result<Started, Ref
         → D.moments disk.new ≡ D.moments disk.old }
     ensures why { D.is_honest disk.old
         → IfErr result (λ e. IsNotMade e (D.moments disk.old).state.now) }
+    ensures causes { IfErr result (λ e. IsMakingCause e) }
     ensures refused { D.is_honest disk.old → IfErr result (λ e. e ≢ refusals.DiskFault
         → D.moments disk.new ≡ D.moments disk.old) }
     ensures inside { D.is_honest disk.old

@@ -72,10 +72,11 @@ impl<D: Disk> Model for Store<D> {
 impl<D: Disk> Store<D> {
     ghost use Rattle.history_model.specs.History.{rows_at, full};
     ghost use Rattle.history_model.specs.Queries.{lookup, versions, page, terms, children, replacements};
-    ghost use Rattle.directory.specs.Listings.{Listing};
+    ghost use Rattle.directory.specs.declared.layout.Layout.TheVariants as layouts;
+    ghost use Rattle.directory.specs.Listings.{Listing, number_of};
     ghost use Rattle.import_check.specs.Fresh.{IsAcceptedAs, IsRead};
     ghost use Rattle.import_check.specs.Fresh.{IsApart};
-    ghost use Rattle.store_image.specs.Images.{StandsFor, StandsForHistory};
+    ghost use Rattle.store_image.specs.Images.{StandsFor, StandsAs};
     ghost use Rattle.history_store.specs.Shelf.{shelf_of};
     ghost use Rattle.history_store.specs.Stored.{Stored, IsAcknowledged, with_rows};
     ghost use Rattle.history_store.specs.Prepared.{IsNotSpent, IsPreparedFor};
@@ -86,7 +87,7 @@ impl<D: Disk> Store<D> {
     ghost use Rattle.history_store.specs.Written.{added_ranges};
     ghost use Rattle.history_store.specs.Calls.{MakesImportCalls};
     ghost use Rattle.history_store.specs.Answers.{Counts, IsStep, device_of, CountsOpening};
-    ghost use Rattle.history_store.specs.Answers.{IsMakingOf, IsOpeningOf, SyncsOnce, HandsBack};
+    ghost use Rattle.history_store.specs.Answers.{IsMakingOf, IsMakingCause, IsOpeningOf, IsOpeningCause, SyncsOnce, HandsBack};
     ghost use Rattle.history_store.specs.Answers.{IsReadingOf, IsStill, IsRefused};
     ghost use Rattle.history_store.specs.Answers.{IsNotFresh, IsImportOf, IsImportAtAll};
     ghost use Rattle.history_store.specs.Answers.{IsBeforeOrAfter, KeepsMoments};
@@ -98,6 +99,8 @@ impl<D: Disk> Store<D> {
     /// at first, then all memory is taken, then the disk is written.
     pub fn create(alloc: Global, disk: D) -> Result<Store<D>, (Refusal, D)>
         ensures made { D.is_honest disk → IsMakingOf result (D.moments disk).state.now }
+        // On every disk it is refused with 1, 2 or 4 alone.
+        ensures causes { IfErr result (λ e. IsMakingCause e.0) }
         // Refused for any other reason than the device,
         // it leaves whatever a stop may leave as it was.
         ensures refused { D.is_honest disk → HandsBack D.moments result disk }
@@ -151,6 +154,8 @@ impl<D: Disk> Store<D> {
     /// after one sync, and is given back with every refusal.
     pub fn open(alloc: Global, disk: D) -> Result<Store<D>, (Refusal, D)>
         ensures exact { D.is_honest disk → IsOpeningOf result (D.moments disk).state.now }
+        // On every disk it is refused with 1, 2, 7 or 8 alone.
+        ensures causes { IfErr result (λ e. IsOpeningCause e.0) }
         // A stop at any moment leaves what it might have left before.
         ensures any_moment { D.is_honest disk
             → LeavesOnly (D.moments disk) (D.moments (device_of result)) (IsImage
@@ -295,6 +300,7 @@ impl<D: Disk> Store<D> {
         requires still { self.old.needs_reopen ≡ false }
         requires room { IsNotSpent self.old.history.imports self.old.shelf.epoch }
         requires next { next ≡ record {
+          layout = layouts.Two;
           epoch = self.old.shelf.epoch + 1;
           imports =
               self.old.history.imports + 1;
@@ -303,6 +309,7 @@ impl<D: Disk> Store<D> {
         ensures step { IsStep result self.old self.new
             (record { imports = self.old.history.imports + 1; rows = self.old.history.rows })
             (record {
+              layout = layouts.Two;
               epoch = self.old.shelf.epoch + 1;
               entries = self.old.shelf.entries;
               merge =
@@ -310,7 +317,7 @@ impl<D: Disk> Store<D> {
             }) }
         ensures any_moment { D.is_honest self.old.disk
             → LeavesOnly (D.moments self.old.disk) (D.moments self.new.disk)
-            (λ c. StandsForHistory self.old.history c ⊎ StandsForHistory
+            (λ c. StandsAs self.old.shelf.layout self.old.history c ⊎ StandsAs layouts.Two
             (record { imports = self.old.history.imports + 1; rows = self.old.history.rows }) c) }
         ensures refused { D.is_honest self.old.disk
             → KeepsMoments D.moments result self.old self.new }
@@ -347,7 +354,7 @@ impl<D: Disk> Store<D> {
             (shelf_of prepared.directory self.old.shelf.merge) }
         ensures any_moment { D.is_honest self.old.disk
             → LeavesOnly (D.moments self.old.disk) (D.moments self.new.disk)
-            (λ c. StandsForHistory self.old.history c ⊎ StandsForHistory
+            (λ c. StandsAs self.old.shelf.layout self.old.history c ⊎ StandsAs layouts.Two
             (with_rows self.old.history prepared.shown) c) }
         ensures refused { D.is_honest self.old.disk
             → KeepsMoments D.moments result self.old self.new }
@@ -398,10 +405,11 @@ impl<D: Disk> Store<D> {
             → IsImportOf result self.old self.new release.now }
         // What holds on every disk.
         ensures kept { IsImportAtAll result self.old self.new release.now }
-        // A stop at any moment leaves the history from before, or that with the release.
+        // A stop at any moment leaves the history from before, in the version
+        // from before, or that with the release, in version 2.
         ensures any_moment { D.is_honest self.old.disk → self.old.needs_reopen ≡ false
             → LeavesOnly (D.moments self.old.disk) (D.moments self.new.disk)
-            (IsBeforeOrAfter self.old.history release.now) }
+            (IsBeforeOrAfter self.old.shelf.layout self.old.history release.now) }
         // After Ok each stop leaves the new one.
         ensures acknowledged { D.is_honest self.old.disk → self.new.needs_reopen ≡ false
             → IsAcknowledged D.moments self.new }
@@ -599,6 +607,14 @@ impl<D: Disk> Store<D> {
         self.directory.imports()
     }
 
+    /// The version of the layout on the disk: 1 for a store that was made
+    /// with version 1 and has published nothing since, and else 2.
+    pub fn version(&self) -> u32
+        ensures { result ≡ number_of self.now.shelf.layout }
+    {
+        self.directory.version()
+    }
+
     /// How many segments the directory lists.
     pub fn segments(&self) -> u32
         ensures { result ≡ length self.now.shelf.entries }
@@ -626,7 +642,7 @@ impl<D: Disk> Store<D> {
         // Whatever a stop leaves of it stands for what the store held.
         ensures stands { D.is_honest result → self.needs_reopen ≡ false
             → EachImage (D.moments result).state
-            (λ c. StandsFor c self.history self.shelf.epoch self.shelf.entries) }
+            (λ c. StandsFor c self.history self.shelf.layout self.shelf.epoch self.shelf.entries) }
     {
         self.disk
     }

@@ -23,7 +23,7 @@ type Beginning = (usize, usize, u64, u32);
 /// lists these segments, without the zeros behind it.
 fn content(alloc: Global, segments: &[Segment]) -> Result<Vec<u8>, AllocError> {
     let mut bytes = Vec::new(alloc);
-    bytes.extend_from_slice(b"\0\0\0\0\0\0\0\x09SCTHIST1\0\0\0\x09")?;
+    bytes.extend_from_slice(b"\0\0\0\0\0\0\0\x09SCTHIST2\0\0\0\x09")?;
     let count = u32::try_from(segments.len()).unwrap_or(u32::MAX);
     bytes.extend_from_slice(&count.to_be_bytes())?;
     bytes.extend_from_slice(&[0; 8])?;

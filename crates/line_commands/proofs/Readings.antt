@@ -58,6 +58,10 @@ same_ids kinds.Association m n text hm hn sm sn =
     let both : Some sm.value.0 ≡ Some sn.value.0 = sym sm.value.1 ∙ sn.value.1 in
     let bytes : sm.value.0 ≡ sn.value.0 = cc in
     sm.value.2 ∙ ap (from_be_bytes w128) bytes ∙ sym sn.value.2
+same_ids kinds.Concrete m n text hm hn sm sn =
+    let low = hm.sctid.high in
+    let high = hn.sctid.high in
+    decimal_injective m n (omega arith) (omega arith) (sym sm ∙ sn)
 
 same_ids_of : (k l : Kind) (m n : ℕ) (t u : List ℕ) → k ≡ l → t ≡ u → IsIdOf k m → IsIdOf l n → SpellsId k m t → SpellsId l n u → m ≡ n
 same_ids_of k l m n t u kind text hm hn sm sn =

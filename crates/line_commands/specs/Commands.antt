@@ -52,6 +52,7 @@ letter kinds.Concept = codes "C"
 letter kinds.Description = codes "D"
 letter kinds.Relationship = codes "R"
 letter kinds.Association = codes "A"
+letter kinds.Concrete = codes "V"
 
 -- an identifier of the kind, or `-` for none
 abbrev pub SpellsAfter : Kind → Option ℕ → List ℕ → Type 0

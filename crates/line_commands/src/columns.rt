@@ -12,12 +12,12 @@ use crate::command::SESSIONS;
 use rf2_values::{Class, EffectiveTime, Kind, Member, Sctid, number};
 
 /// A session's number.
-pub fn session(text: &[u8]) -> Option<u8>
+pub fn session(text: &[u8]) -> Option<u16>
     ensures { MatchOption result ((n : ℕ) → n < sessions → text.now ≢ decimal n)
         (λ n. (n < sessions) × (text.now ≡ decimal n)) }
 {
     match number::parse(text) {
-        Some(number) if number < SESSIONS as u64 => u8::try_from(number).ok(),
+        Some(number) if number < SESSIONS as u64 => u16::try_from(number).ok(),
         _ => None,
     }
 }
@@ -31,6 +31,7 @@ pub fn kind(text: &[u8]) -> Option<Kind>
         b"D" => Some(Kind::Description),
         b"R" => Some(Kind::Relationship),
         b"A" => Some(Kind::Association),
+        b"V" => Some(Kind::Concrete),
         _ => None,
     }
 }
@@ -106,7 +107,9 @@ pub fn identifier(kind: Kind, text: &[u8]) -> Option<u128>
     match kind {
         Kind::Concept => Some(u128::from(sctid_of(text, Class::Concept)?.value())),
         Kind::Description => Some(u128::from(sctid_of(text, Class::Description)?.value())),
-        Kind::Relationship => Some(u128::from(sctid_of(text, Class::Relationship)?.value())),
+        Kind::Relationship | Kind::Concrete => {
+            Some(u128::from(sctid_of(text, Class::Relationship)?.value()))
+        }
         Kind::Association => member(text),
     }
 }

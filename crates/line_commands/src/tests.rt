@@ -5,7 +5,7 @@ use rf2_values::{EffectiveTime, Kind, Sctid};
 use std::test::*;
 
 /// A line of one session, and the command that it asks.
-type Asked<'a> = (&'a [u8], u8, Command<'a>);
+type Asked<'a> = (&'a [u8], u16, Command<'a>);
 
 #[test]
 fn lines_ask_commands(rt: HostRuntime) -> Result<(), Fail> {
@@ -15,9 +15,9 @@ fn lines_ask_commands(rt: HostRuntime) -> Result<(), Fail> {
     let root_id = 138875005u128;
     let member = 0x0b6a0c2e_5d0f_4c53_9f6e_8d9d2a7b1c01u128;
     let kind = Kind::Concept;
-    let lines: [Asked<'_>; 26] = [
+    let lines: [Asked<'_>; 27] = [
         (b"0 STATUS", 0, Command::Status),
-        (b"63 STATUS", 63, Command::Status),
+        (b"1023 STATUS", 1023, Command::Status),
         (b"1 PIN", 1, Command::Pin { number: None }),
         (b"0 PIN 0", 0, Command::Pin { number: Some(0) }),
         (
@@ -52,6 +52,15 @@ fn lines_ask_commands(rt: HostRuntime) -> Result<(), Fail> {
             Command::Get {
                 kind: Kind::Association,
                 id: member,
+                time,
+            },
+        ),
+        (
+            b"0 GET V 1000027 20210131",
+            0,
+            Command::Get {
+                kind: Kind::Concrete,
+                id: 1_000_027,
                 time,
             },
         ),
@@ -156,7 +165,7 @@ fn lines_that_ask_nothing(rt: HostRuntime) {
         b"",
         b"\r",
         b" 0 STATUS",
-        b"64 STATUS",
+        b"1024 STATUS",
         b"00 STATUS",
         b"+1 STATUS",
         b"-1 STATUS",

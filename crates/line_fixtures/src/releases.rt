@@ -33,6 +33,19 @@ fn concepts_of(name: &str) -> Option<&'static [&'static str]> {
 /// The kind of a release's one file, and its lines below the column names.
 type File = (Kind, &'static [&'static str]);
 
+/// The file of relationships with concrete values, or
+/// else of concepts, of a release by the release's name.
+fn values_of(name: &str) -> Option<File> {
+    let rows: &[&str] = match name {
+        "strength" => &["1000027|20210731|1|CORE|1000004|#5|0|3000005|INF|MOD"],
+        "no-value" => &["1000027|20210731|1|CORE|1000004||0|3000005|INF|MOD"],
+        "strength-of-a-concept" => &["1000004|20210731|1|CORE|1000004|#5|0|3000005|INF|MOD"],
+        "parent-as-a-value" => &["1000027|20210731|1|CORE|1000004|138875005|0|116680003|INF|MOD"],
+        _ => return Some((Kind::Concept, concepts_of(name)?)),
+    };
+    Some((Kind::Concrete, rows))
+}
+
 /// The file of a release by the release's name.
 fn file_of(name: &str) -> Option<File> {
     let file: File = match name {
@@ -54,7 +67,7 @@ fn file_of(name: &str) -> Option<File> {
                 "0b6a0c2e-5d0f-4c53-9f6e-8d9d2a7b1c0|20210131|1|CORE|900000000000527005|1000004|2000001",
             ],
         ),
-        _ => (Kind::Concept, concepts_of(name)?),
+        _ => return values_of(name),
     };
     Some(file)
 }

@@ -57,7 +57,7 @@ pub const SCRIPT: [Turn; 26] = [
     ("1 PIN 9", &["ERR 44 PinRange"]),
     ("0 IMPORT r9", &["ERR 45 NoFolder"]),
     ("1 UNPIN", &["OK"]),
-    ("64 STATUS", &["ERR 41 Session"]),
+    ("1024 STATUS", &["ERR 41 Session"]),
     ("0 STATU", &["ERR 42 Command"]),
     ("0 STEP 0", &["ERR 43 Arguments"]),
     ("0 ABANDON", &["ERR 11 NoMerge"]),
@@ -79,7 +79,7 @@ pub fn takes_none(line: &str) -> bool {
     let commands = [
         " PIN", " UNPIN", " STATUS", " MERGE", " PUBLISH", " ABANDON", " TRIM",
     ];
-    let refused = ["64 STATUS", "0 STATU", "0 STEP 0"];
+    let refused = ["1024 STATUS", "0 STATU", "0 STEP 0"];
     commands.iter().any(|command| line.contains(*command)) || refused.contains(&line)
 }
 

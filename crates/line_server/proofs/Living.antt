@@ -5,6 +5,7 @@ use Rattle.std.proofs.lemmas.List.{append_cancel_right}
 use Rattle.std.proofs.lemmas.List.Elements.{All-cons, All-contains}
 use Rattle.disk_model.specs.Disk.{DiskState, IsImage, EachImage, Moments, LeavesOnly}
 use Rattle.disk_model.proofs.MomentSteps.{started}
+use Rattle.directory.specs.declared.layout.Layout.TheVariants as layouts
 use Rattle.history_model.specs.History.{History, after_release}
 use Rattle.import_check.specs.declared.release.Release.{Release}
 use Rattle.history_store.specs.declared.refusal.Refusal.{Refusal}
@@ -47,7 +48,7 @@ short_front (r ∷ s ∷ more) rest whole is few =
 -- with one release more
 one_more : (h g : History) (xs : List Release) (release : Release) (bytes : List ℕ) → TakesAll h xs g → StandsWith g release bytes → StandsAfter h (xs ++ release ∷ []) bytes
 one_more h g xs release bytes takes w =
-    (after_release g w.rows, takes_more h g (after_release g w.rows) xs (release ∷ []) takes (w.rows, w.is_release, w.accepted, refl), w.stands)
+    (after_release g w.rows, takes_more h g (after_release g w.rows) xs (release ∷ []) takes (w.rows, w.is_release, w.accepted, refl), (layouts.Two, w.stands))
 
 module _ (stage : Stage) (h : History) (bytes : List ℕ) where
   none_remains : StandsAfter h (imported stage.answered) bytes → Remains stage h bytes

@@ -5,9 +5,16 @@ use Rattle.std.specs.declared.io.Error.{Error}
 use Rattle.std.specs.declared.io.ErrorKind.TheVariants as kinds
 use Rattle.release_folder.specs.declared.fault.FolderFault.{FolderFault}
 use Rattle.release_folder.specs.declared.fault.FolderFault.TheVariants as faults
+use Rattle.release_folder.specs.declared.obstacle.ReadFault.{ReadFault}
+use Rattle.release_folder.specs.declared.obstacle.ReadFault.TheVariants as reading
 
 -- want of memory is named as that, and whatever else fails is no folder
 abbrev pub IsFaultOf : Error → FolderFault → Type 0
 IsFaultOf error fault =
     ((error_kind error ≡ kinds.OutOfMemory) × (fault ≡ faults.OutOfMemory))
     ⊎ ((error_kind error ≢ kinds.OutOfMemory) × (fault ≡ faults.NoFolder))
+
+-- what programs are told where a release wasn't read
+abbrev pub folder_fault : ReadFault → FolderFault
+folder_fault reading.OutOfMemory = faults.OutOfMemory
+folder_fault (reading.Met path obstacle) = faults.NoFolder

@@ -15,6 +15,7 @@ beginning kind.Concept = codes "sct2_Concept_"
 beginning kind.Description = codes "sct2_Description_"
 beginning kind.Relationship = codes "sct2_Relationship_"
 beginning kind.Association = codes "der2_cRefset_Association"
+beginning kind.Concrete = codes "sct2_RelationshipConcreteValues_"
 
 -- the name of a file of the kind that is taken: of a Delta or a Full release, and of a text
 pub record IsTaken (kind : Kind) (name : List ℕ) : Type 0 where

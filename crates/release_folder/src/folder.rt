@@ -6,20 +6,15 @@ ghost use Rattle.release_folder.specs.Names.{IsTakenFile, AreInOrder, AreOfParts
 ghost use Rattle.release_folder.specs.declared.fault.FolderFault.TheVariants.{NoFolder};
 
 use crate::fault::FolderFault;
+use crate::guards::{
+    CONTENT, LARGEST, TERMINOLOGY, check_file, check_folder, check_parts, nothing_in, unlisted,
+};
 use crate::names::kind_to_take;
+use crate::obstacle::{Obstacle, ReadFault};
 use import_check::{Release, ReleaseFile};
 use std::alloc::Global;
 use std::fs::{self, File, Files};
-use std::io::{ErrorKind, Read};
-
-/// The most bytes that a release file has.
-const LARGEST: u64 = 4_294_967_295;
-
-/// The folder of a release that holds its concepts, descriptions and relationships.
-const TERMINOLOGY: &str = "Terminology";
-
-/// The folder of a release that holds its association reference sets.
-const CONTENT: &str = "Refset/Content";
+use std::io::{self, ErrorKind, Read};
 
 /// The release in the folder `name` below `dir`: the files of the folders Terminology and then
 /// Refset/Content, the names of each in byte order, as far as their names are those of concept,
@@ -38,13 +33,33 @@ pub fn read_folder<R: Files<File = File> + AllocGlobal + Clone + Drop>(
     // in the byte order of names; `release_of` says which come first.
     ensures in_order { IfOk result (λ release. AreInOrder release.files.items) }
 {
-    let root = format!(in alloc; "{dir}/{name}")?;
-    if !fs::metadata(rt, root.as_str())?.is_dir() {
-        return Err(FolderFault::NoFolder);
+    match read_release(rt, alloc, dir, name) {
+        Ok(release) => Ok(release),
+        Err(fault) => Err(fault.fault()),
     }
+}
+
+/// The same, with what stood in its way. Nothing is opened that isn't a folder or a regular file.
+pub fn read_release<R: Files<File = File> + AllocGlobal + Clone + Drop>(
+    rt: &R,
+    alloc: Global,
+    dir: &str,
+    name: &str,
+) -> Result<Release, ReadFault>
+    ensures taken { IfOk result (λ release. All IsTakenFile release.files.items) }
+    ensures some { IfOk result (λ release. release.files.items ≢ []) }
+    ensures in_order { IfOk result (λ release. AreInOrder release.files.items) }
+{
+    let root = format!(in alloc; "{dir}/{name}")?;
+    check_folder(rt, alloc, &root)?;
+    check_parts(rt, alloc, &root)?;
     let terminology = files_of(rt, alloc, &root, TERMINOLOGY)?;
     let content = files_of(rt, alloc, &root, CONTENT)?;
-    release_of(terminology, content)
+    match release_of(terminology, content) {
+        Ok(release) => Ok(release),
+        Err(FolderFault::OutOfMemory) => Err(ReadFault::OutOfMemory),
+        Err(FolderFault::NoFolder) => Err(nothing_in(rt, alloc, &root)),
+    }
 }
 
 /// The release of the files of its two folders: those of Terminology and then those of
@@ -79,7 +94,7 @@ fn files_of<R: Files<File = File> + AllocGlobal + Clone + Drop>(
     alloc: Global,
     root: &str,
     part: &str,
-) -> Result<Vec<ReleaseFile>, FolderFault>
+) -> Result<Vec<ReleaseFile>, ReadFault>
     ensures { IfOk result (λ files. All IsTakenFile files.items) }
 {
     let folder = format!(in alloc; "{root}/{part}")?;
@@ -102,7 +117,7 @@ fn add_files<R: Files<File = File> + AllocGlobal + Clone + Drop>(
     alloc: Global,
     folder: &str,
     files: &mut Vec<ReleaseFile>,
-) -> Result<(), FolderFault>
+) -> Result<(), ReadFault>
     ensures { All IsTakenFile files.old.items → OnOk result (All IsTakenFile files.new.items) }
 {
     for name in names_in(rt, alloc, folder)? {
@@ -120,15 +135,18 @@ fn names_in<R: Files<File = File> + AllocGlobal + Clone + Drop>(
     rt: &R,
     alloc: Global,
     folder: &str,
-) -> Result<Vec<String>, FolderFault> {
+) -> Result<Vec<String>, ReadFault> {
     let mut names = Vec::new(alloc);
     let entries = match fs::read_dir(rt, folder) {
         Ok(entries) => entries,
         Err(error) if error.kind() == ErrorKind::NotFound => return Ok(names),
-        Err(error) => return Err(FolderFault::from(error)),
+        Err(error) => return Err(ReadFault::said(alloc, folder, error)),
     };
     for entry in entries {
-        let entry = entry?;
+        let entry = match entry {
+            Ok(entry) => entry,
+            Err(error) => return Err(unlisted(alloc, folder, error)),
+        };
         names.push(String::from_str(alloc, entry.file_name())?)?;
     }
     Ok(names)
@@ -139,17 +157,27 @@ fn whole_file<R: Files<File = File>>(
     rt: &R,
     alloc: Global,
     path: &str,
-) -> Result<Vec<u8>, FolderFault>
+) -> Result<Vec<u8>, ReadFault>
     ensures { IfOk result (λ bytes. length bytes.items ≤ LARGEST) }
 {
-    let file = fs::open(rt, path)?;
-    if file.metadata()?.len() > LARGEST {
-        return Err(FolderFault::NoFolder);
-    }
+    check_file(rt, alloc, path)?;
     let mut bytes = Vec::new(alloc);
-    file.take(LARGEST + 1).read_to_end(&mut bytes)?;
+    if let Err(error) = read_up_to(rt, path, LARGEST + 1, &mut bytes) {
+        return Err(ReadFault::said(alloc, path, error));
+    }
     if bytes.len() as u64 > LARGEST {
-        return Err(FolderFault::NoFolder);
+        return Err(ReadFault::met(alloc, path, Obstacle::TooLarge));
     }
     Ok(bytes)
+}
+
+/// Reads a file, up to so many bytes of it.
+fn read_up_to<R: Files<File = File>>(
+    rt: &R,
+    path: &str,
+    most: u64,
+    bytes: &mut Vec<u8>,
+) -> io::Result<()> {
+    fs::open(rt, path)?.take(most).read_to_end(bytes)?;
+    Ok(())
 }

@@ -3,11 +3,14 @@
 
 mod fault;
 mod folder;
+mod guards;
 mod names;
+mod obstacle;
 
 pub use fault::FolderFault;
-pub use folder::{read_folder, release_of};
+pub use folder::{read_folder, read_release, release_of};
 pub use names::kind_to_take;
+pub use obstacle::{Obstacle, ReadFault};
 
 #[cfg(test)]
 mod tests;

@@ -18,6 +18,7 @@ fn beginning_of(kind: Kind) -> &'static [u8]
         Kind::Description => b"sct2_Description_",
         Kind::Relationship => b"sct2_Relationship_",
         Kind::Association => b"der2_cRefset_Association",
+        Kind::Concrete => b"sct2_RelationshipConcreteValues_",
     }
 }
 
@@ -46,6 +47,8 @@ pub fn kind_to_take(name: &[u8]) -> Option<Kind>
         Some(Kind::Relationship)
     } else if is_taken(Kind::Association, name) {
         Some(Kind::Association)
+    } else if is_taken(Kind::Concrete, name) {
+        Some(Kind::Concrete)
     } else {
         None
     }

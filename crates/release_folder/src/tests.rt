@@ -1,7 +1,7 @@
 use super::*;
 use import_check::{Release, sample};
 use rf2_values::Kind;
-use std::fs;
+use std::fs::{self, Files};
 use std::test::Fail;
 
 /// Writes the files of a sample into a folder.
@@ -40,21 +40,26 @@ fn a_release_is_read_in_the_order_of_its_names(rt: HostRuntime) -> Result<(), Fa
         "releases/r2/Terminology/sct2_Identifier_Delta_INT_20210131.txt",
         b"id".as_slice(),
     )?;
+    let concrete = "sct2_RelationshipConcreteValues_Delta_INT_20210131.txt";
+    let path = format!(in rt.alloc(); "releases/r2/Terminology/{concrete}")?;
+    fs::write(&rt, path.as_str(), b"id".as_slice())?;
     let read = match read_folder(&rt, rt.alloc(), "releases", "r2") {
         Ok(read) => read,
         Err(fault) => return Err(Fail::from(fault)),
     };
-    assert_eq!(rt; read.files.len(), 4);
+    assert_eq!(rt; read.files.len(), 5);
     let kinds = [
         Kind::Concept,
         Kind::Description,
+        Kind::Concrete,
         Kind::Relationship,
         Kind::Association,
     ];
     for (file, kind) in read.files.iter().zip(&kinds) {
         assert_eq!(rt; file.kind, *kind);
-        let same = release.files.iter().any(|other| other.name == file.name
-            && other.bytes == file.bytes);
+        let same = file.kind == Kind::Concrete
+            || release.files.iter().any(|other| other.name == file.name
+                && other.bytes == file.bytes);
         assert!(rt; same, "{}", file.name);
     }
     Ok(())
@@ -101,6 +106,109 @@ fn files_of_one_kind_come_in_the_byte_order_of_their_names(rt: HostRuntime) -> R
     for (file, want) in read.files.iter().zip([b"1", b"2", b"3"]) {
         assert_eq!(rt; file.kind, Kind::Concept);
         assert_eq!(rt; file.bytes.as_slice(), want.as_slice());
+    }
+    Ok(())
+}
+
+/// What stood in the way of a release below the folder `releases`.
+fn told(rt: &HostRuntime, name: &str) -> Result<String, Fail> {
+    match read_release(rt, rt.alloc(), "releases", name) {
+        Ok(_) => Ok(String::from_str(rt.alloc(), "a release")?),
+        Err(fault) => Ok(format!(in rt.alloc(); "{fault}")?),
+    }
+}
+
+#[test]
+fn what_stood_in_the_way_is_told(rt: HostRuntime) -> Result<(), Fail> {
+    let file = "sct2_Concept_Full_INT_20200131.txt";
+    for folder in [
+        "bare/terminology",
+        "package/Full/Terminology",
+        "deltas/Delta/Refset",
+        "empty/Refset/Content",
+        "device/Terminology",
+        "dangling/Terminology",
+        "lost",
+        "half/Terminology",
+        "refset/Terminology",
+    ] {
+        let path = format!(in rt.alloc(); "releases/{folder}")?;
+        fs::create_dir_all(&rt, path.as_str())?;
+    }
+    fs::write(&rt, "releases/packed.zip", b"PK".as_slice())?;
+    // An endless device and links that lead nowhere.
+    let links = [
+        ("/dev/zero", "device/Terminology"),
+        ("nowhere", "dangling/Terminology"),
+    ];
+    for (to, folder) in &links {
+        let path = format!(in rt.alloc(); "releases/{folder}/{file}")?;
+        rt.symlink(*to, path.as_str())?;
+    }
+    for folder in ["half/Terminology", "refset/Terminology"] {
+        let path = format!(in rt.alloc(); "releases/{folder}/{file}")?;
+        fs::write(&rt, path.as_str(), b"id".as_slice())?;
+    }
+    for path in ["lost/Terminology", "half/Refset", "gone"] {
+        let path = format!(in rt.alloc(); "releases/{path}")?;
+        rt.symlink("nowhere", path.as_str())?;
+    }
+    fs::create_dir(&rt, "releases/refset/Refset")?;
+    rt.symlink("nowhere", "releases/refset/Refset/Content")?;
+    let nothing = "no folder Terminology or Refset/Content in it";
+    let cases = [
+        ("absent", "releases/absent: no such folder", ""),
+        ("gone", "releases/gone: a link that leads nowhere", ""),
+        (
+            "packed.zip",
+            "releases/packed.zip: it is no folder; unpack the release, and name its folder",
+            "",
+        ),
+        ("bare", "releases/bare: ", nothing),
+        (
+            "empty",
+            "releases/empty: no file to take in Terminology or Refset/Content",
+            "",
+        ),
+        (
+            "device",
+            "releases/device/Terminology/sct2_Concept_Full_INT_20200131.txt: not a regular file",
+            "",
+        ),
+        (
+            "dangling",
+            "releases/dangling/Terminology/sct2_Concept_Full_INT_20200131.txt: a link that leads nowhere",
+            "",
+        ),
+        (
+            "lost",
+            "releases/lost/Terminology: a link that leads nowhere",
+            "",
+        ),
+        (
+            "half",
+            "releases/half/Refset: a link that leads nowhere",
+            "",
+        ),
+        (
+            "refset",
+            "releases/refset/Refset/Content: a link that leads nowhere",
+            "",
+        ),
+    ];
+    for (name, start, end) in &cases {
+        let told = told(&rt, *name)?;
+        let want = format!(in rt.alloc(); "{start}{end}")?;
+        assert_eq!(rt; told.as_str(), want.as_str());
+        let read = read_folder(&rt, rt.alloc(), "releases", *name);
+        assert!(rt; matches!(read, Err(FolderFault::NoFolder)), "{name}");
+    }
+    for (name, inner) in &[("package", "Full"), ("deltas", "Delta")] {
+        let told = told(&rt, *name)?;
+        let want = format!(in rt.alloc();
+            "releases/{name}: {nothing}; its folder {inner} is the one to name"
+        )?;
+        assert_eq!(rt; told.as_str(), want.as_str());
     }
     Ok(())
 }

@@ -67,6 +67,7 @@ stands_clean (Identifier kind.Concept) text h = let high = h.1.sctid.high in dec
 stands_clean (Identifier kind.Description) text h = let high = h.1.sctid.high in decimal_is_clean h.0 text (omega arith) h.2
 stands_clean (Identifier kind.Relationship) text h = let high = h.1.sctid.high in decimal_is_clean h.0 text (omega arith) h.2
 stands_clean (Identifier kind.Association) text h = member_is_clean text h.2.plain
+stands_clean (Identifier kind.Concrete) text h = let high = h.1.sctid.high in decimal_is_clean h.0 text (omega arith) h.2
 stands_clean Time text h = decimal_is_clean h.0 text (time_below h.0 h.1) h.2
 stands_clean Active text (false, e) = subst IsClean (sym e) (digit_is_clean 48 (omega arith) (omega arith))
 stands_clean Active text (true, e) = subst IsClean (sym e) (digit_is_clean 49 (omega arith) (omega arith))

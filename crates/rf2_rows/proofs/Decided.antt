@@ -298,6 +298,7 @@ column (Identifier kind.Concept) text = of_class class.Concept text
 column (Identifier kind.Description) text = of_class class.Description text
 column (Identifier kind.Relationship) text = of_class class.Relationship text
 column (Identifier kind.Association) text = faulty fault.MemberId (is_member text)
+column (Identifier kind.Concrete) text = of_class class.Relationship text
 column Time text = faulty fault.Time (spelled IsTime time_small is_time text)
 column Active text = faulty fault.Active (is_flag text)
 column ConceptReference text = faulty fault.Reference (spelled IsConcept (class_small class.Concept) (is_of_class class.Concept) text)
@@ -369,6 +370,18 @@ own kind.Association ts h =
       refl,
       (a.3.1, b.3.1, c.3.1),
       consed _ _ _ _ _ a.2 a.3.2 (consed _ _ _ _ _ b.2 b.3.2 (consed _ _ _ _ _ c.2 c.3.2 (no_more c.1 c.4))),
+    )
+own kind.Concrete ts h =
+    let a = first ConceptReference (Text ∷ Number ∷ ConceptReference ∷ ConceptReference ∷ ConceptReference ∷ []) ts h in
+    let b = first Text (Number ∷ ConceptReference ∷ ConceptReference ∷ ConceptReference ∷ []) a.1 a.4 in
+    let c = first Number (ConceptReference ∷ ConceptReference ∷ ConceptReference ∷ []) b.1 b.4 in
+    let d = first ConceptReference (ConceptReference ∷ ConceptReference ∷ []) c.1 c.4 in
+    let e = first ConceptReference (ConceptReference ∷ []) d.1 d.4 in
+    let f = first ConceptReference [] e.1 e.4 in (
+      body.Concrete (record { source = a.3.0; value = b.0; group = c.3.0; type_id = d.3.0; characteristic_type = e.3.0; modifier = f.3.0 }),
+      refl,
+      (a.3.1, b.3, c.3.1, d.3.1, e.3.1, f.3.1),
+      consed _ _ _ _ _ a.2 a.3.2 (consed _ _ _ _ _ b.2 refl (consed _ _ _ _ _ c.2 c.3.2 (consed _ _ _ _ _ d.2 d.3.2 (consed _ _ _ _ _ e.2 e.3.2 (consed _ _ _ _ _ f.2 f.3.2 (no_more f.1 f.4)))))),
     )
 
 row_of : (k : Kind) (ts : List (List ℕ)) → AllStand (columns k) ts → length (line_of ts) ≤ line_limit → (v : Version) × (kind_of v ≡ k) × IsVersion v × SpellsColumns v ts

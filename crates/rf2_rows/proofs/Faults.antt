@@ -88,6 +88,7 @@ id_length kind.Concept n text s = sym (ap length s)
 id_length kind.Description n text s = sym (ap length s)
 id_length kind.Relationship n text s = sym (ap length s)
 id_length kind.Association n text s = by_index_length 36 _ ∙ sym s.long
+id_length kind.Concrete n text s = sym (ap length s)
 
 -- what the columns of a line say is a row, if the line is short
 pub row_of_columns : (kind : Kind) (columns : List (Bor (List ℕ))) (id time : ℕ) (active : Bool) (m : ℕ) (body : Body) → 4 ≤ length columns

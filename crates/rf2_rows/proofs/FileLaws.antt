@@ -60,6 +60,7 @@ own_last t (body.Concept c) h = let high = h.sctid.high in decimal_plain c.defin
 own_last t (body.Description d) h = let high = h.4.sctid.high in decimal_plain d.case_significance (omega arith)
 own_last t (body.Relationship r) h = let high = h.5.sctid.high in decimal_plain r.modifier (omega arith)
 own_last t (body.Association a) h = let high = h.2.sctid.high in decimal_plain a.target (omega arith)
+own_last t (body.Concrete c) h = let high = h.5.sctid.high in decimal_plain c.modifier (omega arith)
 
 spelled_is_line : (v : Version) (text : List ℕ) → Spells v text → IsPlainLine text
 spelled_is_line v text s =
@@ -113,6 +114,7 @@ tested kind.Concept = refl
 tested kind.Description = refl
 tested kind.Relationship = refl
 tested kind.Association = refl
+tested kind.Concrete = refl
 
 unmarked : (xs more : List ℕ) → get_or xs 0 0 ≡ 105 → starts_with nat_eq (xs ++ more) mark ≡ false
 unmarked [] more e = absurd (omega arith)

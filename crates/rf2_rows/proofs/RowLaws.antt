@@ -26,6 +26,8 @@ no_fault (Identifier kind.Description) t f h (inr fault) = fault.1 h
 no_fault (Identifier kind.Relationship) t f h (inl fault) = fault.0 (h.0, h.1.sctid, h.2)
 no_fault (Identifier kind.Relationship) t f h (inr fault) = fault.1 h
 no_fault (Identifier kind.Association) t f h fault = fault.0 h
+no_fault (Identifier kind.Concrete) t f h (inl fault) = fault.0 (h.0, h.1.sctid, h.2)
+no_fault (Identifier kind.Concrete) t f h (inr fault) = fault.1 h
 no_fault Time t f h fault = fault.0 h
 no_fault Active t f h fault = fault.0 h
 no_fault ConceptReference t f h fault = fault.0 h
@@ -45,6 +47,7 @@ own_stand (body.Concept c) h = ((c.definition_status, h, refl), tt)
 own_stand (body.Description d) h = ((d.concept, h.0, refl), (h.1, ((d.type_id, h.2, refl), (h.3, ((d.case_significance, h.4, refl), tt)))))
 own_stand (body.Relationship r) h = ((r.source, h.0, refl), ((r.destination, h.1, refl), ((r.group, h.2, refl), ((r.type_id, h.3, refl), ((r.characteristic_type, h.4, refl), ((r.modifier, h.5, refl), tt))))))
 own_stand (body.Association a) h = ((a.refset, h.0, refl), ((a.referenced, h.1, refl), ((a.target, h.2, refl), tt)))
+own_stand (body.Concrete c) h = ((c.source, h.0, refl), (h.1, ((c.group, h.2, refl), ((c.type_id, h.3, refl), ((c.characteristic_type, h.4, refl), ((c.modifier, h.5, refl), tt))))))
 
 -- the columns of a row may stand where they stand
 pub columns_stand : (v : Version) (texts : List (List ℕ)) → IsVersion v → SpellsColumns v texts → AllStand (columns (kind_of v)) texts
@@ -109,6 +112,10 @@ same_ids kind.Association m n text hm hn sm sn =
     let both : Some sm.value.0 ≡ Some sn.value.0 = sym sm.value.1 ∙ sn.value.1 in
     let bytes : sm.value.0 ≡ sn.value.0 = cc in
     sm.value.2 ∙ ap (from_be_bytes w128) bytes ∙ sym sn.value.2
+same_ids kind.Concrete m n text hm hn sm sn =
+    let low = hm.sctid.high in
+    let high = hn.sctid.high in
+    decimal_injective m n (omega arith) (omega arith) (sym sm ∙ sn)
 
 same_components : (m n : ℕ) → IsComponent m → IsComponent n → (ms ns : List (List ℕ)) → decimal m ∷ ms ≡ decimal n ∷ ns → (m ≡ n) × (ms ≡ ns)
 same_components m n hm hn ms ns e =
@@ -156,6 +163,17 @@ same_bodies (body.Association a) (body.Association b) ha hb k e =
     let target = same_components a.target b.target ha.2 hb.2 _ _ referenced.1 in
     let made : ℕ → ℕ → ℕ → Body = λ s r t. body.Association (record { refset = s; referenced = r; target = t }) in
     ap (λ s. made s a.referenced a.target) refset.0 ∙ ap (λ r. made b.refset r a.target) referenced.0 ∙ ap (λ t. made b.refset b.referenced t) target.0
+same_bodies (body.Concrete a) (body.Concrete b) ha hb k e =
+    let source = same_concepts a.source b.source ha.0 hb.0 _ _ e in
+    let value = same_texts a.value b.value _ _ source.1 in
+    let low = ha.2 in
+    let high = hb.2 in
+    let group = same_decimals a.group b.group (omega arith) (omega arith) _ _ value.1 in
+    let type_id = same_concepts a.type_id b.type_id ha.3 hb.3 _ _ group.1 in
+    let characteristic = same_concepts a.characteristic_type b.characteristic_type ha.4 hb.4 _ _ type_id.1 in
+    let modifier = same_concepts a.modifier b.modifier ha.5 hb.5 _ _ characteristic.1 in
+    let made : ℕ → List ℕ → ℕ → ℕ → ℕ → ℕ → Body = λ s v g t c m. body.Concrete (record { source = s; value = v; group = g; type_id = t; characteristic_type = c; modifier = m }) in
+    ap (λ s. made s a.value a.group a.type_id a.characteristic_type a.modifier) source.0 ∙ ap (λ v. made b.source v a.group a.type_id a.characteristic_type a.modifier) value.0 ∙ ap (λ g. made b.source b.value g a.type_id a.characteristic_type a.modifier) group.0 ∙ ap (λ t. made b.source b.value b.group t a.characteristic_type a.modifier) type_id.0 ∙ ap (λ c. made b.source b.value b.group b.type_id c a.modifier) characteristic.0 ∙ ap (λ m. made b.source b.value b.group b.type_id b.characteristic_type m) modifier.0
 same_bodies a b ha hb k e = absurd cc
 
 time_below : (t : ℕ) → IsTime t → t < 2 ^ 64
@@ -195,3 +213,4 @@ canonical_spells v h = record { is_row = h; columns = (id_text (kind_of v) v.id 
     canonical_id kind.Description n h = refl
     canonical_id kind.Relationship n h = refl
     canonical_id kind.Association n h = member_text_spells n h
+    canonical_id kind.Concrete n h = refl

@@ -32,6 +32,7 @@ one_id_fault kind.Concept t f g a b = one_class_fault _ t f g a b
 one_id_fault kind.Description t f g a b = one_class_fault _ t f g a b
 one_id_fault kind.Relationship t f g a b = one_class_fault _ t f g a b
 one_id_fault kind.Association t f g a b = a.1 ∙ sym b.1
+one_id_fault kind.Concrete t f g a b = one_class_fault _ t f g a b
 
 one_column_fault : (c : Column) (t : List ℕ) (f g : LineFault) → HasFault c t f → HasFault c t g → f ≡ g
 one_column_fault (Identifier k) t f g a b = one_id_fault k t f g a b

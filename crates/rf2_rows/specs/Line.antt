@@ -61,6 +61,14 @@ own_layout kind.Association =
     ∷ (codes "referencedComponentId", ComponentReference)
     ∷ (codes "targetComponentId", ComponentReference)
     ∷ []
+own_layout kind.Concrete =
+    (codes "sourceId", ConceptReference)
+    ∷ (codes "value", Text)
+    ∷ (codes "relationshipGroup", Number)
+    ∷ (codes "typeId", ConceptReference)
+    ∷ (codes "characteristicTypeId", ConceptReference)
+    ∷ (codes "modifierId", ConceptReference)
+    ∷ []
 
 abbrev pub columns_in : List (List ℕ × Column) → List Column
 columns_in layout = map (λ c. c.1) layout
@@ -99,6 +107,7 @@ HasIdFault kind.Description text f = HasClassFault class.Description text f
 HasIdFault kind.Relationship text f = HasClassFault class.Relationship text f
 HasIdFault kind.Association text f =
     ¬ (MayStand (Identifier kind.Association) text) × (f ≡ fault.MemberId)
+HasIdFault kind.Concrete text f = HasClassFault class.Relationship text f
 
 -- the fault of a text that may not stand in the column
 abbrev pub HasFault : Column → List ℕ → LineFault → Type 0

@@ -62,7 +62,9 @@ pub fn identifier(kind: Kind, text: &[u8]) -> Result<u128, LineFault>
     match kind {
         Kind::Concept => Ok(u128::from(sctid_of(text, Class::Concept)?.value())),
         Kind::Description => Ok(u128::from(sctid_of(text, Class::Description)?.value())),
-        Kind::Relationship => Ok(u128::from(sctid_of(text, Class::Relationship)?.value())),
+        Kind::Relationship | Kind::Concrete => {
+            Ok(u128::from(sctid_of(text, Class::Relationship)?.value()))
+        }
         Kind::Association => member_id(text),
     }
 }

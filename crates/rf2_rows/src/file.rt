@@ -29,6 +29,10 @@ const RELATIONSHIP_HEADER: &[u8] =
 const ASSOCIATION_HEADER: &[u8] =
     b"id\teffectiveTime\tactive\tmoduleId\trefsetId\treferencedComponentId\ttargetComponentId";
 
+/// The column names of a file of relationships with concrete values.
+const CONCRETE_HEADER: &[u8] =
+    b"id\teffectiveTime\tactive\tmoduleId\tsourceId\tvalue\trelationshipGroup\ttypeId\tcharacteristicTypeId\tmodifierId";
+
 /// The first line of a file of the kind, without its line end: the column names, joined by TAB.
 pub fn column_names(kind: Kind) -> &'static [u8]
     ensures { result.now ≡ header kind }
@@ -38,6 +42,7 @@ pub fn column_names(kind: Kind) -> &'static [u8]
         Kind::Description => DESCRIPTION_HEADER,
         Kind::Relationship => RELATIONSHIP_HEADER,
         Kind::Association => ASSOCIATION_HEADER,
+        Kind::Concrete => CONCRETE_HEADER,
     }
 }
 

@@ -15,8 +15,8 @@ pub use fault::{FileFault, LineFault, RowFault};
 pub use file::{column_names, read_file};
 pub use line::parse_line;
 pub use rf2_values::{
-    Association, Body, Class, Concept, Description, EffectiveTime, Key, Kind, Member, Relationship,
-    Row, Sctid, Text,
+    Association, Body, Class, Concept, Concrete, Description, EffectiveTime, Key, Kind, Member,
+    Relationship, Row, Sctid, Text,
 };
 pub use write::write_row;
 

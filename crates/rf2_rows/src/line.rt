@@ -17,8 +17,8 @@ use crate::columns::{
 use crate::fault::{LineFault, RowFault};
 use bstr::ByteSlice;
 use rf2_values::{
-    Association, Body, Concept, Description, EffectiveTime, Kind, LINE_LIMIT, Relationship, Row,
-    Sctid,
+    Association, Body, Concept, Concrete, Description, EffectiveTime, Kind, LINE_LIMIT,
+    Relationship, Row, Sctid,
 };
 use std::alloc::Global;
 
@@ -141,6 +141,37 @@ fn read_association(refset: &[u8], referenced: &[u8], target: &[u8]) -> Result<B
     }))
 }
 
+/// The columns of its own that a relationship with a concrete value has.
+#[tactic(auto, using(crate::proofs::Faults::fault_here, crate::proofs::Faults::fault_later, crate::proofs::Faults::fault_past_three))]
+fn read_concrete(
+    alloc: Global,
+    source: &[u8],
+    value: &[u8],
+    number: &[u8],
+    type_id: &[u8],
+    characteristic_type: &[u8],
+    modifier: &[u8],
+) -> Result<Body, RowFault>
+    ensures { MatchResult result
+        (λ b. (kind_of_body b ≡ kind.Concrete) × IsBody b
+        ×
+        (source.now ∷ value.now ∷ number.now ∷ type_id.now ∷ characteristic_type.now
+        ∷ modifier.now ∷ []
+        ≡ body_columns b))
+        (IsLineFaultThat (FirstFault (columns_in (own_layout kind.Concrete))
+        (source.now ∷ value.now ∷ number.now ∷ type_id.now ∷ characteristic_type.now
+        ∷ modifier.now ∷ []))) }
+{
+    Ok(Body::Concrete(Concrete {
+        source: concept_reference(source)?,
+        value: some_text(alloc, value)?,
+        group: group(number)?,
+        type_id: concept_reference(type_id)?,
+        characteristic_type: concept_reference(characteristic_type)?,
+        modifier: concept_reference(modifier)?,
+    }))
+}
+
 /// How many columns of its own a kind has.
 fn own_count(kind: Kind) -> usize
     ensures { result ≡ length (own_layout kind) }
@@ -148,7 +179,7 @@ fn own_count(kind: Kind) -> usize
     match kind {
         Kind::Concept => 1,
         Kind::Description => 5,
-        Kind::Relationship => 6,
+        Kind::Relationship | Kind::Concrete => 6,
         Kind::Association => 3,
     }
 }
@@ -167,6 +198,7 @@ fn read_own(alloc: Global, kind: Kind, own: &[&[u8]]) -> Result<Body, RowFault>
             own[0], own[1], own[2], own[3], own[4], own[5],
         )?),
         Kind::Association => Ok(read_association(own[0], own[1], own[2])?),
+        Kind::Concrete => read_concrete(alloc, own[0], own[1], own[2], own[3], own[4], own[5]),
     }
 }
 

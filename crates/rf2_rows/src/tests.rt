@@ -18,6 +18,9 @@ const IS_A: &[u8] =
 const SAME_AS: &[u8] =
     b"0b6a0c2e-5d0f-4c53-9f6e-8d9d2a7b1c01|20210131|0|900000000000207008|900000000000527005|1000015|2000029";
 
+const STRENGTH: &[u8] =
+    b"1000027|20210731|1|900000000000207008|1000004|#5|0|3000005|900000000000011006|900000000000451002";
+
 /// The text with a TAB for each bar.
 fn tabbed(alloc: Global, text: &[u8]) -> Result<Vec<u8>, AllocError> {
     let mut line = Vec::new(alloc);
@@ -93,7 +96,7 @@ fn faults_of_lines(rt: HostRuntime) -> Result<(), Fail> {
             "{text:?}"
         );
     }
-    let others: [(Kind, &[u8], Option<LineFault>); 14] = [
+    let others: [(Kind, &[u8], Option<LineFault>); 17] = [
         (Kind::Description, GERMAN, None),
         (Kind::Description, ROOT, Some(LineFault::Columns)),
         (
@@ -147,6 +150,17 @@ fn faults_of_lines(rt: HostRuntime) -> Result<(), Fail> {
             Kind::Association,
             b"0b6a0c2e-5d0f-4c53-9f6e-8d9d2a7b1c01|20210131|1|900000000000207008|900000000000527005|11000003039|2",
             Some(LineFault::Reference),
+        ),
+        (Kind::Concrete, STRENGTH, None),
+        (
+            Kind::Concrete,
+            b"1000027|20210731|1|900000000000207008|1000004||0|X|Y|Z",
+            Some(LineFault::EmptyText),
+        ),
+        (
+            Kind::Concrete,
+            b"1000004|20210731|1|900000000000207008|1000004||0|X|Y|Z",
+            Some(LineFault::Partition),
         ),
     ];
     for (kind, text, fault) in &others {
@@ -256,7 +270,7 @@ fn concept_files(rt: HostRuntime) -> Result<(), Fail> {
 
 #[test]
 fn first_lines(rt: HostRuntime) -> Result<(), Fail> {
-    let heads: [(Kind, &[u8]); 4] = [
+    let heads: [(Kind, &[u8]); 5] = [
         (Kind::Concept, CONCEPTS),
         (Kind::Description, DESCRIPTIONS),
         (
@@ -266,6 +280,10 @@ fn first_lines(rt: HostRuntime) -> Result<(), Fail> {
         (
             Kind::Association,
             b"id|effectiveTime|active|moduleId|refsetId|referencedComponentId|targetComponentId",
+        ),
+        (
+            Kind::Concrete,
+            b"id|effectiveTime|active|moduleId|sourceId|value|relationshipGroup|typeId|characteristicTypeId|modifierId",
         ),
     ];
     for (kind, head) in &heads {
@@ -408,10 +426,11 @@ fn is_copied(alloc: Global, row: &Row) -> Result<bool, AllocError> {
 
 #[test]
 fn read_and_written(rt: HostRuntime) -> Result<(), Fail> {
-    let lines: [(Kind, &[u8], &[u8], u128); 5] = [
+    let lines: [(Kind, &[u8], &[u8], u128); 6] = [
         (Kind::Concept, ROOT, ROOT, 138_875_005),
         (Kind::Description, GERMAN, GERMAN, 1_000_015),
         (Kind::Relationship, IS_A, IS_A, 1_000_027),
+        (Kind::Concrete, STRENGTH, STRENGTH, 1_000_027),
         (
             Kind::Association,
             SAME_AS,

@@ -37,9 +37,9 @@ fn put_id(line: &mut Vec<u8>, kind: Kind, id: u128) -> Result<(), AllocError>
     ensures { OnOk result (line.new.items ≡ line.old.items ++ id_text kind id) }
 {
     match kind {
-        Kind::Concept | Kind::Description | Kind::Relationship => line.extend_from_slice(
-            Buffer::new().format(id).as_bytes(),
-        ),
+        Kind::Concept | Kind::Description | Kind::Relationship | Kind::Concrete => {
+            line.extend_from_slice(Buffer::new().format(id).as_bytes())
+        }
         Kind::Association => Member::of(id).write(line),
     }
 }
@@ -69,6 +69,14 @@ fn put_own(line: &mut Vec<u8>, body: &Body) -> Result<(), AllocError>
             put_number(line, association.refset.value())?;
             put_number(line, association.referenced.value())?;
             put_number(line, association.target.value())
+        }
+        Body::Concrete(concrete) => {
+            put_number(line, concrete.source.value())?;
+            put_text(line, &concrete.value)?;
+            put_number(line, u64::from(concrete.group))?;
+            put_number(line, concrete.type_id.value())?;
+            put_number(line, concrete.characteristic_type.value())?;
+            put_number(line, concrete.modifier.value())
         }
     }
 }

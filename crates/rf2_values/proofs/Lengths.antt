@@ -32,6 +32,7 @@ id_short kind.Concept n h = let high = h.sctid.high in omega (arith, number_shor
 id_short kind.Description n h = let high = h.sctid.high in omega (arith, number_short n (omega arith))
 id_short kind.Relationship n h = let high = h.sctid.high in omega (arith, number_short n (omega arith))
 id_short kind.Association n h = let long : length (id_text kind.Association n) ≡ 36 = by_index_length 36 _ in omega arith
+id_short kind.Concrete n h = let high = h.sctid.high in omega (arith, number_short n (omega arith))
 
 concept_short : (n : ℕ) → IsConcept n → length (decimal n) ≤ 20
 concept_short n h = let high = h.sctid.high in number_short n (omega arith)
@@ -42,6 +43,7 @@ texts_length (body.Concept c) = 0
 texts_length (body.Description d) = length d.language_code + 1 + (length d.term + 1)
 texts_length (body.Relationship r) = 0
 texts_length (body.Association a) = 0
+texts_length (body.Concrete c) = length c.value + 1
 
 pub no_texts : (b : Body) → ((c : Concept) × (b ≡ body.Concept c)) ⊎ (((r : Relationship) × (b ≡ body.Relationship r)) ⊎ ((a : Association) × (b ≡ body.Association a))) → texts_length b ≡ 0
 no_texts b (inl h) = ap texts_length h.1
@@ -58,6 +60,9 @@ own_short (body.Association a) h =
     let referenced = h.1.sctid.high in
     let target = h.2.sctid.high in
     omega (arith, concept_short a.refset h.0, number_short a.referenced (omega arith), number_short a.target (omega arith))
+own_short (body.Concrete c) h =
+    let group = h.2 in
+    omega (arith, concept_short c.source h.0, number_short c.group (omega arith), concept_short c.type_id h.3, concept_short c.characteristic_type h.4, concept_short c.modifier h.5)
 
 -- a row whose texts are short has a short line
 pub line_short : (id time : ℕ) (active : Bool) (m : ℕ) (b : Body) (texts : ℕ) → IsIdOf (kind_of_body b) id → IsTime time → IsConcept m

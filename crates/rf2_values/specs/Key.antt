@@ -18,6 +18,7 @@ kind_place kind.Concept = 0
 kind_place kind.Description = 1
 kind_place kind.Relationship = 2
 kind_place kind.Association = 3
+kind_place kind.Concrete = 4
 
 -- by kind, then by id, then by time
 abbrev pub key_cmp : Key → Key → Ordering

@@ -29,6 +29,7 @@ kind_of_body (body.Concept c) = kind.Concept
 kind_of_body (body.Description d) = kind.Description
 kind_of_body (body.Relationship r) = kind.Relationship
 kind_of_body (body.Association a) = kind.Association
+kind_of_body (body.Concrete c) = kind.Concrete
 
 abbrev pub kind_of : Version → Kind
 kind_of v = kind_of_body v.body
@@ -52,6 +53,7 @@ IsIdOf kind.Concept n = IsOfClass class.Concept n
 IsIdOf kind.Description n = IsOfClass class.Description n
 IsIdOf kind.Relationship n = IsOfClass class.Relationship n
 IsIdOf kind.Association n = n < 2 ^ 128
+IsIdOf kind.Concrete n = IsOfClass class.Relationship n
 
 abbrev pub IsBody : Body → Type 0
 IsBody (body.Concept c) = IsConcept c.definition_status
@@ -62,6 +64,9 @@ IsBody (body.Relationship r) =
     IsConcept r.source × IsConcept r.destination × (r.group < 2 ^ 32) × IsConcept r.type_id
     × IsConcept r.characteristic_type × IsConcept r.modifier
 IsBody (body.Association a) = IsConcept a.refset × IsComponent a.referenced × IsComponent a.target
+IsBody (body.Concrete c) =
+    IsConcept c.source × IsText c.value × (c.group < 2 ^ 32) × IsConcept c.type_id
+    × IsConcept c.characteristic_type × IsConcept c.modifier
 
 -- ---- how a line spells a row
 
@@ -75,6 +80,7 @@ SpellsId kind.Concept n text = text ≡ decimal n
 SpellsId kind.Description n text = text ≡ decimal n
 SpellsId kind.Relationship n text = text ≡ decimal n
 SpellsId kind.Association n text = SpellsMember n text
+SpellsId kind.Concrete n text = text ≡ decimal n
 
 -- its canonical spelling
 abbrev pub id_text : Kind → ℕ → List ℕ
@@ -82,6 +88,7 @@ id_text kind.Concept n = decimal n
 id_text kind.Description n = decimal n
 id_text kind.Relationship n = decimal n
 id_text kind.Association n = member_text n
+id_text kind.Concrete n = decimal n
 
 abbrev pub body_columns : Body → List (List ℕ)
 body_columns (body.Concept c) = decimal c.definition_status ∷ []
@@ -93,6 +100,9 @@ body_columns (body.Relationship r) =
     ∷ decimal r.characteristic_type ∷ decimal r.modifier ∷ []
 body_columns (body.Association a) =
     decimal a.refset ∷ decimal a.referenced ∷ decimal a.target ∷ []
+body_columns (body.Concrete c) =
+    decimal c.source ∷ c.value ∷ decimal c.group ∷ decimal c.type_id
+    ∷ decimal c.characteristic_type ∷ decimal c.modifier ∷ []
 
 -- the columns after the identifier
 abbrev pub later_columns : Version → List (List ℕ)

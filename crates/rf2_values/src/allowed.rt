@@ -4,7 +4,7 @@ ghost use Rattle.std.specs.Prelude.{◌≡◌, ◌↔◌, IsTrue};
 ghost use Rattle.rf2_values.specs.Row.{IsConcept, IsComponent, IsOfClass, IsIdOf, IsBody};
 ghost use Rattle.rf2_values.specs.Text.{IsText};
 
-use crate::row::{Association, Body, Description, Kind, Relationship};
+use crate::row::{Association, Body, Concrete, Description, Kind, Relationship};
 use crate::sctid::{Class, Sctid};
 
 /// Whether the identifier is a concept's.
@@ -41,7 +41,7 @@ pub fn is_id_of(kind: Kind, id: u128) -> bool
     match kind {
         Kind::Concept => is_of_class(Class::Concept, id),
         Kind::Description => is_of_class(Class::Description, id),
-        Kind::Relationship => is_of_class(Class::Relationship, id),
+        Kind::Relationship | Kind::Concrete => is_of_class(Class::Relationship, id),
         Kind::Association => true,
     }
 }
@@ -76,6 +76,18 @@ fn is_association(columns: &Association) -> bool
     is_concept(columns.refset) && is_component(columns.referenced) && is_component(columns.target)
 }
 
+/// Whether these are columns of a relationship with a concrete value.
+fn is_concrete(columns: &Concrete) -> bool
+    ensures { IsTrue result ↔ IsBody (Body.Concrete columns.now) }
+{
+    // Nothing is to be tested of the value, which is a `Text`, and any group may stand in a line.
+    let _value = columns.value.as_bytes();
+    let _group = columns.group;
+    is_concept(columns.source)
+        && (is_concept(columns.type_id)
+            && (is_concept(columns.characteristic_type) && is_concept(columns.modifier)))
+}
+
 /// Whether these are columns of a row.
 pub fn is_body(body: &Body) -> bool
     ensures { IsTrue result ↔ IsBody body.now }
@@ -85,5 +97,6 @@ pub fn is_body(body: &Body) -> bool
         Body::Description(columns) => is_description(columns),
         Body::Relationship(columns) => is_relationship(columns),
         Body::Association(columns) => is_association(columns),
+        Body::Concrete(columns) => is_concrete(columns),
     }
 }

@@ -36,9 +36,9 @@ fn id_len(kind: Kind, id: u128) -> u128
     ensures short { result ≤ 40 }
 {
     match kind {
-        Kind::Concept | Kind::Description | Kind::Relationship => Buffer::new()
-            .format(id)
-            .len() as u128,
+        Kind::Concept | Kind::Description | Kind::Relationship | Kind::Concrete => {
+            Buffer::new().format(id).len() as u128
+        }
         Kind::Association => 36,
     }
 }
@@ -70,6 +70,14 @@ fn body_len(body: &Body) -> u128
                 + number_len(columns.referenced.value())
                 + number_len(columns.target.value())
         }
+        Body::Concrete(columns) => {
+            number_len(columns.source.value())
+                + text_len(&columns.value)
+                + number_len(u64::from(columns.group))
+                + number_len(columns.type_id.value())
+                + number_len(columns.characteristic_type.value())
+                + number_len(columns.modifier.value())
+        }
     }
 }
 
@@ -94,6 +102,7 @@ fn texts_len(body: &Body) -> u128
 {
     match body {
         Body::Description(columns) => text_len(&columns.language_code) + text_len(&columns.term),
+        Body::Concrete(columns) => text_len(&columns.value),
         Body::Concept(_) | Body::Relationship(_) | Body::Association(_) => 0,
     }
 }

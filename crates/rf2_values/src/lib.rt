@@ -16,7 +16,7 @@ mod time;
 pub use key::Key;
 pub use length::LINE_LIMIT;
 pub use member::Member;
-pub use row::{Association, Body, Concept, Description, Kind, Relationship, Row};
+pub use row::{Association, Body, Concept, Concrete, Description, Kind, Relationship, Row};
 pub use sctid::{Class, Sctid};
 pub use text::Text;
 pub use time::EffectiveTime;

@@ -2,7 +2,7 @@
 //!
 //! The columns are those of the SNOMED CT Release File Specifications (RF2), in its sections
 //! "Concept File Specification", "Description File Specification", "Relationship File
-//! Specification" and "Association Reference Set".
+//! Specification", "Association Reference Set" and "Relationship Concrete Values File".
 
 ghost use Rattle.std.specs.Prelude.{◌≡◌, ◌↔◌, IsTrue, IfOk, SomeIff};
 ghost use Rattle.rf2_values.specs.Row.{version, IsVersion, kind_of, kind_of_body};
@@ -24,6 +24,8 @@ pub enum Kind {
     Relationship,
     /// A member of an association reference set.
     Association,
+    /// A relationship whose destination is a value: a number or a text.
+    Concrete,
 }
 
 /// The columns that only concepts have.
@@ -76,6 +78,23 @@ pub struct Association {
     pub target: Sctid,
 }
 
+/// The columns that only relationships with concrete values have.
+#[derive(Debug, Drop, PartialEq, Eq)]
+pub struct Concrete {
+    /// The column `sourceId`.
+    pub source: Sctid,
+    /// The column `value`, kept as it stands: `#` and a number, or a text in quotes.
+    pub value: Text,
+    /// The column `relationshipGroup`: 0 where the relationship stands alone.
+    pub group: u32,
+    /// The column `typeId`: what the value says of the source.
+    pub type_id: Sctid,
+    /// The column `characteristicTypeId`: whether it is inferred, and how.
+    pub characteristic_type: Sctid,
+    /// The column `modifierId`.
+    pub modifier: Sctid,
+}
+
 /// The columns that only one kind has.
 #[derive(Debug, Drop, PartialEq, Eq)]
 pub enum Body {
@@ -83,6 +102,7 @@ pub enum Body {
     Description(Description),
     Relationship(Relationship),
     Association(Association),
+    Concrete(Concrete),
 }
 
 impl Body {
@@ -95,6 +115,7 @@ impl Body {
             Body::Description(_) => Kind::Description,
             Body::Relationship(_) => Kind::Relationship,
             Body::Association(_) => Kind::Association,
+            Body::Concrete(_) => Kind::Concrete,
         }
     }
 
@@ -113,6 +134,14 @@ impl Body {
             })),
             Body::Relationship(relationship) => Ok(Body::Relationship(*relationship)),
             Body::Association(association) => Ok(Body::Association(*association)),
+            Body::Concrete(concrete) => Ok(Body::Concrete(Concrete {
+                source: concrete.source,
+                value: concrete.value.try_clone(alloc)?,
+                group: concrete.group,
+                type_id: concrete.type_id,
+                characteristic_type: concrete.characteristic_type,
+                modifier: concrete.modifier,
+            })),
         }
     }
 }

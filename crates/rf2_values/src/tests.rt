@@ -204,6 +204,7 @@ fn keys_by_kind_then_id_then_time(rt: HostRuntime) -> Result<(), Fail> {
         key(Kind::Description, 40, late),
         key(Kind::Relationship, 3, early),
         key(Kind::Association, 2, early),
+        key(Kind::Concrete, 1, early),
     ];
     for (i, a) in ascending.iter().enumerate() {
         for (j, b) in ascending.iter().enumerate() {

@@ -25,6 +25,7 @@ small_kind kinds.Concept = omega arith
 small_kind kinds.Description = omega arith
 small_kind kinds.Relationship = omega arith
 small_kind kinds.Association = omega arith
+small_kind kinds.Concrete = omega arith
 
 small_flag : (b : Bool) → active_code b < 2 ^ 8
 small_flag false = omega arith
@@ -35,6 +36,7 @@ small_id kinds.Concept n is = omega (arith, is.sctid.high)
 small_id kinds.Description n is = omega (arith, is.sctid.high)
 small_id kinds.Relationship n is = omega (arith, is.sctid.high)
 small_id kinds.Association n is = is
+small_id kinds.Concrete n is = omega (arith, is.sctid.high)
 
 small_time : (t : ℕ) → IsTime t → t < 2 ^ 32
 small_time t is = omega (arith, is.year_to)
@@ -52,6 +54,9 @@ body_fits (bodies.Relationship r) id time active module_id is short =
     (omega (arith, is.0.sctid.high), (omega (arith, is.1.sctid.high), (is.2, (omega (arith, is.3.sctid.high), (omega (arith, is.4.sctid.high), (omega (arith, is.5.sctid.high), tt))))))
 body_fits (bodies.Association a) id time active module_id is short =
     (omega (arith, is.0.sctid.high), (omega (arith, is.1.sctid.high), (omega (arith, is.2.sctid.high), tt)))
+body_fits (bodies.Concrete c) id time active module_id is short =
+    let len = length-line id (time ∷ active ∷ module_id ∷ body_columns (bodies.Concrete c)) in
+    (omega (arith, is.0.sctid.high), (is.2, (omega (arith, is.3.sctid.high), (omega (arith, is.4.sctid.high), (omega (arith, is.5.sctid.high), (omega (arith, len, short), tt))))))
 
 pub row_fits : (v : Version) → IsVersion v → AllByRecursion Fits (body_fields v.body)
 row_fits v is = body_fits v.body (id_text (kind_of v) v.id) (decimal v.time) (flag v.active) (decimal v.module_id) is.body is.short
@@ -63,6 +68,7 @@ forms_are (bodies.Concept c) = refl
 forms_are (bodies.Description d) = refl
 forms_are (bodies.Relationship r) = refl
 forms_are (bodies.Association a) = refl
+forms_are (bodies.Concrete c) = refl
 
 pub common_again : (s : StampedRow) → IsStamped s → fields_at common_forms (spelled (fields_of s)) ≡ Some (common_fields s, spelled (body_fields s.row.body))
 common_again s is =
@@ -81,6 +87,7 @@ same_bodies (bodies.Concept b) (bodies.Concept c) e =
 same_bodies (bodies.Concept b) (bodies.Description c) e = absurd cc
 same_bodies (bodies.Concept b) (bodies.Relationship c) e = absurd cc
 same_bodies (bodies.Concept b) (bodies.Association c) e = absurd cc
+same_bodies (bodies.Concept b) (bodies.Concrete c) e = absurd cc
 same_bodies (bodies.Description b) (bodies.Concept c) e = absurd cc
 same_bodies (bodies.Description b) (bodies.Description c) e =
     let concept_is : b.concept ≡ c.concept = cc in
@@ -91,6 +98,7 @@ same_bodies (bodies.Description b) (bodies.Description c) e =
     λ i. bodies.Description (record { concept = concept_is i; language_code = language_code_is i; type_id = type_id_is i; term = term_is i; case_significance = case_significance_is i })
 same_bodies (bodies.Description b) (bodies.Relationship c) e = absurd cc
 same_bodies (bodies.Description b) (bodies.Association c) e = absurd cc
+same_bodies (bodies.Description b) (bodies.Concrete c) e = absurd cc
 same_bodies (bodies.Relationship b) (bodies.Concept c) e = absurd cc
 same_bodies (bodies.Relationship b) (bodies.Description c) e = absurd cc
 same_bodies (bodies.Relationship b) (bodies.Relationship c) e =
@@ -102,6 +110,7 @@ same_bodies (bodies.Relationship b) (bodies.Relationship c) e =
     let modifier_is : b.modifier ≡ c.modifier = cc in
     λ i. bodies.Relationship (record { source = source_is i; destination = destination_is i; group = group_is i; type_id = type_id_is i; characteristic_type = characteristic_type_is i; modifier = modifier_is i })
 same_bodies (bodies.Relationship b) (bodies.Association c) e = absurd cc
+same_bodies (bodies.Relationship b) (bodies.Concrete c) e = absurd cc
 same_bodies (bodies.Association b) (bodies.Concept c) e = absurd cc
 same_bodies (bodies.Association b) (bodies.Description c) e = absurd cc
 same_bodies (bodies.Association b) (bodies.Relationship c) e = absurd cc
@@ -110,12 +119,26 @@ same_bodies (bodies.Association b) (bodies.Association c) e =
     let referenced_is : b.referenced ≡ c.referenced = cc in
     let target_is : b.target ≡ c.target = cc in
     λ i. bodies.Association (record { refset = refset_is i; referenced = referenced_is i; target = target_is i })
+same_bodies (bodies.Association b) (bodies.Concrete c) e = absurd cc
+same_bodies (bodies.Concrete b) (bodies.Concept c) e = absurd cc
+same_bodies (bodies.Concrete b) (bodies.Description c) e = absurd cc
+same_bodies (bodies.Concrete b) (bodies.Relationship c) e = absurd cc
+same_bodies (bodies.Concrete b) (bodies.Association c) e = absurd cc
+same_bodies (bodies.Concrete b) (bodies.Concrete c) e =
+    let source_is : b.source ≡ c.source = cc in
+    let value_is : b.value ≡ c.value = cc in
+    let group_is : b.group ≡ c.group = cc in
+    let type_id_is : b.type_id ≡ c.type_id = cc in
+    let characteristic_type_is : b.characteristic_type ≡ c.characteristic_type = cc in
+    let modifier_is : b.modifier ≡ c.modifier = cc in
+    λ i. bodies.Concrete (record { source = source_is i; value = value_is i; group = group_is i; type_id = type_id_is i; characteristic_type = characteristic_type_is i; modifier = modifier_is i })
 
 pub code_kind : (k l : Kind) → kind_code k ≡ kind_code l → k ≡ l
 code_kind kinds.Concept kinds.Concept e = refl
 code_kind kinds.Description kinds.Description e = refl
 code_kind kinds.Relationship kinds.Relationship e = refl
 code_kind kinds.Association kinds.Association e = refl
+code_kind kinds.Concrete kinds.Concrete e = refl
 code_kind kinds.Concept kinds.Description e = absurd (omega arith)
 code_kind kinds.Concept kinds.Relationship e = absurd (omega arith)
 code_kind kinds.Concept kinds.Association e = absurd (omega arith)
@@ -128,6 +151,14 @@ code_kind kinds.Relationship kinds.Association e = absurd (omega arith)
 code_kind kinds.Association kinds.Concept e = absurd (omega arith)
 code_kind kinds.Association kinds.Description e = absurd (omega arith)
 code_kind kinds.Association kinds.Relationship e = absurd (omega arith)
+code_kind kinds.Concept kinds.Concrete e = absurd (omega arith)
+code_kind kinds.Description kinds.Concrete e = absurd (omega arith)
+code_kind kinds.Relationship kinds.Concrete e = absurd (omega arith)
+code_kind kinds.Association kinds.Concrete e = absurd (omega arith)
+code_kind kinds.Concrete kinds.Concept e = absurd (omega arith)
+code_kind kinds.Concrete kinds.Description e = absurd (omega arith)
+code_kind kinds.Concrete kinds.Relationship e = absurd (omega arith)
+code_kind kinds.Concrete kinds.Association e = absurd (omega arith)
 
 pub code_flag : (a b : Bool) → active_code a ≡ active_code b → a ≡ b
 code_flag false false e = refl
@@ -190,14 +221,16 @@ pub length-spelled : (fields : List Field) → length (spelled fields) ≡ field
 length-spelled [] = refl
 length-spelled (f ∷ fields) = omega (arith, length-append (field_bytes f) (spelled fields), length-field f, length-spelled fields)
 
-body_room : (b : Body) (id time active module_id : List ℕ) → length (line_of (id ∷ time ∷ active ∷ module_id ∷ body_columns b)) ≤ line_limit → fields_len (body_fields b) ≤ 65563
+body_room : (b : Body) (id time active module_id : List ℕ) → length (line_of (id ∷ time ∷ active ∷ module_id ∷ body_columns b)) ≤ line_limit → fields_len (body_fields b) ≤ 65564
 body_room (bodies.Concept c) id time active module_id short = omega arith
 body_room (bodies.Description d) id time active module_id short =
     let len = length-line id (time ∷ active ∷ module_id ∷ body_columns (bodies.Description d)) in omega (arith, len, short)
 body_room (bodies.Relationship r) id time active module_id short = omega arith
 body_room (bodies.Association a) id time active module_id short = omega arith
+body_room (bodies.Concrete c) id time active module_id short =
+    let len = length-line id (time ∷ active ∷ module_id ∷ body_columns (bodies.Concrete c)) in omega (arith, len, short)
 
-pub row_room : (v : Version) → IsVersion v → fields_len (body_fields v.body) ≤ 65563
+pub row_room : (v : Version) → IsVersion v → fields_len (body_fields v.body) ≤ 65564
 row_room v is = body_room v.body (id_text (kind_of v) v.id) (decimal v.time) (flag v.active) (decimal v.module_id) is.short
 
 pub length-fields : (s : StampedRow) → length (spelled (fields_of s)) ≡ 34 + fields_len (body_fields s.row.body)
@@ -214,18 +247,22 @@ body_sizes (bodies.Concept c) = refl
 body_sizes (bodies.Description d) = omega arith
 body_sizes (bodies.Relationship r) = refl
 body_sizes (bodies.Association a) = refl
+body_sizes (bodies.Concrete c) = omega arith
 
 pub record_size : (s : StampedRow) → length (record_of s) ≡ fixed_len (kind_of s.row) + texts_len s.row.body
 record_size s = length-record s ∙ body_sizes s.row.body
 
-few_texts : (b : Body) → fields_len (body_fields b) ≤ 65563 → texts_len b ≤ line_limit
-few_texts (bodies.Concept c) room = omega arith
-few_texts (bodies.Description d) room = omega (arith, room)
-few_texts (bodies.Relationship r) room = omega arith
-few_texts (bodies.Association a) room = omega arith
+few_texts : (b : Body) (id time active module_id : List ℕ) → length (line_of (id ∷ time ∷ active ∷ module_id ∷ body_columns b)) ≤ line_limit → texts_len b ≤ line_limit
+few_texts (bodies.Concept c) id time active module_id short = omega arith
+few_texts (bodies.Description d) id time active module_id short =
+    let len = length-line id (time ∷ active ∷ module_id ∷ body_columns (bodies.Description d)) in omega (arith, len, short)
+few_texts (bodies.Relationship r) id time active module_id short = omega arith
+few_texts (bodies.Association a) id time active module_id short = omega arith
+few_texts (bodies.Concrete c) id time active module_id short =
+    let len = length-line id (time ∷ active ∷ module_id ∷ body_columns (bodies.Concrete c)) in omega (arith, len, short)
 
 pub texts_room : (v : Version) → IsVersion v → texts_len v.body ≤ line_limit
-texts_room v is = few_texts v.body (row_room v is)
+texts_room v is = few_texts v.body (id_text (kind_of v) v.id) (decimal v.time) (flag v.active) (decimal v.module_id) is.short
 
 -- a record begins with its own length
 pub record_is : (s : StampedRow) → record_of s ≡ field_bytes (Number w32 (length (record_of s))) ++ spelled (fields_of s)

@@ -31,6 +31,7 @@ kind_code kinds.Concept = 1
 kind_code kinds.Description = 2
 kind_code kinds.Relationship = 3
 kind_code kinds.Association = 4
+kind_code kinds.Concrete = 5
 
 abbrev pub active_code : Bool → ℕ
 active_code false = 0
@@ -53,6 +54,8 @@ body_fields (bodies.Relationship r) = Number w64 r.source ∷ Number w64 r.desti
     ∷ Number w64 r.modifier ∷ []
 body_fields (bodies.Association a) =
     Number w64 a.refset ∷ Number w64 a.referenced ∷ Number w64 a.target ∷ []
+body_fields (bodies.Concrete c) = Number w64 c.source ∷ Number w32 c.group ∷ Number w64 c.type_id
+    ∷ Number w64 c.characteristic_type ∷ Number w64 c.modifier ∷ Text c.value ∷ []
 
 -- all but the length
 abbrev pub fields_of : StampedRow → List Field

@@ -7,12 +7,12 @@ ghost use Rattle.rf2_values.specs.Text.{IsText};
 ghost use Rattle.rf2_values.specs.Row.{IsBody};
 ghost use Rattle.segment.specs.Records.{Number};
 ghost use Rattle.rf2_values.specs.declared.row.Kind.TheVariants as kinds;
-ghost use Rattle.segment.specs.Reading.{raw_description_fields, raw_relationship_fields, raw_association_fields};
+ghost use Rattle.segment.specs.Reading.{raw_description_fields, raw_relationship_fields, raw_association_fields, raw_concrete_fields};
 ghost use Rattle.segment.specs.Finding.{Finds, HasFields};
 
 use crate::fault::SegmentFault;
-use crate::raw::{RawAssociation, RawDescription, RawRelationship};
-use rf2_values::{Association, Body, Concept, Description, Relationship, Sctid, Text};
+use crate::raw::{RawAssociation, RawConcrete, RawDescription, RawRelationship};
+use rf2_values::{Association, Body, Concept, Concrete, Description, Relationship, Sctid, Text};
 use std::alloc::Global;
 
 pub(crate) fn sctid(value: u64) -> Result<Sctid, SegmentFault>
@@ -71,5 +71,23 @@ pub(crate) fn association_of(raw: RawAssociation) -> Result<Body, SegmentFault>
         refset: sctid(raw.refset)?,
         referenced: sctid(raw.referenced)?,
         target: sctid(raw.target)?,
+    }))
+}
+
+pub(crate) fn concrete_of(alloc: Global, raw: RawConcrete<'_>) -> Result<Body, SegmentFault>
+    ensures { Finds IsBody (HasFields kinds.Concrete (raw_concrete_fields raw.entry)) result }
+{
+    let source = sctid(raw.source)?;
+    let type_id = sctid(raw.type_id)?;
+    let characteristic_type = sctid(raw.characteristic_type)?;
+    let modifier = sctid(raw.modifier)?;
+    let value = text(alloc, raw.value)?;
+    Ok(Body::Concrete(Concrete {
+        source,
+        value,
+        group: raw.group,
+        type_id,
+        characteristic_type,
+        modifier,
     }))
 }

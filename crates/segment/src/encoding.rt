@@ -12,7 +12,7 @@ ghost use Rattle.segment.specs.Reading.{Fits, fixed_len, texts_len};
 
 use crate::writing::{put_text, put_u8, put_u32, put_u64, put_u128};
 use history_model::StampedRow;
-use rf2_values::{Body, Description, Kind, Relationship};
+use rf2_values::{Body, Concrete, Description, Kind, Relationship};
 use std::alloc::{AllocError, Global};
 
 fn code_of(kind: Kind) -> u8
@@ -23,6 +23,7 @@ fn code_of(kind: Kind) -> u8
         Kind::Description => 2,
         Kind::Relationship => 3,
         Kind::Association => 4,
+        Kind::Concrete => 5,
     }
 }
 
@@ -42,6 +43,7 @@ fn text_bytes(body: &Body) -> u32
             description.language_code.as_bytes().len() as u32
                 + description.term.as_bytes().len() as u32
         }
+        Body::Concrete(concrete) => concrete.value.as_bytes().len() as u32,
         Body::Concept(_) | Body::Relationship(_) | Body::Association(_) => 0,
     }
 }
@@ -55,6 +57,7 @@ fn fixed_bytes(kind: Kind) -> u32
         Kind::Description => 66,
         Kind::Relationship => 82,
         Kind::Association => 62,
+        Kind::Concrete => 76,
     }
 }
 
@@ -92,6 +95,20 @@ fn put_relationship(out: &mut Vec<u8>, relationship: &Relationship) -> Result<()
     put_u64(out, relationship.modifier.value())
 }
 
+fn put_concrete(out: &mut Vec<u8>, concrete: &Concrete) -> Result<(), AllocError>
+    requires { AllByRecursion Fits (body_fields (bodies.Concrete concrete.now)) }
+    ensures { OnOk result
+        (out.new.items ≡ out.old.items ++ spelled
+        (body_fields (bodies.Concrete concrete.now))) }
+{
+    put_u64(out, concrete.source.value())?;
+    put_u32(out, concrete.group)?;
+    put_u64(out, concrete.type_id.value())?;
+    put_u64(out, concrete.characteristic_type.value())?;
+    put_u64(out, concrete.modifier.value())?;
+    put_text(out, concrete.value.as_bytes())
+}
+
 fn put_body(out: &mut Vec<u8>, body: &Body) -> Result<(), AllocError>
     requires { AllByRecursion Fits (body_fields body.now) }
     ensures { OnOk result (out.new.items ≡ out.old.items ++ spelled (body_fields body.now)) }
@@ -105,6 +122,7 @@ fn put_body(out: &mut Vec<u8>, body: &Body) -> Result<(), AllocError>
             put_u64(out, association.referenced.value())?;
             put_u64(out, association.target.value())
         }
+        Body::Concrete(concrete) => put_concrete(out, concrete),
     }
 }
 

@@ -5,7 +5,7 @@ ghost use Rattle.std.specs.Option.{option_map};
 ghost use Rattle.std.specs.Int.{w64};
 ghost use Rattle.rf2_values.specs.declared.row.Kind.TheVariants as kinds;
 ghost use Rattle.segment.specs.Records.{Field, Number};
-ghost use Rattle.segment.specs.Reading.{fields_at, all_at, common_forms, body_forms, raw_common_fields, raw_description_fields, raw_relationship_fields, raw_association_fields};
+ghost use Rattle.segment.specs.Reading.{fields_at, all_at, common_forms, body_forms, raw_common_fields, raw_description_fields, raw_relationship_fields, raw_association_fields, raw_concrete_fields};
 
 use crate::fields::{read_text, read_u8, read_u32, read_u64, read_u128};
 
@@ -44,6 +44,16 @@ pub(crate) struct RawAssociation {
     pub(crate) refset: u64,
     pub(crate) referenced: u64,
     pub(crate) target: u64,
+}
+
+#[derive(Clone, Copy)]
+pub(crate) struct RawConcrete<'a> {
+    pub(crate) source: u64,
+    pub(crate) group: u32,
+    pub(crate) type_id: u64,
+    pub(crate) characteristic_type: u64,
+    pub(crate) modifier: u64,
+    pub(crate) value: &'a [u8],
 }
 
 pub(crate) fn read_common(bytes: &[u8]) -> Option<(RawCommon, &[u8])>
@@ -127,5 +137,25 @@ pub(crate) fn read_association(bytes: &[u8]) -> Option<RawAssociation>
         refset,
         referenced,
         target,
+    })
+}
+
+pub(crate) fn read_concrete(bytes: &[u8]) -> Option<RawConcrete<'_>>
+    ensures { all_at
+        (body_forms kinds.Concrete) bytes.now ≡ option_map raw_concrete_fields result }
+{
+    let (source, rest) = read_u64(bytes)?;
+    let (group, rest) = read_u32(rest)?;
+    let (type_id, rest) = read_u64(rest)?;
+    let (characteristic_type, rest) = read_u64(rest)?;
+    let (modifier, rest) = read_u64(rest)?;
+    let (value, rest) = read_text(rest)?;
+    rest.is_empty().then_some(RawConcrete {
+        source,
+        group,
+        type_id,
+        characteristic_type,
+        modifier,
+        value,
     })
 }

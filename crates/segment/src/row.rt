@@ -6,10 +6,12 @@ ghost use Rattle.rf2_values.specs.Row.{IsVersion, IsBody, version};
 ghost use Rattle.segment.specs.Records.{kind_code, active_code, IsStamped};
 ghost use Rattle.segment.specs.Finding.{Finds, IsBodyIn, IsRowIn};
 
-use crate::columns::{association_of, concept_of, description_of, relationship_of, sctid};
+use crate::columns::{
+    association_of, concept_of, concrete_of, description_of, relationship_of, sctid,
+};
 use crate::fault::SegmentFault;
 use crate::raw::{
-    read_association, read_common, read_concept, read_description, read_relationship,
+    read_association, read_common, read_concept, read_concrete, read_description, read_relationship,
 };
 use history_model::StampedRow;
 use rf2_values::{Body, EffectiveTime, Kind, Row, Sctid};
@@ -23,6 +25,7 @@ fn kind_of_code(code: u8) -> Result<Kind, SegmentFault>
         2 => Ok(Kind::Description),
         3 => Ok(Kind::Relationship),
         4 => Ok(Kind::Association),
+        5 => Ok(Kind::Concrete),
         _ => Err(SegmentFault::BadSegment),
     }
 }
@@ -72,6 +75,10 @@ fn read_body(alloc: Global, kind: Kind, bytes: &[u8]) -> Result<Body, SegmentFau
         },
         Kind::Association => match read_association(bytes) {
             Some(raw) => association_of(raw),
+            None => Err(SegmentFault::BadSegment),
+        },
+        Kind::Concrete => match read_concrete(bytes) {
+            Some(raw) => concrete_of(alloc, raw),
             None => Err(SegmentFault::BadSegment),
         },
     }

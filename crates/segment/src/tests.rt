@@ -8,7 +8,8 @@ ghost use Rattle.history_model.specs.History.{stamped_cmp};
 use crate::decoding::comes_after;
 use crate::{SegmentFault, StampedRow, decode, encode, encoded_len, record_at};
 use rf2_values::{
-    Association, Body, Concept, Description, EffectiveTime, Relationship, Row, Sctid, Text,
+    Association, Body, Concept, Concrete, Description, EffectiveTime, Relationship, Row, Sctid,
+    Text,
 };
 use std::alloc::Global;
 use std::test::Fail;
@@ -56,6 +57,13 @@ const ASSOCIATION: &[u8] =
     \x01\x01\x34\x61\xd3\x00\x00\x00\x02\x01\x0c\x7d\x71\x3b\x49\xdd\x28\xa0\x0c\x7d\
     \x71\x3b\x49\xe2\x0a\x9d\x00\x00\x00\x00\x00\x0f\x42\x44\x00\x00\x00\x00\x00\x1e\
     \x84\x81";
+
+// 1000027|20210731|1|CORE|1000004|#5|0|3000005|INF|MOD at import 4
+const CONCRETE: &[u8] =
+    b"\x00\x00\x00\x4e\x05\x00\x00\x00\x00\x00\x00\x00\x00\x00\x00\x00\x00\x00\x0f\x42\
+    \x5b\x01\x34\x64\x2b\x00\x00\x00\x04\x01\x0c\x7d\x71\x3b\x49\xdd\x28\xa0\x00\x00\
+    \x00\x00\x00\x0f\x42\x44\x00\x00\x00\x00\x00\x00\x00\x00\x00\x2d\xc6\xc5\x0c\x7d\
+    \x71\x3b\x49\xda\x2a\xfe\x0c\x7d\x71\x3b\x49\xe0\xe1\xba\x00\x02#5";
 
 fn sctid(value: u64) -> Result<Sctid, Fail> {
     Ok(Sctid::of(value).ok_or("no identifier")?)
@@ -108,6 +116,18 @@ fn association(time: u32, import: u32) -> Result<StampedRow, Fail> {
         target: sctid(2_000_001)?,
     });
     stamped(MEMBER, time, true, import, body)
+}
+
+fn concrete(alloc: Global, time: u32, import: u32) -> Result<StampedRow, Fail> {
+    let body = Body::Concrete(Concrete {
+        source: sctid(1_000_004)?,
+        value: text(alloc, b"#5")?,
+        group: 0,
+        type_id: sctid(3_000_005)?,
+        characteristic_type: sctid(INFERRED)?,
+        modifier: sctid(EXISTENTIAL)?,
+    });
+    stamped(1_000_027, time, true, import, body)
 }
 
 /// Whether the rows may be encoded.
@@ -169,13 +189,14 @@ fn a_record_of_each_kind(rt: HostRuntime) -> Result<(), Fail> {
     rows.push(description(alloc, 20_200_131, 1, "Straße".as_bytes())?)?;
     rows.push(relationship(1_000_027, 20_200_131, true, 1)?)?;
     rows.push(association(20_210_131, 2)?)?;
+    rows.push(concrete(alloc, 20_210_731, 4)?)?;
     let mut bytes = Vec::new(alloc);
-    for record in [CONCEPT, DESCRIPTION, RELATIONSHIP, ASSOCIATION] {
+    for record in [CONCEPT, DESCRIPTION, RELATIONSHIP, ASSOCIATION, CONCRETE] {
         bytes.extend_from_slice(record)?;
     }
     assert_eq!(rt; segment(alloc, &rows)?.as_slice(), bytes.as_slice());
     let found = decode(alloc, &bytes)?;
-    assert_eq!(rt; found.len(), 4);
+    assert_eq!(rt; found.len(), 5);
     for (a, b) in found.iter().zip(&rows) {
         assert!(rt; is_same(a, b));
     }

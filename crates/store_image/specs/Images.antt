@@ -5,29 +5,39 @@ use Rattle.history_model.specs.declared.stamped.StampedRow.{StampedRow}
 use Rattle.history_model.specs.History.{History}
 use Rattle.history_model.specs.Lists.{listed}
 use Rattle.directory.specs.declared.entry.Entry.{Entry}
+use Rattle.directory.specs.declared.layout.Layout.{Layout}
 use Rattle.store_image.specs.Stands.{Stands}
 use Rattle.store_image.specs.Says.{Says, pieces_of}
 
--- The bytes stand for the history, at this epoch and with these entries: the current slot's content
--- lists them, and each entry's extent is the segment of some of the rows, all of which together are
--- the history's.
-pub record StandsFor (file : List ℕ) (h : History) (epoch : ℕ) (entries : List Entry) : Type 0 where
+-- The bytes stand for the history, in this version, at this epoch and with these entries: the
+-- current slot's content lists them, and each entry's extent is the segment of some of the rows, all
+-- of which together are the history's.
+pub record StandsFor (file : List ℕ) (h : History) (layout : Layout) (epoch : ℕ)
+    (entries : List Entry) : Type 0 where
   pub slot : Slot
   pub content : List ℕ
   pub lists : List (List StampedRow)
   pub stands : Stands (record { slot = slot; epoch = epoch }) content (pieces_of entries lists) file
-  pub says : Says content (record { epoch = epoch; imports = h.imports; entries = entries }) lists
+  pub says : Says content
+      (record { layout = layout; epoch = epoch; imports = h.imports; entries = entries }) lists
   pub rows : h.rows ≡ listed lists
 
+-- in this version, at some epoch and with some entries
+abbrev pub StandsAs : Layout → History → List ℕ → Type 0
+StandsAs layout h file =
+    (epoch : ℕ) × (entries : List Entry) × StandsFor file h layout epoch entries
+
+-- in some version
 abbrev pub StandsForHistory : History → List ℕ → Type 0
-StandsForHistory h file = (epoch : ℕ) × (entries : List Entry) × StandsFor file h epoch entries
+StandsForHistory h file = (layout : Layout) × StandsAs layout h file
 
 -- they stand for some history
 abbrev pub IsStore : List ℕ → Type 0
 IsStore file = (h : History) × StandsForHistory h file
 
--- bytes stand for one history, epoch and list of entries at most
+-- bytes stand for one history, version, epoch and list of entries at most
 abbrev pub StandsForOne : Type 0
-StandsForOne = (file : List ℕ) (h g : History) (epoch others : ℕ) (entries lists : List Entry)
-    → StandsFor file h epoch entries → StandsFor file g others lists
-    → (h ≡ g) × (epoch ≡ others) × (entries ≡ lists)
+StandsForOne = (file : List ℕ) (h g : History) (layout other : Layout) (epoch others : ℕ)
+    (entries lists : List Entry)
+    → StandsFor file h layout epoch entries → StandsFor file g other others lists
+    → (h ≡ g) × (layout ≡ other) × (epoch ≡ others) × (entries ≡ lists)

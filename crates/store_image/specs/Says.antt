@@ -1,10 +1,15 @@
 -- What a content block and the rows of its segments say. No file is seen here.
-use Rattle.std.specs.Prelude.{◌≡◌, ℕ, List, [], ◌∷◌, length}
+use Rattle.std.specs.Prelude.{◌≡◌, ℕ, List, [], ◌∷◌, length, All}
+use Rattle.rf2_values.specs.declared.row.Kind.{Kind}
+use Rattle.rf2_values.specs.declared.row.Kind.TheVariants as kinds
+use Rattle.rf2_values.specs.Row.{kind_of}
 use Rattle.history_model.specs.declared.stamped.StampedRow.{StampedRow}
 use Rattle.history_model.specs.History.{History, IsHistory}
 use Rattle.history_model.specs.Lists.{AreLists, listed}
 use Rattle.blocks.specs.Extents.{start_of}
 use Rattle.directory.specs.declared.entry.Entry.{Entry}
+use Rattle.directory.specs.declared.layout.Layout.{Layout}
+use Rattle.directory.specs.declared.layout.Layout.TheVariants as layouts
 use Rattle.directory.specs.Places.{extent_of}
 use Rattle.directory.specs.Listings.{Listing, IsListing}
 use Rattle.directory.specs.Content.{Lists}
@@ -23,6 +28,16 @@ AreSegments [] (rows ∷ lists) = ⊥
 AreSegments (entry ∷ entries) [] = ⊥
 AreSegments (entry ∷ entries) (rows ∷ lists) = IsSegmentOf entry rows × AreSegments entries lists
 
+-- the version has rows of this kind
+abbrev pub HasKind : Layout → Kind → Type 0
+HasKind layouts.One kinds.Concrete = ⊥
+HasKind layouts.One kind = Unit {0}
+HasKind layouts.Two kind = Unit {0}
+
+-- the rows are of kinds that the version has
+abbrev pub AreOfLayout : Layout → List StampedRow → Type 0
+AreOfLayout layout rows = All (λ s. HasKind layout (kind_of s.row)) rows
+
 -- the segments, each at its entry's place
 abbrev pub pieces_of : List Entry → List (List StampedRow) → List (ℕ × List ℕ)
 pieces_of [] lists = []
@@ -34,13 +49,14 @@ pieces_of (entry ∷ entries) (rows ∷ lists) =
 abbrev pub history_of : Listing → List (List StampedRow) → History
 history_of d lists = record { imports = d.imports; rows = listed lists }
 
--- a directory and the rows of the segments that it lists:
--- no key is in two of them, and together they are a history
+-- a directory and the rows of the segments that it lists: no key is in two of
+-- them, together they are a history, and the version has rows of their kinds
 pub record IsKept (d : Listing) (lists : List (List StampedRow)) : Type 0 where
   pub listing : IsListing d
   pub segments : AreSegments d.entries lists
   pub apart : AreLists lists
   pub history : IsHistory (history_of d lists)
+  pub kinds : All (AreOfLayout d.layout) lists
 
 -- the content block lists the directory
 pub record Says (content : List ℕ) (d : Listing) (lists : List (List StampedRow)) : Type 0 where

@@ -1,11 +1,12 @@
 //! Making an empty store.
 
-ghost use Rattle.std.specs.Prelude.{◌≡◌, ◌⊎◌, ◌↔◌, ◌≤◌, [], length, IfOk, IfErr, OnOk};
+ghost use Rattle.std.specs.Prelude.{◌≡◌, ◌≢◌, ◌⊎◌, ◌↔◌, ◌≤◌, [], length, IfOk, IfErr, OnOk};
 ghost use Rattle.disk_model.specs.Disk.{EachImage, LeavesOnly};
 ghost use Rattle.blocks.specs.Calls.{MakesCalls};
 ghost use Rattle.blocks.specs.Outside.{StemsWithin};
 ghost use Rattle.blocks.specs.Slots.{slots_range};
 ghost use Rattle.history_model.specs.History.{no_history};
+ghost use Rattle.directory.specs.declared.layout.Layout.TheVariants as layouts;
 ghost use Rattle.store_image.specs.declared.fault.ImageFault.TheVariants as faults;
 ghost use Rattle.store_image.specs.Images.{StandsFor};
 ghost use Rattle.store_image.specs.Shown.{IsOnDisk};
@@ -44,12 +45,15 @@ pub fn check_empty<D: Disk>(disk: &mut D) -> Result<(), ImageFault>
 /// anything.
 pub fn make<D: Disk>(alloc: Global, disk: &mut D) -> Result<Made, ImageFault>
     ensures made { IfOk result (λ made. (made.slot ≡ Slot.A) × (made.directory ≡ empty_listing)) }
+    // On every disk, one that lies among them, it is refused for no other reasons.
+    ensures causes { IfErr result (λ e. (e ≢ faults.NotAStore) × (e ≢ faults.Damaged)) }
     ensures exact { D.is_honest disk.old → IsMade result (D.moments disk.old).state.now }
     ensures on_disk { D.is_honest disk.old
         → IfOk result (λ made. IsOnDisk (D.moments disk.new).state made.slot made.directory []) }
     // Whatever a stop leaves stands for the empty history.
     ensures stands { D.is_honest disk.old
-        → OnOk result (EachImage (D.moments disk.new).state (λ c. StandsFor c no_history 1 [])) }
+        → OnOk result (EachImage (D.moments disk.new).state
+        (λ c. StandsFor c no_history layouts.Two 1 [])) }
     // A read then gives the two slots, and nothing behind them.
     ensures bytes { D.is_honest disk.old → OnOk result (IsNewStore (D.moments disk.new).state.now) }
     ensures refused { D.is_honest disk.old

@@ -1,6 +1,6 @@
 //! Reading what a disk stands for.
 
-ghost use Rattle.std.specs.Prelude.{◌≡◌, ◌↔◌, ◌++◌, [], List, map, vec_items, IfOk, MatchResult};
+ghost use Rattle.std.specs.Prelude.{◌≡◌, ◌≢◌, ◌↔◌, ◌++◌, [], List, map, vec_items, IfOk, IfErr, MatchResult};
 ghost use Rattle.disk_model.specs.Disk.{IsImage, LeavesOnly};
 ghost use Rattle.history_model.specs.declared.stamped.StampedRow.{StampedRow};
 ghost use Rattle.segment.specs.declared.place.Posted.{Posted};
@@ -8,8 +8,10 @@ ghost use Rattle.segment.specs.Standing.{places_of, with_places};
 ghost use Rattle.store_image.specs.Says.{IsKept};
 ghost use Rattle.store_image.specs.Shown.{Shows, IsOnDisk};
 ghost use Rattle.store_image.specs.Answers.{IsNotOpened, IsSynced, CountsFault};
+ghost use Rattle.store_image.specs.declared.fault.ImageFault.TheVariants as faults;
 
 use crate::fault::ImageFault;
+use crate::kinds::all_have_kinds;
 use crate::reading::{Segments, read_segments};
 use crate::sink::RowSink;
 use blocks::{Slot, read_current};
@@ -64,6 +66,8 @@ pub fn load<D: Disk, S: RowSink>(
     // After Ok each stop leaves what was read.
     ensures on_disk { D.is_honest disk.old
         → IfOk result (λ l. IsOnDisk (D.moments disk.new).state l.slot l.directory l.shown.items) }
+    // On every disk, one that lies among them, it has no other reasons.
+    ensures causes { IfErr result (λ e. e ≢ faults.NotEmpty) }
     ensures honesty { D.is_honest disk.old ↔ D.is_honest disk.new }
     ensures failures { CountsFault result (D.failures disk.old) (D.failures disk.new) }
 {
@@ -78,6 +82,9 @@ pub fn load<D: Disk, S: RowSink>(
         directory.imports(),
         sink,
     )?;
+    if !all_have_kinds(directory.layout(), places.as_slice()) {
+        return Err(ImageFault::Damaged);
+    }
     Ok(Loaded {
         slot: current.slot,
         directory,

@@ -1,6 +1,6 @@
 //! Reading the segments that a directory lists, record by record.
 
-ghost use Rattle.std.specs.Prelude.{◌≡◌, ◌↔◌, ℕ, ◌+◌, ◌≤◌, [], ◌∷◌, ◌++◌, List, length, map, vec_items, IsTrue, IfOk, OnOk, MatchResult};
+ghost use Rattle.std.specs.Prelude.{◌≡◌, ◌↔◌, ℕ, ◌+◌, ◌≤◌, [], ◌∷◌, ◌++◌, List, length, map, vec_items, IsTrue, IfOk, IfErr, OnOk, MatchResult, ◌≢◌};
 ghost use Rattle.std.specs.List.{AllByRecursion};
 ghost use Rattle.blocks.specs.Extents.{bytes_of};
 ghost use Rattle.directory.specs.Listings.{IsEntry};
@@ -16,6 +16,7 @@ ghost use Rattle.store_image.specs.Stands.{HoldsAll};
 ghost use Rattle.store_image.specs.Says.{IsSegmentOf, pieces_of};
 ghost use Rattle.store_image.specs.Reading.{Sees, AreReadTo, BeginsWith, IsNotNext, AreNumbered, IsAt, IsNotReadAt, AreRead, AreNotRead};
 ghost use Rattle.store_image.specs.Answers.{CountsFault};
+ghost use Rattle.store_image.specs.declared.fault.ImageFault.TheVariants as faults;
 
 use crate::apart::are_apart;
 use crate::fault::ImageFault;
@@ -80,6 +81,7 @@ pub(crate) fn read_segments<D: Disk, S: RowSink>(
         → S.has_taken sink.old segments [] → IfOk result
         (λ read. S.has_taken sink.new (segments ++ map (with_places 0) read.shown.items) []) }
     ensures moments { D.is_honest disk.old → D.moments disk.new ≡ D.moments disk.old }
+    ensures causes { IfErr result (λ e. e ≢ faults.NotEmpty) }
     ensures honesty { D.is_honest disk.old ↔ D.is_honest disk.new }
     ensures failures { CountsFault result (D.failures disk.old) (D.failures disk.new) }
 {
@@ -117,6 +119,7 @@ fn read_segment<D: Disk, S: RowSink>(
         → S.has_taken sink.old segments [] → IfOk result
         (λ rows. S.has_taken sink.new (segments ++ with_places 0 rows.shown ∷ []) []) }
     ensures moments { D.is_honest disk.old → D.moments disk.new ≡ D.moments disk.old }
+    ensures causes { IfErr result (λ e. e ≢ faults.NotEmpty) }
     ensures honesty { D.is_honest disk.old ↔ D.is_honest disk.new }
     ensures failures { CountsFault result (D.failures disk.old) (D.failures disk.new) }
 {
@@ -133,6 +136,7 @@ fn check_room<D: Disk>(disk: &mut D, entry: Entry) -> Result<(), ImageFault>
     ensures exact { D.is_honest disk.old → (imports : ℕ) → MatchResult result (λ _. Unit {0})
         (λ e. IsNotReadAt e imports entry (D.moments disk.old).state.now) }
     ensures moments { D.is_honest disk.old → D.moments disk.new ≡ D.moments disk.old }
+    ensures causes { IfErr result (λ e. e ≢ faults.NotEmpty) }
     ensures honesty { D.is_honest disk.old ↔ D.is_honest disk.new }
     ensures failures { CountsFault result (D.failures disk.old) (D.failures disk.new) }
 {
@@ -169,6 +173,7 @@ fn read_rows<D: Disk, S: RowSink>(
         → S.has_taken sink.old segments [] → IfOk result
         (λ rows. S.has_taken sink.new segments (with_places 0 rows.shown)) }
     ensures moments { D.is_honest disk.old → D.moments disk.new ≡ D.moments disk.old }
+    ensures causes { IfErr result (λ e. e ≢ faults.NotEmpty) }
     ensures honesty { D.is_honest disk.old ↔ D.is_honest disk.new }
     ensures failures { CountsFault result (D.failures disk.old) (D.failures disk.new) }
 {
@@ -219,6 +224,7 @@ fn read_row<D: Disk, S: RowSink>(
         → S.has_taken sink.old segments (with_places 0 rows.old.shown) → IfOk result
         (λ next. S.has_taken sink.new segments (with_places 0 rows.new.shown)) }
     ensures moments { D.is_honest disk.old → D.moments disk.new ≡ D.moments disk.old }
+    ensures causes { IfErr result (λ e. e ≢ faults.NotEmpty) }
     ensures honesty { D.is_honest disk.old ↔ D.is_honest disk.new }
     ensures failures { CountsFault result (D.failures disk.old) (D.failures disk.new) }
 {

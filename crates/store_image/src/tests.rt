@@ -67,7 +67,7 @@ const OTHER: [u8; 46] =
 
 /// The front of the content of epoch 2, with one import and one segment.
 const CONTENT: [u8; 48] = [
-    0, 0, 0, 0, 0, 0, 0, 2, 0x53, 0x43, 0x54, 0x48, 0x49, 0x53, 0x54, 0x31, 0, 0, 0, 1, 0, 0, 0, 1,
+    0, 0, 0, 0, 0, 0, 0, 2, 0x53, 0x43, 0x54, 0x48, 0x49, 0x53, 0x54, 0x32, 0, 0, 0, 1, 0, 0, 0, 1,
     0, 0, 0, 0, 0, 0, 0, 0, 0, 0, 0, 4, 0, 0, 0, 0x2e, 0, 0, 0, 1, 0, 0, 0, 0,
 ];
 
@@ -234,7 +234,7 @@ fn each_way_in_which_an_image_is_damaged(rt: HostRuntime) -> Result<(), Fail> {
     let mut good = two_imports(rt.alloc(), &OTHER)?;
     assert_eq!(rt; loaded(rt.alloc(), &mut good)?.places.len(), 2);
     for (place, byte, cause) in [
-        (4111, b'2', "another mark, though the older slot is good"),
+        (4111, b'3', "another mark, though the older slot is good"),
         (4135, 0, "an entry of no bytes"),
         (4139, 2, "another number of rows"),
         (4151, 47, "a segment behind the end"),

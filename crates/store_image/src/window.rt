@@ -1,6 +1,6 @@
 //! A segment's bytes, read through a buffer of fixed size.
 
-ghost use Rattle.std.specs.Prelude.{◌≡◌, ◌↔◌, ℕ, ◌+◌, ◌-◌, ◌^◌, ◌<◌, ◌≤◌, List, length, vec_len, IfOk, IfErr, OnOk, MatchResult};
+ghost use Rattle.std.specs.Prelude.{◌≡◌, ◌≢◌, ◌↔◌, ℕ, ◌+◌, ◌-◌, ◌^◌, ◌<◌, ◌≤◌, List, length, vec_len, IfOk, IfErr, OnOk, MatchResult};
 
 use crate::fault::ImageFault;
 use blocks::{BLOCK, Extent};
@@ -30,6 +30,7 @@ impl Window {
     ghost use Rattle.blocks.specs.Extents.{bytes_of};
     ghost use Rattle.segment.specs.Records.{record_of, IsStamped};
     ghost use Rattle.store_image.specs.Answers.{CountsFault};
+    ghost use Rattle.store_image.specs.declared.fault.ImageFault.TheVariants as faults;
     ghost use Rattle.store_image.specs.Reading.{bytes_in, HasRecord, HasNoRecord, IsNoRecord, Sees, IsFull};
 
     /// A window on a segment of no bytes.
@@ -113,6 +114,7 @@ impl Window {
         ensures sees { D.is_honest disk.old → Sees self.old (D.moments disk.old).state.now
             → IfOk result (λ _. Sees self.new (D.moments disk.old).state.now) }
         ensures moments { D.is_honest disk.old → D.moments disk.new ≡ D.moments disk.old }
+        ensures causes { IfErr result (λ e. e ≢ faults.NotEmpty) }
         ensures honesty { D.is_honest disk.old ↔ D.is_honest disk.new }
         ensures failures { CountsFault result (D.failures disk.old) (D.failures disk.new) }
     {

@@ -30,6 +30,7 @@ of_body row at (body.Description d) t a e h = elim h [
 ]
 of_body row at (body.Relationship r) t a e h = absurd h
 of_body row at (body.Association x) t a e h = absurd h
+of_body row at (body.Concrete x) t a e h = absurd h
 
 of_row : (row : Version) (at : Posted) (t : TermAt) → Has (posted_term row at) t → IsTermOf t row × (t.at ≡ at)
 of_row row at t h =
@@ -48,6 +49,7 @@ body_posted prefix at (body.Concept c) e = absurd (cc)
 body_posted prefix at (body.Description d) e = (record { folded = folded d.term; at = at }, inl refl, refl)
 body_posted prefix at (body.Relationship r) e = absurd (cc)
 body_posted prefix at (body.Association a) e = absurd (cc)
+body_posted prefix at (body.Concrete c) e = absurd (cc)
 
 row_posted : (prefix : List ℕ) (row : Version) (at : Posted) → is_term prefix row ≡ true → (t : TermAt) × Has (posted_term row at) t × (t.at ≡ at)
 row_posted prefix row at e =

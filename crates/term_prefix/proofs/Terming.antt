@@ -137,18 +137,21 @@ begins_from prefix text (body.Concept c) h e = absurd h
 begins_from prefix text (body.Description d) h e = subst (λ t. starts_with nat_eq t (folded prefix) ≡ true) (sym h) e
 begins_from prefix text (body.Relationship r) h e = absurd h
 begins_from prefix text (body.Association a) h e = absurd h
+begins_from prefix text (body.Concrete c) h e = absurd h
 
 begins_to : (prefix text : List ℕ) (b : Body) → HasFolded text b → begins_with prefix b ≡ true → starts_with nat_eq text (folded prefix) ≡ true
 begins_to prefix text (body.Concept c) h e = absurd h
 begins_to prefix text (body.Description d) h e = subst (λ t. starts_with nat_eq t (folded prefix) ≡ true) h e
 begins_to prefix text (body.Relationship r) h e = absurd h
 begins_to prefix text (body.Association a) h e = absurd h
+begins_to prefix text (body.Concrete c) h e = absurd h
 
 described : (text : List ℕ) (row : Version) (b : Body) → row.body ≡ b → HasFolded text b → kind_of row ≡ kinds.Description
 described text row (body.Concept c) e h = absurd h
 described text row (body.Description d) e h = ap (λ (x : Body). kind_of_body x) e
 described text row (body.Relationship r) e h = absurd h
 described text row (body.Association a) e h = absurd h
+described text row (body.Concrete c) e h = absurd h
 
 -- a lower id comes first among descriptions
 first_id : (a b : Version) → kind_of a ≡ kinds.Description → kind_of b ≡ kinds.Description → a.id < b.id → row_cmp a b ≡ Less

@@ -18,6 +18,7 @@ term_of_body (body.Concept c) at = []
 term_of_body (body.Description d) at = record { folded = folded d.term; at = at } ∷ []
 term_of_body (body.Relationship r) at = []
 term_of_body (body.Association a) at = []
+term_of_body (body.Concrete c) at = []
 
 -- what is posted of a row: an active description's folded term
 abbrev pub posted_term : Version → Posted → List TermAt

@@ -32,6 +32,7 @@ HasFolded text (body.Concept c) = ⊥
 HasFolded text (body.Description d) = folded d.term ≡ text
 HasFolded text (body.Relationship r) = ⊥
 HasFolded text (body.Association a) = ⊥
+HasFolded text (body.Concrete c) = ⊥
 
 -- what a posting says of the row that stands at its place
 pub record IsTermOf (t : TermAt) (row : Version) : Type 0 where

@@ -7,7 +7,7 @@ returns-in-Ok g c =
     record {
       had = c.open.result;
       opening = record { exact = opened.exact; any_moment = opened.any_moment; synced = opened.synced; acknowledged = opened.acknowledged; honesty = opened.honesty; counts = opened.failures };
-      imports = rw (c.in-Ok.is, c.close.ensures.disk) c.import_into-ended.ensures;
+      does = rw (c.in-Ok.is, c.close.ensures.disk) c.import_into-ended.ensures;
     }
 
 pub returns-in-Err : goal.returns-in-Err
@@ -16,5 +16,5 @@ returns-in-Err g c =
     record {
       had = c.open.result;
       opening = record { exact = opened.exact; any_moment = opened.any_moment; synced = opened.synced; acknowledged = opened.acknowledged; honesty = opened.honesty; counts = opened.failures };
-      imports = rw c.in-Err.is (c.refuse.ensures, refl);
+      does = rw c.in-Err.is (c.refuse.ensures, refl);
     }

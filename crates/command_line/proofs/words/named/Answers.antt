@@ -66,3 +66,12 @@ returns-in_ok-get_str-in-serve-2 c =
       given found (codes "store") c.in_ok-get_str-in-serve.field-0.now c.in_ok-get_str-in-serve.ensures,
       given found (codes "releases") c.in_ok-get_str-in-serve-2.field-0.now c.in_ok-get_str-in-serve-2.ensures,
     )
+
+pub returns-in_ok-get_str-in-status : goal.returns-in_ok-get_str-in-status
+returns-in_ok-get_str-in-status c =
+    let found = found_of c.in_ok-name.found.now in
+    let is = met c.args.matches.now c.in_ok-name.name.now (rows_of found) c.in_ok-name.ensures.name c.in_ok-name.ensures.rows in
+    rw is (
+      c.in-status.is,
+      given found (codes "store") c.in_ok-get_str-in-status.field-0.now c.in_ok-get_str-in-status.ensures,
+    )

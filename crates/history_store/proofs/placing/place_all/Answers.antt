@@ -75,6 +75,27 @@ loop-row-preserved-in_ok-push-2 g c =
           subst (λ (l : List (StampedRow × Posted)). g.S.RowSink.has_taken c.take.new.self segments l) same step;
     }
 
+pub loop-row-preserved-in_ok-push-2-2 : goal.loop-row-preserved-in_ok-push-2-2
+loop-row-preserved-in_ok-push-2-2 g c =
+    let inv = c.loop-row.invariant in
+    let item = c.in-Some.row in
+    let shown = c.loop-row.shown in
+    let at = c.len-end.result in
+    let so_far = ap length inv.bytes in
+    let here : at ≡ length (segment_of shown) = omega (arith, so_far, c.len-end.ensures, c.loop-row.bytes.ok) in
+    let grown = sym c.in_ok-push.ensures.ok in
+    record {
+      split = inv.split ∙ ap (λ (l : List StampedRow). shown ++ l) c.in-Some.ensures.steps ∙ sym (append_assoc shown (item ∷ []) c.next.new.self) ∙ ap (λ (l : List StampedRow). l ++ c.next.new.self) grown;
+      bytes = c.in_ok-add_record.ensures.bytes ∙ ap (λ (b : List ℕ). b ++ record_of item) inv.bytes ∙ sym (segment_push shown item) ∙ ap segment_of grown;
+      places = c.in_ok-push-2.ensures.items ∙ ap (λ (l : List Posted). l ++ c.new-place.result ∷ []) inv.places ∙ ap (λ (p : Posted). places_of shown ++ p ∷ []) c.new-place.ensures
+          ∙ sym (places_push shown item at here) ∙ ap places_of grown;
+      each = subst (AllByRecursion IsStamped) grown (all_push IsStamped shown item inv.each c.in_ok-add_record.ensures.stamped);
+      taken = λ segments before.
+          let step = c.in_ok-take.ensures segments (with_places 0 shown) (inv.taken segments before) in
+          let same = ap (λ (p : Posted). with_places 0 shown ++ (item, p) ∷ []) c.new-place.ensures ∙ sym (taken_push shown item at here) ∙ ap (with_places 0) grown in
+          subst (λ (l : List (StampedRow × Posted)). g.S.RowSink.has_taken c.take.new.self segments l) same step;
+    }
+
 pub returns-clause-placed : goal.returns-clause-placed
 returns-clause-placed g c =
     let inv = c.loop-row.invariant in

@@ -14,3 +14,7 @@ returns-in-Concept-2-clause-many c = omega (arith, own_short c.args.body.now c.r
 
 pub returns-in-Concept-3-clause-many : goal.returns-in-Concept-3-clause-many
 returns-in-Concept-3-clause-many c = omega (arith, own_short c.args.body.now c.requires, no_texts c.args.body.now c.in-Concept.is)
+
+pub returns-in-Concrete-clause-many : goal.returns-in-Concrete-clause-many
+returns-in-Concrete-clause-many c =
+    omega (arith, own_short c.args.body.now c.requires, ap texts_length c.in-Concrete.is, c.text_len-in-Concrete.ensures.value)

@@ -2,6 +2,7 @@ use Rattle.std.proofs.Common.{sym, ap, subst, ◌∙◌}
 use Rattle.rf2_values.specs.Key.{key_of}
 use Rattle.segment.specs.Standing.{StandsAt}
 use Rattle.as_of_index.proofs.OnePlace.{place_from_test, test_from_place, same_standing, same_answer, no_answer}
+use Rattle.as_of_index.proofs.Early.{current_is_early}
 use Rattle.as_of_index.proofs.index.Index.is_current.Goals as goal
 
 pub returns-in-Some : goal.returns-in-Some
@@ -21,3 +22,15 @@ pub returns-in-None : goal.returns-in-None
 returns-in-None c = λ lists listed_so.
     let w = c.in-None.ensures.found lists listed_so in
     (λ h. absurd (cc), λ k. absurd (no_answer _ k.0.row w k.2))
+
+pub returns-then-not-is_early : goal.returns-then-not-is_early
+returns-then-not-is_early c = λ lists listed_so.
+    let a = c.args in
+    let are = rw listed_so at c.lists-listed.ensures.places in (
+      λ h. absurd (cc),
+      λ k. absurd (
+          let e = current_is_early lists are a.time a.pin a.segment a.at k in
+          let t = c.is_early.ensures.1 e in
+          let u = c.if-not-is_early.true in
+          cc),
+    )

@@ -1,11 +1,12 @@
 use Rattle.std.proofs.Common.{◌<◌, length, ap, arith}
 use Rattle.as_of_index.proofs.Apart.{places_push, apart_each}
+use Rattle.as_of_index.specs.Places.{max_lists}
 use Rattle.as_of_index.proofs.index.Index.may_add.Goals as goal
 
 pub returns-then-len-lt-MAX_LISTS : goal.returns-then-len-lt-MAX_LISTS
 returns-then-len-lt-MAX_LISTS c =
     let index = c.args.self.now in
-    let small : length c.self.inside.lists.items < 128 = (
+    let small : length c.self.inside.lists.items < max_lists = (
     let a = c.if-len-lt-MAX_LISTS.true in
     let b = c.len.ensures in
     let d = c.as_slice.ensures.len in

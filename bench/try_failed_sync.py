@@ -1,0 +1,203 @@
+#!/usr/bin/env python3
+"""Tries what a failed sync leaves on Linux, on a medium that refuses one block.
+
+try_failed_sync.py PROGRAM
+
+PROGRAM is the built program sctd. Linux forgets the pages of a file whose write failed: a later
+read gets from memory what the medium doesn't have. This script makes a file system on a loop
+device, lets the last sync of an import fail, starts the program again, stops the next import
+between two of its syncs, and looks at what the medium has. It fails if the import that was
+confirmed before isn't told both times: an opening has to drop what memory keeps of the file.
+
+It takes root, strace, e2fsprogs, util-linux and a loop device; where it lacks one of them it says
+"not run" and ends with status 3. Standard library alone.
+"""
+
+import os
+import shutil
+import subprocess
+import sys
+import tempfile
+import time
+
+ROOT = os.path.dirname(os.path.dirname(os.path.abspath(__file__)))
+RELEASES = os.path.join(ROOT, "docs", "releases")
+BLOCK = 4096
+# An import's syncs: two of the opening, then one of the segment, of the gate that is closed, of the
+# content, and of the gate that is opened.
+CONTENT_SYNC = 5
+TOOLS = ("strace", "mkfs.ext4", "filefrag", "mount", "umount", "truncate", "fallocate", "dd")
+
+
+class NotRun(Exception):
+    """Why it can't be run here."""
+
+
+def run(*words, check=True):
+    done = subprocess.run(words, capture_output=True, text=True)
+    if check and done.returncode != 0:
+        raise NotRun("%s: %s" % (words[0], done.stderr.strip().split("\n")[-1]))
+    return done
+
+
+class Medium:
+    """A file system on a loop device whose blocks stand in a small tmpfs."""
+
+    def __init__(self, place):
+        self.outer = os.path.join(place, "outer")
+        self.inner = os.path.join(place, "inner")
+        self.image = os.path.join(self.outer, "image")
+        self.filler = os.path.join(self.outer, "filler")
+        self.store = os.path.join(self.inner, "store")
+
+    def __enter__(self):
+        os.mkdir(self.outer)
+        os.mkdir(self.inner)
+        run("mount", "-t", "tmpfs", "-o", "size=9m", "tmpfs", self.outer)
+        try:
+            run("truncate", "-s", "6m", self.image)
+            run("mkfs.ext4", "-q", "-O", "^has_journal", "-E", "lazy_itable_init=0,nodiscard",
+                "-b", str(BLOCK), self.image)
+            self.mount()
+            # Every block of the image gets room in the tmpfs, so that only the one below lacks it.
+            zeros = os.path.join(self.inner, "zeros")
+            run("dd", "if=/dev/zero", "of=" + zeros, "bs=%d" % BLOCK, check=False)
+            os.sync()
+            os.remove(zeros)
+            os.sync()
+        except BaseException:
+            self.__exit__()
+            raise
+        return self
+
+    def __exit__(self, *_):
+        run("umount", self.inner, check=False)
+        run("umount", self.outer, check=False)
+
+    def mount(self):
+        run("mount", "-o", "loop,nodiscard", self.image, self.inner)
+
+    def mount_again(self):
+        """From here on only what the medium has is seen."""
+        run("umount", self.inner)
+        with open("/proc/sys/vm/drop_caches", "w", encoding="ascii") as file:
+            file.write("3\n")
+        self.mount()
+
+    def block_of(self, block):
+        """Where a block of the store lies on the device."""
+        for line in run("filefrag", "-v", self.store).stdout.split("\n"):
+            parts = line.replace(":", " ").replace("..", " ").split()
+            if len(parts) > 5 and parts[0].isdigit() and int(parts[1]) <= block <= int(parts[2]):
+                return int(parts[3]) + block - int(parts[1])
+        raise NotRun("filefrag doesn't say where the store lies")
+
+    def refuse(self, block):
+        """Lets each write of this block of the store fail."""
+        at = self.block_of(block) * BLOCK
+        run("fallocate", "-p", "-o", str(at), "-l", str(BLOCK), self.image)
+        run("dd", "if=/dev/zero", "of=" + self.filler, "bs=%d" % BLOCK, check=False)
+
+    def accept(self):
+        os.remove(self.filler)
+
+
+def gates(path):
+    with open(path, "rb") as file:
+        bytes_of = file.read(2 * BLOCK + 1)
+    return bytes_of[0] == 0xA5, bytes_of[2 * BLOCK] == 0xA5
+
+
+class Program:
+    def __init__(self, path, store):
+        self.path, self.store = path, store
+
+    def words(self, command, *more):
+        return [self.path, command, "--store", self.store, "--releases", RELEASES, *more]
+
+    def said(self, command, *more):
+        words = self.words(command, *more) if command == "import" else [
+            self.path, command, "--store", self.store]
+        return subprocess.run(words, capture_output=True, text=True).stdout.strip()
+
+    def status(self):
+        done = subprocess.run(self.words("serve"), input="0 STATUS\n", capture_output=True, text=True)
+        return done.stdout.strip()
+
+    def import_stopped_at_sync(self, release, sync, signal, trace):
+        """An import that gets a signal at one of its syncs; the opening makes the first one."""
+        trap = ["strace", "-f", "-o", trace, "-e", "trace=fsync",
+                "-e", "inject=fsync:signal=%s:when=%d" % (signal, sync)]
+        return subprocess.Popen(trap + self.words("import", release), stdout=subprocess.PIPE,
+                                stderr=subprocess.DEVNULL, text=True)
+
+
+def wait_for_stop(trace):
+    """The process that the trace says is stopped."""
+    for _ in range(400):
+        time.sleep(0.05)
+        if os.path.exists(trace):
+            with open(trace, encoding="utf-8", errors="replace") as file:
+                for line in file:
+                    if "stopped by SIGSTOP" in line:
+                        return int(line.split()[0])
+    raise NotRun("strace doesn't stop the import")
+
+
+def trial(program_path, place):
+    """What the server says after the restart, and what the medium has in the end."""
+    with Medium(place) as medium:
+        program = Program(program_path, medium.store)
+        program.said("init")
+        if program.said("import", "r1") != "OK 1 6 0":
+            raise SystemExit("the first import isn't confirmed")
+        os.sync()
+        # The import after it opens the gate that is the older one's now: its last sync.
+        first_open, second_open = gates(medium.store)
+        older = 0 if not first_open else 2 if not second_open else None
+        if older is None:
+            epochs = []
+            with open(medium.store, "rb") as file:
+                for at in (BLOCK, 3 * BLOCK):
+                    file.seek(at)
+                    epochs.append(int.from_bytes(file.read(8), "big"))
+            older = 0 if epochs[0] < epochs[1] else 2
+        trace = os.path.join(place, "trace")
+        import_of_r2 = program.import_stopped_at_sync("r2", CONTENT_SYNC, "STOP", trace)
+        stopped = wait_for_stop(trace)
+        medium.refuse(older)
+        os.kill(stopped, 18)
+        reply = import_of_r2.communicate()[0].strip()
+        if not reply.startswith("ERR 2 "):
+            raise NotRun("the medium took the block: %r" % reply)
+        medium.accept()
+        restarted = program.status()
+        program.import_stopped_at_sync("r3", CONTENT_SYNC, "KILL", trace).communicate()
+        medium.mount_again()
+        return restarted, program.status()
+
+
+def main(words):
+    if len(words) != 1:
+        print(__doc__.strip(), file=sys.stderr)
+        return 2
+    try:
+        missing = [tool for tool in TOOLS if shutil.which(tool) is None]
+        if os.geteuid() != 0 or missing:
+            raise NotRun("it takes root" if not missing else "there is no " + missing[0])
+        program = os.path.abspath(words[0])
+        with tempfile.TemporaryDirectory() as place:
+            found = trial(program, place)
+    except NotRun as why:
+        print("not run: %s" % why)
+        return 3
+    print("after the restart %r, on the medium in the end %r" % found)
+    confirmed = "OK 1 6 1 -"
+    if found != (confirmed, confirmed):
+        print("%r was wanted both times" % confirmed)
+        return 1
+    return 0
+
+
+if __name__ == "__main__":
+    sys.exit(main(sys.argv[1:]))

@@ -1,0 +1,261 @@
+#!/usr/bin/env python3
+"""Makes the mistakes that people make with the built program, and looks at what it does.
+
+try_mistakes.py PROGRAM
+
+PROGRAM is the built `sctd`. In a fresh folder below the system's temporary one it is given wrong
+paths, folders that are no release, files that never end, a full disk and a store that is in use.
+Each time its reply, its status and the line on standard error have to be as wanted within ten
+seconds, and the store has to be left as it was. Then four imports run on one store at once, and
+again beside a server: each release that was answered OK has to be there after the next opening,
+and no other. What the machine lacks for a try is said and not counted. The status is 1 where
+something isn't as wanted. Standard library alone.
+"""
+
+import os
+import shutil
+import stat
+import subprocess
+import sys
+import tempfile
+
+ROOT = os.path.dirname(os.path.dirname(os.path.abspath(__file__)))
+CONCEPTS = "sct2_Concept_Full_INT_20200131.txt"
+COLUMNS = "id\teffectiveTime\tactive\tmoduleId\tdefinitionStatusId\n"
+ROOT_ROW = "138875005\t%s\t1\t900000000000207008\t900000000000074008\n"
+PARTS = "no folder Terminology or Refset/Content in it"
+
+
+class Tries:
+    """The program, the folder that it works in, and what was tried."""
+
+    def __init__(self, program, place):
+        self.program = program
+        self.place = place
+        self.done = 0
+        self.wrong = 0
+        self.skipped = 0
+
+    def path(self, *names):
+        return os.path.join(self.place, *names)
+
+    def run(self, words, text=""):
+        """The status, what was written to each stream; the status is None where it didn't end."""
+        try:
+            ran = subprocess.run([self.program] + words, cwd=self.place, input=text.encode(),
+                                 stdout=subprocess.PIPE, stderr=subprocess.PIPE, timeout=10)
+        except subprocess.TimeoutExpired:
+            return None, "", ""
+        return ran.returncode, ran.stdout.decode(), ran.stderr.decode()
+
+    def check(self, what, fine, got):
+        """Counts a try, and tells what was got where that isn't as wanted."""
+        self.done += 1
+        if not fine:
+            self.wrong += 1
+            print("wrong: %s: %r" % (what, got))
+
+    def refused(self, what, words, reply, why):
+        """A try that has to be refused by this reply, with this in the line of standard error."""
+        before = self.bytes_of_store()
+        got = self.run(words)
+        fine = got[0] == 1 and got[1] == reply + "\n" and why in got[2] and got[2].count("\n") == 1
+        self.check(what, fine and self.bytes_of_store() == before, got)
+
+    def import_refused(self, what, name, reply, why):
+        words = ["import", "--store", "store", "--releases", "releases", name]
+        self.refused(what, words, reply, why)
+
+    def bytes_of_store(self):
+        with open(self.path("store"), "rb") as file:
+            return file.read()
+
+    def skip(self, what, why):
+        self.skipped += 1
+        print("skipped: %s: %s" % (what, why))
+
+
+def write(path, text):
+    os.makedirs(os.path.dirname(path), exist_ok=True)
+    with open(path, "w", encoding="utf-8") as file:
+        file.write(text)
+
+
+def write_release(tries, name, date):
+    """A release of one row."""
+    path = tries.path("releases", name, "Terminology", CONCEPTS)
+    write(path, COLUMNS + ROOT_ROW % date)
+
+
+def try_folders(tries):
+    """Folders that are no release."""
+    missing = "ERR 45 NoFolder"
+    tries.import_refused("a wrong name", "absent", missing, "releases/absent: no such folder")
+    for inner in ("Full", "Delta"):
+        write_release(tries, "package-" + inner + "/" + inner, "20200131")
+        tries.import_refused("a package's top folder", "package-" + inner, missing,
+                             PARTS + "; its folder " + inner)
+    write(tries.path("releases", "packed.zip"), "PK")
+    tries.import_refused("a zip", "packed.zip", missing, "unpack the release")
+    tries.import_refused("a slash at the end", "package-Full/Full/", "ERR 43 Arguments", "one / between")
+    write(tries.path("releases", "small", "terminology", CONCEPTS), COLUMNS)
+    tries.import_refused("a lower-case folder", "small", missing, "releases/small: " + PARTS)
+    write(tries.path("releases", "none", "Terminology", "readme.txt"), "")
+    tries.import_refused("no file to take", "none", missing, "no file to take")
+    write(tries.path("releases", "faulty", "Terminology", CONCEPTS), COLUMNS + "?\n")
+    tries.import_refused("a faulty line", "faulty", "ERR 23 Columns 1 2", CONCEPTS + ", line 2: ")
+
+
+def try_traps(tries):
+    """Files that never end, and links that lead nowhere."""
+    missing = "ERR 45 NoFolder"
+    for name in ("fifo", "endless", "dangling"):
+        os.makedirs(tries.path("releases", name, "Terminology"))
+    os.mkfifo(tries.path("releases", "fifo", "Terminology", CONCEPTS))
+    tries.import_refused("a FIFO", "fifo", missing, "not a regular file")
+    os.symlink("/dev/zero", tries.path("releases", "endless", "Terminology", CONCEPTS))
+    tries.import_refused("an endless device", "endless", missing, "not a regular file")
+    os.symlink("nowhere", tries.path("releases", "dangling", "Terminology", CONCEPTS))
+    tries.import_refused("a dangling file", "dangling", missing, "leads nowhere")
+    for number, part in enumerate(("Terminology", "Refset", "Refset/Content")):
+        name = "half%d" % number
+        whole = "Refset/Content" if part == "Terminology" else "Terminology"
+        write(tries.path("releases", name, whole, CONCEPTS), COLUMNS + ROOT_ROW % "20200131")
+        os.makedirs(os.path.dirname(tries.path("releases", name, part)), exist_ok=True)
+        if part == "Terminology":
+            shutil.rmtree(tries.path("releases", name, part), ignore_errors=True)
+        os.symlink("nowhere", tries.path("releases", name, part))
+        tries.import_refused("a dangling folder " + part, name, missing, "leads nowhere")
+    os.symlink("nowhere", tries.path("releases", "gone"))
+    tries.import_refused("a dangling release", "gone", missing, "leads nowhere")
+
+
+def try_stores(tries):
+    """Files that are no store, or can't be had."""
+    broken = "ERR 2 DiskFault"
+    os.mkfifo(tries.path("pipe"))
+    os.mkdir(tries.path("folder"))
+    places = [("a wrong path", "absent", "No such file"), ("a wrong folder", "absent/store", "No such file"),
+              ("a folder", "folder", "Is a directory"), ("a FIFO", "pipe", "not a regular file"),
+              ("a full device", "/dev/full", "not a regular file")]
+    for what, path, why in places:
+        for words in (["import", "--store", path, "--releases", "releases", "r1"],
+                      ["serve", "--store", path, "--releases", "releases"]):
+            tries.refused(what + " to " + words[0], words, broken, path + ": " + why)
+        if path != "absent":
+            tries.refused(what + " to init", ["init", "--store", path], broken, path + ": " + why)
+    tries.check("nothing was made", not os.path.exists(tries.path("absent")), "a file")
+    tries.refused("init again", ["init", "--store", "store"], "ERR 4 NotEmpty", "store: the file isn't empty")
+    write(tries.path("text"), "no store")
+    tries.refused("a text", ["serve", "--store", "text", "--releases", "releases"],
+                  "ERR 7 NotAStore", "text: the file is no store")
+
+
+def try_rights(tries):
+    """A file without permission."""
+    if os.geteuid() == 0:
+        tries.skip("no permission", "root may read everything")
+        return
+    shutil.copy(tries.path("store"), tries.path("closed"))
+    os.chmod(tries.path("closed"), 0)
+    words = ["serve", "--store", "closed", "--releases", "releases"]
+    tries.refused("no permission", words, "ERR 2 DiskFault", "closed: Permission denied")
+    write_release(tries, "unread", "20200131")
+    os.chmod(tries.path("releases", "unread", "Terminology"), stat.S_IWUSR)
+    tries.import_refused("no permission", "unread", "ERR 45 NoFolder", "Permission denied")
+    os.chmod(tries.path("releases", "unread", "Terminology"), stat.S_IRWXU)
+
+
+def try_full_disk(tries):
+    """A file system without room."""
+    small = tries.path("small")
+    os.mkdir(small)
+    mounted = subprocess.run(["mount", "-t", "tmpfs", "-o", "size=64k", "tmpfs", small],
+                             stdout=subprocess.DEVNULL, stderr=subprocess.DEVNULL)
+    if mounted.returncode != 0:
+        tries.skip("a full disk", "no file system can be mounted here")
+        return
+    try:
+        tries.check("init", tries.run(["init", "--store", "small/store"])[1] == "OK\n", "no store")
+        with open(os.path.join(small, "other"), "wb") as file:
+            room = os.statvfs(small)
+            file.write(bytes(room.f_bavail * room.f_frsize))
+        words = ["import", "--store", "small/store", "--releases", "releases", "r1"]
+        tries.refused("a full disk", words, "ERR 2 DiskFault", "small/store: No space left")
+        os.remove(os.path.join(small, "other"))
+        got = tries.run(words)
+        tries.check("after the disk was full", got[:2] == (0, "OK 1 1 0\n"), got)
+    finally:
+        subprocess.run(["umount", small], check=False)
+
+
+def start(tries, words):
+    return subprocess.Popen([tries.program] + words, cwd=tries.place, stdin=subprocess.PIPE,
+                            stdout=subprocess.PIPE, stderr=subprocess.PIPE)
+
+
+def ask(server, line):
+    server.stdin.write(line.encode() + b"\n")
+    server.stdin.flush()
+    return server.stdout.readline().decode()
+
+
+def import_at_once(tries, what, store, names, may_pass):
+    """Imports them by processes of their own at once. The number of those that were answered OK."""
+    begun = [start(tries, ["import", "--store", store, "--releases", "releases", name]) for name in names]
+    passed = 0
+    for name, process in zip(names, begun):
+        output, faults = process.communicate(timeout=60)
+        if may_pass and process.returncode == 0 and output.startswith(b"OK "):
+            passed += 1
+            continue
+        fine = process.returncode == 1 and output == b"ERR 2 DiskFault\n" and b"in use by another" in faults
+        tries.check(what + ", " + name, fine, (process.returncode, output, faults))
+    return passed
+
+
+def count_imports(tries, store):
+    """How many imports and rows are there after an opening."""
+    status = tries.run(["serve", "--store", store, "--releases", "releases"], "0 STATUS\n")[1]
+    return [int(word) for word in status.split()[1:3]]
+
+
+def try_at_once(tries):
+    """Four imports at once, and the same beside a server."""
+    names = ["r1", "r2", "r3", "r4"]
+    for turn in range(5):
+        store = "shared%d" % turn
+        tries.check("init", tries.run(["init", "--store", store])[1] == "OK\n", "no store")
+        passed = import_at_once(tries, "four at once", store, names, True)
+        tries.check("one of four", passed >= 1, passed)
+        got = count_imports(tries, store)
+        tries.check("four at once", got == [passed, passed], (passed, got))
+    server = start(tries, ["serve", "--store", "store", "--releases", "releases"])
+    before = ask(server, "0 STATUS").split()
+    import_at_once(tries, "beside a server", "store", names, False)
+    replies = [ask(server, "0 IMPORT " + name) for name in names]
+    tries.check("the server's imports", all(reply.startswith("OK ") for reply in replies), replies)
+    import_at_once(tries, "beside a server", "store", names, False)
+    server.communicate()
+    got = count_imports(tries, "store")
+    tries.check("beside a server", got[0] == int(before[1]) + len(names), (before, got))
+
+
+def main(words):
+    if len(words) != 1:
+        print(__doc__.strip(), file=sys.stderr)
+        return 2
+    with tempfile.TemporaryDirectory() as place:
+        tries = Tries(os.path.abspath(words[0]), place)
+        for number in range(1, 5):
+            write_release(tries, "r%d" % number, "%d0131" % (2019 + number))
+        made = tries.run(["init", "--store", "store"])
+        tries.check("init", made == (0, "OK\n", ""), made)
+        for part in (try_folders, try_traps, try_stores, try_rights, try_full_disk, try_at_once):
+            part(tries)
+    print("%d tried, %d not as wanted, %d skipped" % (tries.done, tries.wrong, tries.skipped))
+    return 1 if tries.wrong else 0
+
+
+if __name__ == "__main__":
+    sys.exit(main(sys.argv[1:]))

@@ -1,0 +1,64 @@
+#!/usr/bin/env python3
+"""Tries the built program as its users do: the guide's examples, mistakes, many clients, kills.
+
+try_program.py PROGRAM [PASSED FAILED]
+
+Each script of the list below is run with PROGRAM, the built `sctd`. One that can't be run on this
+machine says why and ends with status 3: it is skipped, and not counted as passed. PASSED and FAILED
+are what `rt ci` counted; the last line is `N passed, M failed` of both together, and the status is 1
+where something failed. Standard library alone.
+"""
+
+import os
+import subprocess
+import sys
+import time
+
+HERE = os.path.dirname(os.path.abspath(__file__))
+# Each script and its further words, none of which takes longer than this many seconds.
+LONGEST = 180
+SCRIPTS = [
+    ("check_guide.py",),
+    ("try_mistakes.py",),
+    ("check_syncs.py",),
+    ("try_hub.py",),
+    ("soak.py", "12", "1"),
+    ("soak.py", "12", "2"),
+]
+NOT_RUN = 3
+
+
+def tried(program, script, words):
+    """The status of a script, and the end of what it printed."""
+    begun = time.monotonic()
+    try:
+        done = subprocess.run(
+            [sys.executable, os.path.join(HERE, script), program, *words], timeout=LONGEST,
+            stdin=subprocess.DEVNULL, stdout=subprocess.PIPE, stderr=subprocess.STDOUT, check=False)
+        status, printed = done.returncode, done.stdout
+    except subprocess.TimeoutExpired as late:
+        status, printed = 1, (late.stdout or b"") + b"\nit takes too long"
+    took = time.monotonic() - begun
+    lines = printed.decode("utf-8", "backslashreplace").rstrip("\n").split("\n")
+    return status, took, lines
+
+
+def main(words):
+    if len(words) not in (1, 3):
+        print(__doc__.strip(), file=sys.stderr)
+        return 2
+    program = os.path.abspath(words[0])
+    passed, failed = (int(words[1]), int(words[2])) if len(words) == 3 else (0, 0)
+    for script, *more in SCRIPTS:
+        status, took, lines = tried(program, script, more)
+        said = {0: "passed", NOT_RUN: "skipped: " + lines[-1]}.get(status, "FAILED")
+        print("bench/%s %s (%d s)" % (" ".join([script] + more), said, took), flush=True)
+        if status not in (0, NOT_RUN):
+            print("\n".join("    " + line for line in lines[-30:]), flush=True)
+        passed, failed = passed + (status == 0), failed + (status not in (0, NOT_RUN))
+    print("%d passed, %d failed" % (passed, failed))
+    return 1 if failed else 0
+
+
+if __name__ == "__main__":
+    sys.exit(main(sys.argv[1:]))

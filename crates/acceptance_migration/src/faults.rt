@@ -1,0 +1,181 @@
+//! The first publication, with each call on the disk failing in turn.
+
+use crate::first::{CHOICES, First, Wanted, is_wanted, old_disk, publish, wanted_of};
+use acceptance_fixtures::Example;
+use disk_model::MemDisk;
+use history_store::Refusal;
+use std::alloc::Global;
+use std::test::Fail;
+
+/// Which calls fail.
+#[derive(Clone, Copy, Debug)]
+enum Fault {
+    /// One changing call, with so many bytes written.
+    Change(u64),
+    /// One call that reads.
+    Read,
+    /// All calls from one on.
+    All,
+}
+
+impl Fault {
+    /// So many calls pass before a call of the disk fails.
+    fn strike(self, disk: &mut MemDisk, calls: u64) {
+        match self {
+            Fault::Change(part) => disk.set_break(calls, part),
+            Fault::Read => disk.set_read_break(calls),
+            Fault::All => disk.set_fuse(calls),
+        }
+    }
+}
+
+/// What came of a run.
+#[derive(Clone, Copy, Debug, PartialEq, Eq)]
+enum Outcome {
+    /// No call failed.
+    Whole,
+    /// A call failed, and all was as it has to be.
+    Failed,
+    /// A call failed, and something was not.
+    Wrong,
+}
+
+/// Whether each image of the disk is the store from before or the one after.
+fn is_before_or_after(alloc: Global, disk: &MemDisk, wanted: &Wanted) -> Result<bool, Refusal> {
+    for choice in CHOICES {
+        let image = disk.image_now(choice)?;
+        let mut store = Example::of_bytes(alloc, image.as_slice())?;
+        if !is_wanted(&mut store, alloc, wanted)? {
+            return Ok(false);
+        }
+    }
+    Ok(true)
+}
+
+/// A store whose device failed: it has to be opened again, and until then
+/// it says the version, the imports and the rows from before.
+fn after_a_failure(alloc: Global, store: Example, wanted: &Wanted) -> Result<Outcome, Refusal> {
+    let is_kept = store.needs_reopen()
+        && store.version() == 1
+        && store.imports() == 3
+        && store.row_count() == 12
+        && store.segments() == 3;
+    let disk = store.close();
+    if is_kept && is_before_or_after(alloc, &disk, wanted)? {
+        Ok(Outcome::Failed)
+    } else {
+        Ok(Outcome::Wrong)
+    }
+}
+
+/// The publication on the opened store.
+fn tried(
+    first: First,
+    alloc: Global,
+    mut store: Example,
+    wanted: &Wanted,
+) -> Result<Outcome, Refusal> {
+    match publish(first, &mut store, alloc) {
+        Ok(()) => {
+            let is_new = store.version() == 2;
+            let mut again = Example::of_bytes(alloc, store.close().bytes())?;
+            let is_after = again.version() == 2 && is_wanted(&mut again, alloc, wanted)?;
+            Ok(if is_new && is_after {
+                Outcome::Whole
+            } else {
+                Outcome::Wrong
+            })
+        }
+        Err(Refusal::DiskFault) => after_a_failure(alloc, store, wanted),
+        Err(_) => Ok(Outcome::Wrong),
+    }
+}
+
+/// An opening of the old disk and the publication, one of whose calls fails.
+fn run(
+    first: First,
+    alloc: Global,
+    fault: Fault,
+    calls: u64,
+    wanted: &Wanted,
+) -> Result<Outcome, Refusal> {
+    let mut disk = old_disk(alloc)?;
+    fault.strike(&mut disk, calls);
+    match Example::open(alloc, disk) {
+        Ok(store) => tried(first, alloc, store, wanted),
+        Err((Refusal::DiskFault, disk)) => {
+            let is_old = is_before_or_after(alloc, &disk, wanted)?;
+            Ok(if is_old {
+                Outcome::Failed
+            } else {
+                Outcome::Wrong
+            })
+        }
+        Err(_) => Ok(Outcome::Wrong),
+    }
+}
+
+/// How many runs there are before one meets no fault.
+fn runs(first: First, alloc: Global, fault: Fault) -> Result<u64, Fail> {
+    let wanted = wanted_of(first, alloc)?;
+    for calls in 0..1_000u64 {
+        match run(first, alloc, fault, calls, &wanted)? {
+            Outcome::Failed => {}
+            Outcome::Whole => return Ok(calls),
+            Outcome::Wrong => return Err(Fail::from("a run went wrong")),
+        }
+    }
+    Err(Fail::from("each run met a fault"))
+}
+
+/// Whether so many changing calls fail in turn, with nothing or one byte of them done.
+fn each_change(first: First, alloc: Global, changes: u64) -> Result<bool, Fail> {
+    Ok(
+        runs(first, alloc, Fault::Change(0))? == changes
+            && runs(first, alloc, Fault::Change(1))? == changes,
+    )
+}
+
+/// Each call that reads fails in turn, and all calls fail from each one on:
+/// whether these are so many more.
+fn each_other(first: First, alloc: Global, changes: u64) -> Result<bool, Fail> {
+    let reads = runs(first, alloc, Fault::Read)?;
+    let calls = runs(first, alloc, Fault::All)?;
+    Ok(reads > 0 && calls.checked_sub(reads) == Some(changes))
+}
+
+#[test]
+fn a_change_of_an_import_of_a_new_row_fails(rt: HostRuntime) -> Result<(), Fail> {
+    assert!(rt; each_change(First::NewRow, rt.alloc(), 9)?);
+    Ok(())
+}
+
+#[test]
+fn a_change_of_an_import_of_known_rows_fails(rt: HostRuntime) -> Result<(), Fail> {
+    assert!(rt; each_change(First::Known, rt.alloc(), 7)?);
+    Ok(())
+}
+
+#[test]
+fn a_change_of_a_merge_fails(rt: HostRuntime) -> Result<(), Fail> {
+    assert!(rt; each_change(First::Merge, rt.alloc(), 9)?);
+    Ok(())
+}
+
+#[test]
+fn an_import_of_a_new_row_fails(rt: HostRuntime) -> Result<(), Fail> {
+    assert!(rt; each_other(First::NewRow, rt.alloc(), 9)?);
+    Ok(())
+}
+
+#[test]
+fn an_import_of_known_rows_fails(rt: HostRuntime) -> Result<(), Fail> {
+    assert!(rt; each_other(First::Known, rt.alloc(), 7)?);
+    Ok(())
+}
+
+#[test]
+fn a_merge_fails(rt: HostRuntime) -> Result<(), Fail> {
+    assert!(rt; each_other(First::Merge, rt.alloc(), 9)?);
+    Ok(())
+}

@@ -1,0 +1,112 @@
+//! What may come first of what moves a store of version 1 to version 2, and what such a store
+//! answers before it and after it.
+
+use crate::old::after_three;
+use acceptance_fixtures::{Example, one_file};
+use disk_model::{Choice, MemDisk};
+use history_store::Refusal;
+use rf2_rows::Kind;
+use std::alloc::Global;
+
+/// The publications that are tried.
+#[derive(Clone, Copy, Debug, PartialEq, Eq)]
+pub enum First {
+    /// An import of one row that is new: a relationship with a concrete value.
+    NewRow,
+    /// An import of rows that are all known.
+    Known,
+    /// A merge of two segments.
+    Merge,
+}
+
+/// The images of a stop that are looked at.
+pub const CHOICES: [Choice; 4] = [
+    Choice::Lost,
+    Choice::Filled(0),
+    Choice::Kept,
+    Choice::Filled(165),
+];
+
+/// The kinds of rows that version 1 had, and the one that came with version 2.
+const KINDS: [Kind; 5] = [
+    Kind::Concept,
+    Kind::Description,
+    Kind::Relationship,
+    Kind::Association,
+    Kind::Concrete,
+];
+
+/// A relationship with a concrete value. A relationship has the same number.
+pub const STRENGTH: &str = "1000027|20210731|1|CORE|1000004|#500|1|3000005|INF|MOD";
+
+/// Does it.
+pub fn publish(first: First, store: &mut Example, alloc: Global) -> Result<(), Refusal> {
+    match first {
+        First::NewRow => {
+            let release = one_file(alloc, Kind::Concrete, &[STRENGTH])?;
+            store.import(&release)?;
+        }
+        First::Known => {
+            store.import_sample("r2")?;
+        }
+        First::Merge => {
+            store.merge_begin()?;
+            store.merge_step(100)?;
+            store.merge_publish()?;
+        }
+    }
+    Ok(())
+}
+
+/// The old disk.
+pub fn old_disk(alloc: Global) -> Result<MemDisk, Refusal> {
+    Ok(MemDisk::from_bytes(alloc, after_three(alloc)?))
+}
+
+/// A page of each kind at a day and a pin, one behind the other.
+pub fn pages(store: &mut Example, alloc: Global, day: u32, pin: u32) -> Result<Vec<u8>, Refusal> {
+    let mut told = Vec::new(alloc);
+    for kind in KINDS {
+        told.extend_from_slice(store.page(kind, day, pin, None, 1_000)?.as_slice())?;
+        told.extend_from_slice(b"--\n")?;
+    }
+    Ok(told)
+}
+
+/// What a store answers to some questions, and how many imports and rows it has.
+pub fn told(store: &mut Example, alloc: Global) -> Result<Vec<u8>, Refusal> {
+    let last = store.imports();
+    let mut told = Vec::new(alloc);
+    told.extend_from_slice(&last.to_be_bytes())?;
+    told.extend_from_slice(&store.row_count().to_be_bytes())?;
+    told.extend_from_slice(pages(store, alloc, 20_991_231, last)?.as_slice())?;
+    told.extend_from_slice(pages(store, alloc, 20_200_731, 2)?.as_slice())?;
+    told.extend_from_slice(store.terms("", 20_991_231, last, 1_000)?.as_slice())?;
+    told.extend_from_slice(store.history(Kind::Concept, 1_000_004, last)?.as_slice())?;
+    Ok(told)
+}
+
+/// What a store that was made anew answers after the same three imports, and after this as well.
+#[derive(Drop)]
+pub struct Wanted {
+    pub before: Vec<u8>,
+    pub after: Vec<u8>,
+}
+
+pub fn wanted_of(first: First, alloc: Global) -> Result<Wanted, Refusal> {
+    let mut anew = Example::after(alloc, &["r1", "r2", "r3"])?;
+    let before = told(&mut anew, alloc)?;
+    publish(first, &mut anew, alloc)?;
+    let after = told(&mut anew, alloc)?;
+    Ok(Wanted { before, after })
+}
+
+/// Whether the store is the one from before in version 1, or the one after it in version 2.
+pub fn is_wanted(store: &mut Example, alloc: Global, wanted: &Wanted) -> Result<bool, Refusal> {
+    let told = told(store, alloc)?;
+    match store.version() {
+        1 => Ok(told.as_slice() == wanted.before.as_slice()),
+        2 => Ok(told.as_slice() == wanted.after.as_slice()),
+        _ => Ok(false),
+    }
+}

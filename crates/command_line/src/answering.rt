@@ -1,0 +1,29 @@
+//! One line is answered.
+
+ghost use Rattle.command_line.specs.Tasks.{IsLineTold};
+
+use crate::endings::{Ending, tell};
+use crate::telling::Told;
+use disk_model::Disk;
+use history_store::Store;
+use line_server::{Pins, ServeFault, Source, answer};
+use std::alloc::Global;
+use std::io::Write;
+
+/// Answers a line, as a session of its own, and tells the reply.
+pub(crate) fn answer_line<D: Disk + Drop, S: Source, O: Write>(
+    alloc: Global,
+    line: &[u8],
+    source: &mut S,
+    store: &mut Store<D>,
+    output: &mut O,
+    told: &mut Told,
+) -> Result<Ending, ServeFault>
+    ensures { IsLineTold (S.is_honest source.old) (S.releases source.old)
+        D.is_honest D.moments D.failures line.now store.old store.new.disk result
+        (O.contents output.old) (O.contents output.new) }
+{
+    let mut pins = Pins::new();
+    let reply = answer(alloc, line, &mut pins, source, store);
+    tell(output, &reply, told)
+}

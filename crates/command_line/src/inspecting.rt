@@ -1,0 +1,55 @@
+//! The status of a store is told.
+
+ghost use Rattle.std.specs.Prelude.{◌≡◌, ⊤, None};
+ghost use Rattle.command_line.specs.Tasks.{IsStatus};
+
+use crate::answering::answer_line;
+use crate::endings::{Ending, refuse};
+use crate::telling::Told;
+use disk_model::Disk;
+use history_store::Store;
+use import_check::Release;
+use line_server::{ServeFault, Source, SourceFault};
+use std::alloc::Global;
+use std::io::Write;
+
+/// The line that asks for the status.
+const STATUS: &[u8] = b"0 STATUS";
+
+/// Has no release.
+#[derive(Clone, Copy)]
+struct NoReleases;
+
+impl Source for NoReleases {
+    ghost use Rattle.std.specs.Prelude.{⊤, None};
+
+    ghost is_honest = { λ _. ⊤ };
+
+    ghost releases = { λ _ _. None };
+
+    fn release(&mut self, _alloc: Global, _name: &str) -> Result<Release, SourceFault> {
+        Err(SourceFault::NoFolder)
+    }
+}
+
+/// Tells the status of the store of a device, which comes back; and the
+/// number of its layout, for people. Nothing but the opening is asked of the device.
+pub(crate) fn status<D: Disk + Drop, O: Write>(
+    alloc: Global,
+    device: D,
+    output: &mut O,
+    told: &mut Told,
+) -> (Result<Ending, ServeFault>, D, Option<u32>)
+    ensures { IsStatus D.is_honest D.moments D.failures device result.1 result.0
+        (O.contents output.old) (O.contents output.new) }
+{
+    match Store::open(alloc, device) {
+        Ok(store) => {
+            let mut store = store;
+            let layout = store.version();
+            let ended = answer_line(alloc, STATUS, &mut NoReleases, &mut store, output, told);
+            (ended, store.close(), Some(layout))
+        }
+        Err((refusal, device)) => (refuse(alloc, output, refusal, told), device, None),
+    }
+}

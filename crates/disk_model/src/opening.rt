@@ -1,0 +1,59 @@
+//! Why a file isn't had as a disk, and that its name stays.
+
+use std::alloc::Global;
+use std::fs::{self, File, Files, TryLockError};
+use std::io;
+use std::os::fd::AsRawFd;
+use thiserror::Error;
+
+/// Why a file is no disk.
+#[derive(Debug, Drop, Error)]
+pub enum OpenFault {
+    #[error("in use by another process")]
+    Busy,
+    /// It is a folder, a FIFO or a device.
+    #[error("not a regular file")]
+    NotAFile,
+    #[error("{0}")]
+    System(#[from] io::Error),
+}
+
+impl From<TryLockError> for OpenFault {
+    fn from(error: TryLockError) -> OpenFault {
+        match error {
+            TryLockError::WouldBlock => OpenFault::Busy,
+            TryLockError::Error(error) => OpenFault::System(error),
+        }
+    }
+}
+
+/// Lets what is read of the file from now on come from the device. Once a write or a sync has
+/// failed, the system may keep in memory what the device doesn't have.
+pub(crate) fn drop_cached_pages(file: &File) -> io::Result<()> {
+    file.sync_all()?;
+    match libc::posix_fadvise(file.as_raw_fd(), 0, 0, libc::POSIX_FADV_DONTNEED) {
+        0 => Ok(()),
+        number => Err(io::Error::from_raw_os_error(number)),
+    }
+}
+
+/// The folder that a file of this name stands in.
+fn folder_of(path: &str) -> &str {
+    match path.rsplit_once('/') {
+        Some(("", _)) => "/",
+        Some((folder, _)) => folder,
+        None => ".",
+    }
+}
+
+/// Waits until the device has the name of a file that was made: the folder that the file stands in
+/// is synced. Where the name is a link, this is the folder of the file that it leads to.
+pub fn sync_folder_of<R: Files<File = File>>(rt: &R, alloc: Global, path: &str) -> io::Result<()> {
+    let folder = if fs::symlink_metadata(rt, path)?.is_symlink() {
+        let file = rt.canonicalize(alloc, path)?;
+        fs::open(rt, folder_of(file.as_str()))?
+    } else {
+        fs::open(rt, folder_of(path))?
+    };
+    folder.sync_all()
+}

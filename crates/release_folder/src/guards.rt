@@ -1,0 +1,134 @@
+//! What is looked at before it is opened: a FIFO or a device never ends,
+//! and a link that leads nowhere is no absent folder.
+
+ghost use Rattle.std.specs.Prelude.{◌≡◌};
+ghost use Rattle.release_folder.specs.Faults.{folder_fault};
+ghost use Rattle.release_folder.specs.declared.fault.FolderFault.TheVariants.{NoFolder};
+
+use crate::obstacle::{Obstacle, ReadFault};
+use std::alloc::{AllocError, Global};
+use std::fs::{self, File, Files, Metadata};
+use std::io::{self, ErrorKind};
+
+/// The most bytes that a release file has.
+pub(crate) const LARGEST: u64 = 4_294_967_295;
+
+/// The folder of a release that holds its concepts, descriptions and relationships.
+pub(crate) const TERMINOLOGY: &str = "Terminology";
+
+/// The folder of a release that holds its association reference sets.
+pub(crate) const CONTENT: &str = "Refset/Content";
+
+/// The folder that holds that one.
+const REFSET: &str = "Refset";
+
+/// What stands at a path, if anything does. A link that leads nowhere isn't nothing.
+fn look<R: Files<File = File>>(
+    rt: &R,
+    alloc: Global,
+    path: &str,
+) -> Result<Option<Metadata>, ReadFault> {
+    match fs::metadata(rt, path) {
+        Ok(metadata) => Ok(Some(metadata)),
+        Err(error) if error.kind() == ErrorKind::NotFound => match fs::symlink_metadata(rt, path) {
+            Ok(_) => Err(ReadFault::met(alloc, path, Obstacle::LeadsNowhere)),
+            Err(error) if error.kind() == ErrorKind::NotFound => Ok(None),
+            Err(error) => Err(ReadFault::said(alloc, path, error)),
+        },
+        Err(error) => Err(ReadFault::said(alloc, path, error)),
+    }
+}
+
+/// The release's folder has to be one.
+pub(crate) fn check_folder<R: Files<File = File>>(
+    rt: &R,
+    alloc: Global,
+    path: &str,
+) -> Result<(), ReadFault> {
+    match look(rt, alloc, path)? {
+        Some(metadata) if metadata.is_dir() => Ok(()),
+        Some(_) => Err(ReadFault::met(alloc, path, Obstacle::NotAFolder)),
+        None => Err(ReadFault::met(alloc, path, Obstacle::NoSuchFolder)),
+    }
+}
+
+/// A part of the release may be absent, and is no link that leads nowhere.
+pub(crate) fn check_parts<R: Files<File = File>>(
+    rt: &R,
+    alloc: Global,
+    root: &str,
+) -> Result<(), ReadFault> {
+    for part in [TERMINOLOGY, REFSET, CONTENT] {
+        let path = format!(in alloc; "{root}/{part}")?;
+        let _ = look(rt, alloc, path.as_str())?;
+    }
+    Ok(())
+}
+
+/// A release file has to be a regular file, and not too large.
+pub(crate) fn check_file<R: Files<File = File>>(
+    rt: &R,
+    alloc: Global,
+    path: &str,
+) -> Result<(), ReadFault> {
+    match look(rt, alloc, path)? {
+        Some(metadata) if !metadata.is_file() => {
+            Err(ReadFault::met(alloc, path, Obstacle::NotAFile))
+        }
+        Some(metadata) if metadata.len() > LARGEST => {
+            Err(ReadFault::met(alloc, path, Obstacle::TooLarge))
+        }
+        Some(_) => Ok(()),
+        None => {
+            let error = io::Error::from(ErrorKind::NotFound);
+            Err(ReadFault::said(alloc, path, error))
+        }
+    }
+}
+
+/// What the system said while it listed a folder.
+pub(crate) fn unlisted(alloc: Global, folder: &str, error: io::Error) -> ReadFault {
+    match error.kind() {
+        ErrorKind::InvalidFilename => ReadFault::met(alloc, folder, Obstacle::NotUtf8),
+        _ => ReadFault::said(alloc, folder, error),
+    }
+}
+
+/// Whether a folder stands in another one.
+fn has_folder<R: Files<File = File>>(
+    rt: &R,
+    alloc: Global,
+    root: &str,
+    part: &str,
+) -> Result<bool, AllocError> {
+    let path = format!(in alloc; "{root}/{part}")?;
+    match fs::metadata(rt, path.as_str()) {
+        Ok(metadata) => Ok(metadata.is_dir()),
+        Err(_) => Ok(false),
+    }
+}
+
+/// Why there is no file to take in a release's folder.
+fn lack_of<R: Files<File = File>>(
+    rt: &R,
+    alloc: Global,
+    root: &str,
+) -> Result<Obstacle, AllocError> {
+    if has_folder(rt, alloc, root, TERMINOLOGY)? || has_folder(rt, alloc, root, CONTENT)? {
+        return Ok(Obstacle::NothingToTake);
+    }
+    for inner in ["Full", "Delta"] {
+        if has_folder(rt, alloc, root, inner)? {
+            return Ok(Obstacle::Package(inner));
+        }
+    }
+    Ok(Obstacle::NoParts)
+}
+
+/// Tells why there is no file to take.
+pub(crate) fn nothing_in<R: Files<File = File>>(rt: &R, alloc: Global, root: &str) -> ReadFault
+    ensures { folder_fault result ≡ NoFolder }
+{
+    let obstacle = lack_of(rt, alloc, root).unwrap_or(Obstacle::NoParts);
+    ReadFault::met(alloc, root, obstacle)
+}

@@ -1,0 +1,107 @@
+//! What stands in the way of a release.
+
+ghost use Rattle.std.specs.Prelude.{◌≡◌};
+ghost use Rattle.release_folder.specs.declared.obstacle.ReadFault.TheVariants.{OutOfMemory};
+
+use crate::fault::FolderFault;
+use std::alloc::{AllocError, AllocFailed, Global};
+use std::fmt::{self, Display, Formatter};
+use std::io;
+use thiserror::Error;
+
+/// What is wrong with a folder or a file, for people.
+#[derive(Clone, Copy, Debug, Error)]
+pub enum Obstacle {
+    #[error("{0}")]
+    System(io::Error),
+    #[error("no such folder")]
+    NoSuchFolder,
+    #[error("it is no folder; unpack the release, and name its folder")]
+    NotAFolder,
+    #[error("a link that leads nowhere")]
+    LeadsNowhere,
+    /// It is a folder, a FIFO or a device.
+    #[error("not a regular file")]
+    NotAFile,
+    #[error("over 4,294,967,295 bytes")]
+    TooLarge,
+    #[error("the name of a file in it isn't UTF-8")]
+    NotUtf8,
+    #[error("no folder Terminology or Refset/Content in it")]
+    NoParts,
+    /// A package of several releases was named, and this is the folder of one of them.
+    #[error("no folder Terminology or Refset/Content in it; its folder {0} is the one to name")]
+    Package(&'static str),
+    #[error("no file to take in Terminology or Refset/Content")]
+    NothingToTake,
+}
+
+/// Why a release wasn't read.
+#[derive(Debug, Drop)]
+pub enum ReadFault {
+    OutOfMemory,
+    /// The path is empty where memory lacked for it.
+    Met { path: String, obstacle: Obstacle },
+}
+
+impl ReadFault {
+    ghost use Rattle.release_folder.specs.Faults.{IsFaultOf, folder_fault};
+    ghost use Rattle.release_folder.specs.declared.fault.FolderFault.TheVariants.{NoFolder};
+
+    /// What is wrong with what stands at a path.
+    pub(crate) fn met(alloc: Global, path: &str, obstacle: Obstacle) -> ReadFault
+        ensures { folder_fault result ≡ NoFolder }
+    {
+        let path = match String::from_str(alloc, path) {
+            Ok(path) => path,
+            Err(_) => String::new(alloc),
+        };
+        ReadFault::Met { path, obstacle }
+    }
+
+    /// What the system said of what stands at a path.
+    pub(crate) fn said(alloc: Global, path: &str, error: io::Error) -> ReadFault
+        ensures { IsFaultOf error (folder_fault result) }
+    {
+        match FolderFault::from(error) {
+            FolderFault::OutOfMemory => ReadFault::OutOfMemory,
+            FolderFault::NoFolder => ReadFault::met(alloc, path, Obstacle::System(error)),
+        }
+    }
+
+    /// What programs are told.
+    pub fn fault(&self) -> FolderFault
+        ensures { result ≡ folder_fault self.now }
+    {
+        match self {
+            ReadFault::OutOfMemory => FolderFault::OutOfMemory,
+            ReadFault::Met { .. } => FolderFault::NoFolder,
+        }
+    }
+}
+
+impl Display for ReadFault {
+    fn fmt<W: fmt::Write>(&self, f: &mut Formatter<W>) -> fmt::Result {
+        match self {
+            ReadFault::OutOfMemory => f.write_str("out of memory"),
+            ReadFault::Met { path, obstacle } if path.is_empty() => write!(f, "{obstacle}"),
+            ReadFault::Met { path, obstacle } => write!(f, "{path}: {obstacle}"),
+        }
+    }
+}
+
+impl From<AllocError> for ReadFault {
+    ghost from_gives = { λ _ e. e ≡ OutOfMemory };
+
+    fn from(_: AllocError) -> ReadFault {
+        ReadFault::OutOfMemory
+    }
+}
+
+impl<T: Drop> From<AllocFailed<T>> for ReadFault {
+    ghost from_gives = { λ _ e. e ≡ OutOfMemory };
+
+    fn from(_: AllocFailed<T>) -> ReadFault {
+        ReadFault::OutOfMemory
+    }
+}

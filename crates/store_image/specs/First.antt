@@ -1,0 +1,55 @@
+-- What bytes stood for before there was a second version of the layout: the definition of that
+-- time, on its own. Its rows were of the four kinds that there were then.
+use Rattle.std.specs.Prelude.{◌≡◌, ◌↔◌, ℕ, ◌^◌, ◌<◌, ◌≤◌, List, ◌++◌, length, take, replicate, codes, All}
+use Rattle.std.specs.List.{AllByRecursion, flat_map}
+use Rattle.std.specs.Int.{w32, w64, to_be_bytes}
+use Rattle.blocks.specs.declared.slots.Slot.{Slot}
+use Rattle.rf2_values.specs.declared.row.Kind.{Kind}
+use Rattle.rf2_values.specs.declared.row.Kind.TheVariants as kinds
+use Rattle.rf2_values.specs.Row.{kind_of}
+use Rattle.history_model.specs.declared.stamped.StampedRow.{StampedRow}
+use Rattle.history_model.specs.History.{History, IsHistory}
+use Rattle.history_model.specs.Lists.{AreLists, listed}
+use Rattle.directory.specs.declared.entry.Entry.{Entry}
+use Rattle.directory.specs.declared.layout.Layout.TheVariants as layouts
+use Rattle.directory.specs.Places.{AreApart, extents_of}
+use Rattle.directory.specs.Listings.{IsEntry}
+use Rattle.directory.specs.Content.{entry_bytes}
+use Rattle.store_image.specs.Stands.{Stands}
+use Rattle.store_image.specs.Says.{AreSegments, pieces_of}
+use Rattle.store_image.specs.Images.{StandsFor}
+
+-- the bytes that were read of a content block
+abbrev pub first_bytes : ℕ → ℕ → List Entry → List ℕ
+first_bytes epoch imports entries =
+    to_be_bytes w64 epoch ++ (codes "SCTHIST1" ++ (to_be_bytes w32 imports
+    ++ (to_be_bytes w32 (length entries) ++ (replicate 8 0 ++ flat_map entry_bytes entries))))
+
+-- the kinds that there were
+abbrev pub IsFirstKind : Kind → Type 0
+IsFirstKind kinds.Concrete = ⊥
+IsFirstKind kind = Unit {0}
+
+pub record StoodFor (file : List ℕ) (h : History) (epoch : ℕ) (entries : List Entry) : Type 0 where
+  pub slot : Slot
+  pub content : List ℕ
+  pub lists : List (List StampedRow)
+  pub stands : Stands (record { slot = slot; epoch = epoch }) content (pieces_of entries lists) file
+  pub from_one : 1 ≤ epoch
+  pub epoch_fits : epoch < 2 ^ 64
+  pub imports_fit : h.imports < 2 ^ 32
+  pub few : length entries ≤ 128
+  pub each : AllByRecursion IsEntry entries
+  pub entries_apart : AreApart (extents_of entries)
+  pub front : take (length (first_bytes epoch h.imports entries)) content
+      ≡ first_bytes epoch h.imports entries
+  pub segments : AreSegments entries lists
+  pub apart : AreLists lists
+  pub kinds_were : All (All (λ (s : StampedRow). IsFirstKind (kind_of s.row))) lists
+  pub history : IsHistory (record { imports = h.imports; rows = listed lists })
+  pub rows : h.rows ≡ listed lists
+
+-- what stood for a history does so in version 1 still, and nothing else does in that version
+abbrev pub FirstStillStands : Type 0
+FirstStillStands = (file : List ℕ) (h : History) (epoch : ℕ) (entries : List Entry)
+    → StoodFor file h epoch entries ↔ StandsFor file h layouts.One epoch entries
