@@ -2,7 +2,6 @@ ghost use Rattle.std.specs.Prelude.{◌≡◌, ◌≤◌, [], Some, length, IfOk
 ghost use Rattle.fault_counts.specs.Counting.{CountsEach};
 ghost use Rattle.disk_model.specs.Change.{made};
 
-use crate::opening::drop_cached_pages;
 use crate::{Disk, DiskFault, OpenFault};
 use fault_counts::raised;
 use std::fs::{File, OpenOptions};
@@ -47,8 +46,8 @@ impl FileDisk {
         FileDisk::of(file)
     }
 
-    /// Locks the file before anything of it is read, and lets what is read come from the device.
-    /// What is no regular file is refused.
+    /// Locks the file, and waits until the device has what an earlier process wrote, before
+    /// anything of it is read. What is no regular file is refused.
     fn of(opened: io::Result<File>) -> Result<FileDisk, OpenFault>
         ensures { IfOk result (λ disk. failures_of disk ≡ 0) }
     {
@@ -57,7 +56,7 @@ impl FileDisk {
             return Err(OpenFault::NotAFile);
         }
         file.try_lock()?;
-        drop_cached_pages(&file)?;
+        file.sync_all()?;
         Ok(FileDisk {
             file,
             failures: 0,

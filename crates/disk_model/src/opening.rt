@@ -3,7 +3,6 @@
 use std::alloc::Global;
 use std::fs::{self, File, Files, TryLockError};
 use std::io;
-use std::os::fd::AsRawFd;
 use thiserror::Error;
 
 /// Why a file is no disk.
@@ -24,16 +23,6 @@ impl From<TryLockError> for OpenFault {
             TryLockError::WouldBlock => OpenFault::Busy,
             TryLockError::Error(error) => OpenFault::System(error),
         }
-    }
-}
-
-/// Lets what is read of the file from now on come from the device. Once a write or a sync has
-/// failed, the system may keep in memory what the device doesn't have.
-pub(crate) fn drop_cached_pages(file: &File) -> io::Result<()> {
-    file.sync_all()?;
-    match libc::posix_fadvise(file.as_raw_fd(), 0, 0, libc::POSIX_FADV_DONTNEED) {
-        0 => Ok(()),
-        number => Err(io::Error::from_raw_os_error(number)),
     }
 }
 
