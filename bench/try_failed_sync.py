@@ -1,13 +1,14 @@
 #!/usr/bin/env python3
 """Tries what a failed sync leaves on Linux, on a medium that refuses one block.
 
-try_failed_sync.py PROGRAM
+try_failed_sync.py [--unit FILE] PROGRAM
 
 PROGRAM is the built program sctd. Linux forgets the pages of a file whose write failed: a later
 read gets from memory what the medium doesn't have. This script makes a file system on a loop
-device, lets the last sync of an import fail, starts the program again, stops the next import
-between two of its syncs, and looks at what the medium has. It fails if the import that was
-confirmed before isn't told both times: an opening has to drop what memory keeps of the file.
+device, lets the last sync of an import fail, starts the program again as the unit does (that is
+examples/sctd.service, or FILE), stops the next import between two of its syncs, and looks at what
+the medium has. It fails if the import that was confirmed before isn't told both times: the unit has
+to drop what memory keeps of the file.
 
 It takes root, strace, e2fsprogs, util-linux and a loop device; where it lacks one of them it says
 "not run" and ends with status 3. Standard library alone.
@@ -22,6 +23,7 @@ import time
 
 ROOT = os.path.dirname(os.path.dirname(os.path.abspath(__file__)))
 RELEASES = os.path.join(ROOT, "docs", "releases")
+UNIT = os.path.join(ROOT, "examples", "sctd.service")
 BLOCK = 4096
 # An import's syncs: two of the opening, then one of the segment, of the gate that is closed, of the
 # content, and of the gate that is opened.
@@ -132,6 +134,13 @@ class Program:
                                 stderr=subprocess.DEVNULL, text=True)
 
 
+def steps_before_start(unit):
+    """The commands that the unit runs before it starts the program."""
+    with open(unit, encoding="utf-8") as file:
+        lines = file.read().replace("\\\n", " ").split("\n")
+    return [line.split("=", 1)[1] for line in lines if line.startswith("ExecStartPre=")]
+
+
 def wait_for_stop(trace):
     """The process that the trace says is stopped."""
     for _ in range(400):
@@ -144,7 +153,7 @@ def wait_for_stop(trace):
     raise NotRun("strace doesn't stop the import")
 
 
-def trial(program_path, place):
+def trial(program_path, unit, place):
     """What the server says after the restart, and what the medium has in the end."""
     with Medium(place) as medium:
         program = Program(program_path, medium.store)
@@ -171,6 +180,8 @@ def trial(program_path, place):
         if not reply.startswith("ERR 2 "):
             raise NotRun("the medium took the block: %r" % reply)
         medium.accept()
+        for step in steps_before_start(unit):
+            run(*step.replace("/var/lib/sctd/terms.store", medium.store).split())
         restarted = program.status()
         program.import_stopped_at_sync("r3", CONTENT_SYNC, "KILL", trace).communicate()
         medium.mount_again()
@@ -178,6 +189,9 @@ def trial(program_path, place):
 
 
 def main(words):
+    unit = UNIT
+    if words[:1] == ["--unit"]:
+        unit, words = words[1], words[2:]
     if len(words) != 1:
         print(__doc__.strip(), file=sys.stderr)
         return 2
@@ -187,7 +201,7 @@ def main(words):
             raise NotRun("it takes root" if not missing else "there is no " + missing[0])
         program = os.path.abspath(words[0])
         with tempfile.TemporaryDirectory() as place:
-            found = trial(program, place)
+            found = trial(program, unit, place)
     except NotRun as why:
         print("not run: %s" % why)
         return 3
