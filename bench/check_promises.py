@@ -1,0 +1,244 @@
+#!/usr/bin/env python3
+"""Checks the tables of docs/PROMISES.md under "Proved" against the sources.
+
+check_promises.py
+
+Each row has a promise, the clauses that prove it, and what shows that they do. A clause is named as
+`function · clause`: the function has to stand in the sources of the crates that the table's heading
+names, or of the crate that the name begins with, and has to have that clause. The last column names
+must-fail edits as `crate/edit`, tests as `crate::test`, or says `law`, which is enough for a row
+that names a law: a law's body is empty, and so no edit can change it. A row that has none of these,
+or names what isn't there, is said in a line of its own on standard error, and the status is 1 then.
+Nothing is built. Standard library alone.
+"""
+
+import glob
+import os
+import re
+import sys
+
+ROOT = os.path.dirname(os.path.dirname(os.path.abspath(__file__)))
+DOCUMENT = "docs/PROMISES.md"
+HEAD = ["Promise", "Clause", "Edit or test"]
+
+OWNER = re.compile(
+    r"(?:pub(?:\(crate\))? )?(?:trait (?P<made>\w+)"
+    r"|impl(?:<[^{]*?>)? (?:(?:\w+::)*(?P<trait>\w+)(?:<.*>)? for )?(?P<type>\w+))"
+)
+FUNCTION = re.compile(r"\s*(?:pub(?:\(crate\))? )?(?:const )?fn (?P<name>\w+)")
+ENSURES = re.compile(r"\s*ensures (?P<name>\w+) \{")
+TYPE = re.compile(r"\s*pub(?:\(crate\))? (?:struct|enum|trait|type) (?P<name>\w+)")
+TOKEN = re.compile(r"`([^`]*)`")
+NAME = re.compile(r"[\w*]+(?:::[\w*]+)*$")
+
+
+class Function:
+    """A function of the sources: where it stands, and the names of its clauses."""
+
+    def __init__(self, name, crate, module, owner, trait):
+        self.name, self.crate, self.module = name, crate, module
+        self.places = {crate, module, owner, trait}
+        self.clauses = set()
+        self.is_empty = False
+
+    def is_law(self):
+        return self.module == "laws" and self.is_empty
+
+
+class Sources:
+    """The functions, types, impls, definitions, edits and tests of all crates."""
+
+    def __init__(self):
+        self.functions, self.types, self.impls = [], set(), set()
+        self.words, self.edits, self.tests = {}, set(), set()
+        self.crates = sorted(os.path.basename(d) for d in glob.glob(ROOT + "/crates/*"))
+        for crate in self.crates:
+            folder = os.path.join(ROOT, "crates", crate)
+            for path in sorted(glob.glob(folder + "/src/**/*.rt", recursive=True)):
+                self.read(crate, os.path.basename(path)[: -len(".rt")], text_of(path))
+            specs = map(text_of, glob.glob(folder + "/specs/**/*.antt", recursive=True))
+            self.words[crate] = set(re.findall(r"\w+", "\n".join(specs)))
+            for path in glob.glob(folder + "/must-fail/*.edit"):
+                self.edits.add(crate + "/" + os.path.basename(path)[: -len(".edit")])
+
+    def read(self, crate, module, text):
+        """Takes what a file of sources has."""
+        owner = trait = function = None
+        is_test = False
+        for line in text.split("\n"):
+            found = OWNER.match(line)
+            if found:
+                owner, trait = found["type"] or found["made"], found["trait"]
+                self.impls.add((crate, trait, owner))
+            elif line == "}":
+                owner = trait = None
+            found = TYPE.match(line)
+            if found:
+                self.types.add((crate, found["name"]))
+            found = FUNCTION.match(line)
+            if found:
+                function = Function(found["name"], crate, module, owner, trait)
+                self.functions.append(function)
+                if is_test:
+                    self.tests.add(crate + "::" + function.name)
+            is_test = line.strip() == "#[test]"
+            found = ENSURES.match(line)
+            if found:
+                function.clauses.add(found["name"])
+            elif line.strip() == "{}" and function:
+                function.is_empty = True
+
+    def named(self, path, crates):
+        """The functions with a name such as `Store::open` or `blocks::laws::*`."""
+        *front, last = path.split("::")
+        if front and front[0] in self.crates:
+            crates = front[:1]
+        return [
+            f for f in self.functions
+            if f.crate in crates and last in ("*", f.name) and set(front) <= f.places
+        ]
+
+    def is_place(self, path, crates):
+        """Whether it is a type or a module, as `Disk` or `history_model::plain`."""
+        *front, last = path.split("::")
+        if front:
+            crates = front[:1]
+        modules = {(f.crate, f.module) for f in self.functions}
+        return any((c, last) in self.types or (front and (c, last) in modules) for c in crates)
+
+    def is_word(self, word, crates):
+        """Whether it is a clause, or a word of the definitions."""
+        return any(word in self.words.get(c, ()) for c in crates) or any(
+            word in f.clauses for f in self.functions if f.crate in crates
+        )
+
+    def is_impl(self, token, crates):
+        """Whether it is an impl, as `impl Disk for MemDisk`."""
+        found = re.match(r"impl (\w+)(?:<.*>)? for (?:(\w+)::)?(\w+)$", token)
+        if not found:
+            return False
+        crates = [found[2]] if found[2] else crates
+        return any((crate, found[1], found[3]) in self.impls for crate in crates)
+
+
+def text_of(path):
+    with open(path, encoding="utf-8") as file:
+        return file.read()
+
+
+def spelled_out(names):
+    """`a::{b, c}` as its two names; a list with commas as its names."""
+    found = re.match(r"(.*)\{(.*)\}$", names.strip())
+    front, behind = (found[1], found[2]) if found else ("", names)
+    return [front + name.strip() for name in behind.split(",")]
+
+
+def faults_of_clauses(path, clauses, crates, sources):
+    """What is to say where no function with this name has all of these clauses."""
+    if not any(clauses <= f.clauses for f in sources.named(path, crates)):
+        yield "no function %s has the clauses %s" % (path, ", ".join(sorted(clauses)))
+
+
+def faults_of_token(token, crates, sources):
+    """What isn't so of one name of the second column, or of some with their clauses."""
+    if sources.is_impl(token, crates):
+        return
+    names, dot, clauses = token.partition(" · ")
+    clauses = set(spelled_out(clauses)) if dot else set()
+    for path in spelled_out(names):
+        if not NAME.match(path):
+            yield "%r is no name" % path
+        elif sources.named(path, crates):
+            yield from faults_of_clauses(path, clauses, crates, sources)
+        elif dot or "::" in path and not sources.is_place(path, crates):
+            yield "%s isn't in the sources" % path
+        elif not (sources.is_place(path, crates) or sources.is_word(path, crates)):
+            yield "%s is no function, no clause and no definition" % path
+
+
+def faults_of_lists(cell, crates, sources):
+    """What isn't so of "`clause` of `function`, .." and of "`function`, .. · `clause`"."""
+    pieces = TOKEN.split(cell)
+    tokens, texts = pieces[1::2], pieces[0::2]
+    functions, clauses = [], None
+    for token, front, behind in zip(tokens, texts, texts[1:]):
+        if behind == " of ":
+            functions, clauses = [], set(spelled_out(token))
+            continue
+        if re.search(r"[;()]|\blaws?\b|\band of\b", front):
+            functions, clauses = [], None
+        if front == " · ":
+            wanted, over = set(spelled_out(token)), functions
+        elif clauses is not None and " · " not in token:
+            wanted, over = clauses, spelled_out(token)
+        else:
+            wanted, over = set(), []
+            functions += spelled_out(token)
+        for path in over:
+            yield from faults_of_clauses(path, wanted, crates, sources)
+
+
+def laws_in(cell):
+    """The laws that the second column names."""
+    for part in re.findall(r"\blaws?\b([^;]*)", cell):
+        for token in TOKEN.findall(part):
+            yield from spelled_out(token)
+
+
+def faults_of_row(cells, crates, sources):
+    """What isn't so of a row."""
+    if len(cells) != len(HEAD):
+        yield "the row has %d columns" % len(cells)
+        return
+    _, clause, shown = cells
+    for token in TOKEN.findall(clause):
+        yield from faults_of_token(token, crates, sources)
+    yield from faults_of_lists(clause, crates, sources)
+    laws = list(laws_in(clause))
+    for path in laws:
+        if not any(f.is_law() for f in sources.named(path, crates)):
+            yield "%s is no law" % path
+    for name in filter(None, (n.strip() for n in shown.split(","))):
+        if name == "law":
+            if not laws:
+                yield "it says law, and names none"
+        elif "/" in name and name.strip("`") not in sources.edits:
+            yield "there is no edit %s" % name
+        elif "::" in name and name.strip("`") not in sources.tests:
+            yield "there is no test %s" % name
+        elif "/" not in name and "::" not in name:
+            yield "%s is no edit, no test and no law" % name
+    if not shown.strip():
+        yield "it names no edit, no test and no law"
+
+
+def rows(text):
+    """The rows of the tables under "Proved": line, cells, and the crates of the heading."""
+    crates, is_proved = [], False
+    for number, line in enumerate(text.split("\n"), 1):
+        if line.startswith("## "):
+            is_proved = line == "## Proved"
+        elif line.startswith("### "):
+            crates = TOKEN.findall(line)
+        elif is_proved and line.startswith("|") and not line.startswith("|---"):
+            cells = [cell.strip() for cell in line.strip().strip("|").split("|")]
+            if cells != HEAD:
+                yield number, cells, crates
+
+
+def main(words):
+    if words:
+        print(__doc__.strip(), file=sys.stderr)
+        return 2
+    sources, count, wrong = Sources(), 0, 0
+    for number, cells, crates in rows(text_of(os.path.join(ROOT, DOCUMENT))):
+        count += 1
+        for fault in dict.fromkeys(faults_of_row(cells, crates, sources)):
+            wrong += 1
+            print("%s:%d: %s" % (DOCUMENT, number, fault), file=sys.stderr)
+    print("%d promises, %d not so" % (count, wrong), file=sys.stderr)
+    return 1 if wrong or not count else 0
+
+
+if __name__ == "__main__":
+    sys.exit(main(sys.argv[1:]))
