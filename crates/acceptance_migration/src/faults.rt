@@ -53,6 +53,17 @@ fn is_before_or_after(alloc: Global, disk: &MemDisk, wanted: &Wanted) -> Result<
     Ok(true)
 }
 
+/// Whether each image of the disk is the old one byte for byte.
+fn is_as_it_was(old: Old, alloc: Global, disk: &MemDisk) -> Result<bool, Refusal> {
+    let before = old.disk(alloc)?;
+    for choice in CHOICES {
+        if disk.image_now(choice)?.as_slice() != before.bytes() {
+            return Ok(false);
+        }
+    }
+    Ok(true)
+}
+
 /// A store whose device failed: it has to be opened again, and until then
 /// it says the version, the imports and the rows from before.
 fn after_a_failure(
@@ -106,8 +117,8 @@ fn run(
     match Example::open(alloc, disk) {
         Ok(store) => tried(case, alloc, store, wanted),
         Err((Refusal::DiskFault, disk)) => {
-            let is_old = is_before_or_after(alloc, &disk, wanted)?;
-            Ok(if is_old {
+            let is_kept = is_as_it_was(case.old, alloc, &disk)?;
+            Ok(if is_kept {
                 Outcome::Failed
             } else {
                 Outcome::Wrong
