@@ -383,6 +383,13 @@ class Program:
                 return
             self.came += piece
 
+    def read_line(self, until):
+        """Reads until there is an LF, until a moment or the end."""
+        before = -1
+        while b"\n" not in self.came and len(self.came) != before:
+            before = len(self.came)
+            self.read(before + 1, until)
+
     def kill(self):
         self.process.kill()
         rest = self.process.stdout.read()
@@ -392,10 +399,13 @@ class Program:
     def end(self):
         """Ends the input, and gives the status and what came behind the last reply."""
         self.process.stdin.close()
-        rest = self.process.stdout.read()
-        status = self.process.wait(timeout=60)
+        self.read(sys.maxsize, time.monotonic() + 60)
+        try:
+            status = self.process.wait(timeout=60)
+        except subprocess.TimeoutExpired:
+            raise Wrong("the program doesn't end behind the last line") from None
         self.process.stdout.close()
-        return status, rest
+        return status, self.came
 
     def close_pipes(self):
         try:
@@ -544,11 +554,10 @@ class Soak:
             self.counts["kills_in_openings"] += 1
         self.start()
         self.served.send(b"0 STATUS\n")
-        self.served.read(4, time.monotonic() + 60)
-        while b"\n" not in self.served.came and self.served.process.poll() is None:
-            self.served.read(len(self.served.came) + 1, time.monotonic() + 60)
-        came, self.served.came = self.served.came.decode(errors="replace").rstrip("\n"), b""
-        allowed = [n for n in range(answered, len(states)) if came == states[n].reopened().status()]
+        self.served.read_line(time.monotonic() + 60)
+        came, self.served.came = self.served.came.decode(errors="replace"), b""
+        said = [state.reopened().status() + "\n" for state in states]
+        allowed = [number for number in range(answered, len(states)) if came == said[number]]
         if not allowed:
             raise Wrong("after a kill: %r, with %d lines answered" % (came, answered))
         done = states[allowed[0]]

@@ -1,6 +1,7 @@
 //! The first publication, with each call on the disk failing in turn.
 
-use crate::first::{CHOICES, First, Wanted, is_wanted, old_disk, publish, wanted_of};
+use crate::first::{CHOICES, Case, First, Wanted, counts, is_wanted};
+use crate::old::Old;
 use acceptance_fixtures::Example;
 use disk_model::MemDisk;
 use history_store::Refusal;
@@ -8,7 +9,7 @@ use std::alloc::Global;
 use std::test::Fail;
 
 /// Which calls fail.
-#[derive(Clone, Copy, Debug)]
+#[derive(Clone, Copy)]
 enum Fault {
     /// One changing call, with so many bytes written.
     Change(u64),
@@ -52,14 +53,26 @@ fn is_before_or_after(alloc: Global, disk: &MemDisk, wanted: &Wanted) -> Result<
     Ok(true)
 }
 
+/// Whether each image of the disk is the old one byte for byte.
+fn is_as_it_was(old: Old, alloc: Global, disk: &MemDisk) -> Result<bool, Refusal> {
+    let before = old.disk(alloc)?;
+    for choice in CHOICES {
+        if disk.image_now(choice)?.as_slice() != before.bytes() {
+            return Ok(false);
+        }
+    }
+    Ok(true)
+}
+
 /// A store whose device failed: it has to be opened again, and until then
 /// it says the version, the imports and the rows from before.
-fn after_a_failure(alloc: Global, store: Example, wanted: &Wanted) -> Result<Outcome, Refusal> {
-    let is_kept = store.needs_reopen()
-        && store.version() == 1
-        && store.imports() == 3
-        && store.row_count() == 12
-        && store.segments() == 3;
+fn after_a_failure(
+    old: Old,
+    alloc: Global,
+    store: Example,
+    wanted: &Wanted,
+) -> Result<Outcome, Refusal> {
+    let is_kept = store.needs_reopen() && store.version() == 1 && counts(&store) == old.counts();
     let disk = store.close();
     if is_kept && is_before_or_after(alloc, &disk, wanted)? {
         Ok(Outcome::Failed)
@@ -70,12 +83,12 @@ fn after_a_failure(alloc: Global, store: Example, wanted: &Wanted) -> Result<Out
 
 /// The publication on the opened store.
 fn tried(
-    first: First,
+    case: Case,
     alloc: Global,
     mut store: Example,
     wanted: &Wanted,
 ) -> Result<Outcome, Refusal> {
-    match publish(first, &mut store, alloc) {
+    match case.publish(&mut store, alloc) {
         Ok(()) => {
             let is_new = store.version() == 2;
             let mut again = Example::of_bytes(alloc, store.close().bytes())?;
@@ -86,26 +99,26 @@ fn tried(
                 Outcome::Wrong
             })
         }
-        Err(Refusal::DiskFault) => after_a_failure(alloc, store, wanted),
+        Err(Refusal::DiskFault) => after_a_failure(case.old, alloc, store, wanted),
         Err(_) => Ok(Outcome::Wrong),
     }
 }
 
 /// An opening of the old disk and the publication, one of whose calls fails.
 fn run(
-    first: First,
+    case: Case,
     alloc: Global,
     fault: Fault,
     calls: u64,
     wanted: &Wanted,
 ) -> Result<Outcome, Refusal> {
-    let mut disk = old_disk(alloc)?;
+    let mut disk = case.old.disk(alloc)?;
     fault.strike(&mut disk, calls);
     match Example::open(alloc, disk) {
-        Ok(store) => tried(first, alloc, store, wanted),
+        Ok(store) => tried(case, alloc, store, wanted),
         Err((Refusal::DiskFault, disk)) => {
-            let is_old = is_before_or_after(alloc, &disk, wanted)?;
-            Ok(if is_old {
+            let is_kept = is_as_it_was(case.old, alloc, &disk)?;
+            Ok(if is_kept {
                 Outcome::Failed
             } else {
                 Outcome::Wrong
@@ -116,10 +129,10 @@ fn run(
 }
 
 /// How many runs there are before one meets no fault.
-fn runs(first: First, alloc: Global, fault: Fault) -> Result<u64, Fail> {
-    let wanted = wanted_of(first, alloc)?;
+fn runs(case: Case, alloc: Global, fault: Fault) -> Result<u64, Fail> {
+    let wanted = case.wanted(alloc)?;
     for calls in 0..1_000u64 {
-        match run(first, alloc, fault, calls, &wanted)? {
+        match run(case, alloc, fault, calls, &wanted)? {
             Outcome::Failed => {}
             Outcome::Whole => return Ok(calls),
             Outcome::Wrong => return Err(Fail::from("a run went wrong")),
@@ -129,53 +142,74 @@ fn runs(first: First, alloc: Global, fault: Fault) -> Result<u64, Fail> {
 }
 
 /// Whether so many changing calls fail in turn, with nothing or one byte of them done.
-fn each_change(first: First, alloc: Global, changes: u64) -> Result<bool, Fail> {
+fn each_change(old: Old, first: First, alloc: Global, changes: u64) -> Result<bool, Fail> {
+    let case = Case::new(old, first);
     Ok(
-        runs(first, alloc, Fault::Change(0))? == changes
-            && runs(first, alloc, Fault::Change(1))? == changes,
+        runs(case, alloc, Fault::Change(0))? == changes
+            && runs(case, alloc, Fault::Change(1))? == changes,
     )
 }
 
 /// Each call that reads fails in turn, and all calls fail from each one on:
 /// whether these are so many more.
-fn each_other(first: First, alloc: Global, changes: u64) -> Result<bool, Fail> {
-    let reads = runs(first, alloc, Fault::Read)?;
-    let calls = runs(first, alloc, Fault::All)?;
+fn each_other(old: Old, first: First, alloc: Global, changes: u64) -> Result<bool, Fail> {
+    let case = Case::new(old, first);
+    let reads = runs(case, alloc, Fault::Read)?;
+    let calls = runs(case, alloc, Fault::All)?;
     Ok(reads > 0 && calls.checked_sub(reads) == Some(changes))
 }
 
 #[test]
 fn a_change_of_an_import_of_a_new_row_fails(rt: HostRuntime) -> Result<(), Fail> {
-    assert!(rt; each_change(First::NewRow, rt.alloc(), 9)?);
+    assert!(rt; each_change(Old::Three, First::NewRow, rt.alloc(), 9)?);
     Ok(())
 }
 
 #[test]
 fn a_change_of_an_import_of_known_rows_fails(rt: HostRuntime) -> Result<(), Fail> {
-    assert!(rt; each_change(First::Known, rt.alloc(), 7)?);
+    assert!(rt; each_change(Old::Three, First::Known, rt.alloc(), 7)?);
     Ok(())
 }
 
 #[test]
 fn a_change_of_a_merge_fails(rt: HostRuntime) -> Result<(), Fail> {
-    assert!(rt; each_change(First::Merge, rt.alloc(), 9)?);
+    assert!(rt; each_change(Old::Three, First::Merge, rt.alloc(), 9)?);
     Ok(())
 }
 
 #[test]
 fn an_import_of_a_new_row_fails(rt: HostRuntime) -> Result<(), Fail> {
-    assert!(rt; each_other(First::NewRow, rt.alloc(), 9)?);
+    assert!(rt; each_other(Old::Three, First::NewRow, rt.alloc(), 9)?);
     Ok(())
 }
 
 #[test]
 fn an_import_of_known_rows_fails(rt: HostRuntime) -> Result<(), Fail> {
-    assert!(rt; each_other(First::Known, rt.alloc(), 7)?);
+    assert!(rt; each_other(Old::Three, First::Known, rt.alloc(), 7)?);
     Ok(())
 }
 
 #[test]
 fn a_merge_fails(rt: HostRuntime) -> Result<(), Fail> {
-    assert!(rt; each_other(First::Merge, rt.alloc(), 9)?);
+    assert!(rt; each_other(Old::Three, First::Merge, rt.alloc(), 9)?);
+    Ok(())
+}
+
+#[test]
+fn a_change_fails_at_128_segments(rt: HostRuntime) -> Result<(), Fail> {
+    assert!(rt; each_change(Old::Full, First::Known, rt.alloc(), 7)?);
+    assert!(rt; each_change(Old::Full, First::Merge, rt.alloc(), 9)?);
+    Ok(())
+}
+
+#[test]
+fn an_import_of_known_rows_fails_at_128_segments(rt: HostRuntime) -> Result<(), Fail> {
+    assert!(rt; each_other(Old::Full, First::Known, rt.alloc(), 7)?);
+    Ok(())
+}
+
+#[test]
+fn a_merge_fails_at_128_segments(rt: HostRuntime) -> Result<(), Fail> {
+    assert!(rt; each_other(Old::Full, First::Merge, rt.alloc(), 9)?);
     Ok(())
 }

@@ -1,15 +1,15 @@
 //! What may come first of what moves a store of version 1 to version 2, and what such a store
 //! answers before it and after it.
 
-use crate::old::after_three;
+use crate::old::{Counts, Old, of_year};
 use acceptance_fixtures::{Example, one_file};
-use disk_model::{Choice, MemDisk};
+use disk_model::Choice;
 use history_store::Refusal;
 use rf2_rows::Kind;
 use std::alloc::Global;
 
 /// The publications that are tried.
-#[derive(Clone, Copy, Debug, PartialEq, Eq)]
+#[derive(Clone, Copy)]
 pub enum First {
     /// An import of one row that is new: a relationship with a concrete value.
     NewRow,
@@ -39,28 +39,49 @@ const KINDS: [Kind; 5] = [
 /// A relationship with a concrete value. A relationship has the same number.
 pub const STRENGTH: &str = "1000027|20210731|1|CORE|1000004|#500|1|3000005|INF|MOD";
 
-/// Does it.
-pub fn publish(first: First, store: &mut Example, alloc: Global) -> Result<(), Refusal> {
-    match first {
-        First::NewRow => {
-            let release = one_file(alloc, Kind::Concrete, &[STRENGTH])?;
-            store.import(&release)?;
-        }
-        First::Known => {
-            store.import_sample("r2")?;
-        }
-        First::Merge => {
-            store.merge_begin()?;
-            store.merge_step(100)?;
-            store.merge_publish()?;
-        }
-    }
-    Ok(())
+/// An old store, and what comes first on it. An import of a new row doesn't on
+/// one that has as many segments as version 1 could list: it is refused there.
+#[derive(Clone, Copy)]
+pub struct Case {
+    pub old: Old,
+    pub first: First,
 }
 
-/// The old disk.
-pub fn old_disk(alloc: Global) -> Result<MemDisk, Refusal> {
-    Ok(MemDisk::from_bytes(alloc, after_three(alloc)?))
+impl Case {
+    pub fn new(old: Old, first: First) -> Case {
+        Case { old, first }
+    }
+
+    /// Does what comes first.
+    pub fn publish(self, store: &mut Example, alloc: Global) -> Result<(), Refusal> {
+        match (self.first, self.old) {
+            (First::NewRow, _) => {
+                let release = one_file(alloc, Kind::Concrete, &[STRENGTH])?;
+                store.import(&release)?;
+            }
+            (First::Known, Old::Three) => {
+                store.import_sample("r2")?;
+            }
+            (First::Known, Old::Full) => {
+                store.import(&of_year(alloc, 1_950)?)?;
+            }
+            (First::Merge, _) => {
+                store.merge_begin()?;
+                store.merge_step(100)?;
+                store.merge_publish()?;
+            }
+        }
+        Ok(())
+    }
+
+    /// What a store that was made anew answers after the same imports, and after this as well.
+    pub fn wanted(self, alloc: Global) -> Result<Wanted, Refusal> {
+        let mut anew = self.old.anew(alloc)?;
+        let before = told(&mut anew, alloc)?;
+        self.publish(&mut anew, alloc)?;
+        let after = told(&mut anew, alloc)?;
+        Ok(Wanted { before, after })
+    }
 }
 
 /// A page of each kind at a day and a pin, one behind the other.
@@ -82,23 +103,25 @@ pub fn told(store: &mut Example, alloc: Global) -> Result<Vec<u8>, Refusal> {
     told.extend_from_slice(pages(store, alloc, 20_991_231, last)?.as_slice())?;
     told.extend_from_slice(pages(store, alloc, 20_200_731, 2)?.as_slice())?;
     told.extend_from_slice(store.terms("", 20_991_231, last, 1_000)?.as_slice())?;
-    told.extend_from_slice(store.history(Kind::Concept, 1_000_004, last)?.as_slice())?;
+    for id in [138_875_005, 1_000_004] {
+        for pin in [last / 2, last] {
+            told.extend_from_slice(store.history(Kind::Concept, id, pin)?.as_slice())?;
+            told.extend_from_slice(b"--\n")?;
+        }
+    }
     Ok(told)
 }
 
-/// What a store that was made anew answers after the same three imports, and after this as well.
+/// How many imports, segments and rows a store says that it has.
+pub fn counts(store: &Example) -> Counts {
+    (store.imports(), store.segments(), store.row_count())
+}
+
+/// What a store has to answer before the first publication, and after it.
 #[derive(Drop)]
 pub struct Wanted {
     pub before: Vec<u8>,
     pub after: Vec<u8>,
-}
-
-pub fn wanted_of(first: First, alloc: Global) -> Result<Wanted, Refusal> {
-    let mut anew = Example::after(alloc, &["r1", "r2", "r3"])?;
-    let before = told(&mut anew, alloc)?;
-    publish(first, &mut anew, alloc)?;
-    let after = told(&mut anew, alloc)?;
-    Ok(Wanted { before, after })
 }
 
 /// Whether the store is the one from before in version 1, or the one after it in version 2.

@@ -1,43 +1,28 @@
 //! A store of version 1 with as many segments as that version could list.
 
-use crate::old::{full, put};
-use acceptance_fixtures::{Example, one_file};
-use disk_model::MemDisk;
+use crate::old::{Old, of_year, put};
+use acceptance_fixtures::Example;
 use history_store::{Receipt, Refusal};
-use import_check::Release;
-use rf2_rows::Kind;
-use std::alloc::{AllocError, Global};
 use std::test::Fail;
-
-/// A release of one row of the root concept, of the last day of January in a year.
-fn of_year(alloc: Global, year: u32) -> Result<Release, AllocError> {
-    let row = format!(in alloc; "138875005|{year}0131|1|CORE|PRIM")?;
-    one_file(alloc, Kind::Concept, &[row.as_str()])
-}
-
-/// The old disk of 128 segments.
-fn full_disk(alloc: Global) -> Result<MemDisk, AllocError> {
-    Ok(MemDisk::from_bytes(alloc, full(alloc)?))
-}
 
 #[test]
 fn it_takes_no_new_row_and_stays_as_it_is(rt: HostRuntime) -> Result<(), Fail> {
     let alloc = rt.alloc();
-    let mut store = Example::opened(alloc, full_disk(alloc)?)?;
+    let mut store = Example::opened(alloc, Old::Full.disk(alloc)?)?;
     assert_eq!(rt; store.version(), 1);
     assert_eq!(rt; (store.imports(), store.segments()), (128, 128));
     let further = of_year(alloc, 2_029)?;
     assert_eq!(rt; store.import(&further), Err(Refusal::TooManySegments));
     assert_eq!(rt; store.version(), 1);
     let disk = store.close();
-    assert!(rt; disk.bytes() == full(alloc)?.as_slice());
+    assert!(rt; disk.bytes() == Old::Full.disk(alloc)?.bytes());
     Ok(())
 }
 
 #[test]
 fn known_rows_lead_to_version_2_and_then_it_takes_more(rt: HostRuntime) -> Result<(), Fail> {
     let alloc = rt.alloc();
-    let mut store = Example::opened(alloc, full_disk(alloc)?)?;
+    let mut store = Example::opened(alloc, Old::Full.disk(alloc)?)?;
     let known = of_year(alloc, 1_950)?;
     assert_eq!(rt;
         store.import(&known)?,
@@ -59,7 +44,7 @@ fn known_rows_lead_to_version_2_and_then_it_takes_more(rt: HostRuntime) -> Resul
 #[test]
 fn a_merge_leads_to_version_2_and_then_it_takes_more(rt: HostRuntime) -> Result<(), Fail> {
     let alloc = rt.alloc();
-    let mut store = Example::opened(alloc, full_disk(alloc)?)?;
+    let mut store = Example::opened(alloc, Old::Full.disk(alloc)?)?;
     store.merge_begin()?;
     store.merge_step(2)?;
     store.merge_publish()?;
@@ -76,7 +61,7 @@ fn a_merge_leads_to_version_2_and_then_it_takes_more(rt: HostRuntime) -> Result<
 #[test]
 fn version_1_lists_128_segments_at_most(rt: HostRuntime) -> Result<(), Fail> {
     let alloc = rt.alloc();
-    let mut store = Example::opened(alloc, full_disk(alloc)?)?;
+    let mut store = Example::opened(alloc, Old::Full.disk(alloc)?)?;
     store.import(&of_year(alloc, 1_950)?)?;
     store.import(&of_year(alloc, 2_029)?)?;
     let disk = store.close();

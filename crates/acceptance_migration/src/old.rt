@@ -1,6 +1,62 @@
-//! Disks that `sctd` 1.0 wrote.
+//! Disks that `sctd` 1.0 wrote, and stores that are made anew by the same imports.
 
+use acceptance_fixtures::{Example, one_file};
+use disk_model::MemDisk;
+use history_store::Refusal;
+use import_check::Release;
+use rf2_rows::Kind;
 use std::alloc::{AllocError, Global};
+
+/// The stores that program left.
+#[derive(Clone, Copy, PartialEq, Eq)]
+pub enum Old {
+    /// After the sample releases r1, r2 and r3.
+    Three,
+    /// After 128 imports, each of the root concept in a year from 1901 on: it has
+    /// as many segments as version 1 could list.
+    Full,
+}
+
+/// How many imports, segments and rows a store has.
+pub type Counts = (u32, u32, u64);
+
+impl Old {
+    /// Its disk, byte for byte.
+    pub fn disk(self, alloc: Global) -> Result<MemDisk, AllocError> {
+        let bytes = match self {
+            Old::Three => after_three(alloc)?,
+            Old::Full => full(alloc)?,
+        };
+        Ok(MemDisk::from_bytes(alloc, bytes))
+    }
+
+    pub fn counts(self) -> Counts {
+        match self {
+            Old::Three => (3, 3, 12),
+            Old::Full => (128, 128, 128),
+        }
+    }
+
+    /// A new store after the same imports.
+    pub fn anew(self, alloc: Global) -> Result<Example, Refusal> {
+        match self {
+            Old::Three => Example::after(alloc, &["r1", "r2", "r3"]),
+            Old::Full => {
+                let mut store = Example::new(alloc)?;
+                for year in 1_901..2_029 {
+                    store.import(&of_year(alloc, year)?)?;
+                }
+                Ok(store)
+            }
+        }
+    }
+}
+
+/// A release of one row: the root concept on the last day of January of a year.
+pub fn of_year(alloc: Global, year: u32) -> Result<Release, AllocError> {
+    let row = format!(in alloc; "138875005|{year}0131|1|CORE|PRIM")?;
+    one_file(alloc, Kind::Concept, &[row.as_str()])
+}
 
 /// What that program left after the sample releases r1, r2 and r3, which have 6, 4 and 2 new rows:
 /// the gates, the directories and the segments, and where each begins. All else is zero.
@@ -83,7 +139,7 @@ pub fn put(image: &mut Vec<u8>, from: usize, bytes: &[u8]) {
 }
 
 /// The disk of three imports.
-pub fn after_three(alloc: Global) -> Result<Vec<u8>, AllocError> {
+fn after_three(alloc: Global) -> Result<Vec<u8>, AllocError> {
     let mut image = vec![in alloc; 0; LEN]?;
     for (from, bytes) in &AFTER_THREE {
         put(&mut image, *from, *bytes);
@@ -119,9 +175,8 @@ fn root(alloc: Global, year: u32, import: u32) -> Result<Vec<u8>, AllocError> {
     Ok(record)
 }
 
-/// What that program left after 128 imports, each of the root concept in a year from 1901 on, byte
-/// for byte.
-pub fn full(alloc: Global) -> Result<Vec<u8>, AllocError> {
+/// The disk of 128 imports.
+fn full(alloc: Global) -> Result<Vec<u8>, AllocError> {
     let mut image = vec![in alloc; 0; 131 * 4_096 + 46]?;
     put(&mut image, 0, b"\xa5");
     put(&mut image, 4_096, directory(alloc, 129, 128)?.as_slice());

@@ -1,11 +1,11 @@
 //! What an old disk is opened as, and which disks of version 1 aren't opened.
 
-use crate::first::{First, STRENGTH, old_disk, pages, publish, told};
-use crate::old::{after_three, put};
+use crate::first::{Case, First, STRENGTH, pages, told};
+use crate::old::{Old, put};
 use acceptance_fixtures::{Example, line, one_file};
 use disk_model::MemDisk;
 use history_store::Refusal;
-use rf2_rows::Kind;
+use rf2_rows::{Kind, LineFault};
 use std::alloc::Global;
 use std::test::Fail;
 
@@ -24,7 +24,7 @@ fn of_version(alloc: Global, bytes: &[u8], version: &[u8]) -> Result<MemDisk, Re
 #[test]
 fn an_old_store_is_opened_as_it_is(rt: HostRuntime) -> Result<(), Fail> {
     let alloc = rt.alloc();
-    let mut store = Example::opened(alloc, old_disk(alloc)?)?;
+    let mut store = Example::opened(alloc, Old::Three.disk(alloc)?)?;
     assert_eq!(rt; store.version(), 1);
     assert_eq!(rt; store.imports(), 3);
     assert_eq!(rt; store.segments(), 3);
@@ -37,7 +37,7 @@ fn an_old_store_is_opened_as_it_is(rt: HostRuntime) -> Result<(), Fail> {
     store.merge_abandon()?;
     store.trim()?;
     let disk = store.close();
-    assert!(rt; disk.bytes() == after_three(alloc)?.as_slice());
+    assert!(rt; disk.bytes() == Old::Three.disk(alloc)?.bytes());
     let store = Example::opened(alloc, disk)?;
     assert_eq!(rt; store.version(), 1);
     Ok(())
@@ -57,13 +57,13 @@ fn all_pages(store: &mut Example, alloc: Global) -> Result<Vec<u8>, Refusal> {
 #[test]
 fn an_old_store_answers_as_a_new_one(rt: HostRuntime) -> Result<(), Fail> {
     let alloc = rt.alloc();
-    let mut old = Example::opened(alloc, old_disk(alloc)?)?;
+    let mut old = Example::opened(alloc, Old::Three.disk(alloc)?)?;
     let mut new = Example::after(alloc, &["r1", "r2", "r3"])?;
     assert!(rt; told(&mut old, alloc)? == told(&mut new, alloc)?);
     let answers = all_pages(&mut new, alloc)?;
     assert!(rt; all_pages(&mut old, alloc)? == answers);
     for first in [First::NewRow, First::Known, First::Merge] {
-        publish(first, &mut old, alloc)?;
+        Case::new(Old::Three, first).publish(&mut old, alloc)?;
         assert!(rt; all_pages(&mut old, alloc)? == answers);
     }
     Ok(())
@@ -74,8 +74,8 @@ fn each_publication_leads_to_version_2(rt: HostRuntime) -> Result<(), Fail> {
     let alloc = rt.alloc();
     assert_eq!(rt; Example::new(alloc)?.version(), 2);
     for first in [First::NewRow, First::Known, First::Merge] {
-        let mut store = Example::opened(alloc, old_disk(alloc)?)?;
-        publish(first, &mut store, alloc)?;
+        let mut store = Example::opened(alloc, Old::Three.disk(alloc)?)?;
+        Case::new(Old::Three, first).publish(&mut store, alloc)?;
         assert_eq!(rt; store.version(), 2);
         let answers = told(&mut store, alloc)?;
         let disk = store.close();
@@ -92,11 +92,16 @@ fn each_publication_leads_to_version_2(rt: HostRuntime) -> Result<(), Fail> {
 #[test]
 fn steps_and_refusals_lead_nowhere(rt: HostRuntime) -> Result<(), Fail> {
     let alloc = rt.alloc();
-    let mut store = Example::opened(alloc, old_disk(alloc)?)?;
+    let mut store = Example::opened(alloc, Old::Three.disk(alloc)?)?;
     store.merge_begin()?;
     store.merge_step(1)?;
     let wrong = one_file(alloc, Kind::Concept, &["1000005|20200131|1|CORE|PRIM"])?;
-    assert!(rt; store.import(&wrong).is_err());
+    let fault = Refusal::Line {
+        file: 1,
+        line: 2,
+        fault: LineFault::Id,
+    };
+    assert_eq!(rt; store.import(&wrong), Err(fault));
     assert_eq!(rt; store.version(), 1);
     let store = Example::opened(alloc, store.close())?;
     assert_eq!(rt; store.version(), 1);
@@ -107,8 +112,8 @@ fn steps_and_refusals_lead_nowhere(rt: HostRuntime) -> Result<(), Fail> {
 #[test]
 fn version_1_has_no_concrete_values(rt: HostRuntime) -> Result<(), Fail> {
     let alloc = rt.alloc();
-    let mut store = Example::opened(alloc, old_disk(alloc)?)?;
-    publish(First::NewRow, &mut store, alloc)?;
+    let mut store = Example::opened(alloc, Old::Three.disk(alloc)?)?;
+    Case::new(Old::Three, First::NewRow).publish(&mut store, alloc)?;
     let want = line(alloc, STRENGTH)?;
     let found = store.line_at(Kind::Concrete, 1_000_027, 20_210_731, 4)?;
     assert!(rt; found.as_slice() == want.as_bytes());
@@ -123,9 +128,9 @@ fn version_1_has_no_concrete_values(rt: HostRuntime) -> Result<(), Fail> {
 #[test]
 fn no_version_but_these_two(rt: HostRuntime) -> Result<(), Fail> {
     let alloc = rt.alloc();
-    let bytes = after_three(alloc)?;
+    let old = Old::Three.disk(alloc)?;
     for (version, is_one) in [(b"0", false), (b"1", true), (b"2", true), (b"3", false)] {
-        let disk = of_version(alloc, bytes.as_slice(), version)?;
+        let disk = of_version(alloc, old.bytes(), version)?;
         let opened = Example::opened(alloc, disk);
         assert_eq!(rt; opened.is_ok(), is_one);
         if !is_one {

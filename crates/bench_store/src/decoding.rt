@@ -1,41 +1,13 @@
 //! An opening, and beside it the decoding of the same bytes with no store round it.
 
 use crate::opened;
+use crate::watch::started;
 use blocks::{BLOCK, read_current};
 use directory::{Directory, Entry};
 use disk_model::FileDisk;
 use segment::decode;
 use std::fs;
 use std::rt::HostRuntime;
-use std::time::{CpuClock, Instant};
-
-/// A watch that was started.
-#[derive(Drop)]
-struct Watch {
-    wall: Instant,
-    processor: u128,
-}
-
-fn started(rt: &HostRuntime) -> Option<Watch> {
-    let processor = rt.process_cpu_time().ok()?.as_micros();
-    Some(Watch {
-        wall: Instant::now(rt).ok()?,
-        processor,
-    })
-}
-
-impl Watch {
-    /// Says what it took, in microseconds of the wall and of the processor.
-    fn tell(&self, rt: &HostRuntime, what: &str) -> Option<()> {
-        let wall = self.wall.elapsed(rt).ok()?.as_micros();
-        let processor = rt
-            .process_cpu_time()
-            .ok()?
-            .as_micros()
-            .saturating_sub(self.processor);
-        println!(rt; "{what}: {wall} us, {processor} us of the processor").ok()
-    }
-}
 
 /// The bytes of a segment, of those of the file.
 fn segment_in<'a>(bytes: &'a [u8], entry: &Entry) -> Option<&'a [u8]> {

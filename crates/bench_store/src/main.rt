@@ -1,15 +1,20 @@
 //! Does one piece of work on a store in a file, for the drivers that measure it
-//! (bench/measure.py, bench/measure_merge.py). Without words it does nothing.
+//! (bench/measure.py, bench/measure_merge.py, bench/measure_segments.py).
+//! Without words it does nothing.
 #![tactic(auto)]
 
+mod asking;
 mod decoding;
 mod merging;
+mod segments;
+mod watch;
 
+use crate::asking::{ask_children, concepts, look_up, turn_pages};
 use crate::merging::{look_up_in_groups, merge, write_alike};
 use disk_model::FileDisk;
 use history_store::Store;
 use release_folder::read_folder;
-use rf2_rows::{EffectiveTime, Kind, Sctid};
+use rf2_rows::EffectiveTime;
 use std::process::ExitCode;
 use std::rt::HostRuntime;
 use std::{env, fs};
@@ -43,47 +48,6 @@ fn import(rt: &HostRuntime, path: &str, folder: &str, name: &str) -> Option<u64>
     }
 }
 
-/// Looks up each concept of a file, one a line. How many are found.
-fn look_up(rt: &HostRuntime, path: &str, ids: &str) -> Option<u64> {
-    let mut store = opened(rt, path)?;
-    let ids = fs::read(rt, ids).ok()?;
-    let time = EffectiveTime::of(20_251_231)?;
-    let pin = store.imports();
-    let mut found = 0;
-    for line in ids.split(|byte| *byte == b'\n') {
-        if let Some(id) = Sctid::parse(line) {
-            if pin > store.imports() {
-                return None;
-            }
-            let row = store
-                .lookup(Kind::Concept, u128::from(id.value()), time, pin)
-                .ok()?;
-            found += u64::from(row.is_some() && found < u64::MAX);
-        }
-    }
-    Some(found)
-}
-
-/// Reads a page of a hundred concepts behind each concept of a file. How many rows that are.
-fn turn_pages(rt: &HostRuntime, path: &str, ids: &str) -> Option<u64> {
-    let mut store = opened(rt, path)?;
-    let ids = fs::read(rt, ids).ok()?;
-    let time = EffectiveTime::of(20_251_231)?;
-    let pin = store.imports();
-    let mut found: u64 = 0;
-    for line in ids.split(|byte| *byte == b'\n') {
-        if let Some(id) = Sctid::parse(line) {
-            if pin > store.imports() {
-                return None;
-            }
-            let after = Some(u128::from(id.value()));
-            let rows = store.page(Kind::Concept, time, pin, after, 100).ok()?;
-            found = found.saturating_add(rows.len() as u64);
-        }
-    }
-    Some(found)
-}
-
 /// Searches for ten descriptions by each prefix of a file. How many rows that are.
 fn search_terms(rt: &HostRuntime, path: &str, prefixes: &str) -> Option<u64> {
     let mut store = opened(rt, path)?;
@@ -103,23 +67,15 @@ fn search_terms(rt: &HostRuntime, path: &str, prefixes: &str) -> Option<u64> {
     Some(found)
 }
 
-/// Asks for the children of each concept of a file. How many ids that are.
-fn ask_children(rt: &HostRuntime, path: &str, ids: &str) -> Option<u64> {
+/// Asks of each concept of a file what the word says. How many rows or ids are found.
+fn ask_each(rt: &HostRuntime, what: &str, path: &str, ids: &str) -> Option<u64> {
     let mut store = opened(rt, path)?;
-    let ids = fs::read(rt, ids).ok()?;
-    let time = EffectiveTime::of(20_251_231)?;
-    let pin = store.imports();
-    let mut found: u64 = 0;
-    for line in ids.split(|byte| *byte == b'\n') {
-        if let Some(id) = Sctid::parse(line) {
-            if pin > store.imports() {
-                return None;
-            }
-            let children = store.children(id, time, pin).ok()?;
-            found = found.saturating_add(children.len() as u64);
-        }
+    let ids = concepts(rt.alloc(), &fs::read(rt, ids).ok()?).ok()?;
+    match what {
+        "lookups" => look_up(&mut *store, &ids),
+        "pages" => turn_pages(&mut *store, &ids),
+        _ => ask_children(&mut *store, &ids),
     }
-    Some(found)
 }
 
 /// Does what the words say, and prints how many rows it brought, found or holds.
@@ -140,10 +96,16 @@ fn run(rt: &HostRuntime) -> Option<()> {
         )?,
         "open" => opened(rt, path.as_str())?.row_count(),
         "decode" => decoding::open_and_decode(rt, path.as_str())?,
-        "pages" => turn_pages(rt, path.as_str(), words.next()?.as_str())?,
+        "lookups" | "pages" | "children" => {
+            ask_each(rt, what.as_str(), path.as_str(), words.next()?.as_str())?
+        }
         "terms" => search_terms(rt, path.as_str(), words.next()?.as_str())?,
-        "children" => ask_children(rt, path.as_str(), words.next()?.as_str())?,
-        "lookups" => look_up(rt, path.as_str(), words.next()?.as_str())?,
+        "segments" => segments::open_and_ask(
+            rt,
+            path.as_str(),
+            words.next()?.as_str(),
+            words.next()?.as_str(),
+        )?,
         "merge" => merge(rt, path.as_str())?,
         "groups" => look_up_in_groups(
             rt,

@@ -1,10 +1,10 @@
 //! Merges of the two smallest segments, and what they are to be held against.
 
+use crate::asking::{concepts, look_up};
 use crate::opened;
 use disk_model::{Disk, FileDisk, MAX_END};
 use history_store::Store;
-use rf2_rows::{EffectiveTime, Kind, Sctid};
-use std::alloc::{AllocError, Global};
+use rf2_rows::{EffectiveTime, Kind};
 use std::fs;
 use std::rt::HostRuntime;
 use std::time::CpuClock;
@@ -17,34 +17,6 @@ const LOOKUPS_A_GROUP: usize = 50;
 
 /// The two slots at the head of a store's file, in bytes.
 const SLOTS: usize = 16_384;
-
-/// The concepts of a file, one a line.
-fn concepts(alloc: Global, text: &[u8]) -> Result<Vec<Sctid>, AllocError> {
-    let mut ids = Vec::new(alloc);
-    for line in text.split(|byte| *byte == b'\n') {
-        if let Some(id) = Sctid::parse(line) {
-            ids.push(id)?;
-        }
-    }
-    Ok(ids)
-}
-
-/// Looks up some concepts. How many are found.
-fn look_up(store: &mut Store<FileDisk>, ids: &[Sctid]) -> Option<u64> {
-    let time = EffectiveTime::of(20_251_231)?;
-    let pin = store.imports();
-    let mut found = 0;
-    for id in ids {
-        if pin > store.imports() {
-            return None;
-        }
-        let row = store
-            .lookup(Kind::Concept, u128::from(id.value()), time, pin)
-            .ok()?;
-        found += u64::from(row.is_some() && found < u64::MAX);
-    }
-    Some(found)
-}
 
 /// Takes all rows of a merge. How many steps that were.
 fn take_all(store: &mut Store<FileDisk>) -> Option<u64> {

@@ -1,0 +1,119 @@
+#!/usr/bin/env python3
+"""Measures stores whose rows lie in many segments against stores of the same rows in one.
+
+measure_segments.py PROGRAM FOLDER [TIMES]
+
+PROGRAM is the built crate bench_store. 250 releases of 40 rows each are made in FOLDER: rows of all
+kinds, dealt out at random, so that a component's versions and its neighbours come in releases of
+their own. The first 128 of them are imported into one store, all 250 into another one, a segment
+each; and the rows of as many into a store each by one release, which is one segment. Each store is
+opened TIMES times (20) by one process, which then looks up 10,000 concepts that all stores have and
+reads 1,000 pages of 100; and that is done five times, the stores in turn. What is printed is the
+least, by the clocks of the process itself: of the processor and, for an opening, of the wall too.
+Standard library alone.
+"""
+
+import os
+import random
+import re
+import subprocess
+import sys
+
+sys.path.insert(0, os.path.dirname(os.path.abspath(__file__)))
+import make_release as rf2  # noqa: E402
+
+COUNTS = (128, 250)
+ROWS = 40
+LOOKUPS, PAGES = 10000, 1000
+TURNS = 5
+TOOK = re.compile(r"^(\w+): (\d+) us, (\d+) us of the processor$", re.M)
+
+
+def write(place, name, rows):
+    """A release of some rows, each with its kind."""
+    lines = {kind: [line for of, line in rows if of == kind] for kind in rf2.KINDS}
+    rf2.write(os.path.join(place, name), "Delta", "20260131", lines)
+
+
+def make_store(program, place, name, releases):
+    """A store that has imported these releases, one after the other."""
+    store = os.path.join(place, name)
+    if os.path.exists(store):
+        os.remove(store)
+    subprocess.check_call([program, "make", store], stdout=subprocess.DEVNULL)
+    for release in releases:
+        words = [program, "import", store, place, release]
+        subprocess.check_call(words, stdout=subprocess.DEVNULL)
+    return store
+
+
+def prepare(program, place):
+    """The stores by their numbers of rows and of segments, and the file of concepts to ask for."""
+    chance = random.Random(7)
+    of_kinds = rf2.full(rf2.Edition(1), COUNTS[-1] * ROWS)
+    rows = [(kind, line) for kind in rf2.KINDS for line in of_kinds[kind]]
+    chance.shuffle(rows)
+    for number in range(COUNTS[-1]):
+        write(place, "s%d" % number, rows[number * ROWS : (number + 1) * ROWS])
+    stores = {}
+    for count in COUNTS:
+        write(place, "all%d" % count, rows[: count * ROWS])
+        one = make_store(program, place, "one%d" % count, ["all%d" % count])
+        many = make_store(program, place, "many%d" % count, ["s%d" % n for n in range(count)])
+        stores.update({(count * ROWS, 1): one, (count * ROWS, count): many})
+    # Concepts that each of the stores has.
+    first = rows[: COUNTS[0] * ROWS]
+    concepts = [line.split("\t")[0] for kind, line in first if kind == "C"]
+    ids = os.path.join(place, "ids")
+    with open(ids, "w", encoding="ascii") as file:
+        file.write("\n".join(chance.choice(concepts) for _ in range(LOOKUPS)))
+    return stores, ids
+
+
+class Least:
+    """The least that an opening, the lookups and the pages took of one store."""
+
+    def __init__(self):
+        self.wall, self.processor, self.found = {}, {}, None
+
+    def run(self, words, segments):
+        text = subprocess.check_output(words, text=True)
+        assert text.split()[-1] == str(segments), text
+        self.found = re.findall(r"^(\d+) found$", text, re.M)
+        for what, wall, processor in TOOK.findall(text):
+            self.wall[what] = min(self.wall.get(what, int(wall)), int(wall))
+            self.processor[what] = min(self.processor.get(what, int(processor)), int(processor))
+
+
+def show(rows, segments, least):
+    opening = (least.processor["open"] / 1000, least.wall["open"] / 1000)
+    lookup, page = least.processor["lookups"] / LOOKUPS, least.processor["pages"] / PAGES
+    print("| %d | %d | %.2f / %.2f | %.2f | %.1f |" % (rows, segments, *opening, lookup, page))
+
+
+def main(words):
+    if len(words) not in (2, 3):
+        print(__doc__.strip(), file=sys.stderr)
+        return 2
+    program, place = os.path.abspath(words[0]), words[1]
+    times = words[2] if len(words) > 2 else "20"
+    stores, ids = prepare(program, place)
+    taken = {key: Least() for key in stores}
+    for _ in range(TURNS):
+        for (rows, segments), least in taken.items():
+            least.run([program, "segments", stores[rows, segments], ids, times], segments)
+    print("| Rows | Segments | Open, processor / wall, ms | A lookup, us | A page of 100, us |")
+    print("|---|---|---|---|---|")
+    for (rows, segments), least in taken.items():
+        show(rows, segments, least)
+    for count in COUNTS:
+        one, many = taken[count * ROWS, 1], taken[count * ROWS, count]
+        # The same rows are found, in however many segments they lie.
+        assert one.found == many.found, (one.found, many.found)
+        times = many.processor["open"] / one.processor["open"]
+        print("%d segments open in %.2f times the time of one" % (count, times))
+    return 0
+
+
+if __name__ == "__main__":
+    sys.exit(main(sys.argv[1:]))
