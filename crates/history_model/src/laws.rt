@@ -3,7 +3,9 @@
 ghost use Rattle.history_model.specs.Laws.{EachChainIsAHistory, EachHistoryIsAChain, OneHistoryForAChain};
 ghost use Rattle.history_model.specs.Laws.{OrderIsFree, PinnedStays, ReleaseAddsItsRows, ReleaseLeavesAHistory};
 ghost use Rattle.history_model.specs.Laws.{EachReleaseHasAReceipt, NewRowsAreUnknown, OneReceiptForARelease, ReceiptCountsTheUnknown};
-ghost use Rattle.history_model.specs.Laws.{MergeLeavesListed, PagesOfOne, ReleaseIsOneList};
+ghost use Rattle.history_model.specs.Laws.{MergeLeavesListed, ReleaseIsOneList};
+ghost use Rattle.history_model.specs.Laws.{AnswersAscend, ChildrenAreAll, OneRowOfAComponent, ReplacementsAreAll, WhatIsShownAscends};
+ghost use Rattle.history_model.specs.Laws.{PageAndTheRest, PagesAreAll, PagesEnd, ShortPageIsLast};
 
 /// A history is a chain of row sets, each within the next.
 pub fn each_history_is_a_chain()
@@ -71,7 +73,48 @@ pub fn merge_leaves_listed()
     ensures { MergeLeavesListed }
 {}
 
-/// Pages of one row go through all rows of a kind.
-pub fn pages_of_one()
-    ensures { PagesOfOne }
+/// What a pin shows is in key order.
+pub fn what_is_shown_ascends()
+    ensures { WhatIsShownAscends }
+{}
+
+/// The Snapshot has one row of a component at most.
+pub fn one_row_of_a_component()
+    ensures { OneRowOfAComponent }
+{}
+
+/// Each answer that is a list ascends, and has nothing twice.
+pub fn answers_ascend()
+    ensures { AnswersAscend }
+{}
+
+/// No child is left out.
+pub fn children_are_all()
+    ensures { ChildrenAreAll }
+{}
+
+/// No replacement is left out.
+pub fn replacements_are_all()
+    ensures { ReplacementsAreAll }
+{}
+
+/// A kind is a page of any limit, and then all from behind its last row.
+pub fn page_and_the_rest()
+    ensures { PageAndTheRest }
+{}
+
+/// Nothing stands behind a page that has fewer rows than its limit.
+pub fn short_page_is_last()
+    ensures { ShortPageIsLast }
+{}
+
+/// Pages of any limit, each from behind the last
+/// row of the one before, give all rows of a kind.
+pub fn pages_are_all()
+    ensures { PagesAreAll }
+{}
+
+/// Such pages come to an end.
+pub fn pages_end()
+    ensures { PagesEnd }
 {}

@@ -25,3 +25,4 @@ pub mod Likeness
 pub mod PostedRows
 pub mod SteppedMerge
 pub mod SteppedStore
+mod ImportCounts

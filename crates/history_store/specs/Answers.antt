@@ -1,5 +1,5 @@
 -- What the calls of a store answer.
-use Rattle.std.specs.Prelude.{◌≡◌, ◌≢◌, ◌⊎◌, ℕ, ◌+◌, ◌<◌, ◌≤◌, true, false, List, [], length, None, Result, Ok, Err}
+use Rattle.std.specs.Prelude.{◌≡◌, ◌≢◌, ◌⊎◌, ℕ, ◌+◌, ◌<◌, ◌≤◌, true, false, List, [], ◌∷◌, ◌++◌, length, None, Result, Ok, Err}
 use Rattle.fault_counts.specs.Counting.{HasRisen}
 use Rattle.disk_model.specs.Disk.{Moments}
 use Rattle.blocks.specs.declared.slots.Slot.TheVariants.{A, B}
@@ -12,6 +12,7 @@ use Rattle.history_model.specs.History.{History, Accepts, after_release, Receipt
 use Rattle.history_model.specs.Lists.{new_rows}
 use Rattle.directory.specs.declared.layout.Layout.{Layout}
 use Rattle.directory.specs.declared.layout.Layout.TheVariants as layouts
+use Rattle.directory.specs.declared.entry.Entry.{Entry}
 use Rattle.directory.specs.Listings.{most_entries}
 use Rattle.import_check.specs.declared.release.Release.{Release}
 use Rattle.import_check.specs.Release.{IsReleaseOf, IsFaultOfRelease, HasContradiction}
@@ -267,3 +268,11 @@ IsImportAtAll (Ok receipt) old new release = (new.history.imports ≡ old.histor
     × (receipt.number ≡ new.history.imports) × (old.needs_reopen ≡ false)
     × (new.needs_reopen ≡ false) × (new.shelf.layout ≡ layouts.Two)
 IsImportAtAll (Err e) old new release = IsRefusalAtAll e old release × IsRefused e old new
+
+-- what a taken import adds, on every disk: as many rows as the receipt calls new,
+-- and one segment of so many, or none where no row is new
+pub record IsCounted {D : Type 0} (old new : Stored D) (receipt : Receipt) : Type 0 where
+  pub rows : length new.history.rows ≡ length old.history.rows + receipt.new
+  pub without_new : receipt.new ≡ 0 → new.shelf.entries ≡ old.shelf.entries
+  pub with_new : 1 ≤ receipt.new → (entry : Entry)
+      × (new.shelf.entries ≡ old.shelf.entries ++ entry ∷ []) × (entry.rows ≡ receipt.new)

@@ -89,7 +89,7 @@ impl<D: Disk> Store<D> {
     ghost use Rattle.history_store.specs.Answers.{Counts, IsStep, device_of, CountsOpening};
     ghost use Rattle.history_store.specs.Answers.{IsMakingOf, IsMakingCause, IsOpeningOf, IsOpeningCause, SyncsOnce, HandsBack};
     ghost use Rattle.history_store.specs.Answers.{IsReadingOf, IsStill, IsRefused};
-    ghost use Rattle.history_store.specs.Answers.{IsNotFresh, IsImportOf, IsImportAtAll};
+    ghost use Rattle.history_store.specs.Answers.{IsCounted, IsNotFresh, IsImportOf, IsImportAtAll};
     ghost use Rattle.history_store.specs.Answers.{IsBeforeOrAfter, KeepsMoments};
     ghost use Rattle.history_store.specs.Refusals.{of_read};
     ghost use Rattle.history_store.specs.Queries.{IsQuery};
@@ -405,6 +405,7 @@ impl<D: Disk> Store<D> {
             → IsImportOf result self.old self.new release.now }
         // What holds on every disk.
         ensures kept { IsImportAtAll result self.old self.new release.now }
+        ensures counted { IfOk result (IsCounted self.old self.new) }
         // A stop at any moment leaves the history from before, in the version
         // from before, or that with the release, in version 2.
         ensures any_moment { D.is_honest self.old.disk → self.old.needs_reopen ≡ false
