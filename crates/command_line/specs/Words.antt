@@ -4,14 +4,14 @@ use Rattle.clap.specs.Walk.{Text, Row, Rule, rule_of, first_of}
 use Rattle.clap.specs.Simple.{App, new_rule, new_app, with_rule, with_subcommand, app_of, subcommand_of}
 use Rattle.clap.specs.Kinds.{IsAmong}
 use Rattle.clap.specs.Faults.{fault_of}
-use Rattle.std.specs.Str.Parse.{ParsesUnsigned}
+use Rattle.std.specs.Str.Parse.{digits_value, without_leading_plus}
 use Rattle.clap.specs.Values.{kind_of}
 use Rattle.clap.specs.declared.builder.value_parser.ValueParser.TheVariants.{Unsigned}
 use Rattle.clap.specs.declared.builder.command.Command.TheViews.{out-Command}
 use Rattle.clap.specs.declared.builder.arg.Arg.{Arg}
 use Rattle.clap.specs.declared.builder.command.Command.{Command}
 use Rattle.clap.specs.declared.builder.action.ArgAction.TheVariants.{Set}
-use Rattle.std.specs.Prelude.{[], ◌∷◌, false, Ok}
+use Rattle.std.specs.Prelude.{[], ◌∷◌, false}
 use Rattle.command_line.specs.declared.words.Task.{Task}
 use Rattle.command_line.specs.declared.words.Task.TheVariants as tasks
 use Rattle.command_line.specs.declared.words.Refused.{Refused}
@@ -97,8 +97,8 @@ Reads (Some read) (tasks.Status store) =
     (read.0 ≡ codes "status") × (first_of (codes "store") read.1 ≡ Some store.now)
 Reads (Some read) (tasks.Merge store segments) =
     (read.0 ≡ codes "merge") × (first_of (codes "store") read.1 ≡ Some store.now)
-    × (text : List ℕ) × (first_of (codes "segments") read.1 ≡ Some text)
-    × ParsesUnsigned 32 10 text (Ok segments)
+    × (text : Text) × (first_of (codes "segments") read.1 ≡ Some text)
+    × (segments ≡ digits_value 10 (without_leading_plus text))
 Reads (Some read) tasks.Demo = read.0 ≡ codes "demo"
 
 -- the words, of which the first is the program's name, are in order and ask for the task

@@ -5,7 +5,7 @@ ghost use Rattle.line_server.specs.Replies.{desk};
 ghost use Rattle.command_line.specs.Merging.{IsMergedOnDisk, TellsMerge};
 ghost use Rattle.command_line.specs.Private.{IsAsked, IsOneLess, IsTrimmedTo, MergesRows};
 
-use crate::endings::{Ending, refuse, tell};
+use crate::endings::{Ending, is_refusal, refuse, tell};
 use crate::inspecting::{NoReleases, STATUS};
 use crate::telling::{Told, tell_segments};
 use disk_model::Disk;
@@ -17,7 +17,9 @@ use std::io::Write;
 const MERGE: &[u8] = b"0 MERGE";
 /// The most rows that one line may ask for.
 const STEP: &[u8] = b"0 STEP 100000";
+
 const PUBLISH: &[u8] = b"0 PUBLISH";
+
 const TRIM: &[u8] = b"0 TRIM";
 
 /// Answers a line; its reply, where it is refused.
@@ -33,7 +35,7 @@ fn ask<D: Disk>(
         (desk pins.old store.old) (desk pins.new store.new) }
 {
     let reply = answer(alloc, line, pins, &mut NoReleases, store);
-    if reply.last().starts_with(b"ERR") {
+    if is_refusal(&reply) {
         Err(reply)
     } else {
         Ok(())

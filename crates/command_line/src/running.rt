@@ -260,8 +260,8 @@ fn merge_at<P: Places, O: Write, E: Write>(
         × P.withholds places.now path.now) result.1 }
 {
     let mut told = Told::new();
-    let found = places.device(path, faults);
-    match found {
+    let stands = places.device(path, faults);
+    match stands {
         Ok(device) => {
             let (ended, left) = merge(alloc, device, path, most, output, &mut told, faults);
             let scene = Scene {

@@ -169,7 +169,9 @@ fn merge<'a>(alloc: Global) -> Result<Command<'a>, AllocError>
     ensures { IfOk result (IsCommand merge_command) }
 {
     Command::new(alloc, "merge")
-        .about("Merges the smallest segments until at most N stand, and gives back what is behind them")
+        .about(
+            "Merges the smallest segments until at most N stand, and gives back what is behind them",
+        )
         .arg(store(alloc))?
         .arg(segments(alloc))
 }
@@ -226,10 +228,13 @@ fn named<'a>(matches: &ArgMatches<'a>) -> Option<Task<'a>>
         "status" => Some(Task::Status {
             store: found.get_str("store")?,
         }),
-        "merge" => Some(Task::Merge {
-            store: found.get_str("store")?,
-            segments: found.get_str("segments")?.parse().ok()?,
-        }),
+        "merge" => {
+            let store = found.get_str("store")?;
+            match found.get_str("segments")?.parse() {
+                Ok(segments) => Some(Task::Merge { store, segments }),
+                Err(_) => None,
+            }
+        }
         "demo" => Some(Task::Demo),
         _ => None,
     }
