@@ -92,6 +92,9 @@ fn words_that_are_no_command(rt: HostRuntime) -> Result<(), Fail> {
         "sctd serve --store statuses-none",
         "sctd status",
         "sctd status --store statuses-none --releases none",
+        "sctd merge --store statuses-none --segments 0",
+        "sctd merge --store statuses-none --segments 251",
+        "sctd merge --store statuses-none --segments one",
         "sctd demo more",
     ];
     for line in lines {

@@ -7,4 +7,6 @@ mod ends;
 #[cfg(test)]
 mod pieces;
 #[cfg(test)]
+mod recovering;
+#[cfg(test)]
 mod served;

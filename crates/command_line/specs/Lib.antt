@@ -7,4 +7,6 @@ pub use Rattle.history_store.specs.Answers
 pub mod Endings
 pub mod Words
 pub mod Tasks
+pub mod Merging
 pub mod Runs
+pub mod Private

@@ -21,6 +21,7 @@ use Rattle.command_line.specs.declared.words.Refused.{Refused}
 use Rattle.command_line.specs.declared.words.Refused.TheVariants as refusals
 use Rattle.command_line.specs.Endings.{IsTold}
 use Rattle.command_line.specs.Words.{AskFor, AskForNone}
+use Rattle.command_line.specs.Merging.{IsMergedOnDisk}
 use Rattle.command_line.specs.Tasks.{IsMade, IsImport, IsStatus, IsServing, IsServingNew}
 
 -- it was told that what is asked for under a name can't be had
@@ -75,6 +76,11 @@ Does stands withholds makes keeps loses honest_source has honest moments failure
     (λ device after. IsServing honest_source
     (has releases.now) honest moments failures device after ended input rest old new)
     (IsMissing ended old new × (rest ≡ input) × withholds store.now) left
+Does stands withholds makes keeps loses honest_source has honest moments failures script
+    (tasks.Merge store segments) left ended input rest old new =
+    IsDoneAt (stands store.now)
+    (λ device after. IsMergedOnDisk honest moments failures segments device after ended old new)
+    (IsMissing ended old new × withholds store.now) left × (rest ≡ input)
 Does stands withholds makes keeps loses honest_source has honest moments failures script
     tasks.Demo left ended input rest old new =
     IsDemonstrated script ended old new × (left ≡ None) × (rest ≡ input)

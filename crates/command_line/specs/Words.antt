@@ -4,12 +4,14 @@ use Rattle.clap.specs.Walk.{Text, Row, Rule, rule_of, first_of}
 use Rattle.clap.specs.Simple.{App, new_rule, new_app, with_rule, with_subcommand, app_of, subcommand_of}
 use Rattle.clap.specs.Kinds.{IsAmong}
 use Rattle.clap.specs.Faults.{fault_of}
+use Rattle.std.specs.Str.Parse.{digits_value, without_leading_plus}
 use Rattle.clap.specs.Values.{kind_of}
+use Rattle.clap.specs.declared.builder.value_parser.ValueParser.TheVariants.{Unsigned}
 use Rattle.clap.specs.declared.builder.command.Command.TheViews.{out-Command}
 use Rattle.clap.specs.declared.builder.arg.Arg.{Arg}
 use Rattle.clap.specs.declared.builder.command.Command.{Command}
 use Rattle.clap.specs.declared.builder.action.ArgAction.TheVariants.{Set}
-use Rattle.std.specs.Prelude.{[], false}
+use Rattle.std.specs.Prelude.{[], ◌∷◌, false}
 use Rattle.command_line.specs.declared.words.Task.{Task}
 use Rattle.command_line.specs.declared.words.Task.TheVariants as tasks
 use Rattle.command_line.specs.declared.words.Refused.{Refused}
@@ -41,19 +43,33 @@ import_command = with_rule
 abbrev pub status_command : App
 status_command = with_rule (new_app (codes "status")) (option (codes "store"))
 
+-- from 1 to 250, and 1 if it isn't given
+abbrev pub segments_option : Rule
+segments_option = record (option (codes "segments")) {
+  parser = Some (Unsigned 1 250);
+  defaults = codes "1" ∷ [];
+  required = false;
+}
+
+abbrev pub merge_command : App
+merge_command =
+    with_rule (with_rule (new_app (codes "merge")) (option (codes "store"))) segments_option
+
 abbrev pub demo_command : App
 demo_command = new_app (codes "demo")
 
--- the program, of which a command has to be given
+-- the program, which has a version, and of which a command has to be given
 abbrev pub empty_program : App
-empty_program =
-    record { top = record (new_app (codes "sctd")).top { subcommand_required = true }; subs = [] }
+empty_program = record {
+  top = record (new_app (codes "sctd")).top { subcommand_required = true; has_version = true };
+  subs = [];
+}
 
 abbrev pub program : App
 program =
-    with_subcommand (with_subcommand (with_subcommand (with_subcommand
+    with_subcommand (with_subcommand (with_subcommand (with_subcommand (with_subcommand
     (with_subcommand empty_program init_command.top) import_command.top) serve_command.top)
-    status_command.top) demo_command.top
+    status_command.top) merge_command.top) demo_command.top
 
 -- ---- what is built of them
 
@@ -79,6 +95,10 @@ Reads (Some read) (tasks.Serve store releases) =
     × (first_of (codes "releases") read.1 ≡ Some releases.now)
 Reads (Some read) (tasks.Status store) =
     (read.0 ≡ codes "status") × (first_of (codes "store") read.1 ≡ Some store.now)
+Reads (Some read) (tasks.Merge store segments) =
+    (read.0 ≡ codes "merge") × (first_of (codes "store") read.1 ≡ Some store.now)
+    × (text : Text) × (first_of (codes "segments") read.1 ≡ Some text)
+    × (segments ≡ digits_value 10 (without_leading_plus text))
 Reads (Some read) tasks.Demo = read.0 ≡ codes "demo"
 
 -- the words, of which the first is the program's name, are in order and ask for the task

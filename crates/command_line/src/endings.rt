@@ -1,6 +1,6 @@
 //! How a task ends, and the status that the program has then.
 
-ghost use Rattle.std.specs.Prelude.{◌≡◌, ◌≤◌, Result, Ok, Err, OnOk, []};
+ghost use Rattle.std.specs.Prelude.{◌≡◌, ◌≤◌, true, false, Result, Ok, Err, IsOk, IsErr, OnOk, []};
 ghost use Rattle.std.specs.Io.KnownBytes.{Appends, Keeps};
 ghost use Rattle.line_server.specs.declared.refusal.LineRefusal.{LineRefusal};
 ghost use Rattle.line_server.specs.declared.refusal.LineRefusal.TheVariants.{Store};
@@ -108,6 +108,16 @@ pub(crate) fn refuse<O: Write>(
     tell(output, &refused(alloc, LineRefusal::Store(refusal)), told)
 }
 
+/// Whether a reply is a refusal.
+pub(crate) fn is_refusal(reply: &Reply) -> bool
+    ensures refused { result ≡ true → (outcome : Result Answer LineRefusal)
+        → reply.now ≡ said outcome → IsErr outcome }
+    ensures answered { result ≡ false → (outcome : Result Answer LineRefusal)
+        → reply.now ≡ said outcome → IsOk outcome }
+{
+    reply.last().starts_with(b"ERR")
+}
+
 /// Writes a reply, and notes what it says.
 pub(crate) fn tell<O: Write>(
     output: &mut O,
@@ -121,7 +131,7 @@ pub(crate) fn tell<O: Write>(
         return Err(ServeFault::Write);
     }
     told.note(reply);
-    if reply.last().starts_with(b"ERR") {
+    if is_refusal(reply) {
         Ok(Ending::Refused)
     } else {
         Ok(Ending::Done)

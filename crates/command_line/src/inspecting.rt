@@ -14,11 +14,11 @@ use std::alloc::Global;
 use std::io::Write;
 
 /// The line that asks for the status.
-const STATUS: &[u8] = b"0 STATUS";
+pub(crate) const STATUS: &[u8] = b"0 STATUS";
 
 /// Has no release.
 #[derive(Clone, Copy)]
-struct NoReleases;
+pub(crate) struct NoReleases;
 
 impl Source for NoReleases {
     ghost use Rattle.std.specs.Prelude.{⊤, None};

@@ -8,6 +8,7 @@ mod folders;
 mod importing;
 mod inspecting;
 mod making;
+mod merging;
 mod places;
 mod running;
 mod serving;

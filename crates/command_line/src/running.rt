@@ -2,6 +2,7 @@
 
 ghost use Rattle.std.specs.Prelude.{◌≡◌, ◌≤◌, ◌⊎◌, IfOk, IfErr, map, string_bytes};
 ghost use Rattle.command_line.specs.Tasks.{IsMade, IsImport, IsStatus, IsServing};
+ghost use Rattle.command_line.specs.Merging.{IsMergedOnDisk};
 ghost use Rattle.command_line.specs.Runs.{IsDoneAt, IsMissing, IsDemonstrated, Does, IsRun, IsNoTask, IsExplained};
 
 use crate::demonstration::SCRIPT;
@@ -10,6 +11,7 @@ use crate::folders::FolderSource;
 use crate::importing::import;
 use crate::inspecting::status;
 use crate::making::init;
+use crate::merging::merge;
 use crate::places::Places;
 use crate::serving::{serve_device, serve_new};
 use crate::telling::{Scene, Told, tell_layout, tell_why};
@@ -83,6 +85,9 @@ fn perform<P: Places, I: Read, O: Write, E: Write>(
             serve_at(places, alloc, *store, *releases, input, output, faults)
         }
         Task::Status { store } => status_at(places, alloc, *store, output, faults),
+        Task::Merge { store, segments } => {
+            merge_at(places, alloc, *store, *segments, output, faults)
+        }
         Task::Demo => (demo(alloc, output), None),
     }
 }
@@ -233,6 +238,38 @@ fn status_at<P: Places, O: Write, E: Write>(
             };
             tell_why(told, &scene, faults);
             tell_layout(path, layout, size, faults);
+            (ended, Some(left))
+        }
+        Err(_) => (refuse(alloc, output, Refusal::DiskFault, &mut told), None),
+    }
+}
+
+/// Merges the segments of the store under a name.
+fn merge_at<P: Places, O: Write, E: Write>(
+    places: &P,
+    alloc: Global,
+    path: &str,
+    most: u32,
+    output: &mut O,
+    faults: &mut E,
+) -> Ended<P::Device>
+    ensures { IsDoneAt (P.stands places.now path.now)
+        (λ device after. IsMergedOnDisk P.Device.is_honest P.Device.moments P.Device.failures most
+        device after result.0 (O.contents output.old) (O.contents output.new))
+        (IsMissing result.0 (O.contents output.old) (O.contents output.new)
+        × P.withholds places.now path.now) result.1 }
+{
+    let mut told = Told::new();
+    let stands = places.device(path, faults);
+    match stands {
+        Ok(device) => {
+            let (ended, left) = merge(alloc, device, path, most, output, &mut told, faults);
+            let scene = Scene {
+                store: path,
+                said: places.said(&left),
+                files: &[],
+            };
+            tell_why(told, &scene, faults);
             (ended, Some(left))
         }
         Err(_) => (refuse(alloc, output, Refusal::DiskFault, &mut told), None),

@@ -110,6 +110,11 @@ pub(crate) fn tell_layout<E: Write>(
     };
 }
 
+/// Tells how many segments a store has, after a merge.
+pub(crate) fn tell_segments<E: Write>(store: &str, segments: u32, faults: &mut E) {
+    let _ = writeln!(faults, "sctd: {store}: {segments} segments");
+}
+
 /// Writes the line.
 fn write_why<E: Write>(told: Told, scene: &Scene<'_>, faults: &mut E) -> io::Result<()> {
     let store = scene.store;

@@ -41,7 +41,7 @@ fn run_words(rt: &HostRuntime, line: &str, input: &[u8]) -> Result<Shown, Fail> 
 }
 
 const NO_COMMAND: &str = "error: 'sctd' requires a subcommand but one was not provided\n  \
-[subcommands: init, import, serve, status, demo, help]\n\n\
+[subcommands: init, import, serve, status, merge, demo, help]\n\n\
 Usage: sctd <COMMAND>\n\n\
 For more information, try '--help'.\n";
 
@@ -64,6 +64,12 @@ fn statuses(rt: HostRuntime) -> Result<(), Fail> {
     let cases = [
         ("sctd", 2, "", NO_COMMAND),
         ("sctd import --help", 0, HELP, ""),
+        (
+            "sctd --version",
+            0,
+            "sctd 1.0.0, opens layout versions 1 and 2\n",
+            "",
+        ),
         ("sctd init --store new", 0, "OK\n", ""),
         (
             "sctd init --store new",
@@ -188,6 +194,57 @@ fn a_file_keeps_what_was_imported(rt: HostRuntime) -> Result<(), Fail> {
         assert_eq!(rt; got.status, 0, "{line}");
         assert!(rt; got.output.as_slice() == output.as_bytes(), "{line}");
         assert!(rt; got.faults.is_empty(), "{line}");
+    }
+    Ok(())
+}
+
+#[test]
+fn segments_are_merged(rt: HostRuntime) -> Result<(), Fail> {
+    write_release(&rt, "releases/r1/Terminology", "r1")?;
+    write_release(&rt, "releases/r2/Terminology", "r2")?;
+    write_release(&rt, "releases/r3/Terminology", "r3")?;
+    let serve = "sctd serve --store joined --releases releases";
+    // The words, the input, the output, what is written of faults.
+    let steps = [
+        ("sctd init --store joined", "", "OK\n", ""),
+        ("sctd merge --store joined", "", "OK 0 0 0 -\n", ""),
+        (
+            serve,
+            "0 IMPORT r1\n0 IMPORT r2\n0 IMPORT r3\n0 STATUS\n",
+            "OK 1 6 0\nOK 2 4 0\nOK 3 2 1\nOK 3 12 3 -\n",
+            "",
+        ),
+        (
+            "sctd merge --store joined --segments 3",
+            "",
+            "OK 3 12 3 -\n",
+            "",
+        ),
+        (
+            "sctd merge --store joined --segments 2",
+            "",
+            "OK 3 12 2 -\n",
+            "sctd: joined: 2 segments\n",
+        ),
+        (
+            "sctd merge --store joined",
+            "",
+            "OK 3 12 1 -\n",
+            "sctd: joined: 1 segments\n",
+        ),
+        (
+            serve,
+            "0 GET C 1000004 20200831\n0 PIN 1\n0 GET C 1000004 20200831\n",
+            "ROW 1000004\t20200731\t0\t900000000000207008\t900000000000074008\nEND 1\nOK 1\n\
+ROW 1000004\t20200131\t1\t900000000000207008\t900000000000074008\nEND 1\n",
+            "",
+        ),
+    ];
+    for (line, input, output, faults) in &steps {
+        let got = run_words(&rt, *line, input.as_bytes())?;
+        assert_eq!(rt; got.status, 0, "{line}");
+        assert!(rt; got.output.as_slice() == output.as_bytes(), "{line}");
+        assert!(rt; got.faults.as_slice() == faults.as_bytes(), "{line}");
     }
     Ok(())
 }

@@ -2,13 +2,17 @@
 
 ghost use Rattle.std.specs.Prelude.{◌≡◌, IfOk, IfErr, IfSome, map, codes, string_bytes};
 ghost use Rattle.clap.specs.Simple.{subcommand_rows_of};
-ghost use Rattle.command_line.specs.Words.{IsArgument, IsCommand, Reads, AskFor, AskForNone, wanted, option};
-ghost use Rattle.command_line.specs.Words.{init_command, import_command, serve_command, status_command, demo_command};
+ghost use Rattle.command_line.specs.Words.{IsArgument, IsCommand, Reads, AskFor, AskForNone, wanted, option, segments_option};
+ghost use Rattle.command_line.specs.Words.{init_command, import_command, serve_command, status_command, merge_command, demo_command};
 ghost use Rattle.command_line.specs.Words.{empty_program, program};
 
+use clap::builder::ValueParser;
 use clap::error::ErrorKind;
 use clap::{Arg, ArgAction, ArgMatches, Command, Error};
 use std::alloc::{AllocError, Global};
+
+/// The version of the program, and the versions of a store's layout that it opens.
+const VERSION: &str = "1.0.0, opens layout versions 1 and 2";
 
 /// What the program is to do.
 #[derive(Clone, Copy, Debug, PartialEq, Eq)]
@@ -31,6 +35,11 @@ pub enum Task<'a> {
     /// Tell how many imports, rows and segments a store has.
     Status {
         store: &'a str,
+    },
+    /// Merge segments until at most so many stand.
+    Merge {
+        store: &'a str,
+        segments: u32,
     },
     /// Answer the lines of a script, on a store in memory.
     Demo,
@@ -108,6 +117,19 @@ fn name<'a>(alloc: Global) -> Arg<'a>
         .action(ArgAction::Set)
 }
 
+/// The option that says how many segments may stay.
+fn segments<'a>(alloc: Global) -> Arg<'a>
+    ensures { IsArgument segments_option result }
+{
+    Arg::new(alloc, "segments")
+        .long("segments")
+        .value_name("N")
+        .help("How many segments may stay, 1 to 250")
+        .value_parser(ValueParser::Unsigned(1, 250))
+        .default_value("1")
+        .action(ArgAction::Set)
+}
+
 fn init<'a>(alloc: Global) -> Result<Command<'a>, AllocError>
     ensures { IfOk result (IsCommand init_command) }
 {
@@ -143,6 +165,17 @@ fn status<'a>(alloc: Global) -> Result<Command<'a>, AllocError>
         .arg(store(alloc))
 }
 
+fn merge<'a>(alloc: Global) -> Result<Command<'a>, AllocError>
+    ensures { IfOk result (IsCommand merge_command) }
+{
+    Command::new(alloc, "merge")
+        .about(
+            "Merges the smallest segments until at most N stand, and gives back what is behind them",
+        )
+        .arg(store(alloc))?
+        .arg(segments(alloc))
+}
+
 fn demo<'a>(alloc: Global) -> Command<'a>
     ensures { IsCommand demo_command result }
 {
@@ -156,6 +189,7 @@ fn sctd<'a>(alloc: Global) -> Command<'a>
     ensures { IsCommand empty_program result }
 {
     Command::new(alloc, "sctd")
+        .version(VERSION)
         .about("Answers what each component of a SNOMED CT terminology said on any past date")
         .subcommand_required(true)
 }
@@ -169,6 +203,7 @@ fn commands<'a>(alloc: Global) -> Result<Command<'a>, AllocError>
         .subcommand(import(alloc)?)?
         .subcommand(serve(alloc)?)?
         .subcommand(status(alloc)?)?
+        .subcommand(merge(alloc)?)?
         .subcommand(demo(alloc))
 }
 
@@ -193,6 +228,13 @@ fn named<'a>(matches: &ArgMatches<'a>) -> Option<Task<'a>>
         "status" => Some(Task::Status {
             store: found.get_str("store")?,
         }),
+        "merge" => {
+            let store = found.get_str("store")?;
+            match found.get_str("segments")?.parse() {
+                Ok(segments) => Some(Task::Merge { store, segments }),
+                Err(_) => None,
+            }
+        }
         "demo" => Some(Task::Demo),
         _ => None,
     }

@@ -3,7 +3,7 @@ use Rattle.std.proofs.lemmas.Result.{IfOk-weaker}
 use Rattle.clap.specs.Simple.{App, with_subcommand}
 use Rattle.clap.specs.Built.{AddsSubcommand}
 use Rattle.clap.specs.declared.builder.command.Command.{Command}
-use Rattle.command_line.specs.Words.{IsCommand, empty_program, init_command, import_command, serve_command, status_command, demo_command}
+use Rattle.command_line.specs.Words.{IsCommand, empty_program, init_command, import_command, serve_command, status_command, merge_command, demo_command}
 use Rattle.command_line.proofs.words.commands.Goals as goal
 
 added : (old sub new : Command) (a b : App) → IsCommand a old → IsCommand b sub → AddsSubcommand old sub new → IsCommand (with_subcommand a b.top) new
@@ -18,4 +18,5 @@ returns c =
     let two = added _ c.in_ok-import.field-0 c.in_ok-subcommand-2.field-0 _ import_command one c.in_ok-import.ensures c.in_ok-subcommand-2.ensures in
     let three = added _ c.in_ok-serve.field-0 c.in_ok-subcommand-3.field-0 _ serve_command two c.in_ok-serve.ensures c.in_ok-subcommand-3.ensures in
     let four = added _ c.in_ok-status.field-0 c.in_ok-subcommand-4.field-0 _ status_command three c.in_ok-status.ensures c.in_ok-subcommand-4.ensures in
-    IfOk-weaker c.subcommand-5.result _ _ (λ r h. added c.in_ok-subcommand-4.field-0 c.demo.result r _ demo_command four c.demo.ensures h) c.subcommand-5.ensures
+    let five = added _ c.in_ok-merge.field-0 c.in_ok-subcommand-5.field-0 _ merge_command four c.in_ok-merge.ensures c.in_ok-subcommand-5.ensures in
+    IfOk-weaker c.subcommand-6.result _ _ (λ r h. added c.in_ok-subcommand-5.field-0 c.demo.result r _ demo_command five c.demo.ensures h) c.subcommand-6.ensures

@@ -75,3 +75,15 @@ returns-in_ok-get_str-in-status c =
       c.in-status.is,
       given found (codes "store") c.in_ok-get_str-in-status.field-0.now c.in_ok-get_str-in-status.ensures,
     )
+
+pub returns-in-Ok : goal.returns-in-Ok
+returns-in-Ok c =
+    let found = found_of c.in_ok-name.found.now in
+    let is = met c.args.matches.now c.in_ok-name.name.now (rows_of found) c.in_ok-name.ensures.name c.in_ok-name.ensures.rows in
+    rw is (
+      c.in-merge.is,
+      given found (codes "store") c.in_ok-store-in-merge.store.now c.in_ok-store-in-merge.ensures,
+      c.in_ok-get_str-in-merge.field-0.now,
+      given found (codes "segments") c.in_ok-get_str-in-merge.field-0.now c.in_ok-get_str-in-merge.ensures,
+      c.in-Ok.ensures.value.0.1,
+    )

@@ -1,0 +1,23 @@
+-- The program's commands are such that clap says how it reads words by them.
+use Rattle.std.proofs.Common.{◌≡◌, List, ℕ, [], true, Ok, refl, subst}
+use Rattle.clap.specs.Walk.{Text}
+use Rattle.clap.specs.Simple.{App, HasMatchesOf, is_simple, subcommand_of, subcommand_rows_of}
+use Rattle.clap.specs.Kinds.{FailsBy}
+use Rattle.clap.specs.Faults.{fault_of, is_simple_and_free}
+use Rattle.clap.specs.declared.parser.matches.ArgMatches.{ArgMatches}
+use Rattle.command_line.specs.declared.words.Task.{Task}
+use Rattle.command_line.specs.Words.{AskFor, Reads, program}
+
+program_is_simple : is_simple program ≡ true
+program_is_simple = refl
+
+program_is_free : is_simple_and_free program ≡ true
+program_is_free = refl
+
+pub asked_for : (app : App) (words : List Text) (m : ArgMatches) (task : Task) → app ≡ program
+    → (is_simple_and_free app ≡ true → fault_of app words ≡ []) → HasMatchesOf app words m
+    → Reads (subcommand_rows_of m) task → AskFor words task
+asked_for app words m task is kinds matches reads =
+    let none = subst (λ (a : App). is_simple_and_free a ≡ true → fault_of a words ≡ []) is kinds in
+    let found = subst (λ (a : App). HasMatchesOf a words m) is matches in
+    (none program_is_free, subst (λ r. Reads r task) (found program_is_simple).1 reads)

@@ -1,0 +1,221 @@
+-- What lines of a merge leave of a store.
+use Rattle.std.proofs.Common.{◌≡◌, ℕ, ◌+◌, ◌-◌, ◌≤◌, ◌<◌, List, [], ◌∷◌, ◌++◌, length, codes, true, false, slice_get, slice_set, remove, min, Option, Some, None, Result, Ok, Err, IsOk, IsErr, refl, sym, ap, subst, ◌∙◌, arith, inl, inr}
+use Rattle.std.specs.Prelude.{⊤, ◌⊎◌}
+use Rattle.std.specs.Fmt.{digits}
+use Rattle.std.specs.List.{AllByRecursion}
+use Rattle.std.proofs.lemmas.Bool.{false≢true}
+use Rattle.std.proofs.lemmas.Option.{slice_get_within}
+use Rattle.std.proofs.lemmas.List.{length-set, append_assoc}
+use Rattle.std.proofs.lemmas.List.Edits.{length-remove}
+use Rattle.disk_model.specs.Disk.{Moments}
+use Rattle.import_check.specs.declared.release.Release.{Release}
+use Rattle.history_store.specs.Shelf.{Shelf}
+use Rattle.history_store.specs.Merging.{IsBegun, IsStepped, IsPublished}
+use Rattle.history_store.specs.Stored.{Stored}
+use Rattle.history_store.proofs.Likeness.{all_append}
+use Rattle.line_commands.specs.Commands.{Command, Merge, Step, Publish, Trim}
+use Rattle.line_commands.specs.Requests.{Asks}
+use Rattle.line_commands.proofs.Readings.{one_reading}
+use Rattle.line_server.specs.declared.refusal.LineRefusal.{LineRefusal}
+use Rattle.line_server.specs.declared.refusal.LineRefusal.TheVariants as refusals
+use Rattle.line_server.specs.Sources.{Releases, files_of}
+use Rattle.line_server.specs.Said.{Answer, Said, said}
+use Rattle.line_server.specs.declared.serving.ServeFault.{ServeFault}
+use Rattle.line_server.specs.Pins.{unpinned}
+use Rattle.line_server.specs.Replies.{Desk, Replies, IsAnswer, desk}
+use Rattle.line_server.specs.Turns.{Turn, IsTurn, IsAskedFor, Run, imported}
+use Rattle.line_server.proofs.Imported.{run_imported}
+use Rattle.command_line.specs.Merging.{IsMergeTurn, IsMergeLine, IsHaltedBy, IsMergedTo, IsMergedAndAsked, TellsMerge, segments_of, trim_line}
+use Rattle.command_line.specs.Private.{IsAsked, IsHalted, HaveMerged, IsOneLess, IsTrimmedTo}
+use Rattle.command_line.specs.declared.endings.Ending.{Ending}
+use Rattle.command_line.specs.Endings.{IsTold}
+use Rattle.command_line.specs.Tasks.{status_line}
+
+-- ---- which command a line asks
+
+merge_asks : Asks (codes "0 MERGE") 0 Merge
+unfolding digits
+merge_asks = record { short = omega arith; is_session = omega arith; arguments = []; spelled = refl; line_is = refl }
+
+step_asks : Asks (codes "0 STEP 100000") 0 (Step 100000)
+unfolding digits
+step_asks = record { short = omega arith; is_session = omega arith; arguments = codes "100000" ∷ []; spelled = (omega arith, omega arith, refl); line_is = refl }
+
+publish_asks : Asks (codes "0 PUBLISH") 0 Publish
+unfolding digits
+publish_asks = record { short = omega arith; is_session = omega arith; arguments = []; spelled = refl; line_is = refl }
+
+trim_asks : Asks (codes "0 TRIM") 0 Trim
+unfolding digits
+trim_asks = record { short = omega arith; is_session = omega arith; arguments = []; spelled = refl; line_is = refl }
+
+-- a line that was answered OK was answered as its command is
+module _ {D : Type 0} (honest : Type 0) (releases : Releases) (old new : Desk D) (line : List ℕ) (session : ℕ) (command : Command) (asks : Asks line session command) where
+  answered : (outcome : Result Answer LineRefusal) → IsOk outcome → Replies honest releases line outcome old new
+      → (answer : Answer) × IsAnswer honest releases session command answer old new
+  answered (Ok answer) ok (inl r) =
+      let same = one_reading line r.0 session r.1 command r.2 asks in
+      (answer, rw (← same.0, ← same.1) r.3)
+  answered (Ok answer) ok (inr r) = let no : Ok answer ≡ Err (refusals.Unread r.0) = r.2 in cc
+  answered (Err refusal) ok r = let no : false ≡ true = ok in absurd (false≢true no)
+
+-- ---- how many segments stand then
+
+published_less : (old new : Shelf) → IsPublished old new → length new.entries + 1 ≡ length old.entries
+published_less old new p =
+    let within = slice_get_within old.entries p.merge.j p.b p.b_is in
+    let n = length-set old.entries p.merge.i _ in
+    let less = length-remove (slice_set old.entries p.merge.i _) p.merge.j (rw n within) in
+    rw p.next_is (less ∙ n)
+
+begun_same : (old new : Shelf) (left : ℕ) → IsBegun old new left → length new.entries ≡ length old.entries
+begun_same old new left b = rw b.next_is refl
+
+stepped_same : (n : ℕ) (old new : Shelf) (left : ℕ) → IsStepped n old new left → length new.entries ≡ length old.entries
+stepped_same n old new left s = rw s.next_is refl
+
+module _ {D : Type 0} (honest : D → Type 0) (moments : D → Moments) (failures : D → ℕ) where
+  abbrev Goes : Desk D → Turn → Desk D → Type 0
+  Goes old turn new = IsTurn ⊤ (λ _. None) honest moments failures old turn new
+
+  abbrev Runs : Desk D → List Turn → Desk D → Type 0
+  Runs old turns new = Run ⊤ (λ _. None) honest moments failures old turns new
+
+  merge_keeps : (old new : Desk D) (turn : Turn) → turn.line ≡ codes "0 MERGE" → IsOk turn.outcome → Goes old turn new → segments_of new ≡ segments_of old
+  merge_keeps old new turn is ok t =
+      let a = answered (honest old.store.disk) t.releases old new turn.line 0 Merge (rw is merge_asks) turn.outcome ok t.goes.replies in
+      begun_same old.store.shelf new.store.shelf a.1.0 a.1.1.0
+
+  step_keeps : (old new : Desk D) (turn : Turn) → turn.line ≡ codes "0 STEP 100000" → IsOk turn.outcome → Goes old turn new → segments_of new ≡ segments_of old
+  step_keeps old new turn is ok t =
+      let a = answered (honest old.store.disk) t.releases old new turn.line 0 (Step 100000) (rw is step_asks) turn.outcome ok t.goes.replies in
+      stepped_same 100000 old.store.shelf new.store.shelf a.1.0 a.1.1.0
+
+  publish_lowers : (old new : Desk D) (turn : Turn) → turn.line ≡ codes "0 PUBLISH" → IsOk turn.outcome → Goes old turn new → segments_of new + 1 ≡ segments_of old
+  publish_lowers old new turn is ok t =
+      let a = answered (honest old.store.disk) t.releases old new turn.line 0 Publish (rw is publish_asks) turn.outcome ok t.goes.replies in
+      published_less old.store.shelf new.store.shelf a.1.0.0
+
+  trim_keeps : (old new : Desk D) (turn : Turn) → turn.line ≡ trim_line → IsOk turn.outcome → Goes old turn new → segments_of new ≡ segments_of old
+  trim_keeps old new turn is ok t =
+      let a = answered (honest old.store.disk) t.releases old new turn.line 0 Trim (rw is trim_asks) turn.outcome ok t.goes.replies in
+      ap (λ (s : Shelf). length s.entries) a.1.1.0
+
+  -- ---- lines one after the other
+
+  run_both : (old mid new : Desk D) (turns more : List Turn) → Runs old turns mid → Runs mid more new → Runs old (turns ++ more) new
+  run_both old mid new [] more e r = subst (λ (d : Desk D). Runs d more new) e r
+  run_both old mid new (turn ∷ turns) more r s = (r.0, r.1, run_both r.0 mid new turns more r.2 s)
+
+  one_run : (old new : Desk D) (turn : Turn) → Goes old turn new → Runs old (turn ∷ []) new
+  one_run old new turn t = (new, t, refl)
+
+  pub have_none : (old : Desk D) → HaveMerged honest moments failures old old
+  have_none old = record { turns = []; merges = tt; run = refl }
+
+  pub have_one : (old new : Desk D) (turn : Turn) → IsMergeLine turn.line → IsOk turn.outcome → Goes old turn new → HaveMerged honest moments failures old new
+  have_one old new turn is ok t = record { turns = turn ∷ []; merges = ((is, ok), tt); run = one_run old new turn t }
+
+  pub have_both : (old mid new : Desk D) → HaveMerged honest moments failures old mid → HaveMerged honest moments failures mid new → HaveMerged honest moments failures old new
+  have_both old mid new a b = record {
+    turns = a.turns ++ b.turns;
+    merges = all_append IsMergeTurn a.turns b.turns a.merges b.merges;
+    run = run_both old mid new a.turns b.turns a.run b.run;
+  }
+
+  -- a line was refused, after lines of merges
+  pub halted_first : (old new : Desk D) (reply : Said) (turn : Turn) → (IsMergeLine turn.line ⊎ (turn.line ≡ trim_line)) → IsErr turn.outcome → reply ≡ said turn.outcome → Goes old turn new
+      → IsHalted honest moments failures reply old new
+  halted_first old new reply turn is err says t = (turn, says, record { turns = []; merges = tt; run = one_run old new turn t; line = is; refused = err })
+
+  pub halted_after : (old mid new : Desk D) (reply : Said) → HaveMerged honest moments failures old mid → IsHalted honest moments failures reply mid new
+      → IsHalted honest moments failures reply old new
+  halted_after old mid new reply a h = (
+    h.0,
+    h.1,
+    record {
+      turns = a.turns ++ h.2.turns;
+      merges = all_append IsMergeTurn a.turns h.2.turns a.merges h.2.merges;
+      run = rw (append_assoc a.turns h.2.turns (h.0 ∷ [])) (run_both old mid new a.turns (h.2.turns ++ h.0 ∷ []) a.run h.2.run);
+      line = h.2.line;
+      refused = h.2.refused;
+    },
+  )
+
+  -- ---- the history
+
+  none_imported : (turn : Turn) (releases : List Release) → AllByRecursion (IsAskedFor (λ _. None) turn.line) releases → releases ≡ []
+  none_imported turn [] all = refl
+  none_imported turn (r ∷ rs) all = let no : None ≡ Some (files_of r) = all.0.3 in cc
+
+  no_releases : (old new : Desk D) (turns : List Turn) → Runs old turns new → imported turns ≡ []
+  no_releases old new [] run = refl
+  no_releases old new (turn ∷ turns) run =
+      rw (none_imported turn turn.releases (run.1.own tt).imported) (no_releases run.0 new turns run.2)
+
+  run_keeps : (old new : Desk D) (turns : List Turn) → Runs old turns new → honest old.store.disk → new.store.history ≡ old.store.history
+  run_keeps old new turns run lie =
+      let all = (run_imported honest moments failures ⊤ (λ _. None) old new turns run).history lie in
+      rw (no_releases old new turns run) at all
+
+  pub halted_keeps : (old new : Desk D) (last : Turn) → IsHaltedBy honest moments failures last old new → honest old.store.disk → new.store.history ≡ old.store.history
+  halted_keeps old new last h lie = run_keeps old new (h.turns ++ last ∷ []) h.run lie
+
+  pub merged_keeps : (most : ℕ) (old new : Desk D) (last : Turn) → IsMergedAndAsked honest moments failures most last old new → honest old.store.disk
+      → new.store.history ≡ old.store.history
+  merged_keeps most old new last m lie =
+      run_keeps old new ((m.1.turns ++ m.1.trim ∷ []) ++ last ∷ [])
+      (run_both old m.0 new (m.1.turns ++ m.1.trim ∷ []) (last ∷ []) m.1.run (one_run m.0 new last m.3)) lie
+
+  -- ---- what each part of a merge leaves
+
+  pub rows_more : (old mid new : Desk D) (turn : Turn) → HaveMerged honest moments failures old mid → segments_of mid ≡ segments_of old
+      → turn.line ≡ codes "0 STEP 100000" → IsOk turn.outcome → Goes mid turn new
+      → HaveMerged honest moments failures old new × (segments_of new ≡ segments_of old)
+  rows_more old mid new turn have same is ok t =
+      (have_both old mid new have (have_one mid new turn (inr (inl is)) ok t), step_keeps mid new turn is ok t ∙ same)
+
+  pub one_less : (old a b new : Desk D) (begin : Turn) (result : Result (Unit {0}) Said) → begin.line ≡ codes "0 MERGE" → IsOk begin.outcome → Goes old begin a
+      → HaveMerged honest moments failures a b → segments_of b ≡ segments_of a → IsAsked honest moments failures (codes "0 PUBLISH") result b new
+      → IsOneLess honest moments failures result old new
+  one_less old a b new begin (Ok done) is ok t rows same last = (
+    have_both old b new (have_both old a b (have_one old a begin (inl is) ok t) rows) (have_one b new last.0 (inr (inr last.1)) last.2 last.3),
+    publish_lowers b new last.0 last.1 last.2 last.3 ∙ same ∙ merge_keeps old a begin is ok t,
+  )
+  one_less old a b new begin (Err reply) is ok t rows same last =
+      halted_after old b new reply (have_both old a b (have_one old a begin (inl is) ok t) rows)
+      (halted_first b new reply last.0 (inl (inr (inr last.1))) last.2 last.3 last.4)
+
+  pub trimmed_to : (most : ℕ) (old mid new : Desk D) (result : Result (Unit {0}) Said) → HaveMerged honest moments failures old mid
+      → segments_of mid ≡ min (segments_of old) most → IsAsked honest moments failures trim_line result mid new
+      → IsTrimmedTo honest moments failures most result old new
+  trimmed_to most old mid new (Ok done) have few last = record {
+    turns = have.turns;
+    merges = have.merges;
+    trim = last.0;
+    trims = last.1;
+    trimmed = last.2;
+    run = run_both old mid new have.turns (last.0 ∷ []) have.run (one_run mid new last.0 last.3);
+    number = trim_keeps mid new last.0 last.1 last.2 last.3 ∙ few;
+  }
+  trimmed_to most old mid new (Err reply) have few last =
+      halted_after old mid new reply have (halted_first mid new reply last.0 (inr last.1) last.2 last.3 last.4)
+
+  -- ---- the whole
+
+  -- so many segments stand, and the status was asked for
+  pub asked_status : (most : ℕ) (old mid : Desk D) (pins : List (Option ℕ)) (after store : Stored D) (last : Turn) (left : D) (ended : Result Ending ServeFault) (o n : Option (List ℕ))
+      → old ≡ desk unpinned store → IsMergedTo honest moments failures most old mid → last.line ≡ status_line → Goes mid last (desk pins after)
+      → IsTold ended last.outcome o n → left ≡ after.disk → TellsMerge honest moments failures most left ended o n store
+  asked_status most old mid pins after store last left ended o n from merged is t told so =
+      let goes : IsMergedAndAsked honest moments failures most last (desk unpinned store) (desk pins after) =
+      subst (λ (d : Desk D). IsMergedAndAsked honest moments failures most last d (desk pins after)) from (mid, merged, is, t) in
+      record { last = last; pins = pins; after = after; goes = inl goes; told = told; left_so = so; history = merged_keeps most (desk unpinned store) (desk pins after) last goes }
+
+  pub told_refusal : (most : ℕ) (old : Desk D) (pins : List (Option ℕ)) (after store : Stored D) (last : Turn) (left : D) (ended : Result Ending ServeFault) (o n : Option (List ℕ))
+      → old ≡ desk unpinned store → IsHaltedBy honest moments failures last old (desk pins after)
+      → IsTold ended last.outcome o n → left ≡ after.disk → TellsMerge honest moments failures most left ended o n store
+  told_refusal most old pins after store last left ended o n from halted told so =
+      let goes : IsHaltedBy honest moments failures last (desk unpinned store) (desk pins after) =
+      subst (λ (d : Desk D). IsHaltedBy honest moments failures last d (desk pins after)) from halted in
+      record { last = last; pins = pins; after = after; goes = inr goes; told = told; left_so = so; history = halted_keeps (desk unpinned store) (desk pins after) last goes }

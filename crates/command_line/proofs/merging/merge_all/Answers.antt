@@ -1,0 +1,20 @@
+use Rattle.std.proofs.Common.{refl, ap, ◌∙◌}
+use Rattle.line_server.specs.Replies.{desk}
+use Rattle.command_line.proofs.Merged.{asked_status, told_refusal}
+use Rattle.command_line.proofs.merging.merge_all.Goals.{in-Ok, in-Err}
+use Rattle.command_line.proofs.merging.merge_all.Goals as goal
+
+pub returns : goal.returns
+returns g c =
+    let from = ap (λ pins. desk pins c.args.store.now) c.new-pins.ensures.none in
+    elim c.match-merge_to.branch [
+      | in-Ok w ↦
+          let t = w.answer-reply.ensures.turn in
+          asked_status g.D.Disk.is_honest g.D.Disk.moments g.D.Disk.failures c.args.most _ _ w.answer-reply.new.pins w.answer-reply.new.store c.args.store.now
+          (record { line = _; outcome = t.outcome; releases = t.releases; failed = t.failed }) _ _ _ _ from w.in-Ok.ensures.merged refl t.turn
+          (c.tell.ensures t.outcome (w.reply-is ∙ t.reply_is)) (ap (λ s. s.disk) w.store-is)
+      | in-Err w ↦
+          let h = w.in-Err.ensures.merged in
+          told_refusal g.D.Disk.is_honest g.D.Disk.moments g.D.Disk.failures c.args.most _ c.merge_to.new.pins c.merge_to.new.store c.args.store.now h.0 _ _ _ _ from h.2
+          (c.tell.ensures h.0.outcome (w.reply-is ∙ h.1)) (ap (λ s. s.disk) w.store-is)
+    ]

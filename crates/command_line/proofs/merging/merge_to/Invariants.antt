@@ -1,0 +1,13 @@
+use Rattle.std.proofs.Common.{◌≡◌, ◌+◌}
+use Rattle.line_server.specs.Pins.{AreWithin}
+use Rattle.line_server.specs.Replies.{desk}
+use Rattle.command_line.specs.Merging.{segments_of}
+use Rattle.command_line.specs.Private.{HaveMerged}
+use Rattle.command_line.proofs.merging.merge_to.Given as goal
+
+-- each merge so far made one segment of two
+abbrev pub invariant-loop : goal.invariant-loop
+invariant-loop g l =
+    HaveMerged g.D.Disk.is_honest g.D.Disk.moments g.D.Disk.failures (desk l.fn.pins l.fn.store) (desk l.pins l.store)
+    × (segments_of (desk l.pins l.store) + l.counter ≡ segments_of (desk l.fn.pins l.fn.store))
+    × AreWithin l.store.history.imports l.pins

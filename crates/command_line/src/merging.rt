@@ -1,0 +1,136 @@
+//! The segments of a store are merged.
+
+ghost use Rattle.line_server.specs.Pins.{AreWithin};
+ghost use Rattle.line_server.specs.Replies.{desk};
+ghost use Rattle.command_line.specs.Merging.{IsMergedOnDisk, TellsMerge};
+ghost use Rattle.command_line.specs.Private.{IsAsked, IsOneLess, IsTrimmedTo, MergesRows};
+
+use crate::endings::{Ending, is_refusal, refuse, tell};
+use crate::inspecting::{NoReleases, STATUS};
+use crate::telling::{Told, tell_segments};
+use disk_model::Disk;
+use history_store::Store;
+use line_server::{Pins, Reply, ServeFault, answer};
+use std::alloc::Global;
+use std::io::Write;
+
+const MERGE: &[u8] = b"0 MERGE";
+/// The most rows that one line may ask for.
+const STEP: &[u8] = b"0 STEP 100000";
+
+const PUBLISH: &[u8] = b"0 PUBLISH";
+
+const TRIM: &[u8] = b"0 TRIM";
+
+/// Answers a line; its reply, where it is refused.
+fn ask<D: Disk>(
+    alloc: Global,
+    line: &[u8],
+    pins: &mut Pins,
+    store: &mut Store<D>,
+) -> Result<(), Reply>
+    requires within { AreWithin store.old.history.imports pins.old }
+    ensures within { AreWithin store.new.history.imports pins.new }
+    ensures asked { IsAsked D.is_honest D.moments D.failures line.now result
+        (desk pins.old store.old) (desk pins.new store.new) }
+{
+    let reply = answer(alloc, line, pins, &mut NoReleases, store);
+    if is_refusal(&reply) {
+        Err(reply)
+    } else {
+        Ok(())
+    }
+}
+
+/// Takes all rows of the merge that goes on.
+fn take_rows<D: Disk>(alloc: Global, pins: &mut Pins, store: &mut Store<D>) -> Result<(), Reply>
+    requires within { AreWithin store.old.history.imports pins.old }
+    ensures within { AreWithin store.new.history.imports pins.new }
+    ensures taken { MergesRows D.is_honest D.moments D.failures result
+        (desk pins.old store.old) (desk pins.new store.new) }
+{
+    for _ in 0..u64::MAX {
+        if store.merge_left().unwrap_or(0) == 0 {
+            break;
+        }
+        ask(alloc, STEP, pins, store)?;
+    }
+    Ok(())
+}
+
+/// Merges the two segments of fewest rows.
+fn merge_two<D: Disk>(alloc: Global, pins: &mut Pins, store: &mut Store<D>) -> Result<(), Reply>
+    requires within { AreWithin store.old.history.imports pins.old }
+    ensures within { AreWithin store.new.history.imports pins.new }
+    ensures merged { IsOneLess D.is_honest D.moments D.failures result
+        (desk pins.old store.old) (desk pins.new store.new) }
+{
+    ask(alloc, MERGE, pins, store)?;
+    take_rows(alloc, pins, store)?;
+    ask(alloc, PUBLISH, pins, store)
+}
+
+/// Merges until at most so many segments stand, and trims. `faults` is told of each merge.
+fn merge_to<D: Disk, E: Write>(
+    alloc: Global,
+    path: &str,
+    most: u32,
+    pins: &mut Pins,
+    store: &mut Store<D>,
+    faults: &mut E,
+) -> Result<(), Reply>
+    requires within { AreWithin store.old.history.imports pins.old }
+    ensures within { AreWithin store.new.history.imports pins.new }
+    ensures merged { IsTrimmedTo D.is_honest D.moments D.failures most result
+        (desk pins.old store.old) (desk pins.new store.new) }
+{
+    for _ in 0..store.segments().saturating_sub(most) {
+        merge_two(alloc, pins, store)?;
+        tell_segments(path, store.segments(), faults);
+    }
+    ask(alloc, TRIM, pins, store)
+}
+
+/// Merges the segments of a store that was opened, and tells the last reply.
+fn merge_all<D: Disk, O: Write, E: Write>(
+    alloc: Global,
+    path: &str,
+    most: u32,
+    store: &mut Store<D>,
+    output: &mut O,
+    told: &mut Told,
+    faults: &mut E,
+) -> Result<Ending, ServeFault>
+    ensures { TellsMerge D.is_honest D.moments D.failures most store.new.disk result
+        (O.contents output.old) (O.contents output.new) store.old }
+{
+    let mut pins = Pins::new();
+    let reply = match merge_to(alloc, path, most, &mut pins, store, faults) {
+        Ok(()) => answer(alloc, STATUS, &mut pins, &mut NoReleases, store),
+        Err(reply) => reply,
+    };
+    tell(output, &reply, told)
+}
+
+/// Merges the segments of the store of a device, which comes back.
+pub(crate) fn merge<D: Disk + Drop, O: Write, E: Write>(
+    alloc: Global,
+    device: D,
+    path: &str,
+    most: u32,
+    output: &mut O,
+    told: &mut Told,
+    faults: &mut E,
+) -> (Result<Ending, ServeFault>, D)
+    ensures { IsMergedOnDisk D.is_honest D.moments D.failures most device result.1 result.0
+        (O.contents output.old) (O.contents output.new) }
+{
+    match Store::open(alloc, device) {
+        Ok(store) => {
+            let mut store = store;
+            let ended = merge_all(alloc, path, most, &mut store, output, told, faults);
+            (ended, store.close())
+        }
+        Err((refusal, device)) => (refuse(alloc, output, refusal, told), device),
+    }
+}
