@@ -138,7 +138,7 @@ fn add_files<R: Files<File = File> + AllocGlobal + Clone + Drop, W: Watcher>(
     Ok(())
 }
 
-/// The names in a folder. An absent folder has none.
+/// The names in a folder, in byte order. An absent folder has none.
 fn names_in<R: Files<File = File> + AllocGlobal + Clone + Drop>(
     rt: &R,
     alloc: Global,
@@ -157,6 +157,7 @@ fn names_in<R: Files<File = File> + AllocGlobal + Clone + Drop>(
         };
         names.push(String::from_str(alloc, entry.file_name())?)?;
     }
+    names.sort_unstable();
     Ok(names)
 }
 
