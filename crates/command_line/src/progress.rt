@@ -24,7 +24,8 @@ impl<E: Write> Watcher for Progress<'_, E> {
         if is_nearly_to_take(name.as_bytes()) {
             let _ = writeln!(
                 self.faults,
-                "sctd: warning: passed over {name}, whose name is nearly one to take: mind its case, and an x before it"
+                "sctd: warning: passed over {name}, whose name is nearly one to take: \
+mind its case, and an x before it"
             );
         } else if !self.quiet {
             let _ = writeln!(self.faults, "sctd: passed over {name}");
