@@ -63,7 +63,7 @@ class Tries:
         self.check(what, fine and self.bytes_of_store() == before, got)
 
     def import_refused(self, what, name, reply, why):
-        words = ["import", "--store", "store", "--releases", "releases", name]
+        words = ["import", "--quiet", "--store", "store", "--releases", "releases", name]
         self.refused(what, words, reply, why)
 
     def bytes_of_store(self):
@@ -97,13 +97,57 @@ def try_folders(tries):
                              PARTS + "; its folder " + inner)
     write(tries.path("releases", "packed.zip"), "PK")
     tries.import_refused("a zip", "packed.zip", missing, "unpack the release")
-    tries.import_refused("a slash at the end", "package-Full/Full/", "ERR 43 Arguments", "one / between")
+    tries.import_refused("a slash before it", "/package-Full", "ERR 43 Arguments", "one / between")
     write(tries.path("releases", "small", "terminology", CONCEPTS), COLUMNS)
     tries.import_refused("a lower-case folder", "small", missing, "releases/small: " + PARTS)
     write(tries.path("releases", "none", "Terminology", "readme.txt"), "")
     tries.import_refused("no file to take", "none", missing, "no file to take")
     write(tries.path("releases", "faulty", "Terminology", CONCEPTS), COLUMNS + "?\n")
     tries.import_refused("a faulty line", "faulty", "ERR 23 Columns 1 2", CONCEPTS + ", line 2: ")
+
+
+def try_names(tries):
+    """Names as people type them: with slashes at the end, and paths without a folder of releases."""
+    made = tries.run(["init", "--store", "named"])
+    tries.check("init", made[1] == "OK\n", made)
+    write_release(tries, "package/Full", "20200131")
+    write(tries.path("alone", "Terminology", CONCEPTS), COLUMNS + ROOT_ROW % "20200131")
+    named = [["--releases", "releases", "package/Full/"], ["releases/package/Full"],
+             ["./releases//package/Full//"], ["alone"], ["alone/"],
+             [tries.path("releases", "package", "Full")]]
+    for number, words in enumerate(named, 1):
+        got = tries.run(["import", "--quiet", "--store", "named"] + words)
+        reply = "OK %d %d %d\n" % (number, 1 if number == 1 else 0, 0 if number == 1 else 1)
+        tries.check("a name, %s" % words[-1], got == (0, reply, ""), got)
+    for path, missing in (("absent/", "./absent: "), ("releases/absent", "releases/absent: ")):
+        tries.refused("a wrong path", ["import", "--store", "named", path], "ERR 45 NoFolder",
+                      "sctd: " + missing + "no such folder")
+
+
+def try_telling(tries):
+    """What an import tells beside its reply."""
+    taken = tries.path("releases", "told", "Terminology", CONCEPTS)
+    write(taken, COLUMNS + ROOT_ROW % "20200131")
+    near = "xsct2_Concept_full_INT_20200131.txt"
+    write(tries.path("releases", "told", "Terminology", near), COLUMNS)
+    write(tries.path("releases", "told", "Terminology", "readme.txt"), "")
+    warning = "sctd: warning: passed over %s, " % near
+    words = ["import", "--store", "named", "releases/told"]
+    for quiet in (False, True):
+        status, output, faults = tries.run(words + (["--quiet"] if quiet else []))
+        lines = faults.splitlines()
+        fine = status == 0 and output.startswith("OK ") and any(line.startswith(warning) for line in lines)
+        for line in ("reading " + CONCEPTS, "took %s: Concept, rows: 1" % CONCEPTS,
+                     "passed over readme.txt", "importing"):
+            fine = fine and ("sctd: " + line in lines) != quiet
+        tries.check("what an import tells", fine, (status, output, faults))
+    content = tries.path("releases", "few", "Refset", "Content")
+    write(os.path.join(content, "der2_cRefset_AssociationFull_INT_20200131.txt"),
+          "id\teffectiveTime\tactive\tmoduleId\t"
+          "refsetId\treferencedComponentId\ttargetComponentId\n")
+    got = tries.run(["import", "--quiet", "--store", "named", "releases/few"])
+    fine = got[0] == 0 and got[2] == "sctd: warning: no Concept, Description or Relationship file was taken\n"
+    tries.check("a release of few kinds", fine, got)
 
 
 def try_traps(tries):
@@ -180,7 +224,7 @@ def try_full_disk(tries):
         with open(os.path.join(small, "other"), "wb") as file:
             room = os.statvfs(small)
             file.write(bytes(room.f_bavail * room.f_frsize))
-        words = ["import", "--store", "small/store", "--releases", "releases", "r1"]
+        words = ["import", "--quiet", "--store", "small/store", "--releases", "releases", "r1"]
         tries.refused("a full disk", words, "ERR 2 DiskFault", "small/store: No space left")
         os.remove(os.path.join(small, "other"))
         got = tries.run(words)
@@ -251,7 +295,8 @@ def main(words):
             write_release(tries, "r%d" % number, "%d0131" % (2019 + number))
         made = tries.run(["init", "--store", "store"])
         tries.check("init", made == (0, "OK\n", ""), made)
-        for part in (try_folders, try_traps, try_stores, try_rights, try_full_disk, try_at_once):
+        for part in (try_folders, try_names, try_telling, try_traps, try_stores, try_rights,
+                     try_full_disk, try_at_once):
             part(tries)
     print("%d tried, %d not as wanted, %d skipped" % (tries.done, tries.wrong, tries.skipped))
     return 1 if tries.wrong else 0

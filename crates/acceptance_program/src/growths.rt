@@ -106,7 +106,7 @@ fn each_growth_of_a_task(rt: HostRuntime) -> Result<(), Fail> {
     let steps = [
         ("sctd init --store scarce/store", "", "OK\n", ""),
         (
-            "sctd import --store scarce/store --releases scarce r1",
+            "sctd import --quiet --store scarce/store --releases scarce r1",
             "",
             "OK 1 1 0\n",
             "",

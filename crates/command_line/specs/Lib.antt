@@ -5,6 +5,7 @@ pub use Rattle.line_server.specs.Imports
 pub use Rattle.history_store.specs.Stored
 pub use Rattle.history_store.specs.Answers
 pub mod Endings
+pub mod Paths
 pub mod Words
 pub mod Tasks
 pub mod Merging

@@ -60,7 +60,7 @@ Does stands withholds makes keeps loses honest_source has honest moments failure
     (IsMissing ended old new × loses store.now) left
     × (rest ≡ input)
 Does stands withholds makes keeps loses honest_source has honest moments failures script
-    (tasks.Import store releases name) left ended input rest old new =
+    (tasks.Import store releases name quiet) left ended input rest old new =
     IsDoneAt (stands store.now)
     (λ device after. IsImport honest_source
     (has releases.now) honest moments failures name.now device after ended old new)

@@ -1,5 +1,5 @@
 -- What the words of the command line ask for. They are read as clap reads words by these commands.
-use Rattle.std.specs.Prelude.{◌≡◌, true, List, codes, Option, Some, None}
+use Rattle.std.specs.Prelude.{◌≡◌, ◌↔◌, true, List, codes, Option, Some, None}
 use Rattle.clap.specs.Walk.{Text, Row, Rule, rule_of, first_of}
 use Rattle.clap.specs.Simple.{App, new_rule, new_app, with_rule, with_subcommand, app_of, subcommand_of}
 use Rattle.clap.specs.Kinds.{IsAmong}
@@ -10,8 +10,9 @@ use Rattle.clap.specs.declared.builder.value_parser.ValueParser.TheVariants.{Uns
 use Rattle.clap.specs.declared.builder.command.Command.TheViews.{out-Command}
 use Rattle.clap.specs.declared.builder.arg.Arg.{Arg}
 use Rattle.clap.specs.declared.builder.command.Command.{Command}
-use Rattle.clap.specs.declared.builder.action.ArgAction.TheVariants.{Set}
+use Rattle.clap.specs.declared.builder.action.ArgAction.TheVariants.{Set, SetTrue}
 use Rattle.std.specs.Prelude.{[], ◌∷◌, false}
+use Rattle.command_line.specs.Paths.{IsNamed}
 use Rattle.command_line.specs.declared.words.Task.{Task}
 use Rattle.command_line.specs.declared.words.Task.TheVariants as tasks
 use Rattle.command_line.specs.declared.words.Refused.{Refused}
@@ -27,6 +28,14 @@ wanted id = record (new_rule id) { value_names = 1; action = Some Set; required 
 abbrev pub option : Text → Rule
 option id = record (wanted id) { long = Some id }
 
+-- the same, if it is given
+abbrev pub optional : Text → Rule
+optional id = record (option id) { required = false }
+
+-- true where `--` and its name stand
+abbrev pub flag : Text → Rule
+flag id = record (new_rule id) { long = Some id; action = Some SetTrue }
+
 abbrev pub init_command : App
 init_command = with_rule (new_app (codes "init")) (option (codes "store"))
 
@@ -35,9 +44,9 @@ serve_command = with_rule (with_rule (new_app (codes "serve")) (option (codes "s
     (option (codes "releases"))
 
 abbrev pub import_command : App
-import_command = with_rule
+import_command = with_rule (with_rule
     (with_rule (with_rule (new_app (codes "import")) (option (codes "store")))
-    (option (codes "releases")))
+    (optional (codes "releases"))) (flag (codes "quiet")))
     (wanted (codes "name"))
 
 abbrev pub status_command : App
@@ -81,15 +90,22 @@ IsCommand app command = (app_of command ≡ app) × ((out-Command command).has_g
 
 -- ---- what is asked for
 
+-- the values of this import were read
+abbrev pub IsImportOf : List Row → Task → Type 0
+IsImportOf rows (tasks.Import store folder name quiet) =
+    (first_of (codes "store") rows ≡ Some store.now)
+    × ((word : Text) × (first_of (codes "name") rows ≡ Some word)
+    × IsNamed (first_of (codes "releases") rows) word folder.now name.now)
+    × ((quiet ≡ true) ↔ (first_of (codes "quiet") rows ≡ Some (codes "true")))
+IsImportOf rows task = ⊥
+
 -- a command was read with the values of this task
 abbrev pub Reads : Option (Text × List Row) → Task → Type 0
 Reads None task = ⊥
 Reads (Some read) (tasks.Init store) =
     (read.0 ≡ codes "init") × (first_of (codes "store") read.1 ≡ Some store.now)
-Reads (Some read) (tasks.Import store releases name) =
-    (read.0 ≡ codes "import") × (first_of (codes "store") read.1 ≡ Some store.now)
-    × (first_of (codes "releases") read.1 ≡ Some releases.now)
-    × (first_of (codes "name") read.1 ≡ Some name.now)
+Reads (Some read) (tasks.Import store folder name quiet) =
+    (read.0 ≡ codes "import") × IsImportOf read.1 (tasks.Import store folder name quiet)
 Reads (Some read) (tasks.Serve store releases) =
     (read.0 ≡ codes "serve") × (first_of (codes "store") read.1 ≡ Some store.now)
     × (first_of (codes "releases") read.1 ≡ Some releases.now)

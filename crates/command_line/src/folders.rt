@@ -1,6 +1,7 @@
 //! Releases in unpacked folders.
 
 use crate::places::Places;
+use crate::progress::tell_taken;
 use crate::telling::{Scene, Told, names_of, tell_why};
 use import_check::Release;
 use line_server::{Source, SourceFault};
@@ -13,8 +14,10 @@ pub struct FolderSource<'a, P: Places, E: Write> {
     pub places: &'a P,
     /// The folder that the releases' folders lie in.
     pub dir: &'a str,
-    /// Takes what stood in the way of a release.
+    /// Takes what stood in the way of a release, and what is told while it is imported.
     pub faults: &'a mut E,
+    /// People are told of nothing but what may be wrong.
+    pub quiet: bool,
     /// The names of the files of the release that was had last.
     pub files: Vec<String>,
 }
@@ -37,8 +40,11 @@ impl<P: Places, E: Write> Source for FolderSource<'_, P, E> {
     ghost releases = { λ s. P.releases s.places.now s.dir.now };
 
     fn release(&mut self, alloc: Global, name: &str) -> Result<Release, SourceFault> {
-        let given = self.places.release(alloc, self.dir, name, self.faults);
+        let given = self
+            .places
+            .release(alloc, self.dir, name, self.quiet, self.faults);
         if let Ok(release) = &given {
+            tell_taken(release, self.quiet, self.faults);
             self.files = names_of(alloc, &release.files).unwrap_or(Vec::new(alloc));
         }
         given

@@ -3,6 +3,7 @@
 ghost use Rattle.std.specs.Prelude.{ℕ, List, IfOk, IfErr};
 ghost use Rattle.line_server.specs.Sources.{Releases, IsGiven};
 
+use crate::progress::Progress;
 use disk_model::{Disk, DiskFault, FileDisk, OpenFault, sync_folder_of};
 use import_check::Release;
 use line_server::SourceFault;
@@ -52,12 +53,14 @@ pub trait Places {
     /// How many bytes stand under a name, if that can be had.
     fn size(&self, path: &str) -> Option<u64>;
 
-    /// The release in a folder below one. Where there is none, `faults` is told why.
+    /// The release in a folder below one. Where there is none, `faults` is told why. It is also
+    /// told which files are read and passed over; if `quiet`, only of those that may be wrong.
     fn release<E: Write>(
         &self,
         alloc: Global,
         dir: &str,
         name: &str,
+        quiet: bool,
         faults: &mut E,
     ) -> Result<Release, SourceFault>
         ensures { is_honest self.now → IsGiven result (releases self.now dir.now name.now) };
@@ -120,9 +123,14 @@ impl<R: Files<File = File> + AllocGlobal + Clone + Drop> Places for R {
         alloc: Global,
         dir: &str,
         name: &str,
+        quiet: bool,
         faults: &mut E,
     ) -> Result<Release, SourceFault> {
-        match read_release(self, alloc, dir, name) {
+        let read = {
+            let mut progress = Progress { faults, quiet };
+            read_release(self, alloc, dir, name, &mut progress)
+        };
+        match read {
             Ok(release) => Ok(release),
             Err(fault) => match fault.fault() {
                 FolderFault::OutOfMemory => Err(SourceFault::OutOfMemory),

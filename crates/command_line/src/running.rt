@@ -80,7 +80,10 @@ fn perform<P: Places, I: Read, O: Write, E: Write>(
             store,
             releases,
             name,
-        } => import_at(places, alloc, *store, *releases, *name, output, faults),
+            quiet,
+        } => import_at(
+            places, alloc, *store, *releases, *name, *quiet, output, faults,
+        ),
         Task::Serve { store, releases } => {
             serve_at(places, alloc, *store, *releases, input, output, faults)
         }
@@ -147,6 +150,7 @@ fn import_at<P: Places, O: Write, E: Write>(
     path: &str,
     dir: &str,
     name: &str,
+    quiet: bool,
     output: &mut O,
     faults: &mut E,
 ) -> Ended<P::Device>
@@ -165,6 +169,7 @@ fn import_at<P: Places, O: Write, E: Write>(
                 places,
                 dir,
                 faults,
+                quiet,
                 files: Vec::new(alloc),
             };
             let (ended, left) = import(alloc, device, name, &mut source, output, &mut told);
@@ -201,6 +206,7 @@ fn serve_at<P: Places, I: Read, O: Write, E: Write>(
                 places,
                 dir,
                 faults,
+                quiet: true,
                 files: Vec::new(alloc),
             };
             let (ended, left) = serve_device(alloc, device, &mut source, input, output, &mut told);

@@ -6,7 +6,7 @@ use import_check::sample;
 use line_server::ServeFault;
 use std::io::{Read, Write};
 use std::test::Fail;
-use std::{fs, io};
+use std::{env, fs, io};
 
 /// What a run gave: its status, and what it wrote.
 #[derive(Drop)]
@@ -46,12 +46,13 @@ Usage: sctd <COMMAND>\n\n\
 For more information, try '--help'.\n";
 
 const HELP: &str = "Imports the Full and Delta files of an unpacked RF2 release\n\n\
-Usage: sctd import --store <FILE> --releases <DIR> <NAME>\n\n\
+Usage: sctd import [OPTIONS] --store <FILE> <NAME>\n\n\
 Arguments:\n  \
-<NAME>  The release's folder below DIR\n\n\
+<NAME>  The release's folder: its name below DIR, or its path\n\n\
 Options:\n      \
 --store <FILE>    The file that holds the store\n      \
---releases <DIR>  The folder that holds a folder for each unpacked release\n  \
+--releases <DIR>  The folder that holds the release's folder, if NAME isn't its path\n      \
+--quiet           Tells of warnings and refusals alone on standard error\n  \
 -h, --help            Print help\n";
 
 const NAMES: &str =
@@ -168,7 +169,7 @@ fn a_file_keeps_what_was_imported(rt: HostRuntime) -> Result<(), Fail> {
     let steps = [
         ("sctd init --store kept", "", "OK\n"),
         (
-            "sctd import --store kept --releases releases r1",
+            "sctd import --quiet --store kept --releases releases r1",
             "",
             "OK 1 6 0\n",
         ),
@@ -183,7 +184,7 @@ fn a_file_keeps_what_was_imported(rt: HostRuntime) -> Result<(), Fail> {
             "ROW 1000004\t20200731\t0\t900000000000207008\t900000000000074008\nEND 1\nID 1000004\nEND 1\n",
         ),
         (
-            "sctd import --store kept --releases releases r1",
+            "sctd import --quiet --store kept --releases releases r1",
             "",
             "OK 3 0 6\n",
         ),
@@ -260,7 +261,8 @@ fn why_a_release_was_refused(rt: HostRuntime) -> Result<(), Fail> {
     fs::create_dir_all(&rt, "releases/package/Full/Terminology")?;
     let made = run_words(&rt, "sctd init --store told", b"")?;
     assert!(rt; made.status == 0 && made.faults.is_empty());
-    let refused = run_words(&rt, "sctd import --store told --releases releases r1", b"")?;
+    let import = "sctd import --quiet --store told --releases releases r1";
+    let refused = run_words(&rt, import, b"")?;
     assert!(rt; refused.output.as_slice() == b"ERR 23 Columns 2 3\n".as_slice());
     let told = format!(in rt.alloc(); "sctd: {name}, line 3: another number of columns\n")?;
     assert!(rt; refused.faults.as_slice() == told.as_bytes());
@@ -272,6 +274,94 @@ fn why_a_release_was_refused(rt: HostRuntime) -> Result<(), Fail> {
     let told: &[u8] = b"sctd: releases/package: no folder Terminology or Refset/Content in it; \
 its folder Full is the one to name\n";
     assert!(rt; served.faults.as_slice() == told);
+    Ok(())
+}
+
+/// Whether people were told this.
+fn tells(shown: &Shown, text: &str) -> bool {
+    match str::from_utf8(shown.faults.as_slice()) {
+        Ok(told) => told.contains(text),
+        Err(_) => false,
+    }
+}
+
+#[test]
+fn what_an_import_tells(rt: HostRuntime) -> Result<(), Fail> {
+    write_release(&rt, "releases/r1/Terminology", "r1")?;
+    fs::create_dir_all(&rt, "releases/few/Terminology")?;
+    let name = "sct2_RelationshipConcreteValues_Full_INT_20200131.txt";
+    let columns = b"id\teffectiveTime\tactive\tmoduleId\tsourceId\tvalue\trelationshipGroup\t\
+typeId\tcharacteristicTypeId\tmodifierId\n";
+    let path = format!(in rt.alloc(); "releases/few/Terminology/{name}")?;
+    fs::write(&rt, path.as_str(), columns.as_slice())?;
+    fs::create_dir_all(&rt, "releases/few/Refset/Content")?;
+    let near = "xsct2_Concept_full_INT_20200131.txt";
+    let path = format!(in rt.alloc(); "releases/few/Refset/Content/{near}")?;
+    fs::write(&rt, path.as_str(), b"".as_slice())?;
+    fs::write(&rt, "releases/few/Terminology/readme.txt", b"".as_slice())?;
+    let made = run_words(&rt, "sctd init --store telling", b"")?;
+    assert_eq!(rt; made.status, 0);
+    let warnings = format!(in rt.alloc();
+        "sctd: warning: passed over {near}, whose name is nearly one to take: mind its case, \
+and an x before it\nsctd: warning: no Concept, Description or Relationship file was taken\n"
+    )?;
+    let quiet = run_words(&rt, "sctd import --quiet --store telling releases/few", b"")?;
+    assert!(rt; quiet.output.as_slice() == b"OK 1 0 0\n".as_slice());
+    assert!(rt; quiet.faults.as_slice() == warnings.as_bytes());
+    let told = run_words(&rt, "sctd import --store telling releases/few", b"")?;
+    assert!(rt; told.output.as_slice() == b"OK 2 0 0\n".as_slice());
+    for line in [
+        "sctd: reading sct2_RelationshipConcreteValues_Full_INT_20200131.txt\n",
+        "sctd: passed over readme.txt\n",
+        "sctd: took sct2_RelationshipConcreteValues_Full_INT_20200131.txt: \
+RelationshipConcreteValues, rows: 0\n",
+        "sctd: warning: passed over xsct2_Concept_full_INT_20200131.txt, ",
+        "sctd: warning: no Concept, Description or Relationship file was taken\n",
+        "\nsctd: importing\n",
+    ] {
+        assert!(rt; tells(&told, line), "{line}");
+    }
+    let told = run_words(&rt, "sctd import --store telling releases/r1", b"")?;
+    assert!(rt; told.output.as_slice() == b"OK 3 6 0\n".as_slice());
+    for line in [
+        "sctd: took sct2_Concept_Delta_INT_20200131.txt: Concept, rows: 3\n",
+        "sctd: took sct2_Description_Delta-en_INT_20200131.txt: Description, rows: 1\n",
+    ] {
+        assert!(rt; tells(&told, line), "{line}");
+    }
+    assert!(rt; !tells(&told, "warning"));
+    Ok(())
+}
+
+#[test]
+fn names_as_people_type_them(rt: HostRuntime) -> Result<(), Fail> {
+    write_release(&rt, "releases/2020/r1/Terminology", "r1")?;
+    write_release(&rt, "single/Terminology", "r1")?;
+    let folder = env::current_dir(&rt)?;
+    let absolute = format!(in rt.alloc(); "{}/releases/2020/r1/", folder.display())?;
+    let made = run_words(&rt, "sctd init --store typed", b"")?;
+    assert_eq!(rt; made.status, 0);
+    // What the release is named by, and the output.
+    let cases = [
+        ("--releases releases 2020/r1", "OK 1 6 0\n"),
+        ("--releases releases 2020/r1//", "OK 2 0 6\n"),
+        ("releases/2020/r1", "OK 3 0 6\n"),
+        ("./releases//2020//r1/", "OK 4 0 6\n"),
+        ("single/", "OK 5 0 6\n"),
+        (absolute.as_str(), "OK 6 0 6\n"),
+        ("/no-such-release", "ERR 45 NoFolder\n"),
+        ("/", "ERR 43 Arguments\n"),
+        ("--releases releases /2020/r1", "ERR 43 Arguments\n"),
+    ];
+    for (words, output) in &cases {
+        let line = format!(in rt.alloc(); "sctd import --quiet --store typed {words}")?;
+        let got = run_words(&rt, line.as_str(), b"")?;
+        assert!(rt; got.output.as_slice() == output.as_bytes(), "{words}");
+        if *words == "/no-such-release" {
+            let told: &[u8] = b"sctd: //no-such-release: no such folder\n";
+            assert!(rt; got.faults.as_slice() == told, "{words}");
+        }
+    }
     Ok(())
 }
 

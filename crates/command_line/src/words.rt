@@ -1,11 +1,16 @@
 //! What the words of the command line ask for.
 
-ghost use Rattle.std.specs.Prelude.{◌≡◌, IfOk, IfErr, IfSome, map, codes, string_bytes};
+ghost use Rattle.std.specs.Prelude.{◌≡◌, ◌↔◌, true, Some, IfOk, IfErr, IfSome, map, codes};
+ghost use Rattle.std.specs.Prelude.{string_bytes};
+ghost use Rattle.clap.specs.Matches.{found_of};
 ghost use Rattle.clap.specs.Simple.{subcommand_rows_of};
-ghost use Rattle.command_line.specs.Words.{IsArgument, IsCommand, Reads, AskFor, AskForNone, wanted, option, segments_option};
+ghost use Rattle.clap.specs.Walk.{first_of, rows_of};
+ghost use Rattle.command_line.specs.Words.{IsArgument, IsCommand, IsImportOf, Reads, AskFor, AskForNone};
+ghost use Rattle.command_line.specs.Words.{wanted, option, optional, flag, segments_option};
 ghost use Rattle.command_line.specs.Words.{init_command, import_command, serve_command, status_command, merge_command, demo_command};
 ghost use Rattle.command_line.specs.Words.{empty_program, program};
 
+use crate::paths::place_of;
 use clap::builder::ValueParser;
 use clap::error::ErrorKind;
 use clap::{Arg, ArgAction, ArgMatches, Command, Error};
@@ -22,10 +27,12 @@ pub enum Task<'a> {
         store: &'a str,
     },
     /// Import the release in the folder `name` below `releases`.
+    /// If `quiet`, people are told of nothing but what may be wrong.
     Import {
         store: &'a str,
         releases: &'a str,
         name: &'a str,
+        quiet: bool,
     },
     /// Answer the lines of the input. Releases are folders below `releases`.
     Serve {
@@ -106,13 +113,34 @@ fn releases<'a>(alloc: Global) -> Arg<'a>
         .action(ArgAction::Set)
 }
 
-/// The name of a release.
+/// The same, where the name of a release may be a path.
+fn releases_if_given<'a>(alloc: Global) -> Arg<'a>
+    ensures { IsArgument (optional (codes "releases")) result }
+{
+    Arg::new(alloc, "releases")
+        .long("releases")
+        .value_name("DIR")
+        .help("The folder that holds the release's folder, if NAME isn't its path")
+        .action(ArgAction::Set)
+}
+
+/// The option that leaves warnings and refusals alone.
+fn quiet<'a>(alloc: Global) -> Arg<'a>
+    ensures { IsArgument (flag (codes "quiet")) result }
+{
+    Arg::new(alloc, "quiet")
+        .long("quiet")
+        .help("Tells of warnings and refusals alone on standard error")
+        .action(ArgAction::SetTrue)
+}
+
+/// The name of a release, or its path.
 fn name<'a>(alloc: Global) -> Arg<'a>
     ensures { IsArgument (wanted (codes "name")) result }
 {
     Arg::new(alloc, "name")
         .value_name("NAME")
-        .help("The release's folder below DIR")
+        .help("The release's folder: its name below DIR, or its path")
         .required(true)
         .action(ArgAction::Set)
 }
@@ -144,7 +172,8 @@ fn import<'a>(alloc: Global) -> Result<Command<'a>, AllocError>
     Command::new(alloc, "import")
         .about("Imports the Full and Delta files of an unpacked RF2 release")
         .arg(store(alloc))?
-        .arg(releases(alloc))?
+        .arg(releases_if_given(alloc))?
+        .arg(quiet(alloc))?
         .arg(name(alloc))
 }
 
@@ -216,11 +245,7 @@ fn named<'a>(matches: &ArgMatches<'a>) -> Option<Task<'a>>
         "init" => Some(Task::Init {
             store: found.get_str("store")?,
         }),
-        "import" => Some(Task::Import {
-            store: found.get_str("store")?,
-            releases: found.get_str("releases")?,
-            name: found.get_str("name")?,
-        }),
+        "import" => import_of(found),
         "serve" => Some(Task::Serve {
             store: found.get_str("store")?,
             releases: found.get_str("releases")?,
@@ -237,5 +262,30 @@ fn named<'a>(matches: &ArgMatches<'a>) -> Option<Task<'a>>
         }
         "demo" => Some(Task::Demo),
         _ => None,
+    }
+}
+
+/// The import that the words ask for. A folder that isn't given is the one above the release's.
+fn import_of<'a>(found: &ArgMatches<'a>) -> Option<Task<'a>>
+    ensures { IfSome result (IsImportOf (rows_of (found_of found.now))) }
+{
+    let store = found.get_str("store")?;
+    let (releases, name) = place_of(found.get_str("releases"), found.get_str("name")?);
+    Some(Task::Import {
+        store,
+        releases,
+        name,
+        quiet: is_set(found, "quiet"),
+    })
+}
+
+/// Whether a flag was given.
+fn is_set(found: &ArgMatches<'_>, id: &str) -> bool
+    ensures { (result ≡ true)
+        ↔ (first_of id.now (rows_of (found_of found.now)) ≡ Some (codes "true")) }
+{
+    match found.get_str(id) {
+        Some(text) => text == "true",
+        None => false,
     }
 }

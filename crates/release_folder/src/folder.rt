@@ -11,6 +11,7 @@ use crate::guards::{
 };
 use crate::names::kind_to_take;
 use crate::obstacle::{Obstacle, ReadFault};
+use crate::watcher::{Unwatched, Watcher};
 use import_check::{Release, ReleaseFile};
 use std::alloc::Global;
 use std::fs::{self, File, Files};
@@ -33,18 +34,20 @@ pub fn read_folder<R: Files<File = File> + AllocGlobal + Clone + Drop>(
     // in the byte order of names; `release_of` says which come first.
     ensures in_order { IfOk result (λ release. AreInOrder release.files.items) }
 {
-    match read_release(rt, alloc, dir, name) {
+    match read_release(rt, alloc, dir, name, &mut Unwatched) {
         Ok(release) => Ok(release),
         Err(fault) => Err(fault.fault()),
     }
 }
 
 /// The same, with what stood in its way. Nothing is opened that isn't a folder or a regular file.
-pub fn read_release<R: Files<File = File> + AllocGlobal + Clone + Drop>(
+/// The watcher is told of each file in the two folders.
+pub fn read_release<R: Files<File = File> + AllocGlobal + Clone + Drop, W: Watcher>(
     rt: &R,
     alloc: Global,
     dir: &str,
     name: &str,
+    watcher: &mut W,
 ) -> Result<Release, ReadFault>
     ensures taken { IfOk result (λ release. All IsTakenFile release.files.items) }
     ensures some { IfOk result (λ release. release.files.items ≢ []) }
@@ -53,8 +56,8 @@ pub fn read_release<R: Files<File = File> + AllocGlobal + Clone + Drop>(
     let root = format!(in alloc; "{dir}/{name}")?;
     check_folder(rt, alloc, &root)?;
     check_parts(rt, alloc, &root)?;
-    let terminology = files_of(rt, alloc, &root, TERMINOLOGY)?;
-    let content = files_of(rt, alloc, &root, CONTENT)?;
+    let terminology = files_of(rt, alloc, &root, TERMINOLOGY, watcher)?;
+    let content = files_of(rt, alloc, &root, CONTENT, watcher)?;
     match release_of(terminology, content) {
         Ok(release) => Ok(release),
         Err(FolderFault::OutOfMemory) => Err(ReadFault::OutOfMemory),
@@ -89,17 +92,18 @@ pub fn release_of(
 }
 
 /// The release files of one folder of a release.
-fn files_of<R: Files<File = File> + AllocGlobal + Clone + Drop>(
+fn files_of<R: Files<File = File> + AllocGlobal + Clone + Drop, W: Watcher>(
     rt: &R,
     alloc: Global,
     root: &str,
     part: &str,
+    watcher: &mut W,
 ) -> Result<Vec<ReleaseFile>, ReadFault>
     ensures { IfOk result (λ files. All IsTakenFile files.items) }
 {
     let folder = format!(in alloc; "{root}/{part}")?;
     let mut files = Vec::new(alloc);
-    add_files(rt, alloc, &folder, &mut files)?;
+    add_files(rt, alloc, &folder, &mut files, watcher)?;
     Ok(files)
 }
 
@@ -112,25 +116,29 @@ fn sort_by_name(files: &mut Vec<ReleaseFile>)
 }
 
 /// Adds the release files of one folder. An absent folder has none.
-fn add_files<R: Files<File = File> + AllocGlobal + Clone + Drop>(
+fn add_files<R: Files<File = File> + AllocGlobal + Clone + Drop, W: Watcher>(
     rt: &R,
     alloc: Global,
     folder: &str,
     files: &mut Vec<ReleaseFile>,
+    watcher: &mut W,
 ) -> Result<(), ReadFault>
     ensures { All IsTakenFile files.old.items → OnOk result (All IsTakenFile files.new.items) }
 {
     for name in names_in(rt, alloc, folder)? {
         if let Some(kind) = kind_to_take(name.as_bytes()) {
+            watcher.reads(&name);
             let path = format!(in alloc; "{folder}/{name}")?;
             let bytes = whole_file(rt, alloc, &path)?;
             files.push(ReleaseFile { name, kind, bytes })?;
+        } else {
+            watcher.passes_over(&name);
         }
     }
     Ok(())
 }
 
-/// The names in a folder. An absent folder has none.
+/// The names in a folder, in byte order. An absent folder has none.
 fn names_in<R: Files<File = File> + AllocGlobal + Clone + Drop>(
     rt: &R,
     alloc: Global,
@@ -149,6 +157,7 @@ fn names_in<R: Files<File = File> + AllocGlobal + Clone + Drop>(
         };
         names.push(String::from_str(alloc, entry.file_name())?)?;
     }
+    names.sort_unstable();
     Ok(names)
 }
 

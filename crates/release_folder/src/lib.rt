@@ -5,12 +5,16 @@ mod fault;
 mod folder;
 mod guards;
 mod names;
+mod nearly;
 mod obstacle;
+mod watcher;
 
 pub use fault::FolderFault;
 pub use folder::{read_folder, read_release, release_of};
 pub use names::kind_to_take;
+pub use nearly::is_nearly_to_take;
 pub use obstacle::{Obstacle, ReadFault};
+pub use watcher::{Unwatched, Watcher};
 
 #[cfg(test)]
 mod tests;

@@ -10,7 +10,7 @@ use bstr::ByteSlice;
 use rf2_values::Kind;
 
 /// What the name of a file of a kind begins with.
-fn beginning_of(kind: Kind) -> &'static [u8]
+pub(crate) fn beginning_of(kind: Kind) -> &'static [u8]
     ensures { result.now ≡ beginning kind }
 {
     match kind {

@@ -1,6 +1,7 @@
 use super::*;
 use import_check::{Release, sample};
 use rf2_values::Kind;
+use std::alloc::Global;
 use std::fs::{self, Files};
 use std::test::Fail;
 
@@ -112,7 +113,7 @@ fn files_of_one_kind_come_in_the_byte_order_of_their_names(rt: HostRuntime) -> R
 
 /// What stood in the way of a release below the folder `releases`.
 fn told(rt: &HostRuntime, name: &str) -> Result<String, Fail> {
-    match read_release(rt, rt.alloc(), "releases", name) {
+    match read_release(rt, rt.alloc(), "releases", name, &mut Unwatched) {
         Ok(_) => Ok(String::from_str(rt.alloc(), "a release")?),
         Err(fault) => Ok(format!(in rt.alloc(); "{fault}")?),
     }
@@ -209,6 +210,82 @@ fn what_stood_in_the_way_is_told(rt: HostRuntime) -> Result<(), Fail> {
             "releases/{name}: {nothing}; its folder {inner} is the one to name"
         )?;
         assert_eq!(rt; told.as_str(), want.as_str());
+    }
+    Ok(())
+}
+
+#[test]
+fn names_that_are_nearly_ones_to_take(rt: HostRuntime) {
+    for name in [
+        "sct2_relationship_full_INT_20200131.txt",
+        "xsct2_Concept_Full_INT_20200131.txt",
+        "XSCT2_DESCRIPTION_DELTA-EN_INT_20200131.TXT",
+        "sct2_Relationshipconcretevalues_Full_INT_20200131.txt",
+        "der2_crefset_associationFull_INT_20200131.txt",
+    ] {
+        assert!(rt; is_nearly_to_take(name.as_bytes()), "{name}");
+        assert!(rt; kind_to_take(name.as_bytes()).is_none(), "{name}");
+    }
+    for name in [
+        "",
+        "x",
+        "xxsct2_Concept_Full_INT_20200131.txt",
+        "sct2_Concept_Snapshot_INT_20200131.txt",
+        "sct2_Identifier_Full_INT_20200131.txt",
+        "sct2_Concept_Full_INT_20200131.csv",
+        "readme.txt",
+    ] {
+        assert!(rt; !is_nearly_to_take(name.as_bytes()), "{name}");
+    }
+}
+
+/// Keeps what it is told, a line a file.
+#[derive(Drop)]
+struct Notes {
+    alloc: Global,
+    lines: Vec<String>,
+}
+
+impl Watcher for Notes {
+    fn reads(&mut self, name: &str) {
+        if let Ok(line) = format!(in self.alloc; "reads {name}") {
+            let _ = self.lines.push(line);
+        }
+    }
+
+    fn passes_over(&mut self, name: &str) {
+        if let Ok(line) = format!(in self.alloc; "passes over {name}") {
+            let _ = self.lines.push(line);
+        }
+    }
+}
+
+#[test]
+fn a_watcher_is_told_of_each_file(rt: HostRuntime) -> Result<(), Fail> {
+    let taken = "sct2_Concept_Full_INT_20200131.txt";
+    for folder in ["Terminology", "Refset/Content"] {
+        let path = format!(in rt.alloc(); "releases/watched/{folder}")?;
+        fs::create_dir_all(&rt, path.as_str())?;
+        let path = format!(in rt.alloc(); "releases/watched/{folder}/{taken}")?;
+        fs::write(&rt, path.as_str(), b"id".as_slice())?;
+    }
+    fs::write(
+        &rt,
+        "releases/watched/Terminology/readme.txt",
+        b"".as_slice(),
+    )?;
+    let mut notes = Notes {
+        alloc: rt.alloc(),
+        lines: Vec::new(rt.alloc()),
+    };
+    let read = read_release(&rt, rt.alloc(), "releases", "watched", &mut notes);
+    assert!(rt; read.is_ok());
+    notes.lines.sort_unstable();
+    assert_eq!(rt; notes.lines.len(), 3);
+    assert_eq!(rt; notes.lines[0].as_str(), "passes over readme.txt");
+    for line in &notes.lines[1..] {
+        let want = format!(in rt.alloc(); "reads {taken}")?;
+        assert_eq!(rt; line.as_str(), want.as_str());
     }
     Ok(())
 }

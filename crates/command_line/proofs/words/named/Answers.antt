@@ -1,4 +1,4 @@
-use Rattle.std.proofs.Common.{◌≡◌, ◌∙◌, sym, ap₂, List, Option, Some, None, option_map, codes}
+use Rattle.std.proofs.Common.{◌≡◌, ◌∙◌, sym, ap₂, List, Option, Some, None, option_map, codes, IfSome}
 use Rattle.std.specs.Prelude.{Box}
 use Rattle.std.specs.Box.{box_value}
 use Rattle.clap.specs.Walk.{Text, Row, rows_of, first_of}
@@ -9,6 +9,9 @@ use Rattle.clap.specs.declared.parser.matches.ArgMatches.{ArgMatches}
 use Rattle.clap.specs.declared.parser.matches.ArgMatches.TheViews.{out-ArgMatches, out-SubCommand}
 use Rattle.clap.specs.declared.parser.matches.SubCommand.{SubCommand}
 use Rattle.clap.proofs.WalkLemmas.{first_value-rows}
+use Rattle.command_line.specs.declared.words.Task.{Task}
+use Rattle.command_line.specs.declared.words.Task.TheVariants as tasks
+use Rattle.command_line.specs.Words.{IsImportOf, Reads}
 use Rattle.command_line.proofs.words.named.Goals as goal
 
 abbrev pair : Text → List Row → Option (Text × List Row)
@@ -46,16 +49,21 @@ returns-in_ok-get_str-in-init c =
       given found (codes "store") c.in_ok-get_str-in-init.field-0.now c.in_ok-get_str-in-init.ensures,
     )
 
-pub returns-in_ok-get_str-in-import-3 : goal.returns-in_ok-get_str-in-import-3
-returns-in_ok-get_str-in-import-3 c =
+-- the import that was read
+import_read : (n : Text) (rows : List Row) (r : Option Task) → n ≡ codes "import" → IfSome r (IsImportOf rows) → IfSome r (Reads (pair n rows))
+import_read n rows None is h = tt
+import_read n rows (Some (tasks.Import store folder name quiet)) is h = (is, h)
+import_read n rows (Some (tasks.Init store)) is h = absurd h
+import_read n rows (Some (tasks.Serve store folder)) is h = absurd h
+import_read n rows (Some (tasks.Status store)) is h = absurd h
+import_read n rows (Some (tasks.Merge store segments)) is h = absurd h
+import_read n rows (Some tasks.Demo) is h = absurd h
+
+pub returns-in-import : goal.returns-in-import
+returns-in-import c =
     let found = found_of c.in_ok-name.found.now in
     let is = met c.args.matches.now c.in_ok-name.name.now (rows_of found) c.in_ok-name.ensures.name c.in_ok-name.ensures.rows in
-    rw is (
-      c.in-import.is,
-      given found (codes "store") c.in_ok-get_str-in-import.field-0.now c.in_ok-get_str-in-import.ensures,
-      given found (codes "releases") c.in_ok-get_str-in-import-2.field-0.now c.in_ok-get_str-in-import-2.ensures,
-      given found (codes "name") c.in_ok-get_str-in-import-3.field-0.now c.in_ok-get_str-in-import-3.ensures,
-    )
+    rw is (import_read c.in_ok-name.name.now (rows_of found) c.import_of.result c.in-import.is c.import_of.ensures)
 
 pub returns-in_ok-get_str-in-serve-2 : goal.returns-in_ok-get_str-in-serve-2
 returns-in_ok-get_str-in-serve-2 c =

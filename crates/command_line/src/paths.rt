@@ -1,0 +1,35 @@
+//! The folder of a release, by its path.
+
+ghost use Rattle.std.specs.Prelude.{option_map};
+ghost use Rattle.command_line.specs.Paths.{IsTrimmed, IsIn, IsNamed};
+
+/// A path without the slashes at its end.
+pub(crate) fn without_slashes(path: &str) -> &str
+    ensures { IsTrimmed path.now result.now }
+{
+    path.trim_end_matches('/')
+}
+
+/// The folder that holds what a path names, and its name there.
+pub(crate) fn folder_above(path: &str) -> (&str, &str)
+    ensures { IsIn path.now result.0.now result.1.now }
+{
+    match path.rsplit_once('/') {
+        Some((folder, name)) if folder.is_empty() => ("/", name),
+        Some((folder, name)) => (folder, name),
+        None => (".", path),
+    }
+}
+
+/// The folder of releases and the name of one: the name without the slashes at
+/// its end, and where the folder isn't given, that of a path and its last part.
+pub(crate) fn place_of<'a>(releases: Option<&'a str>, word: &'a str) -> (&'a str, &'a str)
+    ensures { IsNamed (option_map (λ s. s.now) releases.entry) word.now
+        result.0.now result.1.now }
+{
+    let path = without_slashes(word);
+    match releases {
+        Some(releases) => (releases, path),
+        None => folder_above(path),
+    }
+}
