@@ -112,7 +112,7 @@ pub(crate) fn tell_layout<E: Write>(
 
 /// Tells how many segments a store has, after a merge.
 pub(crate) fn tell_segments<E: Write>(store: &str, segments: u32, faults: &mut E) {
-    let _ = writeln!(faults, "sctd: {store}: {segments} segments");
+    let _ = writeln!(faults, "sctd: {store}: segments left: {segments}");
 }
 
 /// Writes the line.

@@ -225,13 +225,13 @@ fn segments_are_merged(rt: HostRuntime) -> Result<(), Fail> {
             "sctd merge --store joined --segments 2",
             "",
             "OK 3 12 2 -\n",
-            "sctd: joined: 2 segments\n",
+            "sctd: joined: segments left: 2\n",
         ),
         (
             "sctd merge --store joined",
             "",
             "OK 3 12 1 -\n",
-            "sctd: joined: 1 segments\n",
+            "sctd: joined: segments left: 1\n",
         ),
         (
             serve,
