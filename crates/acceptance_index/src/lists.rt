@@ -114,5 +114,9 @@ pub(crate) fn index_all(alloc: Global, lists: Vec<Vec<StampedRow>>) -> Result<In
 
 /// A reader of the rows.
 pub(crate) fn kept(lists: &[Vec<StampedRow>]) -> KeptRows<'_> {
-    KeptRows { lists, damages: 0 }
+    KeptRows {
+        lists,
+        reads: 0,
+        damages: 0,
+    }
 }

@@ -46,6 +46,10 @@ impl RowReader for Watched<'_> {
 
     ghost damages = { λ r. r.damages };
 
+    ghost work = { λ r. r.reads };
+
+    ghost cost = { λ _. 1 };
+
     ghost is_honest = { λ _. ⊥ };
 
     ghost stays = { λ a b. b.lists ≡ a.lists };

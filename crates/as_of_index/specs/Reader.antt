@@ -1,12 +1,9 @@
 -- What reading counts.
-use Rattle.std.specs.Prelude.{◌≡◌, ℕ, Bool, ◌&&◌, ◌==◌}
-use Rattle.fault_counts.specs.Counting.{HasRisen}
+use Rattle.std.specs.Prelude.{Bool, ◌&&◌, ◌==◌}
 use Rattle.rf2_values.specs.declared.key.Key.{Key}
 use Rattle.rf2_values.specs.Row.{kind_of}
 use Rattle.rf2_values.specs.Key.{kind_place}
 use Rattle.history_model.specs.declared.stamped.StampedRow.{StampedRow}
-use Rattle.fault_counts.specs.declared.fault.ReadFault.{ReadFault}
-use Rattle.fault_counts.specs.declared.fault.ReadFault.TheVariants as readfault
 
 -- the row has the key
 abbrev pub is_row_at : Key → StampedRow → Bool

@@ -1,6 +1,7 @@
 //! Rows that are to be read, and the reading of them.
 
-ghost use Rattle.std.specs.Prelude.{◌≡◌, ◌≢◌, ◌↔◌, List, map, IfOk, IfErr};
+ghost use Rattle.std.specs.Prelude.{◌≡◌, ◌≢◌, ◌↔◌, ◌+◌, ◌≤◌, List, map, IfOk, IfErr};
+ghost use Rattle.std.specs.List.{sum_by};
 ghost use Rattle.history_model.specs.declared.stamped.StampedRow.{StampedRow};
 ghost use Rattle.as_of_index.specs.Chosen.{StandAtAll};
 ghost use Rattle.fault_counts.specs.Counting.{Counts, CountsDiskFault, CountsDamage};
@@ -34,6 +35,9 @@ pub fn read_all<R: RowReader>(
     ensures undamaged { R.is_honest reader.old → (rows : List StampedRow)
         → StandAtAll (R.lists reader.old) places.now rows
         → IfErr result (λ e. e ≢ readfault.Damaged) }
+    // No more is read than these rows take, each read once.
+    ensures work { IfOk result (λ found.
+        R.work reader.new ≤ R.work reader.old + sum_by R.cost found.items) }
     ensures lists { R.lists reader.new ≡ R.lists reader.old }
     ensures honesty { R.is_honest reader.old → R.is_honest reader.new }
     ensures stays { R.stays reader.old reader.new }

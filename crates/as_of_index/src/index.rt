@@ -2,7 +2,9 @@
 
 ghost use Rattle.std.specs.Prelude.{◌≡◌, ◌<◌, ◌++◌, ◌∷◌, [], List, IfOk, length, Some, None, remove, slice_set, slice_get};
 ghost use Rattle.history_model.specs.InOrder.{IsAscending};
-ghost use Rattle.std.specs.Prelude.{◌↔◌, ◌≢◌, ◌≤◌, IfErr, IsTrue};
+ghost use Rattle.std.specs.Prelude.{◌↔◌, ◌≢◌, ◌≤◌, ◌+◌, IfErr, IsTrue};
+ghost use Rattle.std.specs.List.{sum_by};
+ghost use Rattle.std.specs.Option.{option_to_list};
 ghost use Rattle.history_model.specs.declared.stamped.StampedRow.{StampedRow};
 ghost use Rattle.history_model.specs.History.{rows_at};
 ghost use Rattle.history_model.specs.Lists.{listed};
@@ -179,6 +181,9 @@ impl Index {
             ≡ lookup kind id time (rows_at pin (listed (R.lists reader.old)))) }
         ensures undamaged { R.is_honest reader.old → Lists self.now (R.lists reader.old)
             → IfErr result (λ e. e ≢ readfault.Damaged) }
+        // No more is read than the row that it answers takes, and nothing where it answers none.
+        ensures work { IfOk result (λ found.
+            R.work reader.new ≤ R.work reader.old + sum_by R.cost (option_to_list found)) }
         ensures lists { R.lists reader.new ≡ R.lists reader.old }
         ensures honesty { R.is_honest reader.old → R.is_honest reader.new }
         ensures stays { R.stays reader.old reader.new }
@@ -209,6 +214,9 @@ impl Index {
             ≡ versions kind id (rows_at pin (listed (R.lists reader.old)))) }
         ensures undamaged { R.is_honest reader.old → Lists self.now (R.lists reader.old)
             → IfErr result (λ e. e ≢ readfault.Damaged) }
+        // No more is read than the rows that it answers take, each read once.
+        ensures work { IfOk result (λ rows.
+            R.work reader.new ≤ R.work reader.old + sum_by R.cost rows.items) }
         ensures lists { R.lists reader.new ≡ R.lists reader.old }
         ensures honesty { R.is_honest reader.old → R.is_honest reader.new }
         ensures stays { R.stays reader.old reader.new }
@@ -245,6 +253,9 @@ impl Index {
             ≡ page kind time after limit (rows_at pin (listed (R.lists reader.old)))) }
         ensures undamaged { R.is_honest reader.old → Lists self.now (R.lists reader.old)
             → IfErr result (λ e. e ≢ readfault.Damaged) }
+        // No more is read than the rows that it answers take, each read once.
+        ensures work { IfOk result (λ rows.
+            R.work reader.new ≤ R.work reader.old + sum_by R.cost rows.items) }
         ensures lists { R.lists reader.new ≡ R.lists reader.old }
         ensures honesty { R.is_honest reader.old → R.is_honest reader.new }
         ensures stays { R.stays reader.old reader.new }

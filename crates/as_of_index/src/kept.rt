@@ -23,6 +23,8 @@ use std::cmp::Ordering;
 #[derive(Drop)]
 pub struct KeptRows<'a> {
     pub lists: &'a [Vec<StampedRow>],
+    /// How many rows were asked for.
+    pub reads: u64,
     /// How often no row was found.
     pub damages: u64,
 }
@@ -78,6 +80,10 @@ impl RowReader for KeptRows<'_> {
 
     ghost damages = { λ r. r.damages };
 
+    ghost work = { λ r. r.reads };
+
+    ghost cost = { λ _. 1 };
+
     ghost is_honest = { λ r. AreLists (map vec_items r.lists.now) };
 
     ghost stays = { λ a b. b.lists ≡ a.lists };
@@ -87,6 +93,7 @@ impl RowReader for KeptRows<'_> {
     ghost stays_on = { λ a b c ab bc. bc ∙ ab };
 
     fn row(&mut self, alloc: Global, segment: usize, at: Posted) -> Result<StampedRow, ReadFault> {
+        self.reads = self.reads.saturating_add(1);
         if segment < self.lists.len() {
             let rows = &self.lists[segment];
             if let Some(found) = row_at(rows.as_slice(), &at.key) {

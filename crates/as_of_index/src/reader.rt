@@ -1,6 +1,7 @@
 //! Rows that are read at their places.
 
-ghost use Rattle.std.specs.Prelude.{◌≡◌, ◌≢◌, ℕ, List, ◌↔◌, IfOk, IfErr, ◌<◌};
+ghost use Rattle.std.specs.Prelude.{◌≡◌, ◌≢◌, ℕ, ◌+◌, ◌≤◌, List, ◌↔◌, IfOk, IfErr, ◌<◌};
+ghost use Rattle.rf2_values.specs.Row.{Version};
 ghost use Rattle.history_model.specs.declared.stamped.StampedRow.{StampedRow};
 ghost use Rattle.segment.specs.Standing.{StandsAt};
 ghost use Rattle.fault_counts.specs.Counting.{Counts, CountsDiskFault, CountsDamage};
@@ -22,6 +23,12 @@ pub trait RowReader {
     /// How often it answered `Damaged`.
     ghost damages: { Self → ℕ };
 
+    /// How much it has read, in a measure of its own: bytes, or rows.
+    ghost work: { Self → ℕ };
+
+    /// The most that reading a row takes, in this measure.
+    ghost cost: { Version → ℕ };
+
     /// What it gives are the rows of its lists.
     ghost is_honest: { Self → Type 0 };
 
@@ -35,6 +42,7 @@ pub trait RowReader {
         // Where a row stands, its reader answers a fault of the device or of memory alone.
         ensures undamaged { is_honest self.old → (s : StampedRow)
             → StandsAt (lists self.old) segment at s → IfErr result (λ e. e ≢ readfault.Damaged) }
+        ensures work { IfOk result (λ row. work self.new ≤ work self.old + cost row.row) }
         ensures lists { lists self.new ≡ lists self.old }
         ensures honesty { is_honest self.old → is_honest self.new }
         ensures stays { stays self.old self.new }

@@ -1,6 +1,7 @@
 //! What stands in the place of a component, as the posted associations say.
 
-ghost use Rattle.std.specs.Prelude.{◌≡◌, ◌≢◌, ◌↔◌, List, IfOk, IfErr, OnOk};
+ghost use Rattle.std.specs.Prelude.{◌≡◌, ◌≢◌, ◌↔◌, ◌+◌, ◌≤◌, List, IfOk, IfErr, OnOk};
+ghost use Rattle.std.specs.List.{sum_by};
 ghost use Rattle.std.specs.List.Sorted.{IsNonDecreasingBy};
 ghost use Rattle.std.specs.Ordering.{eq_by_cmp};
 ghost use Rattle.history_model.specs.declared.stamped.StampedRow.{StampedRow};
@@ -108,7 +109,7 @@ fn chosen_all(
 }
 
 /// The active associations of the component at the date, by refset, target and member, of the rows
-/// that the pin shows and of the versions that are posted. It reads these rows alone.
+/// that the pin shows and of the versions that are posted.
 pub fn replacements<R: RowReader>(
     alloc: Global,
     links: &Links,
@@ -126,6 +127,9 @@ pub fn replacements<R: RowReader>(
     ensures undamaged { R.is_honest reader.old → Lists index.now (R.lists reader.old)
         → PostsReferences (R.lists reader.old) links.now
         → IfErr result (λ e. e ≢ readfault.Damaged) }
+    // No more is read than the rows that it answers take, each read once.
+    ensures work { IfOk result (λ rows.
+        R.work reader.new ≤ R.work reader.old + sum_by R.cost rows.items) }
     ensures lists { R.lists reader.new ≡ R.lists reader.old }
     ensures honesty { R.is_honest reader.old → R.is_honest reader.new }
     ensures stays { R.stays reader.old reader.new }

@@ -16,6 +16,8 @@ use term_prefix::find;
 #[derive(Drop)]
 pub(crate) struct OneRow {
     stamped: StampedRow,
+    /// How often it was read.
+    reads: u64,
 }
 
 impl RowReader for OneRow {
@@ -26,6 +28,10 @@ impl RowReader for OneRow {
     ghost disk_faults = { λ _. 0 };
 
     ghost damages = { λ _. 0 };
+
+    ghost work = { λ r. r.reads };
+
+    ghost cost = { λ _. 1 };
 
     ghost is_honest = { λ _. ⊥ };
 
@@ -41,6 +47,7 @@ impl RowReader for OneRow {
         _segment: usize,
         _at: Posted,
     ) -> Result<StampedRow, ReadFault> {
+        self.reads = self.reads.saturating_add(1);
         Ok(self.stamped.try_clone(alloc)?)
     }
 }
@@ -48,6 +55,7 @@ impl RowReader for OneRow {
 pub(crate) fn one_row() -> io::Result<OneRow> {
     Ok(OneRow {
         stamped: one_association()?,
+        reads: 0,
     })
 }
 

@@ -1,6 +1,7 @@
 //! Searches of postings.
 
-ghost use Rattle.std.specs.Prelude.{◌≡◌, ◌≢◌, ◌≤◌, ◌++◌, List, length, map, take, IfOk, IfErr, OnOk};
+ghost use Rattle.std.specs.Prelude.{◌≡◌, ◌≢◌, ◌≤◌, ◌+◌, ◌++◌, List, length, map, take, IfOk, IfErr, OnOk};
+ghost use Rattle.std.specs.List.{sum_by};
 ghost use Rattle.history_model.specs.declared.stamped.StampedRow.{StampedRow};
 ghost use Rattle.history_model.specs.InOrder.{IsAscending, put};
 ghost use Rattle.history_model.specs.Searches.{IsPlace};
@@ -138,8 +139,6 @@ fn keep_all(
 
 /// The first rows by id of active descriptions at the date of which the folded term begins with the
 /// folded prefix, of the rows that the pin shows and of the versions that are posted.
-///
-/// A row is read only where it is answered.
 pub fn find<R: RowReader>(
     alloc: Global,
     terms: &Terms,
@@ -156,6 +155,9 @@ pub fn find<R: RowReader>(
         (rows_at pin (listed (R.lists reader.old)))) }
     ensures undamaged { R.is_honest reader.old → Lists index.now (R.lists reader.old)
         → PostsTerms (R.lists reader.old) terms.now → IfErr result (λ e. e ≢ readfault.Damaged) }
+    // No more is read than the rows that it answers take, each read once.
+    ensures work { IfOk result (λ rows.
+        R.work reader.new ≤ R.work reader.old + sum_by R.cost rows.items) }
     ensures lists { R.lists reader.new ≡ R.lists reader.old }
     ensures honesty { R.is_honest reader.old → R.is_honest reader.new }
     ensures stays { R.stays reader.old reader.new }

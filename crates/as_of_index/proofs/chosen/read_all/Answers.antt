@@ -1,4 +1,5 @@
-use Rattle.std.proofs.Common.{◌++◌, [], ◌∷◌, sym, ap, subst, ◌∙◌, take, map, rules}
+use Rattle.std.proofs.Common.{◌++◌, [], ◌∷◌, sym, ap, subst, ◌∙◌, take, map, rules, arith}
+use Rattle.std.proofs.lemmas.List.Sums.{sum_by_push}
 use Rattle.history_model.specs.declared.stamped.StampedRow.{StampedRow}
 use Rattle.segment.specs.Standing.{StandsAt}
 use Rattle.as_of_index.proofs.Current.{stand_at, stand_end, map-push}
@@ -11,6 +12,7 @@ loop-k-preserved g c =
     let found = c.in_ok-found in
     record {
       honesty = λ h. found.ensures.honesty (so_far.honesty h);
+      work = (let least = so_far.work in let more = found.ensures.work in rw (c.in_ok-push.ensures.items, sum_by_push g.R.RowReader.cost c.loop-k.rows.items found.found.row) (omega arith));
       lists = found.ensures.lists ∙ so_far.lists;
       stays = g.met.R.RowReader.stays_on a.reader.now _ _ so_far.stays found.ensures.stays;
       disk_faults = found.ensures.disk_faults ∙ so_far.disk_faults;

@@ -1,4 +1,5 @@
-use Rattle.std.proofs.Common.{◌≡◌, List, take, map}
+use Rattle.std.proofs.Common.{◌≡◌, ◌+◌, ◌≤◌, List, take, map}
+use Rattle.std.specs.List.{sum_by}
 use Rattle.history_model.specs.declared.stamped.StampedRow.{StampedRow}
 use Rattle.as_of_index.specs.Chosen.{StandAtAll}
 use Rattle.as_of_index.proofs.chosen.read_all.Given as goal
@@ -9,6 +10,7 @@ invariant-loop-k g l =
     record {
       honesty : r.is_honest l.fn.reader → r.is_honest l.reader;
       lists : r.lists l.reader ≡ r.lists l.fn.reader;
+      work : r.work l.reader ≤ r.work l.fn.reader + sum_by r.cost l.rows.items;
       stays : r.stays l.fn.reader l.reader;
       disk_faults : r.disk_faults l.reader ≡ r.disk_faults l.fn.reader;
       damages : r.damages l.reader ≡ r.damages l.fn.reader;

@@ -1,4 +1,4 @@
-use Rattle.std.proofs.Common.{◌+◌, true, sym, subst, ◌∙◌}
+use Rattle.std.proofs.Common.{◌+◌, sym, subst, ◌∙◌}
 use Rattle.history_model.specs.InOrder.{IsAscending}
 use Rattle.as_of_index.specs.Places.{place_cmp}
 use Rattle.as_of_index.proofs.Ordered.{IsAscending-take}

@@ -1,4 +1,4 @@
-use Rattle.std.proofs.Common.{take, true}
+use Rattle.std.proofs.Common.{take}
 use Rattle.as_of_index.proofs.Found.{none_from}
 use Rattle.as_of_index.proofs.Walking.{below_versions}
 use Rattle.as_of_index.proofs.search.latest_from.Goals as goal

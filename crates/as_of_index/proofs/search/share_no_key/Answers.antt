@@ -1,4 +1,4 @@
-use Rattle.std.proofs.Common.{true, false, take, sym, subst, ◌∙◌}
+use Rattle.std.proofs.Common.{take, sym, subst, ◌∙◌}
 use Rattle.as_of_index.specs.Places.{ShareNoKey}
 use Rattle.as_of_index.proofs.Apart.{one_more, Has-taken, none_shared}
 use Rattle.as_of_index.proofs.search.share_no_key.Goals as goal

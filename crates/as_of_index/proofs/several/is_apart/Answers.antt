@@ -1,4 +1,4 @@
-use Rattle.std.proofs.Common.{List, true, false, take, sym, subst, ◌∙◌}
+use Rattle.std.proofs.Common.{List, take, sym, subst, ◌∙◌}
 use Rattle.std.specs.List.{AllByRecursion}
 use Rattle.segment.specs.declared.place.Posted.{Posted}
 use Rattle.segment.proofs.SegmentLaws.{all_push}

@@ -1,5 +1,6 @@
 use Rattle.std.specs.Prelude.{nat_le}
 use Rattle.std.proofs.lemmas.Bool.Decides.{nat_tests}
+use Rattle.std.proofs.lemmas.List.Sums.{sum_by_push}
 use Rattle.std.proofs.Common.{◌≡◌, ℕ, ◌<◌, ◌≤◌, true, false, refl, sym, subst, ◌∙◌, arith, rules}
 use Rattle.history_model.specs.History.{rows_at}
 use Rattle.history_model.specs.Lists.{listed}
@@ -16,6 +17,7 @@ beyond m n apart = elim (nat_le m n) as (λ t. nat_le m n ≡ t → n < m) [ tru
 pub loop-segment-init : goal.loop-segment-init
 loop-segment-init g c = record {
   honesty = λ h. h;
+  work = rw c.new-rows.ensures.items (omega arith);
   stays = g.met.R.RowReader.stays_still c.args.reader.now;
   lists = λ _. g.R.RowReader.lists c.args.reader.now;
   disk_faults = (λ _. g.R.RowReader.disk_faults c.args.reader.now);
@@ -44,6 +46,7 @@ loop-segment-preserved g c =
     elim c.if-is_shown.branch [
       | then-is_shown+in_ok-found+in_ok-push w ↦ rw (w.reader-is, w.rows-is, c.time_of-time.ensures) (record {
         honesty = λ h. w.in_ok-found.ensures.honesty (so_far.honesty h);
+        work = (let least = so_far.work in let more = w.in_ok-found.ensures.work in rw (w.in_ok-push.ensures.items, sum_by_push g.R.RowReader.cost c.loop-segment.rows.items w.in_ok-found.found.row) (omega arith));
         stays = g.met.R.RowReader.stays_on a.reader.now _ _ so_far.stays w.in_ok-found.ensures.stays;
         lists = w.in_ok-found.ensures.lists ∙ so_far.lists;
         disk_faults = w.in_ok-found.ensures.disk_faults ∙ so_far.disk_faults;
@@ -59,6 +62,7 @@ loop-segment-preserved g c =
       })
       | else-is_shown w ↦ rw (w.reader-is, w.rows-is, c.time_of-time.ensures) (record {
         honesty = so_far.honesty;
+        work = so_far.work;
         stays = so_far.stays;
         lists = so_far.lists;
         disk_faults = so_far.disk_faults;

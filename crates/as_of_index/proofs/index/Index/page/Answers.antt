@@ -1,5 +1,6 @@
 use Rattle.std.proofs.Common.{◌-◌, Some, None, length, sym, ap, subst, ◌∙◌, arith, rules}
 use Rattle.std.proofs.lemmas.List.{length_push}
+use Rattle.std.proofs.lemmas.List.Sums.{sum_by_push}
 use Rattle.history_model.specs.declared.stamped.StampedRow.{StampedRow}
 use Rattle.segment.specs.Standing.{StandsAt}
 use Rattle.as_of_index.specs.declared.search.Start.TheVariants.{Components}
@@ -41,6 +42,7 @@ loop-lists-preserved-in_ok-push-in-Some g c =
       passed = ahead;
       within = (let e = length_push c.loop-lists.rows.items found.found.row in rw c.in_ok-push-in-Some.ensures.items (omega arith));
       honesty = λ h. found.ensures.honesty (so_far.honesty h);
+      work = (let least = so_far.work in let more = found.ensures.work in rw (c.in_ok-push-in-Some.ensures.items, sum_by_push g.R.RowReader.cost c.loop-lists.rows.items found.found.row) (omega arith));
       stays = g.met.R.RowReader.stays_on c.args.reader.now _ _ so_far.stays found.ensures.stays;
       lists = found.ensures.lists ∙ so_far.lists;
       disk_faults = found.ensures.disk_faults ∙ so_far.disk_faults;
@@ -65,6 +67,7 @@ loop-lists-preserved g c =
       passed = ahead;
       within = so_far.within;
       honesty = so_far.honesty;
+      work = so_far.work;
       stays = so_far.stays;
       lists = so_far.lists;
       disk_faults = so_far.disk_faults;
