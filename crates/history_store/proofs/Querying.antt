@@ -1,8 +1,11 @@
 -- What is left of a store after a query.
-use Rattle.std.proofs.Common.{◌≡◌, ◌≢◌, ◌↔◌, ℕ, false, Result, Ok, Err, IfOk, IfErr, MatchResult, refl, sym, ap, subst, ◌∙◌}
+use Rattle.std.proofs.Common.{◌≡◌, ◌≢◌, ◌↔◌, ℕ, ◌+◌, ◌≤◌, List, false, true, Result, Ok, Err, IfOk, IfErr, MatchResult, refl, sym, ap, subst, ◌∙◌}
 use Rattle.std.proofs.lemmas.Bool.{false≢true}
 use Rattle.fault_counts.specs.Counting.{Counts as CountsBy, CountsDiskFault}
 use Rattle.disk_model.specs.Disk.{Moments}
+use Rattle.lru.specs.LruCache.{LruCache}
+use Rattle.blocks.specs.Cache.{LooksUpSome}
+use Rattle.blocks.proofs.Looked.{none_looks_up}
 use Rattle.fault_counts.specs.declared.fault.ReadFault.{ReadFault}
 use Rattle.fault_counts.specs.declared.fault.ReadFault.TheVariants as readfault
 use Rattle.history_store.specs.declared.refusal.Refusal.{Refusal}
@@ -31,6 +34,12 @@ pub answered_so : {T : Type 0} (P Q : T → Type 0) (read : Result T ReadFault) 
 answered_so P Q (Ok x) result is so h = subst (λ r. IfOk r Q) (sym is) (so x h)
 answered_so P Q (Err fault) result is so h = subst (λ r. IfOk r Q) (sym is) tt
 
+-- no more bytes are read for what is answered than for what was read
+pub answered_bytes : {T D : Type 0} (bytes_read : D → ℕ) (cost : T → ℕ) (before : ℕ) (left disk : D) (read : Result T ReadFault) (result : Result T Refusal) → IsAnswerOf read result → left ≡ disk
+    → IfOk read (λ x. bytes_read disk ≤ before + cost x) → IfOk result (λ x. bytes_read left ≤ before + cost x)
+answered_bytes bytes_read cost before left disk read result is same h =
+    answered_so (λ x. bytes_read disk ≤ before + cost x) (λ x. bytes_read left ≤ before + cost x) read result is (λ x le. subst (λ d. bytes_read d ≤ before + cost x) (sym same) le) h
+
 undamaged_answer : {T : Type 0} (read : Result T ReadFault) → IfErr read (λ e. e ≢ readfault.Damaged) → IfErr (answer_of read) (λ e. e ≢ refusals.Damaged)
 undamaged_answer (Ok x) other = tt
 undamaged_answer (Err fault) other = read_undamaged fault (of_read fault) refl other
@@ -41,29 +50,43 @@ counted_answer (Err readfault.OutOfMemory) before after counts = counts
 counted_answer (Err readfault.DiskFault) before after counts = counts
 counted_answer (Err readfault.Damaged) before after counts = counts
 
-refused_beside : {D : Type 0} (e : Refusal) (old new : Stored D) (disk : D) → IsRefused e (record old { disk = disk }) new → IsRefused e old new
-refused_beside e old new disk r = record { history = r.history; shelf = r.shelf; closed = r.closed; still = r.still }
+refused_beside : {D : Type 0} (e : Refusal) (old new : Stored D) (disk : D) (cache : LruCache ℕ (List ℕ)) → IsRefused e (record old { disk = disk; cache = cache }) new → IsRefused e old new
+refused_beside e old new disk cache r = record { history = r.history; shelf = r.shelf; closed = r.closed; still = r.still }
 
--- whatever device the store has, the answer is the same
-read_beside : {T D : Type 0} (read : Result T ReadFault) (old new : Stored D) (disk : D) → IsReadingOf (answer_of read) (record old { disk = disk }) new → IsReadingOf (answer_of read) old new
-read_beside (Ok x) old new disk r = record { history = r.history; shelf = r.shelf; open_before = r.open_before; open_still = r.open_still }
-read_beside (Err readfault.OutOfMemory) old new disk r = (r.0, refused_beside _ old new disk r.1)
-read_beside (Err readfault.DiskFault) old new disk r = (r.0, refused_beside _ old new disk r.1)
-read_beside (Err readfault.Damaged) old new disk r = (r.0, refused_beside _ old new disk r.1)
+-- whatever device and whatever cache the store has, the answer is the same
+read_beside : {T D : Type 0} (read : Result T ReadFault) (old new : Stored D) (disk : D) (cache : LruCache ℕ (List ℕ)) → IsReadingOf (answer_of read) (record old { disk = disk; cache = cache }) new → IsReadingOf (answer_of read) old new
+read_beside (Ok x) old new disk cache r = record { history = r.history; shelf = r.shelf; open_before = r.open_before; open_still = r.open_still }
+read_beside (Err readfault.OutOfMemory) old new disk cache r = (r.0, refused_beside _ old new disk cache r.1)
+read_beside (Err readfault.DiskFault) old new disk cache r = (r.0, refused_beside _ old new disk cache r.1)
+read_beside (Err readfault.Damaged) old new disk cache r = (r.0, refused_beside _ old new disk cache r.1)
 
 -- the rows were read, and what was read is answered
-pub answered_query : {T D : Type 0} (honest : D → Type 0) (moments : D → Moments) (failures : D → ℕ) (old new : Stored D) (disk : D) (read : Result T ReadFault) (result : Result T Refusal)
-    → old.needs_reopen ≡ false → MomentsStay (honest old.disk) (honest disk) (moments old.disk) (moments disk) → CountsBy CountsDiskFault read (failures old.disk) (failures disk)
+pub answered_query : {T D : Type 0} (honest : D → Type 0) (moments : D → Moments) (failures : D → ℕ) (old new : Stored D) (disk : D) (cache : LruCache ℕ (List ℕ)) (read : Result T ReadFault) (result : Result T Refusal)
+    → old.needs_reopen ≡ false → LooksUpSome old.cache cache → new.cache ≡ cache → MomentsStay (honest old.disk) (honest disk) (moments old.disk) (moments disk) → CountsBy CountsDiskFault read (failures old.disk) (failures disk)
     → (honest old.disk → IfErr read (λ e. e ≢ readfault.Damaged))
-    → IsAnswerOf read result → IsReadingOf result (record old { disk = disk }) new → new.disk ≡ disk → (honest disk → new.needs_reopen ≡ false → IsAcknowledged moments new)
+    → IsAnswerOf read result → IsReadingOf result (record old { disk = disk; cache = cache }) new → new.disk ≡ disk → (honest disk → new.needs_reopen ≡ false → IsAcknowledged moments new)
     → IsQuery result honest moments failures old new
-answered_query honest moments failures old new disk read result still stay counts undamaged answers left same acknowledged = let is = is_answer read result answers in record {
+answered_query honest moments failures old new disk cache read result still looked_up kept stay counts undamaged answers left same acknowledged = let is = is_answer read result answers in record {
   undamaged = λ up. subst (λ r. IfErr r (λ e. e ≢ refusals.Damaged)) (sym is) (undamaged_answer read (undamaged up));
-  read = subst (λ r. IsReadingOf r old new) (sym is) (read_beside read old new disk (subst (λ r. IsReadingOf r (record old { disk = disk }) new) is left));
+  read = subst (λ r. IsReadingOf r old new) (sym is) (read_beside read old new disk cache (subst (λ r. IsReadingOf r (record old { disk = disk; cache = cache }) new) is left));
   closed = λ closed. absurd (false≢true (sym still ∙ closed));
+  looked_up = subst (λ c. LooksUpSome old.cache c) (sym kept) looked_up;
   moments = λ up. ap moments same ∙ stay.1 up;
   acknowledged = λ up. acknowledged (stay.0.0 up);
   honesty = subst (λ d. honest old.disk ↔ honest d) (sym same) stay.0;
   failures = subst (λ d. Counts result (failures old.disk) (failures d)) (sym same)
       (subst (λ r. Counts r (failures old.disk) (failures disk)) (sym is) (counted_answer read (failures old.disk) (failures disk) counts));
+}
+
+-- a store that has to be opened again isn't touched
+pub closed_query : {T D : Type 0} (honest : D → Type 0) (moments : D → Moments) (failures : D → ℕ) (s : Stored D) → s.needs_reopen ≡ true → IsQuery {T = T} (Err refusals.ReopenNeeded) honest moments failures s s
+closed_query honest moments failures s needs = record {
+  undamaged = λ up same. absurd (cc);
+  read = (needs, record { history = refl; shelf = refl; closed = λ same. absurd (cc); still = λ other. refl });
+  closed = λ closed. refl;
+  looked_up = none_looks_up s.cache;
+  moments = λ up. refl;
+  acknowledged = λ up still. absurd (false≢true (sym still ∙ needs));
+  honesty = (λ up. up, λ up. up);
+  failures = refl;
 }

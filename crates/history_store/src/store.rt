@@ -60,6 +60,7 @@ impl<D: Disk> Model for Store<D> {
       history = record { imports = s.directory.imports; rows = listed s.shown.items };
       shelf = shelf_of s.directory (merge_of s.merge);
       needs_reopen = s.needs_reopen;
+      cache = s.cache;
     } };
 
     ghost invariant = { λ s. IsHeld (D.is_honest s.disk) (D.moments s.disk).state
@@ -78,7 +79,7 @@ impl<D: Disk> Store<D> {
     ghost use Rattle.import_check.specs.Fresh.{IsApart};
     ghost use Rattle.store_image.specs.Images.{StandsFor, StandsAs};
     ghost use Rattle.history_store.specs.Shelf.{shelf_of};
-    ghost use Rattle.history_store.specs.Stored.{Stored, IsAcknowledged, with_rows};
+    ghost use Rattle.history_store.specs.Stored.{Stored, IsAcknowledged, with_rows, no_blocks};
     ghost use Rattle.history_store.specs.Prepared.{IsNotSpent, IsPreparedFor};
     ghost use Rattle.blocks.specs.Calls.{MakesCalls};
     ghost use Rattle.blocks.specs.Outside.{SameOutside, StemsWithin};
@@ -93,6 +94,10 @@ impl<D: Disk> Store<D> {
     ghost use Rattle.history_store.specs.Answers.{IsBeforeOrAfter, KeepsMoments};
     ghost use Rattle.history_store.specs.Refusals.{of_read};
     ghost use Rattle.history_store.specs.Queries.{IsQuery};
+    ghost use Rattle.history_store.specs.Reading.{row_cost};
+    ghost use Rattle.std.specs.List.{sum_by};
+    ghost use Rattle.std.specs.Option.{option_to_list};
+    ghost use Rattle.blocks.specs.Cache.{LooksUpSome};
     ghost use Rattle.history_store.specs.declared.refusal.Refusal.TheVariants as refusals;
 
     /// Makes a store on an empty disk. The length of the disk is looked
@@ -119,6 +124,8 @@ impl<D: Disk> Store<D> {
             → IfOk result (λ s. IsNewStore (D.moments s.disk).state.now) }
         // Whatever a stop leaves from now on stands for the empty history.
         ensures acknowledged { D.is_honest disk → IfOk result (IsAcknowledged D.moments) }
+        // On every disk the store begins with no block in memory.
+        ensures cache { IfOk result (λ s. s.cache ≡ no_blocks) }
         ensures honesty { D.is_honest disk ↔ D.is_honest (device_of result) }
         ensures failures { CountsOpening result (D.failures disk) (D.failures (device_of result)) }
     {
@@ -166,6 +173,8 @@ impl<D: Disk> Store<D> {
         ensures read { D.is_honest disk
             → (D.moments (device_of result)).state.now ≡ (D.moments disk).state.now }
         ensures acknowledged { D.is_honest disk → IfOk result (IsAcknowledged D.moments) }
+        // On every disk the store begins with no block in memory.
+        ensures cache { IfOk result (λ s. s.cache ≡ no_blocks) }
         ensures honesty { D.is_honest disk ↔ D.is_honest (device_of result) }
         ensures failures { CountsOpening result (D.failures disk) (D.failures (device_of result)) }
     {
@@ -218,6 +227,7 @@ impl<D: Disk> Store<D> {
             (λ fault. result ≡ Err (of_read fault)) }
         ensures left { IsReadingOf result self.old self.new }
         ensures disk { self.new.disk ≡ self.old.disk }
+        ensures cache { self.new.cache ≡ self.old.cache }
         ensures acknowledged { D.is_honest self.old.disk → self.new.needs_reopen ≡ false
             → IsAcknowledged D.moments self.new }
     {
@@ -244,6 +254,10 @@ impl<D: Disk> Store<D> {
         ensures found { D.is_honest self.old.disk
             → IfOk result (λ row. row ≡ lookup kind id time (rows_at pin self.old.history.rows)) }
         ensures query { IsQuery result D.is_honest D.moments D.failures self.old self.new }
+        // Whatever is on the disk, no more is read than the row that is answered takes,
+        // and nothing where none is answered.
+        ensures bytes_read { IfOk result (λ row. D.bytes_read self.new.disk
+            ≤ D.bytes_read self.old.disk + sum_by row_cost (option_to_list row)) }
     {
         if self.needs_reopen {
             return Err(Refusal::ReopenNeeded);
@@ -271,6 +285,7 @@ impl<D: Disk> Store<D> {
             (full self.old.history) release.now) }
         ensures still { IfOk result (λ fresh. IsStill self.old self.new) }
         ensures closed { IfErr result (λ e. IsRefused e self.old self.new) }
+        ensures looked_up { LooksUpSome self.old.cache self.new.cache }
         ensures moments { D.is_honest self.old.disk
             → D.moments self.new.disk ≡ D.moments self.old.disk }
         ensures honesty { D.is_honest self.old.disk ↔ D.is_honest self.new.disk }
@@ -329,6 +344,7 @@ impl<D: Disk> Store<D> {
         ensures calls { D.is_honest self.old.disk
             → MakesCalls result 6 (D.moments self.old.disk) (D.moments self.new.disk) }
         ensures honesty { D.is_honest self.old.disk ↔ D.is_honest self.new.disk }
+        ensures capacity { self.new.cache.cap ≡ self.old.cache.cap }
         ensures failures { Counts result (D.failures self.old.disk) (D.failures self.new.disk) }
     {
         match publish_listing(&mut self.disk, self.slot, &next) {
@@ -366,6 +382,7 @@ impl<D: Disk> Store<D> {
         ensures calls { D.is_honest self.old.disk
             → MakesCalls result 8 (D.moments self.old.disk) (D.moments self.new.disk) }
         ensures honesty { D.is_honest self.old.disk ↔ D.is_honest self.new.disk }
+        ensures capacity { self.new.cache.cap ≡ self.old.cache.cap }
         ensures failures { Counts result (D.failures self.old.disk) (D.failures self.new.disk) }
     {
         let Prepared {
@@ -429,6 +446,8 @@ impl<D: Disk> Store<D> {
         ensures calls { D.is_honest self.old.disk → MakesImportCalls result
             (D.moments self.old.disk) (D.moments self.new.disk) }
         ensures honesty { D.is_honest self.old.disk ↔ D.is_honest self.new.disk }
+        // There is room for as many blocks in memory as before.
+        ensures capacity { self.new.cache.cap ≡ self.old.cache.cap }
         ensures failures { Counts result (D.failures self.old.disk) (D.failures self.new.disk) }
     {
         if self.needs_reopen {
@@ -460,6 +479,9 @@ impl<D: Disk> Store<D> {
             → IfOk result (λ rows. rows.items ≡ versions kind id
             (rows_at pin self.old.history.rows)) }
         ensures query { IsQuery result D.is_honest D.moments D.failures self.old self.new }
+        // Whatever is on the disk, no more is read than the rows that are answered take.
+        ensures bytes_read { IfOk result (λ rows. D.bytes_read self.new.disk
+            ≤ D.bytes_read self.old.disk + sum_by row_cost rows.items) }
     {
         if self.needs_reopen {
             return Err(Refusal::ReopenNeeded);
@@ -490,6 +512,9 @@ impl<D: Disk> Store<D> {
             → IfOk result (λ rows. rows.items ≡ page kind time after limit
             (rows_at pin self.old.history.rows)) }
         ensures query { IsQuery result D.is_honest D.moments D.failures self.old self.new }
+        // Whatever is on the disk, no more is read than the rows that are answered take.
+        ensures bytes_read { IfOk result (λ rows. D.bytes_read self.new.disk
+            ≤ D.bytes_read self.old.disk + sum_by row_cost rows.items) }
     {
         if self.needs_reopen {
             return Err(Refusal::ReopenNeeded);
@@ -519,6 +544,9 @@ impl<D: Disk> Store<D> {
             → IfOk result (λ rows. rows.items ≡ terms prefix.now time limit
             (rows_at pin self.old.history.rows)) }
         ensures query { IsQuery result D.is_honest D.moments D.failures self.old self.new }
+        // Whatever is on the disk, no more is read than the rows that are answered take.
+        ensures bytes_read { IfOk result (λ rows. D.bytes_read self.new.disk
+            ≤ D.bytes_read self.old.disk + sum_by row_cost rows.items) }
     {
         if self.needs_reopen {
             return Err(Refusal::ReopenNeeded);
@@ -578,6 +606,9 @@ impl<D: Disk> Store<D> {
             → IfOk result (λ rows. rows.items ≡ replacements id time
             (rows_at pin self.old.history.rows)) }
         ensures query { IsQuery result D.is_honest D.moments D.failures self.old self.new }
+        // Whatever is on the disk, no more is read than the rows that are answered take.
+        ensures bytes_read { IfOk result (λ rows. D.bytes_read self.new.disk
+            ≤ D.bytes_read self.old.disk + sum_by row_cost rows.items) }
     {
         if self.needs_reopen {
             return Err(Refusal::ReopenNeeded);

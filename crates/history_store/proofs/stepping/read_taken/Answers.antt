@@ -6,6 +6,7 @@ use Rattle.segment.specs.Standing.{StandsAt}
 use Rattle.merge.specs.declared.Taken.{Taken}
 use Rattle.merge.proofs.Steps.{zip_push}
 use Rattle.blocks.specs.Cache.{AgreesWith}
+use Rattle.blocks.proofs.Looked.{some_more}
 use Rattle.disk_model.specs.Disk.{Moments}
 use Rattle.history_store.specs.Reading.{AreThere}
 use Rattle.history_store.specs.Stepping.{StandsIn, IsReadAt}
@@ -39,6 +40,7 @@ loop-t-preserved g c =
       moments = λ up. read.moments (so_far.honesty.0 up) ∙ so_far.moments up;
       honesty = (λ up. read.honesty.0 (so_far.honesty.0 up), λ down. so_far.honesty.1 (read.honesty.1 down));
       failures = read.failures ∙ so_far.failures;
+      looked_up = some_more a.cache.now l.cache c.read_row.new.cache so_far.looked_up read.looked_up;
     }
 
 pub returns-in_err-row-clause-found : goal.returns-in_err-row-clause-found

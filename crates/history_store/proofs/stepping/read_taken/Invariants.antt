@@ -1,7 +1,7 @@
 use Rattle.std.specs.List.{AllZip}
 use Rattle.std.proofs.Common.{◌≡◌, ◌↔◌, List, take}
 use Rattle.history_model.specs.declared.stamped.StampedRow.{StampedRow}
-use Rattle.blocks.specs.Cache.{AgreesWith}
+use Rattle.blocks.specs.Cache.{AgreesWith, LooksUpSome}
 use Rattle.history_store.specs.Reading.{AreThere}
 use Rattle.history_store.specs.Stepping.{StandsIn, IsReadAt}
 use Rattle.history_store.proofs.stepping.read_taken.Given as goal
@@ -17,4 +17,5 @@ invariant-loop-t g l =
       moments : disk.is_honest l.fn.disk → disk.moments l.disk ≡ disk.moments l.fn.disk;
       honesty : disk.is_honest l.fn.disk ↔ disk.is_honest l.disk;
       failures : disk.failures l.disk ≡ disk.failures l.fn.disk;
+      looked_up : LooksUpSome l.fn.cache l.cache;
     }

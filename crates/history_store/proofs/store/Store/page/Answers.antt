@@ -5,7 +5,7 @@ use Rattle.history_model.specs.Queries.{page}
 use Rattle.segment.specs.Standing.{places_of}
 use Rattle.history_store.proofs.GoingOn.{merge_read}
 use Rattle.history_store.proofs.Held.{held_read, lent_honest}
-use Rattle.history_store.proofs.Querying.{answered_so, answered_query}
+use Rattle.history_store.proofs.Querying.{answered_so, answered_query, answered_bytes, closed_query}
 use Rattle.history_store.proofs.store.Store.page.Goals as goal
 
 pub invariant_of-self : goal.invariant_of-self
@@ -26,9 +26,16 @@ returns-clause-found g c = rw (← c.self.view_is) (λ up.
 
 pub returns-clause-query : goal.returns-clause-query
 returns-clause-query g c = rw (← c.self.view_is) (
-    answered_query g.D.Disk.is_honest g.D.Disk.moments g.D.Disk.failures _ c.answered.new.self c.page-read.new.reader.disk.now c.page-read.result c.answered.result
-    c.if-self.false c.page-read.ensures.stays.0 c.page-read.ensures.disk_faults
+    answered_query g.D.Disk.is_honest g.D.Disk.moments g.D.Disk.failures _ c.answered.new.self c.page-read.new.reader.disk.now c.page-read.new.reader.cache.now c.page-read.result c.answered.result
+    c.if-self.false c.page-read.ensures.stays.5 c.answered.ensures.cache c.page-read.ensures.stays.0 c.page-read.ensures.disk_faults
     (λ up.
     let lent = lent_honest _ _ _ _ _ _ _ _ c.self.invariant.0 c.entries.result.now c.as_slice.result.now c.entries.ensures.entries c.as_slice.ensures.value up c.if-self.false (g.met.D.Disk.now_is_image c.self.inside.disk up) in
     c.page-read.ensures.undamaged lent (c.self.invariant.0.places ∙ ap (map places_of) (sym c.as_slice.ensures.value)))
     c.answered.ensures.same c.answered.ensures.left c.answered.ensures.disk c.answered.ensures.acknowledged)
+
+pub returns-clause-bytes_read : goal.returns-clause-bytes_read
+returns-clause-bytes_read g c = rw (← c.self.view_is) (
+    answered_bytes g.D.Disk.bytes_read _ _ c.answered.new.self.disk c.page-read.new.reader.disk.now c.page-read.result c.answered.result c.answered.ensures.same c.answered.ensures.disk c.page-read.ensures.work)
+
+pub returns-then-self-clause-query : goal.returns-then-self-clause-query
+returns-then-self-clause-query g c = rw (← c.self.view_is) (closed_query g.D.Disk.is_honest g.D.Disk.moments g.D.Disk.failures _ c.if-self.true)
