@@ -25,4 +25,5 @@ pub mod Likeness
 pub mod PostedRows
 pub mod SteppedMerge
 pub mod SteppedStore
+pub mod StepWrites
 mod ImportCounts
