@@ -26,3 +26,4 @@ pub mod PostedRows
 pub mod SteppedMerge
 pub mod SteppedStore
 mod ImportCounts
+pub mod LatestTimes
