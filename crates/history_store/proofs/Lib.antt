@@ -27,3 +27,4 @@ pub mod SteppedMerge
 pub mod SteppedStore
 pub mod StepWrites
 mod ImportCounts
+pub mod LatestTimes

@@ -8,6 +8,7 @@
 mod beginning;
 mod counting;
 mod known;
+mod latest;
 pub mod laws;
 mod merge_calls;
 mod ongoing;

@@ -6,6 +6,7 @@ ghost use Rattle.disk_model.specs.Disk.{EachImage, IsImage, LeavesOnly};
 
 use crate::counting::row_count;
 use crate::known::fresh_rows;
+use crate::latest::latest_time;
 use crate::ongoing::Ongoing;
 use crate::posting::Posting;
 use crate::preparing::{Prepared, is_spent, prepare, repeated};
@@ -93,6 +94,7 @@ impl<D: Disk> Store<D> {
     ghost use Rattle.history_store.specs.Answers.{IsBeforeOrAfter, KeepsMoments};
     ghost use Rattle.history_store.specs.Refusals.{of_read};
     ghost use Rattle.history_store.specs.Queries.{IsQuery};
+    ghost use Rattle.history_store.specs.Latest.{IsLatest, row_time};
     ghost use Rattle.history_store.specs.declared.refusal.Refusal.TheVariants as refusals;
 
     /// Makes a store on an empty disk. The length of the disk is looked
@@ -628,6 +630,14 @@ impl<D: Disk> Store<D> {
         ensures { result ≡ length self.now.history.rows }
     {
         row_count(self.directory.entries())
+    }
+
+    /// The greatest effective time of a row, of any kind; none where there is no row.
+    /// It goes over all places in memory, and reads nothing.
+    pub fn latest_time(&self) -> Option<EffectiveTime>
+        ensures { IsLatest row_time result self.now.history.rows }
+    {
+        latest_time(&self.index)
     }
 
     /// Whether the device failed in a call, so that the store has to be opened again.
