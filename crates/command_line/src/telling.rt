@@ -1,8 +1,12 @@
 //! Why, for people: a line on standard error beside the ERR line that programs read.
 
+use crate::differing::Other;
 use line_server::Reply;
 use std::alloc::{AllocError, Global};
 use std::io::{self, Write};
+
+/// The number of the refusal of a row that differs from another one of the same id and date.
+pub(crate) const CONTRADICTION: usize = 32;
 
 /// What the last line says that was told, where it is a refusal.
 #[derive(Clone, Copy, Debug, PartialEq, Eq)]
@@ -87,6 +91,7 @@ pub(crate) struct Scene<'a> {
     pub store: &'a str,
     pub said: Option<io::Error>,
     pub files: &'a [String],
+    pub other: Other,
 }
 
 /// Tells why a task was refused, if it was and that wasn't told before.
@@ -126,15 +131,40 @@ fn write_why<E: Write>(told: Told, scene: &Scene<'_>, faults: &mut E) -> io::Res
         // Nothing was refused, or it was told where the file, the folder was looked for.
         0 | 2 | 45 => Ok(()),
         20..=32 => {
-            let line = told.line;
-            match scene.files.get(told.file.wrapping_sub(1)) {
-                Some(name) => writeln!(faults, "sctd: {name}, line {line}: {why}"),
-                None => writeln!(faults, "sctd: line {line}: {why}"),
-            }
+            write!(faults, "sctd: ")?;
+            write_place(scene.files, told.file, told.line, faults)?;
+            write!(faults, ": {why}")?;
+            write_other(scene, faults)
         }
         43 => writeln!(faults, "sctd: {why}"),
         _ => writeln!(faults, "sctd: {store}: {why}"),
     }
+}
+
+/// Writes the name of a file and the number of a line in it.
+fn write_place<E: Write>(
+    files: &[String],
+    file: usize,
+    line: usize,
+    faults: &mut E,
+) -> io::Result<()> {
+    match files.get(file.wrapping_sub(1)) {
+        Some(name) => write!(faults, "{name}, line {line}"),
+        None => write!(faults, "line {line}"),
+    }
+}
+
+/// Ends the line, with where the row stands from which a refused one differs, if that is known.
+fn write_other<E: Write>(scene: &Scene<'_>, faults: &mut E) -> io::Result<()> {
+    match scene.other {
+        Other::Unknown => {}
+        Other::InRelease { file, line } => {
+            write!(faults, ": ")?;
+            write_place(scene.files, file, line, faults)?;
+        }
+        Other::InStore => write!(faults, ": one that the store has")?,
+    }
+    writeln!(faults)
 }
 
 /// The names of the files of a release.
