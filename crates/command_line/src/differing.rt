@@ -1,38 +1,24 @@
-//! The other row of a contradiction, looked for again in the release, for people.
+//! The other row of a contradiction, looked for in the release, for people.
 
 use import_check::ReleaseFile;
 
-/// Where the row stands from which a refused one differs.
-#[derive(Clone, Copy, Debug, PartialEq, Eq)]
-pub(crate) enum Other {
-    /// Nobody looked.
-    Unknown,
-    /// In a file of the release, both numbers from 1.
-    InRelease { file: usize, line: usize },
-    /// In the store, since the release has no other such row.
-    InStore,
-}
-
-/// Looks for the first row of the same kind, id and date that differs
-/// from a refused one, of which the file and the line are given, from 1.
-pub(crate) fn find_other(files: &[ReleaseFile], file: usize, line: usize) -> Other {
-    let Some(refused) = files.get(file.wrapping_sub(1)) else {
-        return Other::Unknown;
-    };
-    let Some(row) = line_of(&refused.bytes, line) else {
-        return Other::Unknown;
-    };
+/// Looks in a release for the first row of the same kind, id and date that differs from a refused
+/// one, of which the file and the line are given, both from 1: so is the answer.
+pub(crate) fn find_other(
+    files: &[ReleaseFile],
+    file: usize,
+    line: usize,
+) -> Option<(usize, usize)> {
+    let refused = files.get(file.wrapping_sub(1))?;
+    let row = line_of(&refused.bytes, line)?;
     for (i, other) in files.iter().enumerate() {
         if other.kind as u8 == refused.kind as u8
             && let Some(line) = find_in(&other.bytes, row)
         {
-            return Other::InRelease {
-                file: i.wrapping_add(1),
-                line,
-            };
+            return Some((i.wrapping_add(1), line));
         }
     }
-    Other::InStore
+    None
 }
 
 /// The line of a file with this number, from 1, without its end.

@@ -1,13 +1,13 @@
 //! Releases in unpacked folders.
 
-use crate::differing::{Other, find_other};
 use crate::places::Places;
 use crate::progress::tell_taken;
-use crate::telling::{CONTRADICTION, Scene, Told, names_of, tell_why};
+use crate::telling::{Scene, Told, tell_row, tell_why};
+use history_store::Refusal;
 use import_check::Release;
 use line_server::{Source, SourceFault};
 use std::alloc::Global;
-use std::io::{self, Write};
+use std::io::Write;
 
 /// Has the releases in the folders below one.
 #[derive(Drop)]
@@ -19,40 +19,16 @@ pub struct FolderSource<'a, P: Places, E: Write> {
     pub faults: &'a mut E,
     /// People are told of nothing but what may be wrong.
     pub quiet: bool,
-    /// The name of the release that was had last, and the names of its files.
-    pub name: Option<String>,
-    pub files: Vec<String>,
 }
 
 impl<P: Places, E: Write> FolderSource<'_, P, E> {
     /// Tells why a task on the store under a name was refused, if it was.
-    pub(crate) fn tell_why(&mut self, alloc: Global, told: Told, store: &str, left: &P::Device) {
-        let other = if told.code == CONTRADICTION {
-            self.look_again(alloc, told)
-        } else {
-            Other::Unknown
-        };
+    pub(crate) fn tell_why(&mut self, told: Told, store: &str, left: &P::Device) {
         let scene = Scene {
             store,
             said: self.places.said(left),
-            files: &self.files,
-            other,
         };
         tell_why(told, &scene, self.faults);
-    }
-
-    /// Reads the release once more, for the row from which the refused one differs.
-    fn look_again(&self, alloc: Global, told: Told) -> Other {
-        let Some(name) = &self.name else {
-            return Other::Unknown;
-        };
-        match self
-            .places
-            .release(alloc, self.dir, name, true, &mut io::sink())
-        {
-            Ok(release) => find_other(&release.files, told.file, told.line),
-            Err(_) => Other::Unknown,
-        }
     }
 }
 
@@ -67,9 +43,11 @@ impl<P: Places, E: Write> Source for FolderSource<'_, P, E> {
             .release(alloc, self.dir, name, self.quiet, self.faults);
         if let Ok(release) = &given {
             tell_taken(release, self.quiet, self.faults);
-            self.name = String::from_str(alloc, name).ok();
-            self.files = names_of(alloc, &release.files).unwrap_or(Vec::new(alloc));
         }
         given
+    }
+
+    fn note_refusal(&mut self, release: &Release, refusal: Refusal) {
+        tell_row(release, refusal, self.faults);
     }
 }

@@ -6,7 +6,6 @@ ghost use Rattle.command_line.specs.Merging.{IsMergedOnDisk};
 ghost use Rattle.command_line.specs.Runs.{IsDoneAt, IsMissing, IsDemonstrated, Does, IsRun, IsNoTask, IsExplained};
 
 use crate::demonstration::SCRIPT;
-use crate::differing::Other;
 use crate::endings::{Ending, fail, finish, refuse};
 use crate::folders::FolderSource;
 use crate::importing::import;
@@ -135,8 +134,6 @@ fn init_at<P: Places, O: Write, E: Write>(
             let scene = Scene {
                 store: path,
                 said: places.said(&left),
-                files: &[],
-                other: Other::Unknown,
             };
             tell_why(told, &scene, faults);
             (ended, Some(left))
@@ -172,11 +169,9 @@ fn import_at<P: Places, O: Write, E: Write>(
                 dir,
                 faults,
                 quiet,
-                name: None,
-                files: Vec::new(alloc),
             };
             let (ended, left) = import(alloc, device, name, &mut source, output, &mut told);
-            source.tell_why(alloc, told, path, &left);
+            source.tell_why(told, path, &left);
             (ended, Some(left))
         }
         Err(_) => (refuse(alloc, output, Refusal::DiskFault, &mut told), None),
@@ -210,11 +205,9 @@ fn serve_at<P: Places, I: Read, O: Write, E: Write>(
                 dir,
                 faults,
                 quiet: true,
-                name: None,
-                files: Vec::new(alloc),
             };
             let (ended, left) = serve_device(alloc, device, &mut source, input, output, &mut told);
-            source.tell_why(alloc, told, path, &left);
+            source.tell_why(told, path, &left);
             (ended, Some(left))
         }
         Err(_) => (refuse(alloc, output, Refusal::DiskFault, &mut told), None),
@@ -244,8 +237,6 @@ fn status_at<P: Places, O: Write, E: Write>(
             let scene = Scene {
                 store: path,
                 said: places.said(&left),
-                files: &[],
-                other: Other::Unknown,
             };
             tell_why(told, &scene, faults);
             tell_layout(path, layout, size, faults);
@@ -278,8 +269,6 @@ fn merge_at<P: Places, O: Write, E: Write>(
             let scene = Scene {
                 store: path,
                 said: places.said(&left),
-                files: &[],
-                other: Other::Unknown,
             };
             tell_why(told, &scene, faults);
             (ended, Some(left))
