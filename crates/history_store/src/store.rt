@@ -88,7 +88,7 @@ impl<D: Disk> Store<D> {
     ghost use Rattle.history_store.specs.Written.{added_ranges};
     ghost use Rattle.history_store.specs.Calls.{MakesImportCalls};
     ghost use Rattle.history_store.specs.Answers.{Counts, IsStep, device_of, CountsOpening};
-    ghost use Rattle.history_store.specs.Answers.{IsMakingOf, IsMakingCause, IsOpeningOf, IsOpeningCause, SyncsOnce, HandsBack};
+    ghost use Rattle.history_store.specs.Answers.{IsNew, IsReady, IsMakingOf, IsMakingCause, IsOpeningOf, IsOpeningCause, SyncsOnce, HandsBack};
     ghost use Rattle.history_store.specs.Answers.{IsReadingOf, IsStill, IsRefused};
     ghost use Rattle.history_store.specs.Answers.{IsCounted, IsNotFresh, IsImportOf, IsImportAtAll};
     ghost use Rattle.history_store.specs.Answers.{IsBeforeOrAfter, KeepsMoments};
@@ -101,6 +101,8 @@ impl<D: Disk> Store<D> {
     /// at first, then all memory is taken, then the disk is written.
     pub fn create(alloc: Global, disk: D) -> Result<Store<D>, (Refusal, D)>
         ensures made { D.is_honest disk → IsMakingOf result (D.moments disk).state.now }
+        // On every disk what is made is a new store.
+        ensures new { IfOk result IsNew }
         // On every disk it is refused with 1, 2 or 4 alone.
         ensures causes { IfErr result (λ e. IsMakingCause e.0) }
         // Refused for any other reason than the device,
@@ -156,6 +158,8 @@ impl<D: Disk> Store<D> {
     /// after one sync, and is given back with every refusal.
     pub fn open(alloc: Global, disk: D) -> Result<Store<D>, (Refusal, D)>
         ensures exact { D.is_honest disk → IsOpeningOf result (D.moments disk).state.now }
+        // On every disk what is opened is a history.
+        ensures opened { IfOk result IsReady }
         // On every disk it is refused with 1, 2, 7 or 8 alone.
         ensures causes { IfErr result (λ e. IsOpeningCause e.0) }
         // A stop at any moment leaves what it might have left before.
