@@ -1,4 +1,9 @@
-use super::*;
+//! Lines and files of releases beside their rows and faults.
+
+use rf2_rows::{
+    Body, FileFault, Key, Kind, LineFault, Row, RowFault, column_names, parse_line, read_file,
+    write_row,
+};
 use std::alloc::{AllocError, Global};
 use std::test::*;
 
@@ -346,19 +351,23 @@ fn long_line(alloc: Global, len: usize) -> Result<Vec<u8>, AllocError> {
 }
 
 #[test]
+fn long_first_lines(rt: HostRuntime) -> Result<(), Fail> {
+    for (front, len, fault) in [
+        (b"".as_slice(), 65_535, LineFault::Header),
+        (b"\xef\xbb\xbf", 65_535, LineFault::Header),
+        (b"", 65_536, LineFault::LineLength),
+        // The length is looked at before UTF-8.
+        (b"\xff", 65_535, LineFault::LineLength),
+        (b"\xff", 65_534, LineFault::NotUtf8),
+    ] {
+        let got = long_first(rt.alloc(), front, len)?;
+        assert_eq!(rt; got, (1, Some(fault)), "{front:?} and {len} more");
+    }
+    Ok(())
+}
+
+#[test]
 fn long_lines(rt: HostRuntime) -> Result<(), Fail> {
-    assert_eq!(rt;
-        long_first(rt.alloc(), b"", 65_535)?,
-        (1, Some(LineFault::Header))
-    );
-    assert_eq!(rt;
-        long_first(rt.alloc(), b"\xef\xbb\xbf", 65_535)?,
-        (1, Some(LineFault::Header))
-    );
-    assert_eq!(rt;
-        long_first(rt.alloc(), b"", 65_536)?,
-        (1, Some(LineFault::LineLength))
-    );
     let most = long_line(rt.alloc(), 65_448)?;
     assert_eq!(rt; most.len(), 65_535);
     let row = parse_line(rt.alloc(), Kind::Description, &most)
@@ -369,40 +378,35 @@ fn long_lines(rt: HostRuntime) -> Result<(), Fail> {
     };
     assert_eq!(rt; columns.term.as_bytes().len(), 65_448);
     let over = long_line(rt.alloc(), 65_449)?;
-    assert!(rt;
-        matches!(
-            parse_line(rt.alloc(), Kind::Description, &over),
-            Err(RowFault::Line(LineFault::LineLength))
-        )
-    );
-    // The length is looked at before UTF-8, in the first line too.
-    let mut not_text = long_line(rt.alloc(), 65_449)?;
-    not_text.push(0xff)?;
-    assert!(rt;
-        matches!(
-            parse_line(rt.alloc(), Kind::Description, &not_text),
-            Err(RowFault::Line(LineFault::LineLength))
-        )
-    );
-    assert_eq!(rt;
-        long_first(rt.alloc(), b"\xff", 65_535)?,
-        (1, Some(LineFault::LineLength))
-    );
-    assert_eq!(rt;
-        long_first(rt.alloc(), b"\xff", 65_534)?,
-        (1, Some(LineFault::NotUtf8))
-    );
+    let fault = fault_of(rt.alloc(), Kind::Description, &over)?;
+    assert_eq!(rt; fault, Some(LineFault::LineLength));
+    Ok(())
+}
+
+#[test]
+fn long_lines_that_are_no_text(rt: HostRuntime) -> Result<(), Fail> {
+    // The length is looked at before UTF-8.
+    let mut line = long_line(rt.alloc(), 65_449)?;
+    line.push(0xff)?;
+    let fault = fault_of(rt.alloc(), Kind::Description, &line)?;
+    assert_eq!(rt; fault, Some(LineFault::LineLength));
+    Ok(())
+}
+
+#[test]
+fn files_of_a_long_line(rt: HostRuntime) -> Result<(), Fail> {
     let mut file = tabbed(rt.alloc(), DESCRIPTIONS)?;
     file.push(b'\n')?;
-    file.extend_from_slice(&most)?;
-    assert_eq!(rt; outcome(rt.alloc(), Kind::Description, &file)?, (1, None));
-    file.push(b'\r')?;
-    assert_eq!(rt;
-        outcome(rt.alloc(), Kind::Description, &file)?,
-        (2, Some(LineFault::LineLength))
-    );
-    file.push(b'\n')?;
-    assert_eq!(rt; outcome(rt.alloc(), Kind::Description, &file)?, (1, None));
+    file.extend_from_slice(&long_line(rt.alloc(), 65_448)?)?;
+    for (end, want) in [
+        (b"".as_slice(), (1, None)),
+        (b"\r", (2, Some(LineFault::LineLength))),
+        (b"\n", (1, None)),
+    ] {
+        file.extend_from_slice(end)?;
+        let got = outcome(rt.alloc(), Kind::Description, &file)?;
+        assert_eq!(rt; got, want, "{end:?}");
+    }
     Ok(())
 }
 

@@ -1,6 +1,6 @@
 //! Lines beside what they ask.
 
-use super::*;
+use line_commands::{Command, Unread, parse};
 use rf2_values::{EffectiveTime, Kind, Sctid};
 use std::test::*;
 

@@ -1,4 +1,6 @@
-use super::*;
+//! Disks in memory and in files, and what a stop leaves of them.
+
+use disk_model::{Choice, Disk, DiskFault, FileDisk, MemDisk, OpenFault, sync_folder_of};
 use std::alloc::AllocError;
 use std::fs::{self, Files};
 use std::io::ErrorKind;

@@ -2,10 +2,7 @@
 
 ghost use Rattle.std.specs.Prelude.{◌<◌};
 
-use crate::receipt::Receipt;
-use crate::shown::Shown;
-use crate::stamped::StampedRow;
-use crate::{listing, plain};
+use history_model::{Receipt, Shown, StampedRow, listing, plain};
 use rf2_values::{
     Association, Body, Concept, Description, EffectiveTime, Kind, Relationship, Row, Sctid, Text,
 };

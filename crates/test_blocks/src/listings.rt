@@ -1,5 +1,7 @@
-use crate::*;
+//! Directories as values and as bytes, and where a segment finds room.
+
 use blocks::Extent;
+use directory::{Directory, DirectoryFault, Entry, Full, Layout, first_fit};
 use std::test::Fail;
 
 /// The beginning of a content block of epoch 2 and one import,
@@ -134,6 +136,15 @@ fn entries_go_last_and_close_up(rt: HostRuntime) -> Result<(), Fail> {
     Ok(())
 }
 
+/// A segment of one row.
+fn segment(first: u32, bytes: u32) -> Entry {
+    Entry {
+        first,
+        bytes,
+        rows: 1,
+    }
+}
+
 #[test]
 fn the_least_place_is_found(rt: HostRuntime) {
     let live = [
@@ -158,6 +169,46 @@ fn the_least_place_is_found(rt: HostRuntime) {
     assert_eq!(rt; first_fit(2, &live, reserved), Ok(9));
     assert_eq!(rt; first_fit(4_194_300, &[], None), Ok(4));
     assert_eq!(rt; first_fit(4_194_301, &[], None), Err(Full));
+}
+
+/// The two segments to merge lie in blocks 4 and 5, three of 1,048,576 blocks each
+/// behind them, and one more up to the last free blocks of 4,194,304.
+#[test]
+fn an_output_wants_free_blocks_side_by_side(rt: HostRuntime) {
+    for (wanted, len, last, want, why) in [
+        (2, 4_096, 4_294_942_720, Err(Full), "no free block"),
+        (1, 4_095, 4_294_942_720, Err(Full), "none for one block"),
+        (
+            2,
+            4_096,
+            4_294_938_624,
+            Err(Full),
+            "one where two are wanted",
+        ),
+        (1, 4_095, 4_294_938_624, Ok(4_194_303), "one"),
+        (2, 4_096, 4_294_934_528, Ok(4_194_302), "two"),
+        (1, 4_095, 4_294_934_528, Ok(4_194_302), "one of two"),
+    ] {
+        let live = [
+            segment(4, len),
+            segment(5, 1),
+            segment(6, u32::MAX),
+            segment(1_048_582, u32::MAX),
+            segment(2_097_158, u32::MAX),
+            segment(3_145_734, last),
+        ];
+        assert_eq!(rt; first_fit(wanted, &live, None), want, "{why}");
+    }
+    // Block 6 and the last one are free, which lie apart.
+    let apart = [
+        segment(4, 4_096),
+        segment(5, 1),
+        segment(7, u32::MAX),
+        segment(1_048_583, u32::MAX),
+        segment(2_097_159, u32::MAX),
+        segment(3_145_735, 4_294_934_528),
+    ];
+    assert_eq!(rt; first_fit(2, &apart, None), Err(Full));
 }
 
 #[test]

@@ -1,6 +1,8 @@
 //! Values beside what SNOMED CT says of them.
 
-use super::*;
+use rf2_values::{
+    Body, Class, Concept, Description, EffectiveTime, Key, Kind, Member, Row, Sctid, Text,
+};
 use std::alloc::{AllocError, Global};
 use std::test::*;
 
