@@ -1,4 +1,5 @@
--- How often the calls of a file's disk have failed, and what was said of the last that did.
+-- How often the calls of a file's disk have failed, what was said of the
+-- last that did, and how many bytes its reads were asked for.
 use Rattle.std.specs.Prelude.{ℕ, Option}
 use Rattle.std.specs.declared.io.Error.{Error}
 use Rattle.disk_model.specs.declared.file.FileDisk.{FileDisk}
@@ -8,3 +9,7 @@ failures_of d = d.failures
 
 abbrev pub fault_of : FileDisk → Option Error
 fault_of d = d.last
+
+-- its member `bytes_read`
+abbrev pub bytes_read_of : FileDisk → ℕ
+bytes_read_of d = d.bytes_read

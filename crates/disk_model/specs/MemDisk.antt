@@ -53,3 +53,7 @@ UsesRoom old new used_calls used_bytes = (end calls bytes : ℕ)
 -- how often its calls have failed
 abbrev pub failure_count : MemDisk → ℕ
 failure_count d = d.failures
+
+-- how many bytes its reads were asked for
+abbrev pub bytes_read_of : MemDisk → ℕ
+bytes_read_of d = d.bytes_read

@@ -1,5 +1,5 @@
 ghost use Rattle.std.specs.Prelude.{◌≡◌, ◌↔◌, ◌+◌, ◌-◌, ◌≤◌, ◌++◌, ℕ, List, length, take, drop, min, IfOk, OnOk, OnErr, MatchResult};
-ghost use Rattle.disk_model.specs.Disk.{Moments, IsImage, Fails, followed_by, settled, after_write, after_cut};
+ghost use Rattle.disk_model.specs.Disk.{Moments, IsImage, Fails, followed_by, settled, after_write, after_cut, raised_by};
 ghost use Rattle.fault_counts.specs.Counting.{CountsEach};
 
 use thiserror::Error;
@@ -37,16 +37,23 @@ pub const MAX_END: u64 = 17_179_869_184;
 /// may leave is as before or as if the call had been made, and a read gives one of these images.
 /// `failures` goes up with each call that fails; at 2^64 - 1 it stays.
 ///
+/// **Reads.** `bytes_read` goes up with each read by the bytes that were asked for, on every device
+/// and whatever the read answers. Nothing else changes it.
+///
 /// **Honesty.** An honest device keeps to all of this, and no call ends that. The clauses on bytes
 /// and moments have it as their premise, since no program can see whether a device lies; of one
 /// that isn't honest only what stands without that premise is known: calls end, name no more bytes
-/// than the buffer has, and count their failures.
+/// than the buffer has, and count their failures and the bytes that their reads were asked for.
 pub trait Disk {
     /// What a read gives and what a stop may leave, now and at each moment before.
     ghost moments: { Self → Moments };
 
     /// How many calls have failed. It has 64 bits.
     ghost failures: { Self → ℕ };
+
+    /// How many bytes its reads were asked for, whatever they answered.
+    /// It has 64 bits; at its last value it stays.
+    ghost bytes_read: { Self → ℕ };
 
     /// The device keeps to what its calls promise of bytes and stops.
     /// Of one that doesn't nothing else is known.
@@ -58,7 +65,8 @@ pub trait Disk {
             → IfOk result (λ n. n ≡ length (moments self.old).state.now) }
         ensures moments { is_honest self.old → moments self.new ≡ moments self.old }
         ensures honesty { is_honest self.old ↔ is_honest self.new }
-        ensures failures { CountsEach result (failures self.old) (failures self.new) };
+        ensures failures { CountsEach result (failures self.old) (failures self.new) }
+        ensures bytes_read { bytes_read self.new ≡ bytes_read self.old };
 
     /// Fills the front of `into` with the bytes from the place `at` on, as far as they go, and
     /// answers how many. Past the end there are none. After an error `into` may hold any bytes.
@@ -70,7 +78,9 @@ pub trait Disk {
             (λ n. into.new ≡ take n (drop at (moments self.old).state.now) ++ drop n into.old) }
         ensures moments { is_honest self.old → moments self.new ≡ moments self.old }
         ensures honesty { is_honest self.old ↔ is_honest self.new }
-        ensures failures { CountsEach result (failures self.old) (failures self.new) };
+        ensures failures { CountsEach result (failures self.old) (failures self.new) }
+        ensures bytes_read { bytes_read self.new
+            ≡ raised_by (bytes_read self.old) (length into.old) };
 
     /// Writes over what is there from the place `at` on, and past the end, with zeros between the
     /// end and `at`. Until a sync, a stop may leave any bytes in the range. A write of no bytes
@@ -82,7 +92,8 @@ pub trait Disk {
         ensures failed { is_honest self.old → OnErr result (Fails (moments self.old)
             (after_write (moments self.old).state at bytes.now) (moments self.new)) }
         ensures honesty { is_honest self.old ↔ is_honest self.new }
-        ensures failures { CountsEach result (failures self.old) (failures self.new) };
+        ensures failures { CountsEach result (failures self.old) (failures self.new) }
+        ensures bytes_read { bytes_read self.new ≡ bytes_read self.old };
 
     /// Cuts the device to a length in bytes, where it is longer. Until
     /// a sync, a stop may leave what was cut off, or a part of it.
@@ -92,7 +103,8 @@ pub trait Disk {
         ensures failed { is_honest self.old → OnErr result (Fails (moments self.old)
             (after_cut (moments self.old).state len) (moments self.new)) }
         ensures honesty { is_honest self.old ↔ is_honest self.new }
-        ensures failures { CountsEach result (failures self.old) (failures self.new) };
+        ensures failures { CountsEach result (failures self.old) (failures self.new) }
+        ensures bytes_read { bytes_read self.new ≡ bytes_read self.old };
 
     /// Waits until all that was written is on the device:
     /// after it, a stop leaves what a read gives.
@@ -101,7 +113,8 @@ pub trait Disk {
             ≡ followed_by (moments self.old) (settled (moments self.old).state.now)) }
         ensures failed { is_honest self.old → OnErr result (moments self.new ≡ moments self.old) }
         ensures honesty { is_honest self.old ↔ is_honest self.new }
-        ensures failures { CountsEach result (failures self.old) (failures self.new) };
+        ensures failures { CountsEach result (failures self.old) (failures self.new) }
+        ensures bytes_read { bytes_read self.new ≡ bytes_read self.old };
 
     /// What a read gives is one of the images.
     ghost now_is_image: { (disk : Self) → is_honest disk

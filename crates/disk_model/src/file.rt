@@ -21,14 +21,16 @@ pub struct FileDisk {
     file: File,
     failures: u64,
     last: Option<io::Error>,
+    bytes_read: u64,
 }
 
 impl FileDisk {
-    ghost use Rattle.disk_model.specs.FileDisk.{failures_of, fault_of};
+    ghost use Rattle.disk_model.specs.FileDisk.{failures_of, fault_of, bytes_read_of};
 
     /// A file that exists, for reading and writing.
     pub fn open<R: Files<File = File>>(rt: &R, path: &str) -> Result<FileDisk, OpenFault>
-        ensures { IfOk result (λ disk. failures_of disk ≡ 0) }
+        ensures failures { IfOk result (λ disk. failures_of disk ≡ 0) }
+        ensures bytes_read { IfOk result (λ disk. bytes_read_of disk ≡ 0) }
     {
         let file = OpenOptions::new().read(true).write(true).open(rt, path);
         FileDisk::of(file)
@@ -36,7 +38,8 @@ impl FileDisk {
 
     /// A file for reading and writing, which is made empty where there is none.
     pub fn open_or_make<R: Files<File = File>>(rt: &R, path: &str) -> Result<FileDisk, OpenFault>
-        ensures { IfOk result (λ disk. failures_of disk ≡ 0) }
+        ensures failures { IfOk result (λ disk. failures_of disk ≡ 0) }
+        ensures bytes_read { IfOk result (λ disk. bytes_read_of disk ≡ 0) }
     {
         let file = OpenOptions::new()
             .read(true)
@@ -49,7 +52,8 @@ impl FileDisk {
     /// Locks the file, and waits until the device has what an earlier process wrote, before
     /// anything of it is read. What is no regular file is refused.
     fn of(opened: io::Result<File>) -> Result<FileDisk, OpenFault>
-        ensures { IfOk result (λ disk. failures_of disk ≡ 0) }
+        ensures failures { IfOk result (λ disk. failures_of disk ≡ 0) }
+        ensures bytes_read { IfOk result (λ disk. bytes_read_of disk ≡ 0) }
     {
         let file = opened?;
         if !file.metadata()?.is_file() {
@@ -61,6 +65,7 @@ impl FileDisk {
             file,
             failures: 0,
             last: None,
+            bytes_read: 0,
         })
     }
 
@@ -124,11 +129,13 @@ fn answer<T: Drop>(
 }
 
 impl Disk for FileDisk {
-    ghost use Rattle.disk_model.specs.FileDisk.{failures_of};
+    ghost use Rattle.disk_model.specs.FileDisk.{failures_of, bytes_read_of};
 
     ghost moments = { λ _. made [] };
 
     ghost failures = { failures_of };
+
+    ghost bytes_read = { bytes_read_of };
 
     ghost is_honest = { λ _. ⊥ };
 
@@ -140,6 +147,7 @@ impl Disk for FileDisk {
     }
 
     fn read_at(&mut self, at: u64, into: &mut [u8]) -> Result<usize, DiskFault> {
+        self.bytes_read = self.bytes_read.saturating_add(into.len() as u64);
         answer(
             read_all(&self.file, at, into),
             &mut self.failures,

@@ -1,6 +1,6 @@
 ghost use Rattle.std.specs.Prelude.{◌≡◌, ◌⊎◌, ◌↔◌, ℕ, ◌+◌, ◌-◌, ◌≤◌, ◌++◌, [], ◌∷◌, Some, length, take, drop, min};
 ghost use Rattle.std.specs.Prelude.{IsTrue, IsOk, IfOk, IsErr, OnOk, OnErr, Contains};
-ghost use Rattle.disk_model.specs.Disk.{IsImage, Fails, followed_by, settled, after_write, after_cut};
+ghost use Rattle.disk_model.specs.Disk.{IsImage, Fails, followed_by, settled, after_write, after_cut, raised_by};
 ghost use Rattle.fault_counts.specs.Counting.{CountsEach};
 ghost use Rattle.disk_model.specs.Change.{made, replayed};
 ghost use Rattle.disk_model.specs.Choice.{IsChosen};
@@ -32,13 +32,14 @@ pub struct MemDisk {
     calls: Record,
     faults: Faults,
     failures: u64,
+    bytes_read: u64,
     ghost read_is_replayed: { shown contents ≡
         (replayed (made contents.first.items) (changes_in calls)).state.now },
 }
 
 impl MemDisk {
     ghost use Rattle.disk_model.specs.MemDisk.{memory_moments, first_bytes, record_of, faults_of, changes_of, state_after};
-    ghost use Rattle.disk_model.specs.MemDisk.{failure_count, SameRecord, HasRoomFor, KeepsRoom, UsesRoom};
+    ghost use Rattle.disk_model.specs.MemDisk.{failure_count, bytes_read_of, SameRecord, HasRoomFor, KeepsRoom, UsesRoom};
     ghost use Rattle.disk_model.specs.Faults.{no_faults, written_as, cut_as, synced_as};
 
     /// An empty disk.
@@ -47,6 +48,7 @@ impl MemDisk {
         ensures kept { record_of result ≡ [] }
         ensures faults { faults_of result ≡ no_faults }
         ensures failures { failure_count result ≡ 0 }
+        ensures bytes_read { bytes_read_of result ≡ 0 }
     {
         MemDisk::from_bytes(alloc, Vec::new(alloc))
     }
@@ -57,6 +59,7 @@ impl MemDisk {
         ensures kept { record_of result ≡ [] }
         ensures faults { faults_of result ≡ no_faults }
         ensures failures { failure_count result ≡ 0 }
+        ensures bytes_read { bytes_read_of result ≡ 0 }
     {
         MemDisk {
             alloc,
@@ -64,6 +67,7 @@ impl MemDisk {
             calls: Record::new(alloc),
             faults: Faults::none(),
             failures: 0,
+            bytes_read: 0,
         }
     }
 
@@ -73,6 +77,7 @@ impl MemDisk {
         ensures fuse { faults_of self.new ≡ record (faults_of self.old) { fuse = Some calls } }
         ensures kept { SameRecord self.old self.new }
         ensures failures { failure_count self.new ≡ failure_count self.old }
+        ensures bytes_read { bytes_read_of self.new ≡ bytes_read_of self.old }
         ensures room { KeepsRoom self.old self.new }
     {
         self.faults.fuse = Some(calls);
@@ -87,6 +92,7 @@ impl MemDisk {
             ≡ record (faults_of self.old) { change_break = Some (calls, part) } }
         ensures kept { SameRecord self.old self.new }
         ensures failures { failure_count self.new ≡ failure_count self.old }
+        ensures bytes_read { bytes_read_of self.new ≡ bytes_read_of self.old }
         ensures room { KeepsRoom self.old self.new }
     {
         self.faults.change_break = Some((calls, part));
@@ -98,6 +104,7 @@ impl MemDisk {
             ≡ record (faults_of self.old) { read_break = Some calls } }
         ensures kept { SameRecord self.old self.new }
         ensures failures { failure_count self.new ≡ failure_count self.old }
+        ensures bytes_read { bytes_read_of self.new ≡ bytes_read_of self.old }
         ensures room { KeepsRoom self.old self.new }
     {
         self.faults.read_break = Some(calls);
@@ -111,6 +118,7 @@ impl MemDisk {
         ensures succeeds { HasRoomFor self.old bytes calls bytes → IsOk result }
         ensures kept { SameRecord self.old self.new }
         ensures failures { failure_count self.new ≡ failure_count self.old }
+        ensures bytes_read { bytes_read_of self.new ≡ bytes_read_of self.old }
         ensures faults { faults_of self.new ≡ faults_of self.old }
         // Whatever it answers.
         ensures keeps { KeepsRoom self.old self.new }
@@ -125,6 +133,13 @@ impl MemDisk {
         ensures { result ≡ changes_of self.now }
     {
         self.calls.made() as u64
+    }
+
+    /// How many bytes its reads were asked for since it was made, by those that failed too.
+    pub fn bytes_read(&self) -> u64
+        ensures { result ≡ bytes_read_of self.now }
+    {
+        self.bytes_read
     }
 
     /// What a read gives.
@@ -170,6 +185,7 @@ impl MemDisk {
         ensures err { OnErr result (record_of self.new ≡ record_of self.old) }
         ensures first { first_bytes self.new ≡ first_bytes self.old }
         ensures failures { failure_count self.new ≡ failure_count self.old }
+        ensures bytes_read { bytes_read_of self.new ≡ bytes_read_of self.old }
         ensures faults { faults_of self.new ≡ faults_of self.old }
         ensures succeeds { HasRoomFor self.old (at + length bytes.now) 1 (length bytes.now)
             → IsOk result }
@@ -193,6 +209,7 @@ impl MemDisk {
         ensures err { OnErr result (record_of self.new ≡ record_of self.old) }
         ensures first { first_bytes self.new ≡ first_bytes self.old }
         ensures failures { failure_count self.new ≡ failure_count self.old }
+        ensures bytes_read { bytes_read_of self.new ≡ bytes_read_of self.old }
         ensures faults { faults_of self.new ≡ faults_of self.old }
         ensures succeeds { HasRoomFor self.old 0 1 0 → IsOk result }
         ensures room { UsesRoom self.old self.new 1 0 }
@@ -212,6 +229,7 @@ impl MemDisk {
         ensures err { OnErr result (record_of self.new ≡ record_of self.old) }
         ensures first { first_bytes self.new ≡ first_bytes self.old }
         ensures failures { failure_count self.new ≡ failure_count self.old }
+        ensures bytes_read { bytes_read_of self.new ≡ bytes_read_of self.old }
         ensures faults { faults_of self.new ≡ faults_of self.old }
         ensures succeeds { HasRoomFor self.old 0 1 0 → IsOk result }
         ensures room { UsesRoom self.old self.new 1 0 }
@@ -229,6 +247,7 @@ impl MemDisk {
         ensures faults { faults_of self.new ≡ faults_of self.old }
         ensures room { KeepsRoom self.old self.new }
         ensures failures { CountsEach result (failure_count self.old) (failure_count self.new) }
+        ensures bytes_read { bytes_read_of self.new ≡ bytes_read_of self.old }
     {
         match (noted, fate) {
             (Ok(()), Fate::Passes) => Ok(()),
@@ -243,6 +262,7 @@ impl MemDisk {
         ensures faults { faults_of self.new ≡ faults_of self.old }
         ensures room { KeepsRoom self.old self.new }
         ensures failures { CountsEach result (failure_count self.old) (failure_count self.new) }
+        ensures bytes_read { bytes_read_of self.new ≡ bytes_read_of self.old }
     {
         self.failures = raised(self.failures);
         Err(DiskFault)
@@ -250,7 +270,7 @@ impl MemDisk {
 }
 
 impl Disk for MemDisk {
-    ghost use Rattle.disk_model.specs.MemDisk.{memory_moments, first_bytes, record_of, faults_of, failure_count};
+    ghost use Rattle.disk_model.specs.MemDisk.{memory_moments, first_bytes, record_of, faults_of, failure_count, bytes_read_of};
     ghost use Rattle.disk_model.specs.MemDisk.{SameRecord, HasRoomFor, KeepsRoom, UsesRoom};
     ghost use Rattle.disk_model.specs.Change.{Write, Cut, Sync};
     ghost use Rattle.disk_model.specs.Faults.{fate_of, after_change_call, passes_read, after_read_call, written_as, cut_as, synced_as};
@@ -258,6 +278,8 @@ impl Disk for MemDisk {
     ghost moments = { memory_moments };
 
     ghost failures = { failure_count };
+
+    ghost bytes_read = { bytes_read_of };
 
     ghost is_honest = { λ _. Unit {0} };
 
@@ -268,6 +290,7 @@ impl Disk for MemDisk {
         ensures moments { memory_moments self.new ≡ memory_moments self.old }
         ensures kept { SameRecord self.old self.new }
         ensures failures { CountsEach result (failure_count self.old) (failure_count self.new) }
+        ensures bytes_read { bytes_read_of self.new ≡ bytes_read_of self.old }
         ensures passes { IsOk result ↔ IsTrue (passes_read (faults_of self.old)) }
         ensures faults { faults_of self.new ≡ after_read_call (faults_of self.old) }
         ensures room { KeepsRoom self.old self.new }
@@ -287,10 +310,13 @@ impl Disk for MemDisk {
         ensures moments { memory_moments self.new ≡ memory_moments self.old }
         ensures kept { SameRecord self.old self.new }
         ensures failures { CountsEach result (failure_count self.old) (failure_count self.new) }
+        ensures bytes_read { bytes_read_of self.new
+            ≡ raised_by (bytes_read_of self.old) (length into.old) }
         ensures passes { IsOk result ↔ IsTrue (passes_read (faults_of self.old)) }
         ensures faults { faults_of self.new ≡ after_read_call (faults_of self.old) }
         ensures room { KeepsRoom self.old self.new }
     {
+        self.bytes_read = self.bytes_read.saturating_add(into.len() as u64);
         if !self.faults.of_read() {
             return self.fail();
         }
@@ -308,6 +334,7 @@ impl Disk for MemDisk {
         ensures failed { OnErr result (Fails (memory_moments self.old)
             (after_write (memory_moments self.old).state at bytes.now) (memory_moments self.new)) }
         ensures failures { CountsEach result (failure_count self.old) (failure_count self.new) }
+        ensures bytes_read { bytes_read_of self.new ≡ bytes_read_of self.old }
         ensures passes { IsOk result → fate_of (faults_of self.old) ≡ Passes }
         ensures faults { faults_of self.new ≡ after_change_call (faults_of self.old) }
         ensures succeeds { HasRoomFor self.old (at + length bytes.now) 1 (length bytes.now)
@@ -338,6 +365,7 @@ impl Disk for MemDisk {
         ensures failed { OnErr result (Fails (memory_moments self.old)
             (after_cut (memory_moments self.old).state len) (memory_moments self.new)) }
         ensures failures { CountsEach result (failure_count self.old) (failure_count self.new) }
+        ensures bytes_read { bytes_read_of self.new ≡ bytes_read_of self.old }
         ensures passes { IsOk result → fate_of (faults_of self.old) ≡ Passes }
         ensures faults { faults_of self.new ≡ after_change_call (faults_of self.old) }
         ensures succeeds { HasRoomFor self.old 0 1 0
@@ -363,6 +391,7 @@ impl Disk for MemDisk {
             ≡ followed_by (memory_moments self.old) (settled (memory_moments self.old).state.now)) }
         ensures failed { OnErr result (memory_moments self.new ≡ memory_moments self.old) }
         ensures failures { CountsEach result (failure_count self.old) (failure_count self.new) }
+        ensures bytes_read { bytes_read_of self.new ≡ bytes_read_of self.old }
         ensures passes { IsOk result → fate_of (faults_of self.old) ≡ Passes }
         ensures faults { faults_of self.new ≡ after_change_call (faults_of self.old) }
         ensures succeeds { HasRoomFor self.old 0 1 0

@@ -221,3 +221,19 @@ fn room_is_made_ahead(rt: HostRuntime) -> Result<(), Fail> {
     assert_eq!(rt; disk.changes(), 1);
     Ok(())
 }
+
+#[test]
+fn reads_count_the_bytes_that_they_were_asked_for(rt: HostRuntime) -> Result<(), Fail> {
+    let mut disk = MemDisk::from_bytes(rt.alloc(), vec![in rt.alloc(); 1, 2]?);
+    assert_eq!(rt; disk.bytes_read(), 0);
+    assert_eq!(rt; disk.read_at(0, &mut [0u8; 10])?, 2);
+    disk.set_read_break(0);
+    assert_eq!(rt; disk.read_at(0, &mut [0u8; 4096]), Err(DiskFault));
+    assert_eq!(rt; disk.bytes_read(), 4_106);
+    disk.write_at(0, &[7; 5])?;
+    assert_eq!(rt; disk.cut(4), Ok(()));
+    disk.sync()?;
+    assert_eq!(rt; disk.len()?, 4);
+    assert_eq!(rt; disk.bytes_read(), 4_106);
+    Ok(())
+}

@@ -1,8 +1,8 @@
-use Rattle.std.proofs.Common.{◌≡◌, ◌+◌, ◌*◌, ◌≤◌, ◌++◌, take, drop, ◌/◌, ◌%◌, List, ℕ, length, refl, sym, ap, subst, ◌∙◌, arith}
+use Rattle.std.proofs.Common.{◌≡◌, suc, ◌+◌, ◌*◌, ◌≤◌, ◌++◌, take, drop, ◌/◌, ◌%◌, List, ℕ, length, refl, sym, ap, subst, ◌∙◌, arith}
 use Rattle.std.proofs.lemmas.Result.{err_from_is_err_and}
 use Rattle.disk_model.specs.Disk.{Moments}
 use Rattle.blocks.specs.Cache.{count_of, AgreesWith}
-use Rattle.blocks.proofs.Looked.{looks_up, none_looked_up, stopped, looked_up_next, ended, all_looked_up}
+use Rattle.blocks.proofs.Looked.{looks_up, none_looked_up, within_next, stopped, looked_up_next, ended, all_looked_up}
 use Rattle.blocks.proofs.PartsKept.{next_kept, used_keeps, keeps_on, count_in}
 use Rattle.blocks.proofs.PartsRead.{IsReadSoFar, none_read, all_read, more_read, short_read}
 use Rattle.blocks.proofs.ranges.read_part.Goals as goal
@@ -57,15 +57,18 @@ loop-done-init g c = (
   refl,
   λ part. (refl, λ q. refl),
   none_looked_up c.args.from (length c.args.into.now) c.args.cache.now,
+  omega arith,
 )
 
 pub loop-done-preserved : goal.loop-done-preserved
+unfolding looked_up_next
 loop-done-preserved g c =
     let inv = c.loop-done.invariant in
     let file = (g.D.Disk.moments c.args.disk.now).state.now in
     let at = c.args.from + c.loop-done.done in
     let room : c.loop-done.done + c.min-taken.result ≤ length c.loop-done.into = omega (arith, inv.0, c.min-taken.ensures, c.loop-done-test.true) in
-    let long : length c.copy_part.new.into ≡ length c.loop-done.into = c.copy_part.auto.into in (
+    let long : length c.copy_part.new.into ≡ length c.loop-done.into = c.copy_part.auto.into in
+    let bytes : g.D.Disk.bytes_read c.read.new.disk ≤ g.D.Disk.bytes_read c.args.disk.now + 4096 * suc inv.8.count = omega (arith, inv.9, c.in_ok-count.ensures.bytes_read) in (
       long ∙ inv.0,
       omega (arith, inv.0, room),
       (λ up. c.in_ok-count.ensures.honesty.0 (inv.2.0 up), λ down. inv.2.1 (c.in_ok-count.ensures.honesty.1 down)),
@@ -88,6 +91,7 @@ loop-done-preserved g c =
           )),
       looked_up_next c.args.from (length c.args.into.now) c.loop-done.done c.args.cache.now c.loop-done.cache c.read.new.self inv.8 (omega (arith, inv.0, c.loop-done-test.true))
           (looks_up (at / 4096) c.in_ok-count.count c.read.new.into c.loop-done.cache c.read.new.self (λ kept is. c.in_ok-count.ensures.used kept is) c.in_ok-count.ensures.keeps) c.min-taken.result (omega (arith, inv.0, c.min-taken.ensures)),
+      bytes,
     )
 
 pub returns-in_err-count-clause-looked_up : goal.returns-in_err-count-clause-looked_up
@@ -106,3 +110,19 @@ pub returns-clause-looked_up : goal.returns-clause-looked_up
 returns-clause-looked_up g c =
     let inv = c.loop-done.invariant in
     all_looked_up _ c.args.from (length c.args.into.now) c.loop-done.done c.args.cache.now c.loop-done.cache (omega (arith, inv.0, inv.1, c.loop-done-test.false)) inv.8
+
+pub returns-in_err-count-clause-bytes_read : goal.returns-in_err-count-clause-bytes_read
+returns-in_err-count-clause-bytes_read g c =
+    let inv = c.loop-done.invariant in
+    let here = within_next c.args.from (length c.args.into.now) c.loop-done.done c.args.cache.now c.loop-done.cache inv.8 (omega (arith, inv.0, c.loop-done-test.true)) in
+    omega (arith, here, inv.9, c.in_err-count.ensures.bytes_read)
+
+pub returns-then-count-skip-clause-bytes_read : goal.returns-then-count-skip-clause-bytes_read
+returns-then-count-skip-clause-bytes_read g c =
+    let inv = c.loop-done.invariant in
+    let here = within_next c.args.from (length c.args.into.now) c.loop-done.done c.args.cache.now c.loop-done.cache inv.8 (omega (arith, inv.0, c.loop-done-test.true)) in
+    omega (arith, here, inv.9, c.in_ok-count.ensures.bytes_read)
+
+pub returns-clause-bytes_read : goal.returns-clause-bytes_read
+returns-clause-bytes_read g c =
+    let inv = c.loop-done.invariant in omega (arith, inv.8.within, inv.9)
