@@ -26,6 +26,3 @@ mod taken_blocks;
 pub use history_model::Receipt;
 pub use refusal::Refusal;
 pub use store::Store;
-
-#[cfg(test)]
-mod tests;

@@ -1,5 +1,9 @@
-use super::*;
+//! Releases in unpacked folders: which files are taken, and what stood in the way.
+
 use import_check::{Release, sample};
+use release_folder::{
+    FolderFault, Unwatched, Watcher, is_nearly_to_take, kind_to_take, read_folder, read_release,
+};
 use rf2_values::Kind;
 use std::alloc::Global;
 use std::fs::{self, Files};
