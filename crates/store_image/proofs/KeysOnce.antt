@@ -17,7 +17,7 @@ use Rattle.history_model.proofs.InOrder.{Has-all, all_from_has, Has-append_cases
 use Rattle.history_model.proofs.Keys.{same_key}
 use Rattle.segment.specs.declared.place.Posted.{Posted}
 use Rattle.store_image.specs.declared.apart.Rest.{Rest}
-use Rattle.store_image.specs.Keys.{keys_of, AreDisjoint, EachKeyOnce, keys_in, keys_left, first_cmp, AreOpen, Opens, IsBehind, StartsFrom}
+use Rattle.store_image.specs.Keys.{keys_of, AreDisjoint, EachKeyOnce, keys_in, keys_left, first_cmp, AreOpen, Opens, IsBehind}
 use Rattle.store_image.proofs.AnyOrder.{once_permuted}
 
 -- ---- lists of places
@@ -36,9 +36,6 @@ ascends_behind (k ∷ before) left up = ascends_behind before left up.1
 
 -- ---- places that are skipped
 
-pub none_skipped : (key : Key) (places : List Posted) → IsBehind key places places
-none_skipped key places = record { before = []; whole = refl; below = tt }
-
 all_push : {X : Type 0} (P : X → Type 0) (xs : List X) (x : X) → AllByRecursion P xs → P x → AllByRecursion P (xs ++ x ∷ [])
 all_push P [] x all here = (here, tt)
 all_push P (y ∷ xs) x all here = (all.0, all_push P xs x all.1 here)
@@ -49,13 +46,6 @@ one_skipped key places left behind first is left_is less = record {
   whole = is.whole ∙ ap (λ l. is.before ++ l) left_is ∙ sym (append_assoc is.before (first ∷ []) behind);
   below = all_push (λ (p : Posted). key_cmp p.key key ≡ Less) is.before first is.below less;
 }
-
-pub starts_here : (key : Key) (left behind : List Posted) (first : Posted) → left ≡ first ∷ behind → (key_cmp first.key key ≡ Less → ⊥) → StartsFrom key left
-starts_here key left behind first left_is not = subst (λ l. StartsFrom key l) (sym left_is) not
-
-pub starts_nowhere : (key : Key) (left : List Posted) → length left ≡ 0 → StartsFrom key left
-starts_nowhere key [] none = tt
-starts_nowhere key (p ∷ left) none = absurd (omega (arith, none))
 
 pub fewer_left : (key : Key) (places left : List Posted) → IsBehind key places left → length left < length places + 1
 fewer_left key places left is =
@@ -164,14 +154,6 @@ module _ (old rests : List Rest) (rest : Rest) (moved : IsPermutation old (rest 
         λ once. once_permuted (keys_in rest ∷ map keys_in rests) (map keys_in old) (IsPermutation-sym (map keys_in old) (keys_in rest ∷ map keys_in rests) lists) once,
       )
 
-  -- no list is left
-  pub round_ends : length rests ≡ 0 → EachKeyOnce (map keys_in old)
-  round_ends none = taken_out.1 (alone rests none)
-    where
-      alone : (rs : List Rest) → length rs ≡ 0 → EachKeyOnce (keys_in rest ∷ map keys_in rs)
-      alone [] none = (tt, tt)
-      alone (r ∷ rs) none = absurd (omega (arith, none))
-
   module _ (next : Rest) (some : 0 < length rests) (next_is : next ≡ get_or rests 0 next) (bound : IsUpperBound first_cmp rest rests) where
     -- the first key of another list isn't above
     pub round_ties : (key_cmp rest.first next.first ≡ Less → ⊥) → EachKeyOnce (map keys_in old) → ⊥
@@ -185,9 +167,6 @@ module _ (old rests : List Rest) (rest : Rest) (moved : IsPermutation old (rest 
 
   -- what is below all others goes
   module _ (next : Rest) (least : IsUpperBound first_cmp next rests) (less : key_cmp rest.first next.first ≡ Less) (left : List Posted) (is : IsBehind next.first rest.places.now left) where
-    gone : List Key
-    gone = rest.first ∷ keys_of is.before
-
     keys_whole : keys_in rest ≡ (rest.first ∷ keys_of is.before) ++ keys_of left
     keys_whole = ap (λ l. rest.first ∷ l) (ap keys_of is.whole ∙ map-joined (λ (p : Posted). p.key) is.before left)
 
