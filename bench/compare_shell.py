@@ -100,13 +100,13 @@ class Shell:
 
     def take(self, folder, indexes):
         """Imports the files of a release, whose rows are trusted to be new."""
-        lines = ['.mode ascii', '.separator "\\t" "\\r\\n"', "BEGIN;"]
+        lines = ['.mode tabs', "BEGIN;"]
         lines += ['.import --skip 1 "%s" %s' % (path, TABLES[kind]) for kind, path in files_of(folder)]
         return self.run(lines + (list(INDEXES) if indexes else []) + ["COMMIT;"])[1]
 
     def take_again(self, folder):
         """Imports the files of a release, of which what is known is passed over."""
-        lines = ['.mode ascii', '.separator "\\t" "\\r\\n"', "PRAGMA temp_store = MEMORY;", "BEGIN;"]
+        lines = ['.mode tabs', "PRAGMA temp_store = MEMORY;", "BEGIN;"]
         for kind, path in files_of(folder):
             staged = "temp.staged_" + TABLES[kind]
             columns = ", ".join(COLUMNS[kind])
