@@ -104,6 +104,12 @@ def try_folders(tries):
     tries.import_refused("no file to take", "none", missing, "no file to take")
     write(tries.path("releases", "faulty", "Terminology", CONCEPTS), COLUMNS + "?\n")
     tries.import_refused("a faulty line", "faulty", "ERR 23 Columns 1 2", CONCEPTS + ", line 2: ")
+    row = ROOT_ROW % "20200131"
+    write(tries.path("releases", "twofold", "Terminology", CONCEPTS),
+          COLUMNS + row + row + row.replace("\t1\t", "\t0\t"))
+    tries.import_refused("two rows of one id and date", "twofold", "ERR 32 Contradiction 1 4",
+                         "%s, line 4: the row differs from another one of the same id and date: "
+                         "%s, line 2\n" % (CONCEPTS, CONCEPTS))
 
 
 def try_names(tries):

@@ -89,6 +89,14 @@ impl Example {
         self.store.row_count()
     }
 
+    /// The greatest effective time of a row, as a number of eight digits.
+    pub fn latest_time(&self) -> Option<u32> {
+        match self.store.latest_time() {
+            Some(time) => Some(time.value()),
+            None => None,
+        }
+    }
+
     /// The version of the layout on the disk.
     pub fn version(&self) -> u32 {
         self.store.version()

@@ -262,6 +262,21 @@ const MERGED_TWICE_AT_ONCE: &[Turn] = &[
     ("0 STATUS", &["OK 2 10 2 -"]),
 ];
 
+/// The session of the greatest number is pinned as any other is.
+const LAST_SESSION: &[Turn] = &[
+    ("0 IMPORT r1", &["OK 1 6 0"]),
+    ("0 IMPORT r2", &["OK 2 4 0"]),
+    ("1023 PIN 1", &["OK 1"]),
+    (
+        "1023 GET C 1000004 20210131",
+        &["ROW 1000004|20200131|1|CORE|PRIM", "END 1"],
+    ),
+    (
+        "1022 GET C 1000004 20210131",
+        &["ROW 1000004|20210131|0|CORE|PRIM", "END 1"],
+    ),
+];
+
 const LINES_AT_FAULT: &[Turn] = &[
     ("", &["ERR 41 Session"]),
     ("1024 STATUS", &["ERR 41 Session"]),
@@ -291,6 +306,7 @@ fn lines_on_a_new_store(rt: HostRuntime) -> Result<(), Fail> {
         ("a merge while one goes on", MERGED_TWICE_AT_ONCE),
         ("relationships with concrete values", VALUES),
         ("a parent as a value", PARENT_AS_A_VALUE),
+        ("the last session", LAST_SESSION),
         ("lines at fault", LINES_AT_FAULT),
     ];
     for (name, turns) in &examples {

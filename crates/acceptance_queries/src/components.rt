@@ -26,6 +26,19 @@ fn nothing_is_found_in_an_empty_store(rt: HostRuntime) -> Result<(), Fail> {
 }
 
 #[test]
+fn the_latest_time_is_that_of_any_row(rt: HostRuntime) -> Result<(), Fail> {
+    let mut store = Example::new(rt.alloc())?;
+    assert_eq!(rt; store.latest_time(), None);
+    // The rows of r3 are of 20200731, and come last.
+    let cases = [("r1", 20_200_131), ("r2", 20_210_131), ("r3", 20_210_131)];
+    for (name, latest) in &cases {
+        store.import_sample(*name)?;
+        assert_eq!(rt; store.latest_time(), Some(*latest), "{name}");
+    }
+    Ok(())
+}
+
+#[test]
 fn a_pin_shows_the_imports_up_to_it(rt: HostRuntime) -> Result<(), Fail> {
     let mut store = Example::after(rt.alloc(), &["r1", "r2", "r3"])?;
     let cases: [(u32, u128, u32, &str); 8] = [

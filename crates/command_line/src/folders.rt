@@ -2,7 +2,8 @@
 
 use crate::places::Places;
 use crate::progress::tell_taken;
-use crate::telling::{Scene, Told, names_of, tell_why};
+use crate::telling::{Scene, Told, tell_row, tell_why};
+use history_store::Refusal;
 use import_check::Release;
 use line_server::{Source, SourceFault};
 use std::alloc::Global;
@@ -18,8 +19,6 @@ pub struct FolderSource<'a, P: Places, E: Write> {
     pub faults: &'a mut E,
     /// People are told of nothing but what may be wrong.
     pub quiet: bool,
-    /// The names of the files of the release that was had last.
-    pub files: Vec<String>,
 }
 
 impl<P: Places, E: Write> FolderSource<'_, P, E> {
@@ -28,7 +27,6 @@ impl<P: Places, E: Write> FolderSource<'_, P, E> {
         let scene = Scene {
             store,
             said: self.places.said(left),
-            files: &self.files,
         };
         tell_why(told, &scene, self.faults);
     }
@@ -45,8 +43,11 @@ impl<P: Places, E: Write> Source for FolderSource<'_, P, E> {
             .release(alloc, self.dir, name, self.quiet, self.faults);
         if let Ok(release) = &given {
             tell_taken(release, self.quiet, self.faults);
-            self.files = names_of(alloc, &release.files).unwrap_or(Vec::new(alloc));
         }
         given
+    }
+
+    fn note_refusal(&mut self, release: &Release, refusal: Refusal) {
+        tell_row(release, refusal, self.faults);
     }
 }

@@ -7,7 +7,7 @@ use crate::answering::answer_line;
 use crate::endings::{Ending, refuse};
 use crate::telling::Told;
 use disk_model::Disk;
-use history_store::Store;
+use history_store::{Refusal, Store};
 use import_check::Release;
 use line_server::{ServeFault, Source, SourceFault};
 use std::alloc::Global;
@@ -30,6 +30,8 @@ impl Source for NoReleases {
     fn release(&mut self, _alloc: Global, _name: &str) -> Result<Release, SourceFault> {
         Err(SourceFault::NoFolder)
     }
+
+    fn note_refusal(&mut self, _release: &Release, _refusal: Refusal) {}
 }
 
 /// Tells the status of the store of a device, which comes back; and the

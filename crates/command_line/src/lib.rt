@@ -3,6 +3,7 @@
 
 mod answering;
 mod demonstration;
+mod differing;
 mod endings;
 mod folders;
 mod importing;

@@ -134,7 +134,6 @@ fn init_at<P: Places, O: Write, E: Write>(
             let scene = Scene {
                 store: path,
                 said: places.said(&left),
-                files: &[],
             };
             tell_why(told, &scene, faults);
             (ended, Some(left))
@@ -170,7 +169,6 @@ fn import_at<P: Places, O: Write, E: Write>(
                 dir,
                 faults,
                 quiet,
-                files: Vec::new(alloc),
             };
             let (ended, left) = import(alloc, device, name, &mut source, output, &mut told);
             source.tell_why(told, path, &left);
@@ -207,7 +205,6 @@ fn serve_at<P: Places, I: Read, O: Write, E: Write>(
                 dir,
                 faults,
                 quiet: true,
-                files: Vec::new(alloc),
             };
             let (ended, left) = serve_device(alloc, device, &mut source, input, output, &mut told);
             source.tell_why(told, path, &left);
@@ -240,7 +237,6 @@ fn status_at<P: Places, O: Write, E: Write>(
             let scene = Scene {
                 store: path,
                 said: places.said(&left),
-                files: &[],
             };
             tell_why(told, &scene, faults);
             tell_layout(path, layout, size, faults);
@@ -273,7 +269,6 @@ fn merge_at<P: Places, O: Write, E: Write>(
             let scene = Scene {
                 store: path,
                 said: places.said(&left),
-                files: &[],
             };
             tell_why(told, &scene, faults);
             (ended, Some(left))

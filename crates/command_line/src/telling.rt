@@ -1,27 +1,25 @@
 //! Why, for people: a line on standard error beside the ERR line that programs read.
 
+use crate::differing::find_other;
+use history_store::Refusal;
+use import_check::{Release, ReleaseFile};
 use line_server::Reply;
-use std::alloc::{AllocError, Global};
 use std::io::{self, Write};
 
-/// What the last line says that was told, where it is a refusal.
+/// The number of the refusal of a row that differs from another one of the same id and date.
+const CONTRADICTION: usize = 32;
+
+/// The number of the refusal that was told last.
 #[derive(Clone, Copy, Debug, PartialEq, Eq)]
 pub(crate) struct Told {
-    /// The number of the refusal; 0 where there is none.
+    /// 0 where there is none.
     pub code: usize,
-    /// The file of a release and the line in it, from 1; 0 where none is named.
-    pub file: usize,
-    pub line: usize,
 }
 
 impl Told {
     /// Nothing was told yet.
     pub(crate) fn new() -> Told {
-        Told {
-            code: 0,
-            file: 0,
-            line: 0,
-        }
+        Told { code: 0 }
     }
 
     /// Reads the last line of a reply.
@@ -32,9 +30,6 @@ impl Told {
         };
         let mut words = rest.split(|byte| *byte == b' ' || *byte == b'\n');
         self.code = number_of(words.next());
-        let _name = words.next();
-        self.file = number_of(words.next());
-        self.line = number_of(words.next());
     }
 }
 
@@ -80,13 +75,12 @@ pub(crate) fn meaning(code: usize) -> &'static str {
     }
 }
 
-/// What was at work when a task was refused: the store's name, what the
-/// system said of its file, and the names of the files of the release.
+/// What was at work when a task was refused: the store's
+/// name, and what the system said of its file.
 #[derive(Clone, Copy)]
 pub(crate) struct Scene<'a> {
     pub store: &'a str,
     pub said: Option<io::Error>,
-    pub files: &'a [String],
 }
 
 /// Tells why a task was refused, if it was and that wasn't told before.
@@ -123,31 +117,68 @@ fn write_why<E: Write>(told: Told, scene: &Scene<'_>, faults: &mut E) -> io::Res
     }
     let why = meaning(told.code);
     match told.code {
-        // Nothing was refused, or it was told where the file, the folder was looked for.
-        0 | 2 | 45 => Ok(()),
-        20..=32 => {
-            let line = told.line;
-            match scene.files.get(told.file.wrapping_sub(1)) {
-                Some(name) => writeln!(faults, "sctd: {name}, line {line}: {why}"),
-                None => writeln!(faults, "sctd: line {line}: {why}"),
-            }
-        }
+        // Nothing was refused; or it was told where the file or the folder was looked
+        // for, or where the release was at hand.
+        0 | 2 | 20..=32 | 45 => Ok(()),
         43 => writeln!(faults, "sctd: {why}"),
         _ => writeln!(faults, "sctd: {store}: {why}"),
     }
 }
 
-/// The names of the files of a release.
-pub(crate) fn names_of(
-    alloc: Global,
-    files: &[import_check::ReleaseFile],
-) -> Result<Vec<String>, AllocError> {
-    let mut names = Vec::new(alloc);
-    for file in files {
-        match names.push(String::from_str(alloc, &file.name)?) {
-            Ok(()) => {}
-            Err(_) => return Err(AllocError),
+/// Tells which line of a release was refused and why, where it is a line that was refused.
+pub(crate) fn tell_row<E: Write>(release: &Release, refusal: Refusal, faults: &mut E) {
+    let _ = match refusal {
+        Refusal::Line { file, line, .. } => {
+            let why = meaning(usize::from(refusal.code()));
+            write_line(&release.files, file, line, why, faults)
         }
+        Refusal::Contradiction { file, line } => {
+            write_contradiction(&release.files, file, line, faults)
+        }
+        _ => Ok(()),
+    };
+}
+
+/// Writes why a line was refused.
+fn write_line<E: Write>(
+    files: &[ReleaseFile],
+    file: usize,
+    line: usize,
+    why: &str,
+    faults: &mut E,
+) -> io::Result<()> {
+    let name = name_of(files, file);
+    writeln!(faults, "sctd: {name}, line {line}: {why}")
+}
+
+/// Writes where the row stands that was refused, and where the one from which it differs.
+fn write_contradiction<E: Write>(
+    files: &[ReleaseFile],
+    file: usize,
+    line: usize,
+    faults: &mut E,
+) -> io::Result<()> {
+    let name = name_of(files, file);
+    let why = meaning(CONTRADICTION);
+    match find_other(files, file, line) {
+        Some((other, at)) => {
+            let other = name_of(files, other);
+            writeln!(
+                faults,
+                "sctd: {name}, line {line}: {why}: {other}, line {at}"
+            )
+        }
+        None => writeln!(
+            faults,
+            "sctd: {name}, line {line}: {why}: one that the store has"
+        ),
     }
-    Ok(names)
+}
+
+/// The name of a file of a release, by its number from 1.
+fn name_of(files: &[ReleaseFile], file: usize) -> &str {
+    match files.get(file.wrapping_sub(1)) {
+        Some(file) => &file.name,
+        None => "",
+    }
 }

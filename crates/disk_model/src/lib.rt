@@ -10,8 +10,6 @@ mod disk;
 mod file;
 mod memory;
 mod opening;
-#[cfg(test)]
-mod tests;
 
 pub use choice::Choice;
 pub use disk::{Disk, DiskFault, MAX_END};

@@ -13,8 +13,6 @@ mod contents;
 mod faults;
 mod record;
 mod replay;
-#[cfg(test)]
-mod tests;
 
 use crate::{Choice, Disk, DiskFault, MAX_END};
 use contents::Contents;

@@ -9,8 +9,6 @@ pub mod plain;
 mod receipt;
 mod shown;
 mod stamped;
-#[cfg(test)]
-mod tests;
 
 pub use component::IS_A;
 pub use receipt::Receipt;

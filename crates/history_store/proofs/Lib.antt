@@ -25,5 +25,7 @@ pub mod Likeness
 pub mod PostedRows
 pub mod SteppedMerge
 pub mod SteppedStore
+pub mod StepWrites
 mod ImportCounts
 mod KeptBlocks
+pub mod LatestTimes

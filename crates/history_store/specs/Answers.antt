@@ -8,7 +8,7 @@ use Rattle.rf2_values.specs.Row.{Version}
 use Rattle.rf2_values.specs.declared.key.Key.{Key}
 use Rattle.history_model.specs.declared.stamped.StampedRow.{StampedRow}
 use Rattle.history_model.specs.declared.receipt.Receipt.{Receipt}
-use Rattle.history_model.specs.History.{History, Accepts, after_release, ReceiptOf, no_history, full}
+use Rattle.history_model.specs.History.{History, IsHistory, Accepts, after_release, ReceiptOf, no_history, full}
 use Rattle.history_model.specs.Lists.{new_rows}
 use Rattle.directory.specs.declared.layout.Layout.{Layout}
 use Rattle.directory.specs.declared.layout.Layout.TheVariants as layouts
@@ -101,6 +101,12 @@ IsOpeningCause _ = ⊥
 -- the store holds what the bytes stand for
 pub record IsOpened {D : Type 0} (s : Stored D) (bytes : List ℕ) : Type 0 where
   pub stands : StandsFor bytes s.history s.shelf.layout s.shelf.epoch s.shelf.entries
+  pub no_merge : s.shelf.merge ≡ None
+  pub open_still : s.needs_reopen ≡ false
+
+-- an opened store, whatever the disk gave: its rows and counts are a history, and no merge goes on
+pub record IsReady {D : Type 0} (s : Stored D) : Type 0 where
+  pub history : IsHistory s.history
   pub no_merge : s.shelf.merge ≡ None
   pub open_still : s.needs_reopen ≡ false
 

@@ -8,6 +8,7 @@ pub mod Stored
 pub mod Prepared
 pub mod Answers
 pub mod Queries
+pub mod Latest
 pub mod Written
 pub mod Calls
 pub mod MergeAnswers

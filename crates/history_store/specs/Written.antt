@@ -1,9 +1,18 @@
 -- Which bytes of the disk the calls of a store write.
-use Rattle.std.specs.Prelude.{ℕ, List, length, map, drop}
+use Rattle.std.specs.Prelude.{◌≡◌, ℕ, ◌+◌, ◌-◌, min, List, ◌++◌, length, map, drop, Some, slice_get, Result, MatchResult}
 use Rattle.std.specs.Option.{option_to_list}
-use Rattle.blocks.specs.Extents.{byte_range}
-use Rattle.directory.specs.Places.{extents_of}
-use Rattle.history_store.specs.Shelf.{Shelf, reserved_by}
+use Rattle.disk_model.specs.Disk.{DiskState, Moments, followed_by, after_write, Fails}
+use Rattle.blocks.specs.Extents.{byte_range, start_of}
+use Rattle.history_model.specs.declared.stamped.StampedRow.{StampedRow}
+use Rattle.history_model.specs.InOrder.{Has, IsAscending}
+use Rattle.history_model.specs.History.{History, stamped_cmp}
+use Rattle.history_model.specs.Lists.{union}
+use Rattle.directory.specs.declared.entry.Entry.{Entry}
+use Rattle.directory.specs.Places.{extent_of, extents_of}
+use Rattle.segment.specs.Records.{segment_of}
+use Rattle.store_image.specs.Says.{IsSegmentOf}
+use Rattle.store_image.specs.Ahead.{BeginsWith}
+use Rattle.history_store.specs.Shelf.{Merge, Shelf, reserved_by}
 
 -- the bytes of the segments that a shelf lists behind those of another
 abbrev pub added_ranges : Shelf → Shelf → List (ℕ × ℕ)
@@ -12,3 +21,46 @@ added_ranges old new = map byte_range (extents_of (drop (length old.entries) new
 -- the bytes that the merge that goes on has reserved
 abbrev pub reserved_ranges : Shelf → List (ℕ × ℕ)
 reserved_ranges shelf = map byte_range (option_to_list (reserved_by shelf.merge))
+
+-- the segment at a place of the directory is of these rows: a read gives their records there
+pub record HasRows (entries : List Entry) (place : ℕ) (rows : List StampedRow) (now : List ℕ)
+    : Type 0 where
+  pub entry : Entry
+  pub entry_is : slice_get entries place ≡ Some entry
+  pub segment : IsSegmentOf entry rows
+  pub stands : BeginsWith (extent_of entry) (segment_of rows) now
+
+-- The rows that a merge takes next, up to n. Those that were taken before, these and
+-- those that are left after them are the rows of its two segments, in key order.
+-- The records of those that were taken before are what is written of the output.
+pub record AreNext (n : ℕ) (shelf : Shelf) (merge : Merge) (taken rows : List StampedRow)
+    (now : List ℕ) : Type 0 where
+  pub a : List StampedRow
+  pub b : List StampedRow
+  pub first : HasRows shelf.entries merge.i a now
+  pub second : HasRows shelf.entries merge.j b now
+  pub behind : BeginsWith merge.output (segment_of taken) now
+  pub left : List StampedRow
+  pub all : taken ++ rows ++ left ≡ union a b
+  pub ascending : IsAscending stamped_cmp (taken ++ rows ++ left)
+  pub count : length rows ≡ min n merge.left
+  pub count_left : length left ≡ merge.left - n
+
+-- the records of rows, written behind those of the rows that were taken before
+abbrev pub after_part : Merge → List StampedRow → List StampedRow → DiskState → DiskState
+after_part merge taken rows state =
+    after_write state (start_of merge.output + length (segment_of taken)) (segment_of rows)
+
+-- One write puts the records of the next rows, which are rows of the history, behind those of
+-- the rows that were taken before. After an error this write failed, or none was made.
+pub record WritesNext {T E : Type 0} (result : Result T E) (n : ℕ) (shelf : Shelf) (h : History)
+    (old new : Moments) : Type 0 where
+  pub merge : Merge
+  pub goes_on : shelf.merge ≡ Some merge
+  pub taken : List StampedRow
+  pub rows : List StampedRow
+  pub next : AreNext n shelf merge taken rows old.state.now
+  pub of_history : (s : StampedRow) → Has rows s → Has h.rows s
+  pub write : MatchResult result
+      (λ _. new ≡ followed_by old (after_part merge taken rows old.state))
+      (λ _. Fails old (after_part merge taken rows old.state) new)

@@ -8,6 +8,7 @@
 mod beginning;
 mod counting;
 mod known;
+mod latest;
 pub mod laws;
 mod merge_calls;
 mod ongoing;
@@ -25,6 +26,3 @@ mod taken_blocks;
 pub use history_model::Receipt;
 pub use refusal::Refusal;
 pub use store::Store;
-
-#[cfg(test)]
-mod tests;

@@ -6,6 +6,7 @@ ghost use Rattle.disk_model.specs.Disk.{EachImage, IsImage, LeavesOnly};
 
 use crate::counting::row_count;
 use crate::known::fresh_rows;
+use crate::latest::latest_time;
 use crate::ongoing::Ongoing;
 use crate::posting::Posting;
 use crate::preparing::{Prepared, is_spent, prepare, repeated};
@@ -88,7 +89,7 @@ impl<D: Disk> Store<D> {
     ghost use Rattle.history_store.specs.Written.{added_ranges};
     ghost use Rattle.history_store.specs.Calls.{MakesImportCalls};
     ghost use Rattle.history_store.specs.Answers.{Counts, IsStep, device_of, CountsOpening};
-    ghost use Rattle.history_store.specs.Answers.{IsMakingOf, IsMakingCause, IsOpeningOf, IsOpeningCause, SyncsOnce, HandsBack};
+    ghost use Rattle.history_store.specs.Answers.{IsNew, IsReady, IsMakingOf, IsMakingCause, IsOpeningOf, IsOpeningCause, SyncsOnce, HandsBack};
     ghost use Rattle.history_store.specs.Answers.{IsReadingOf, IsStill, IsRefused};
     ghost use Rattle.history_store.specs.Answers.{IsCounted, IsNotFresh, IsImportOf, IsImportAtAll};
     ghost use Rattle.history_store.specs.Answers.{IsBeforeOrAfter, KeepsMoments};
@@ -98,12 +99,15 @@ impl<D: Disk> Store<D> {
     ghost use Rattle.std.specs.List.{sum_by};
     ghost use Rattle.std.specs.Option.{option_to_list};
     ghost use Rattle.blocks.specs.Cache.{LooksUpSome};
+    ghost use Rattle.history_store.specs.Latest.{IsLatest, row_time};
     ghost use Rattle.history_store.specs.declared.refusal.Refusal.TheVariants as refusals;
 
     /// Makes a store on an empty disk. The length of the disk is looked
     /// at first, then all memory is taken, then the disk is written.
     pub fn create(alloc: Global, disk: D) -> Result<Store<D>, (Refusal, D)>
         ensures made { D.is_honest disk → IsMakingOf result (D.moments disk).state.now }
+        // On every disk what is made is a new store.
+        ensures new { IfOk result IsNew }
         // On every disk it is refused with 1, 2 or 4 alone.
         ensures causes { IfErr result (λ e. IsMakingCause e.0) }
         // Refused for any other reason than the device,
@@ -161,6 +165,8 @@ impl<D: Disk> Store<D> {
     /// after one sync, and is given back with every refusal.
     pub fn open(alloc: Global, disk: D) -> Result<Store<D>, (Refusal, D)>
         ensures exact { D.is_honest disk → IsOpeningOf result (D.moments disk).state.now }
+        // On every disk what is opened is a history.
+        ensures opened { IfOk result IsReady }
         // On every disk it is refused with 1, 2, 7 or 8 alone.
         ensures causes { IfErr result (λ e. IsOpeningCause e.0) }
         // A stop at any moment leaves what it might have left before.
@@ -659,6 +665,14 @@ impl<D: Disk> Store<D> {
         ensures { result ≡ length self.now.history.rows }
     {
         row_count(self.directory.entries())
+    }
+
+    /// The greatest effective time of a row, of any kind; none where there is no row.
+    /// It goes over all places in memory, and reads nothing.
+    pub fn latest_time(&self) -> Option<EffectiveTime>
+        ensures { IsLatest row_time result self.now.history.rows }
+    {
+        latest_time(&self.index)
     }
 
     /// Whether the device failed in a call, so that the store has to be opened again.

@@ -8,8 +8,6 @@ mod command;
 pub mod laws;
 mod names;
 mod parsing;
-#[cfg(test)]
-mod tests;
 mod unread;
 mod words;
 

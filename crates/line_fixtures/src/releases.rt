@@ -1,6 +1,7 @@
 //! The releases that lines import by their names.
 
 use acceptance_fixtures::{header, line, of_bytes, one_file};
+use history_store::Refusal;
 use import_check::{Release, sample};
 use line_server::{Sample, Source, SourceFault};
 use rf2_rows::Kind;
@@ -159,4 +160,6 @@ impl Source for Examples {
             Err(_) => Err(SourceFault::OutOfMemory),
         }
     }
+
+    fn note_refusal(&mut self, _release: &Release, _refusal: Refusal) {}
 }

@@ -345,15 +345,15 @@ module _ {D : Type 0} (honest_source : Type 0) (has : Releases) (honest : D → 
           pub unwritten_within : AppendsSome mid new (bytes_of (said outcome)) → Out (Err faults.Write) new after
           unwritten_within w =
               out (Err faults.Write) new later after (h.turns ++ last ∷ []) last_run (all_are_first input (lines_asked (h.turns ++ last ∷ [])) faults.Write last_lines) seen c few
-              tt
+              (record { before = seen; piece = []; whole = sym (append-nil seen); short = omega arith; later = omega (arith, h.ends, length-append h.turns (last ∷ [])) })
               (h.turns, last, mid, refl, h.written, w)
               tt
 
     -- the reply to a line of a piece wasn't written whole
     pub unwritten : {E : Type 0} (fault : E) (mid new : Option (List ℕ)) (pins later : List (Option ℕ)) (now after : Stored D) (seen buffer piece left : List ℕ) (served : ℕ) (h : Progress old mid start (desk pins now) seen buffer served)
         → IsFed (Err fault) honest_source has honest moments failures h.part piece left (desk pins now) (desk later after) mid new
-        → Consumes input rest (seen ++ piece) → length (seen ++ piece) ≤ most * 4096 → Out (Err faults.Write) new after
-    unwritten fault mid new pins later now after seen buffer piece left served h f c few =
+        → Consumes input rest (seen ++ piece) → length (seen ++ piece) ≤ most * 4096 → length piece ≤ 4096 → Out (Err faults.Write) new after
+    unwritten fault mid new pins later now after seen buffer piece left served h f c few short =
         let turns = h.turns ++ f.turns in
         let cut = subst (λ (ls : List (List ℕ)). AreCut (seen ++ f.taken) ls f.rest) (asked_both h.turns f.turns)
         (cut_more seen f.taken h.part f.rest (lines_asked h.turns) (lines_asked f.turns) h.cut f.lines) in
@@ -364,7 +364,7 @@ module _ {D : Type 0} (honest_source : Type 0) (has : Releases) (honest : D → 
         (first_lines input rest (seen ++ piece) f.rest (lines_asked turns) faults.Write c
         (λ others. subst (λ (l : List ℕ). IsFront (lines_asked turns) (lines_in l)) (sym (ap (λ (l : List ℕ). l ++ others) whole ∙ append_assoc (seen ++ f.taken) f.front.0 others)) (cut_front (seen ++ f.taken) (lines_asked turns) f.rest (f.front.0 ++ others) cut)))
         (seen ++ piece) c few
-        tt (
+        (record { before = seen; piece = piece; whole = refl; short = short; later = omega (arith, h.ends, length-append h.turns f.turns, ap (λ (ts : List Turn). length ts) w.3, length-append w.0 (w.1 ∷ [])) }) (
           h.turns ++ w.0,
           w.1,
           w.2,

@@ -1,5 +1,5 @@
 -- What serving lines does.
-use Rattle.std.specs.Prelude.{◌≡◌, ◌^◌, ◌*◌, ◌-◌, ◌≤◌, ℕ, List, [], ◌∷◌, ◌++◌, length, min, Option, IfSome, Result, Ok, Err}
+use Rattle.std.specs.Prelude.{◌≡◌, ◌^◌, ◌*◌, ◌-◌, ◌<◌, ◌≤◌, ℕ, List, [], ◌∷◌, ◌++◌, length, min, Option, IfSome, Result, Ok, Err}
 use Rattle.std.specs.Io.KnownBytes.{Appends, Consumes, IsAtEnd}
 use Rattle.disk_model.specs.Disk.{Moments}
 use Rattle.rf2_rows.specs.File.{lines_in}
@@ -19,14 +19,24 @@ abbrev pub AreLines : Result ℕ ServeFault → List (List ℕ) → List ℕ →
 AreLines (Ok n) lines input = lines ≡ lines_in input
 AreLines (Err fault) lines input = IsFront lines (lines_in input)
 
+-- before the last piece of what came fewer than so many lines
+-- had ended, and the piece is no longer than what one read gives
+pub record EndsInLastPiece (came : List ℕ) (answered : ℕ) : Type 0 where
+  pub before : List ℕ
+  pub piece : List ℕ
+  pub whole : came ≡ before ++ piece
+  pub short : length piece ≤ 4096
+  pub later : ends_in before < answered
+
 -- What came of the input, and how many lines were answered. After Ok nothing is left. After a fault
 -- of the reader each line that ended was answered; after too many reads also, and each of them gave
--- a byte. Without memory nothing was read.
+-- a byte. After a fault of the writer nothing came behind the piece with the line whose reply
+-- wasn't written. Without memory nothing was read.
 abbrev pub IsRead : Result ℕ ServeFault → ℕ → List ℕ → Option (List ℕ) → ℕ → Type 0
 IsRead (Ok n) most came rest answered = IsAtEnd rest
 IsRead (Err faults.OutOfMemory) most came rest answered = (came ≡ []) × (answered ≡ 0)
 IsRead (Err faults.Read) most came rest answered = answered ≡ ends_in came
-IsRead (Err faults.Write) most came rest answered = Unit {0}
+IsRead (Err faults.Write) most came rest answered = EndsInLastPiece came answered
 IsRead (Err faults.Reads) most came rest answered = (answered ≡ ends_in came) × (most ≤ length came)
 
 -- Each reply was written. After a fault of the writer the last line

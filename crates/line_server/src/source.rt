@@ -4,6 +4,7 @@ ghost use Rattle.std.specs.Prelude.{◌≡◌, ℕ, List, Option};
 ghost use Rattle.rf2_values.specs.declared.row.Kind.{Kind};
 ghost use Rattle.line_server.specs.Sources.{Releases, IsGiven};
 
+use history_store::Refusal;
 use import_check::{Release, sample};
 use std::alloc::Global;
 use thiserror::Error;
@@ -29,6 +30,12 @@ pub trait Source {
         ensures honesty { is_honest self.old → is_honest self.new }
         ensures stays { is_honest self.old → releases self.new ≡ releases self.old }
         ensures given { is_honest self.old → IsGiven result (releases self.old name.now) };
+
+    /// The store has refused a release that was had from here: whoever has
+    /// people to tell may tell them why, while its files are still at hand.
+    fn note_refusal(&mut self, release: &Release, refusal: Refusal)
+        ensures honesty { is_honest self.old → is_honest self.new }
+        ensures stays { is_honest self.old → releases self.new ≡ releases self.old };
 }
 
 /// The sample releases, and no others.
@@ -50,4 +57,6 @@ impl Source for Sample {
             Err(_) => Err(SourceFault::OutOfMemory),
         }
     }
+
+    fn note_refusal(&mut self, _release: &Release, _refusal: Refusal) {}
 }

@@ -15,6 +15,3 @@ pub use names::kind_to_take;
 pub use nearly::is_nearly_to_take;
 pub use obstacle::{Obstacle, ReadFault};
 pub use watcher::{Unwatched, Watcher};
-
-#[cfg(test)]
-mod tests;

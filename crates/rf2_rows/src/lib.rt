@@ -19,6 +19,3 @@ pub use rf2_values::{
     Relationship, Row, Sctid, Text,
 };
 pub use write::write_row;
-
-#[cfg(test)]
-mod tests;

@@ -8,8 +8,6 @@ mod member;
 pub mod number;
 mod row;
 mod sctid;
-#[cfg(test)]
-mod tests;
 mod text;
 mod time;
 

@@ -1,6 +1,9 @@
 -- A window on a segment, and the records in it.
-use Rattle.std.proofs.Common.{◌≡◌, ◌⊎◌, inl, inr, ℕ, ◌+◌, ◌-◌, ◌*◌, ◌≤◌, ◌++◌, List, length, min, take, drop, refl, sym, ap, ◌∙◌, subst, arith, length-take, length-drop, length-append}
-use Rattle.std.proofs.lemmas.List.{take_at, take-take, drop-take, drop-drop, take_all}
+use Rattle.std.proofs.Common.{◌≡◌, ◌⊎◌, inl, inr, ℕ, ◌+◌, ◌-◌, ◌*◌, ◌<◌, ◌≤◌, ◌++◌, List, [], ◌∷◌, length, min, take, drop, refl, sym, ap, ◌∙◌, subst, arith, length-take, length-drop, length-append}
+use Rattle.std.proofs.lemmas.Bool.{cases_lt}
+use Rattle.std.specs.List.{copy_within}
+use Rattle.std.proofs.lemmas.List.{take-append-drop, take-append-le, take-take, take_at, drop-take, drop-drop, drop_at, take_all}
+use Rattle.std.proofs.lemmas.List.Edits.{take-paste}
 use Rattle.rf2_values.specs.declared.row.Kind.{Kind}
 use Rattle.rf2_values.specs.declared.row.Kind.TheVariants as kinds
 use Rattle.rf2_values.specs.Row.{kind_of}
@@ -79,43 +82,133 @@ record_ends m at next bytes s is =
 -- what a window has is the segment's
 pub found_in : (w : Window) (extent : Extent) (at : ℕ) (file : List ℕ) (s : StampedRow) → w.extent ≡ extent → w.from ≤ at → Sees w file → HasRecord (bytes_in w) (at - w.from) s → HasRecord (bytes_of extent file) at s
 found_in w extent at file s same le sees has =
-    subst (λ (e : Extent). HasRecord (bytes_of e file) at s) same (record_out w.len w.from at (bytes_of w.extent file) (bytes_in w) s le sees has)
+    subst (λ (e : Extent). HasRecord (bytes_of e file) at s) same (record_out w.len w.from at (bytes_of w.extent file) (bytes_in w) s le sees.bytes has)
 
 -- and what a full one doesn't have isn't there
 pub not_found_in : (e : SegmentFault) (w : Window) (extent : Extent) (at : ℕ) (file : List ℕ) → w.extent ≡ extent → w.from ≡ at → Sees w file → IsFull w file → HasNoRecord e (bytes_in w) (at - w.from) → IsNoRecord (of_segment e) (bytes_of extent file) at
 not_found_in segments.OutOfMemory w extent at file same from sees full none = tt
 not_found_in segments.BadSegment w extent at file same from sees full none = λ s has.
     let here : HasRecord (bytes_of w.extent file) w.from s = subst (λ n. HasRecord (bytes_of w.extent file) n s) (sym from) (subst (λ (e : Extent). HasRecord (bytes_of e file) at s) (sym same) has) in
-    none s (subst (λ n. HasRecord (bytes_in w) (n - w.from) s) from (record_in w.len w.from (bytes_of w.extent file) (bytes_in w) s sees full here))
+    none s (subst (λ n. HasRecord (bytes_in w) (n - w.from) s) from (record_in w.len w.from (bytes_of w.extent file) (bytes_in w) s sees.bytes full here))
 
--- ---- a window that is filled
+-- ---- a window that moves on
 
-pub front_of : (len n : ℕ) (front rest : List ℕ) → len ≤ n → length front ≡ n → take len (front ++ rest) ≡ take len front
-front_of len n front rest le long = sym (take-take len n (front ++ rest) le) ∙ ap (take len) (take_at front rest n long)
+-- so many and then so many more
+take_joined : (n m : ℕ) (xs : List ℕ) → take (n + m) xs ≡ take n xs ++ take m (drop n xs)
+take_joined n m xs =
+    sym (take-append-drop n (take (n + m) xs))
+    ∙ ap (λ (l : List ℕ). l ++ drop n (take (n + m) xs)) (take-take n (n + m) xs (omega arith))
+    ∙ ap (λ (l : List ℕ). take n xs ++ l) (drop-take n m xs)
 
-module _ (first bytes at place count len : ℕ) (file old into : List ℕ) (place_is : place ≡ 4096 * first + at) (below : at ≤ bytes) (count_is : count ≡ min 131072 (length file - place)) (len_is : len ≡ min (bytes - at) count)
-    (into_is : into ≡ take count (drop place file) ++ drop count old) where
-  left : drop at (take bytes (drop (4096 * first) file)) ≡ take (bytes - at) (drop place file)
-  left =
-      let split : bytes ≡ at + (bytes - at) = omega (arith, below) in
-      ap (λ i. drop at (take i (drop (4096 * first) file))) split
-      ∙ drop-take at (bytes - at) (drop (4096 * first) file)
-      ∙ ap (take (bytes - at)) (drop-drop at (4096 * first) file)
-      ∙ ap (λ i. take (bytes - at) (drop i file)) (sym place_is)
+none_taken : (xs : List ℕ) → take 0 xs ≡ []
+none_taken [] = refl
+none_taken (x ∷ xs) = refl
 
-  pub window_sees : take len into ≡ take len (drop at (take bytes (drop (4096 * first) file)))
-  window_sees =
-      let whole : length (take count (drop place file)) ≡ count = omega (arith, count_is, length-take count (drop place file), length-drop place file) in
-      let short : len ≤ count = omega (arith, len_is) in
-      ap (take len) into_is
-      ∙ front_of len count (take count (drop place file)) (drop count old) short whole
-      ∙ take-take len count (drop place file) short
-      ∙ sym (take-take len (bytes - at) (drop place file) (omega (arith, len_is)))
-      ∙ ap (take len) (sym left)
+-- what is left of a vector's bytes once those in front were moved over
+pub moved_front : (size k len : ℕ) (items shown new : List ℕ) → length shown ≡ size → shown ≡ items → length new ≡ length shown → new ≡ copy_within shown k len 0 → k ≤ len → len ≤ size → take (len - k) (take size (new ++ drop (length new) items)) ≡ drop k (take len items)
+moved_front size k len items shown new size_is same long new_is le most =
+    let zero_more : 0 + (len - k) ≡ len - k = omega arith in
+    let split : k + (len - k) ≡ len = omega (arith, le) in
+    ap (take (len - k)) (take_at new (drop (length new) items) size (long ∙ size_is))
+    ∙ ap (take (len - k)) new_is
+    ∙ ap (λ i. take i (copy_within shown k len 0)) (sym zero_more)
+    ∙ take-paste shown 0 (drop k shown) (len - k) (omega arith) (omega (arith, size_is, most, length-drop k shown))
+    ∙ ap (λ (l : List ℕ). l ++ take (len - k) (drop k shown)) (none_taken shown)
+    ∙ sym (drop-take k (len - k) shown)
+    ∙ ap (λ i. drop k (take i shown)) split
+    ∙ ap (λ (l : List ℕ). drop k (take len l)) same
 
-  -- the same of the vector that the window keeps
-  pub window_kept : (size : ℕ) (items : List ℕ) → size ≡ 131072 → length old ≡ 131072 → take len (take size (into ++ drop (length into) items)) ≡ take len (drop at (take bytes (drop (4096 * first) file)))
-  window_kept size items size_is old_is =
+-- and of those that were read behind others
+module _ (size len count read place : ℕ) (items shown into file : List ℕ) (size_is : length shown ≡ size) (same : shown ≡ items) (room : len + count ≤ size) (read_is : read ≡ min (length (take (len + count - len) (drop len shown))) (length file - place))
+    (into_is : into ≡ take read (drop place file) ++ drop read (take (len + count - len) (drop len shown))) where
+  old_long : length (take (len + count - len) (drop len shown)) ≡ count
+  old_long = omega (arith, room, size_is, length-take (len + count - len) (drop len shown), length-drop len shown)
+
+  pub read_most : read ≡ min count (length file - place)
+  read_most = read_is ∙ ap (λ n. min n (length file - place)) old_long
+
+  part_long : length (take read (drop place file)) ≡ read
+  part_long = omega (arith, read_most, length-take read (drop place file), length-drop place file)
+
+  into_long : length into ≡ count
+  into_long =
       let long = ap length into_is in
-      let whole : length into ≡ size = omega (arith, long, size_is, old_is, count_is, length-append (take count (drop place file)) (drop count old), length-take count (drop place file), length-drop place file, length-drop count old) in
-      ap (take len) (take_at into (drop (length into) items) size whole) ∙ window_sees
+      omega (arith, long, part_long, old_long, read_most, length-append (take read (drop place file)) (drop read (take (len + count - len) (drop len shown))), length-drop read (take (len + count - len) (drop len shown)))
+
+  front_long : length (take len shown) ≡ len
+  front_long = omega (arith, room, size_is, length-take len shown)
+
+  written_long : length (take len shown ++ (into ++ drop (len + count - len) (drop len shown))) ≡ size
+  written_long =
+      omega (arith, room, size_is, front_long, into_long, length-append (take len shown) (into ++ drop (len + count - len) (drop len shown)), length-append into (drop (len + count - len) (drop len shown)), length-drop (len + count - len) (drop len shown), length-drop len shown)
+
+  kept : take size ((take len shown ++ (into ++ drop (len + count - len) (drop len shown))) ++ drop (length (take len shown ++ (into ++ drop (len + count - len) (drop len shown)))) items) ≡ take len shown ++ (into ++ drop (len + count - len) (drop len shown))
+  kept = take_at (take len shown ++ (into ++ drop (len + count - len) (drop len shown))) (drop (length (take len shown ++ (into ++ drop (len + count - len) (drop len shown)))) items) size written_long
+
+  pub front_stays : take len (take size ((take len shown ++ (into ++ drop (len + count - len) (drop len shown))) ++ drop (length (take len shown ++ (into ++ drop (len + count - len) (drop len shown)))) items)) ≡ take len items
+  front_stays = ap (take len) kept ∙ take_at (take len shown) (into ++ drop (len + count - len) (drop len shown)) len front_long ∙ ap (take len) same
+
+  pub read_behind : take read (drop len (take size ((take len shown ++ (into ++ drop (len + count - len) (drop len shown))) ++ drop (length (take len shown ++ (into ++ drop (len + count - len) (drop len shown)))) items))) ≡ take read (drop place file)
+  read_behind =
+      ap (λ (l : List ℕ). take read (drop len l)) kept
+      ∙ ap (take read) (drop_at (take len shown) (into ++ drop (len + count - len) (drop len shown)) len front_long)
+      ∙ take-append-le read into (drop (len + count - len) (drop len shown)) (omega (arith, into_long, read_most))
+      ∙ ap (take read) into_is
+      ∙ take_at (take read (drop place file)) (drop read (take (len + count - len) (drop len shown))) read part_long
+
+-- bytes in front are forgotten
+pub sees_behind : (w v : Window) (at : ℕ) (file : List ℕ) → w.from ≤ at → at ≤ w.from + w.len → v.extent ≡ w.extent → v.from ≡ at → v.from + v.len ≡ w.from + w.len → v.asked ≡ w.asked → bytes_in v ≡ drop (at - w.from) (bytes_in w) → Sees w file → Sees v file
+sees_behind w v at file le reached extent from end asked bytes sees =
+    let whole : w.len ≡ (at - w.from) + v.len = omega (arith, le, reached, from, end) in
+    let place : w.from + (at - w.from) ≡ at = omega (arith, le) in
+    let is : bytes_in v ≡ take v.len (drop at (bytes_of w.extent file)) =
+    bytes
+    ∙ ap (drop (at - w.from)) sees.bytes
+    ∙ ap (λ n. drop (at - w.from) (take n (drop w.from (bytes_of w.extent file)))) whole
+    ∙ drop-take (at - w.from) v.len (drop w.from (bytes_of w.extent file))
+    ∙ ap (take v.len) (drop-drop (at - w.from) w.from (bytes_of w.extent file))
+    ∙ ap (λ n. take v.len (drop n (bytes_of w.extent file))) place in
+    record {
+      bytes = subst (λ (x : Extent). bytes_in v ≡ take v.len (drop v.from (bytes_of x file))) (sym extent) (subst (λ n. bytes_in v ≡ take v.len (drop n (bytes_of w.extent file))) (sym from) is);
+      ended = λ fewer. subst (λ (x : Extent). length (bytes_of x file) ≤ v.from + v.len) (sym extent) (subst (λ n. length (bytes_of w.extent file) ≤ n) (sym end) (sees.ended (omega (arith, fewer, end, asked))));
+    }
+
+-- more bytes are read behind the others
+module _ (w : Window) (count read place : ℕ) (file : List ℕ) (count_is : count ≡ min (131072 - w.len) (w.extent.bytes - w.asked)) (place_is : place ≡ 4096 * w.extent.first + (w.from + w.len)) (read_is : read ≡ min count (length file - place)) (sees : Sees w file) where
+  long : length (bytes_of w.extent file) ≡ min w.extent.bytes (length file - 4096 * w.extent.first)
+  long = omega (arith, length-take w.extent.bytes (drop (4096 * w.extent.first) file), length-drop (4096 * w.extent.first) file)
+
+  within : (w.from + w.len) + read ≤ w.extent.bytes
+  within = let known = w.known in let most = w.within in omega (arith, known, most, count_is, read_is)
+
+  -- what was read is the segment's
+  read_on : take read (drop place file) ≡ take read (drop w.len (drop w.from (bytes_of w.extent file)))
+  read_on =
+      ap (λ n. take read (drop n file)) place_is
+      ∙ sym (part_within w.extent.bytes (4096 * w.extent.first) (w.from + w.len) read file within)
+      ∙ sym (ap (take read) (drop-drop w.len w.from (bytes_of w.extent file)))
+
+  pub sees_more : (items : List ℕ) → take w.len items ≡ take w.len w.bytes.items → take read (drop w.len items) ≡ take read (drop place file) → take (w.len + read) items ≡ take (w.len + read) (drop w.from (bytes_of w.extent file))
+  sees_more items front behind =
+      take_joined w.len read items
+      ∙ ap (λ (l : List ℕ). l ++ take read (drop w.len items)) (front ∙ sees.bytes)
+      ∙ ap (λ (l : List ℕ). take w.len (drop w.from (bytes_of w.extent file)) ++ l) (behind ∙ read_on)
+      ∙ sym (take_joined w.len read (drop w.from (bytes_of w.extent file)))
+
+  pub ended_still : w.from + (w.len + read) < w.asked + count → length (bytes_of w.extent file) ≤ w.from + (w.len + read)
+  ended_still fewer = elim (cases_lt (w.from + w.len) w.asked) [
+    | inl before ↦ let ended = sees.ended before in omega (arith, ended)
+    | inr after ↦ let known = w.known in omega (arith, fewer, after, known, long, read_is, place_is)
+  ]
+
+  pub is_full : (length (drop w.from (bytes_of w.extent file)) ≤ w.len + read) ⊎ (131072 ≤ w.len + read)
+  is_full = elim (cases_lt (w.len + read) 131072) [
+    | inr all ↦ inr all
+    | inl room ↦ inl (elim (cases_lt (w.from + (w.len + read)) (w.asked + count)) [
+      | inl fewer ↦ let ended = ended_still fewer in omega (arith, ended, length-drop w.from (bytes_of w.extent file))
+      | inr all ↦
+          let known = w.known in
+          let most = w.within in
+          omega (arith, all, room, known, most, count_is, read_is, long, length-drop w.from (bytes_of w.extent file))
+    ])
+  ]

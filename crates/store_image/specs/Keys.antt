@@ -1,10 +1,12 @@
 -- The keys of lists of places: words of the functions that `load` is made of.
-use Rattle.std.specs.Prelude.{◌≡◌, ℕ, ◌<◌, ◌≤◌, ◌↔◌, Bool, true, false, List, [], ◌∷◌, ◌++◌, length, map, sum_by, take, drop, get_or, Result, Ok, Err}
+use Rattle.std.specs.Prelude.{◌≡◌, ◌↔◌, ℕ, List, [], ◌∷◌, ◌++◌, length, map, sum_by, All}
+use Rattle.std.specs.BinaryHeap.{IsHeap}
+use Rattle.std.specs.Cmp.{IsTotalOrder, back_total, on_total}
 use Rattle.std.specs.List.{AllByRecursion}
 use Rattle.std.specs.declared.cmp.Ordering.{Ordering}
 use Rattle.std.specs.declared.cmp.Ordering.TheVariants.{Less}
 use Rattle.rf2_values.specs.declared.key.Key.{Key}
-use Rattle.rf2_values.specs.Key.{key_cmp}
+use Rattle.rf2_values.specs.Key.{key_cmp, keys_total}
 use Rattle.history_model.specs.InOrder.{Has, IsAscending}
 use Rattle.segment.specs.declared.place.Posted.{Posted}
 use Rattle.store_image.specs.declared.apart.Rest.{Rest}
@@ -29,24 +31,31 @@ keys_in rest = rest.first ∷ keys_of rest.places.now
 abbrev pub keys_left : List Rest → ℕ
 keys_left rests = sum_by (λ r. length (keys_in r)) rests
 
--- the one with the greater first key before the other
+-- the one with the least first key is the greatest
 abbrev pub first_cmp : Rest → Rest → Ordering
 first_cmp a b = key_cmp b.first a.first
 
--- the first keys descend, and in each list the keys ascend
+-- which is one order of them all
+pub firsts_total : IsTotalOrder first_cmp
+firsts_total = on_total (λ r. r.first) (back_total keys_total)
+
+-- they are a heap by their first keys, and in each list the keys ascend
 pub record AreOpen (rests : List Rest) : Type 0 where
-  pub firsts : IsAscending first_cmp rests
-  pub each : AllByRecursion (λ r. IsAscending key_cmp (keys_in r)) rests
+  pub heap : IsHeap first_cmp rests
+  pub each : All (λ r. IsAscending key_cmp (keys_in r)) rests
 
--- a list was put among others, beside any that come later; or a key of it is in one of them
-abbrev pub Opens : Bool → List (List Key) → List (List Key) → List Key → Type 0
-Opens true old new keys =
+-- a list of these keys was put among others, beside any that come later
+abbrev pub Opens : List (List Key) → List (List Key) → List Key → Type 0
+Opens old new keys =
     (later : List (List Key)) → EachKeyOnce (new ++ later) ↔ EachKeyOnce (old ++ keys ∷ later)
-Opens false old new keys = (later : List (List Key)) → EachKeyOnce (old ++ keys ∷ later) → ⊥
 
--- the place behind the greater first keys, or one where the key is the first
-abbrev pub IsPlaceOf : Key → List Rest → Result ℕ ℕ → Type 0
-IsPlaceOf key rests (Ok i) = (d : Rest) → (i < length rests) × ((get_or rests i d).first ≡ key)
-IsPlaceOf key rests (Err i) = (i ≤ length rests)
-    × AllByRecursion (λ r. key_cmp key r.first ≡ Less) (take i rests)
-    × AllByRecursion (λ r. key_cmp r.first key ≡ Less) (drop i rests)
+-- what is left of the places behind some whose keys are below this one
+pub record IsBehind (key : Key) (places left : List Posted) : Type 0 where
+  pub before : List Posted
+  pub whole : places ≡ before ++ left
+  pub below : AllByRecursion (λ p. key_cmp p.key key ≡ Less) before
+
+-- the first key isn't below this one
+abbrev pub StartsFrom : Key → List Posted → Type 0
+StartsFrom key [] = Unit {0}
+StartsFrom key (place ∷ places) = key_cmp place.key key ≡ Less → ⊥

@@ -1,22 +1,66 @@
 //! Keys that two lists share, found in one pass over all lists together.
 
-ghost use Rattle.std.specs.Prelude.{◌≡◌, ◌↔◌, ◌+◌, IsTrue, IfOk, MatchResult, List, length, map, vec_items};
+ghost use Rattle.std.specs.Prelude.{◌≡◌, ◌↔◌, ◌+◌, refl, IsTrue, IfOk, OnOk, List, length, map, vec_items};
 ghost use Rattle.std.specs.List.{AllByRecursion};
+ghost use Rattle.std.specs.BinaryHeap.{heap_items};
+ghost use Rattle.std.specs.Cmp.{eq_by_cmp_equiv, partial_equiv_from_equiv, partial_order_from_agreeing_total};
+ghost use Rattle.std.specs.Ordering.{as_partial_cmp, eq_by_cmp};
+ghost use Rattle.std.specs.declared.cmp.Ordering.TheVariants.{Less};
 ghost use Rattle.history_model.specs.InOrder.{IsAscending};
-ghost use Rattle.rf2_values.specs.declared.key.Key.{Key};
 ghost use Rattle.rf2_values.specs.Key.{key_cmp};
-ghost use Rattle.store_image.specs.Keys.{keys_of, EachKeyOnce, AreOpen, Opens, keys_in, keys_left, IsPlaceOf};
+ghost use Rattle.store_image.specs.Keys.{keys_of, keys_in, keys_left, first_cmp, firsts_total, EachKeyOnce, AreOpen, Opens, IsBehind, StartsFrom};
 
 use rf2_values::Key;
 use segment::Posted;
 use std::alloc::{AllocError, Global};
 use std::cmp::Ordering;
+use std::collections::BinaryHeap;
 
 /// What is left of a list: its first key, and the places behind it.
+/// Of two the one with the lower first key is the greater one, which a heap hands out first.
 #[derive(Clone, Copy, Drop)]
 pub(crate) struct Rest<'a> {
     first: Key,
     places: &'a [Posted],
+}
+
+impl Ord for Rest<'_> {
+    ghost cmp = { first_cmp };
+
+    ghost total = { firsts_total };
+
+    ghost matches_partial_cmp = { λ _ _. refl };
+
+    ghost matches_eq = { λ _ _. refl };
+
+    fn cmp(&self, other: &Self) -> Ordering {
+        other.first.compare(&self.first)
+    }
+}
+
+impl PartialOrd for Rest<'_> {
+    ghost partial_cmp = { as_partial_cmp first_cmp };
+
+    ghost laws = { partial_order_from_agreeing_total first_cmp firsts_total (λ _ _. refl)
+        (λ _ _. refl) };
+
+    fn partial_cmp(&self, other: &Self) -> Option<Ordering> {
+        Some(self.cmp(other))
+    }
+}
+
+impl PartialEq for Rest<'_> {
+    ghost eq = { eq_by_cmp first_cmp };
+
+    ghost laws = { partial_equiv_from_equiv (eq_by_cmp_equiv firsts_total) };
+
+    fn eq(&self, other: &Self) -> bool {
+        self.cmp(other).is_eq()
+    }
+}
+
+impl Eq for Rest<'_> {
+    ghost laws = { eq_by_cmp_equiv firsts_total };
 }
 
 /// Whether no key is in two of the lists. Each is in ascending order of keys.
@@ -25,74 +69,74 @@ pub(crate) fn are_apart(alloc: Global, lists: &[Vec<Posted>]) -> Result<bool, Al
     ensures { IfOk result
         (λ apart. IsTrue apart ↔ EachKeyOnce (map keys_of (map vec_items lists.now))) }
 {
-    let mut rests = Vec::with_capacity(alloc, lists.len())?;
+    let mut rests = BinaryHeap::with_capacity(alloc, lists.len())?;
     for list in lists {
-        if !put_in(&mut rests, list.as_slice())? {
-            return Ok(false);
-        }
+        put_in(&mut rests, list.as_slice())?;
     }
     run_out(&mut rests)
 }
 
 /// Goes on in what is left of the lists, from the least first key to
-/// the next, until a key is another one's too or nothing is left.
-fn run_out(rests: &mut Vec<Rest<'_>>) -> Result<bool, AllocError>
-    requires { AreOpen rests.old.items }
-    ensures { IfOk result (λ apart. IsTrue apart ↔ EachKeyOnce (map keys_in rests.old.items)) }
+/// the next, until a key is another one's too or one list is left.
+fn run_out(rests: &mut BinaryHeap<Rest<'_>>) -> Result<bool, AllocError>
+    requires { AreOpen (heap_items rests.old) }
+    ensures { IfOk result
+        (λ apart. IsTrue apart ↔ EachKeyOnce (map keys_in (heap_items rests.old))) }
 {
     while let Some(rest) = rests.pop() {
-        if !put_in(rests, rest.places)? {
+        let Some(next) = rests.peek() else {
+            return Ok(true);
+        };
+        let key = next.first;
+        if !is_below(&rest.first, &key) {
             return Ok(false);
         }
+        put_in(rests, skip_below(rest.places, &key))?;
     }
     Ok(true)
 }
 
-/// Puts a list among those that are gone over, the one with the least first key last.
-/// False where its first key is that of another one's.
-fn put_in<'a>(rests: &mut Vec<Rest<'a>>, list: &'a [Posted]) -> Result<bool, AllocError>
-    requires rests { AreOpen rests.old.items }
+/// Puts a list among those that are gone over.
+fn put_in<'a>(rests: &mut BinaryHeap<Rest<'a>>, list: &'a [Posted]) -> Result<(), AllocError>
+    requires rests { AreOpen (heap_items rests.old) }
     requires ascending { IsAscending key_cmp (keys_of list.now) }
-    ensures rests { IfOk result (λ apart. IsTrue apart → AreOpen rests.new.items) }
-    ensures lists { IfOk result
-        (λ apart. Opens apart (map keys_in rests.old.items) (map keys_in rests.new.items)
-        (keys_of list.now)) }
-    ensures left { IfOk result
-        (λ apart. IsTrue apart
-        → keys_left rests.new.items ≡ keys_left rests.old.items + length list.now) }
+    ensures rests { OnOk result (AreOpen (heap_items rests.new)) }
+    ensures lists { OnOk result (Opens (map keys_in (heap_items rests.old))
+        (map keys_in (heap_items rests.new)) (keys_of list.now)) }
+    ensures left { OnOk result (keys_left (heap_items rests.new)
+        ≡ keys_left (heap_items rests.old) + length list.now) }
 {
     let Some((first, places)) = list.split_first() else {
-        return Ok(true);
+        return Ok(());
     };
-    match place_of(rests.as_slice(), first.key) {
-        Ok(_) => Ok(false),
-        Err(place) => {
-            let rest = Rest {
-                first: first.key,
-                places,
-            };
-            match rests.insert(place, rest) {
-                Ok(()) => Ok(true),
-                Err(_) => Err(AllocError),
-            }
-        }
+    let rest = Rest {
+        first: first.key,
+        places,
+    };
+    match rests.push(rest) {
+        Ok(()) => Ok(()),
+        Err(_) => Err(AllocError),
     }
 }
 
-/// Where a list with this first key belongs, or one that has it.
-fn place_of(rests: &[Rest<'_>], key: Key) -> Result<usize, usize>
-    requires { AreOpen rests.now }
-    ensures { IsPlaceOf key rests.now result }
+/// The places from the first one on whose key isn't below this one.
+fn skip_below<'a>(places: &'a [Posted], key: &Key) -> &'a [Posted]
+    ensures behind { IsBehind key.now places.now result.now }
+    ensures first { StartsFrom key.now result.now }
 {
-    let mut low = 0;
-    let mut high = rests.len();
-    while low < high {
-        let middle = low + (high - low) / 2;
-        match key.compare(&rests[middle].first) {
-            Ordering::Less => low = middle + 1,
-            Ordering::Greater => high = middle,
-            Ordering::Equal => return Ok(middle),
+    let mut left = places;
+    while let Some((first, behind)) = left.split_first() {
+        if !is_below(&first.key, key) {
+            return left;
         }
+        left = behind;
     }
-    Err(low)
+    left
+}
+
+/// Whether a key comes before another one.
+pub(crate) fn is_below(key: &Key, other: &Key) -> bool
+    ensures { IsTrue result ↔ (key_cmp key.now other.now ≡ Less) }
+{
+    key.compare(other).is_lt()
 }

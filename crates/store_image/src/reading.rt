@@ -18,7 +18,7 @@ ghost use Rattle.store_image.specs.Reading.{Sees, AreReadTo, BeginsWith, IsNotNe
 ghost use Rattle.store_image.specs.Answers.{CountsFault};
 ghost use Rattle.store_image.specs.declared.fault.ImageFault.TheVariants as faults;
 
-use crate::apart::are_apart;
+use crate::apart::{are_apart, is_below};
 use crate::fault::ImageFault;
 use crate::sink::RowSink;
 use crate::window::Window;
@@ -26,7 +26,6 @@ use blocks::BLOCK;
 use directory::Entry;
 use disk_model::Disk;
 use history_model::{Shown, StampedRow};
-use rf2_values::Key;
 use segment::Posted;
 use std::alloc::{AllocError, Global};
 
@@ -203,13 +202,14 @@ fn read_row<D: Disk, S: RowSink>(
     sink: &mut S,
 ) -> Result<u32, ImageFault>
     requires from { window.old.from ≤ at }
-    requires within { at ≤ window.old.extent.bytes }
+    requires reached { at ≤ window.old.from + window.old.len }
     requires rows { AreReadTo at imports rows.old.places.items rows.old.shown }
     ensures read { IfOk result
         (λ next. AreReadTo next imports rows.new.places.items rows.new.shown) }
     ensures one { IfOk result (λ next. length rows.new.shown ≡ length rows.old.shown + 1) }
     ensures extent { window.new.extent ≡ window.old.extent }
     ensures from { IfOk result (λ next. window.new.from ≤ next) }
+    ensures reached { IfOk result (λ next. next ≤ window.new.from + window.new.len) }
     ensures within { IfOk result (λ next. next ≤ window.old.extent.bytes) }
     ensures exact { D.is_honest disk.old → Sees window.old (D.moments disk.old).state.now
         → MatchResult result
@@ -250,10 +250,4 @@ fn comes_after(places: &[Posted], row: &StampedRow) -> bool
         [] => true,
         [.., last] => is_below(&last.key, &row.row.key()),
     }
-}
-
-fn is_below(key: &Key, other: &Key) -> bool
-    ensures { IsTrue result ↔ (key_cmp key.now other.now ≡ Less) }
-{
-    key.compare(other).is_lt()
 }

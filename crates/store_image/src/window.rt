@@ -1,6 +1,6 @@
 //! A segment's bytes, read through a buffer of fixed size.
 
-ghost use Rattle.std.specs.Prelude.{◌≡◌, ◌≢◌, ◌↔◌, ℕ, ◌+◌, ◌-◌, ◌^◌, ◌<◌, ◌≤◌, List, length, vec_len, IfOk, IfErr, OnOk, MatchResult};
+ghost use Rattle.std.specs.Prelude.{◌≡◌, ◌≢◌, ◌↔◌, ℕ, ◌+◌, ◌-◌, ◌^◌, ◌<◌, ◌≤◌, List, length, drop, vec_len, IfOk, IfErr, OnOk, MatchResult};
 
 use crate::fault::ImageFault;
 use blocks::{BLOCK, Extent};
@@ -8,8 +8,8 @@ use disk_model::{Disk, DiskFault};
 use segment::{SegmentFault, StampedRow, record_at};
 use std::alloc::{AllocError, Global};
 
-/// How many bytes are read at once. No record has more than 65,554.
-const WINDOW: usize = 131_072;
+/// How many bytes there are at once. No record has more than 65,554.
+const WINDOW: u32 = 131_072;
 
 /// Some of the bytes of a segment, as they were read last.
 #[derive(Drop)]
@@ -19,10 +19,13 @@ pub(crate) struct Window {
     /// The place in the segment of the first of the bytes.
     pub(crate) from: u32,
     len: u32,
+    /// How many bytes of the segment its reads were asked for.
+    asked: u32,
     ghost long: { vec_len bytes ≡ 131072 },
     ghost short: { len ≤ 131072 },
-    ghost within: { from + len ≤ extent.bytes },
-    ghost fits: { from + len < 2 ^ 32 },
+    ghost known: { from + len ≤ asked },
+    ghost within: { asked ≤ extent.bytes },
+    ghost fits: { asked < 2 ^ 32 },
 }
 
 impl Window {
@@ -37,9 +40,10 @@ impl Window {
     pub(crate) fn new(alloc: Global) -> Result<Window, AllocError> {
         Ok(Window {
             extent: Extent { first: 0, bytes: 0 },
-            bytes: vec![in alloc; 0u8; WINDOW]?,
+            bytes: vec![in alloc; 0u8; WINDOW as usize]?,
             from: 0,
             len: 0,
+            asked: 0,
         })
     }
 
@@ -47,32 +51,54 @@ impl Window {
     pub(crate) fn begin(&mut self, extent: Extent)
         ensures extent { self.new.extent ≡ extent }
         ensures from { self.new.from ≡ 0 }
+        ensures asked { self.new.asked ≡ 0 }
         ensures sees { (file : List ℕ) → Sees self.new file }
     {
         self.len = 0;
         self.from = 0;
+        self.asked = 0;
         self.extent = extent;
     }
 
-    /// Reads the bytes from a place of the segment on.
-    fn fill<D: Disk>(&mut self, disk: &mut D, at: u32) -> Result<(), DiskFault>
-        requires { at ≤ self.old.extent.bytes }
+    /// Forgets the bytes before a place of the segment, and moves the others to the front.
+    fn forget_before(&mut self, at: u32)
+        requires from { self.old.from ≤ at }
+        requires reached { at ≤ self.old.from + self.old.len }
         ensures extent { self.new.extent ≡ self.old.extent }
-        ensures from { OnOk result (self.new.from ≡ at) }
-        ensures sees { D.is_honest disk.old
+        ensures from { self.new.from ≡ at }
+        ensures end { self.new.from + self.new.len ≡ self.old.from + self.old.len }
+        ensures bytes { bytes_in self.new ≡ drop (at - self.old.from) (bytes_in self.old) }
+        ensures asked { self.new.asked ≡ self.old.asked }
+    {
+        let start = (at - self.from) as usize;
+        let end = self.len as usize;
+        self.bytes.as_mut_slice().copy_within(start..end, 0);
+        self.len -= at - self.from;
+        self.from = at;
+    }
+
+    /// Reads on behind the bytes that it has, as far as the segment goes and there is room. The
+    /// reads of a segment are asked for no more bytes than it has, whatever the device answers.
+    fn fill<D: Disk>(&mut self, disk: &mut D) -> Result<(), DiskFault>
+        ensures extent { self.new.extent ≡ self.old.extent }
+        ensures from { self.new.from ≡ self.old.from }
+        ensures len { self.old.len ≤ self.new.len }
+        ensures asked { self.old.asked ≤ self.new.asked }
+        ensures sees { D.is_honest disk.old → Sees self.old (D.moments disk.old).state.now
             → OnOk result (Sees self.new (D.moments disk.old).state.now) }
-        ensures full { D.is_honest disk.old
+        ensures full { D.is_honest disk.old → Sees self.old (D.moments disk.old).state.now
             → OnOk result (IsFull self.new (D.moments disk.old).state.now) }
         ensures moments { D.is_honest disk.old → D.moments disk.new ≡ D.moments disk.old }
         ensures honesty { D.is_honest disk.old ↔ D.is_honest disk.new }
         ensures failures { CountsEach result (D.failures disk.old) (D.failures disk.new) }
     {
-        let left = self.extent.bytes - at;
-        let place = BLOCK * u64::from(self.extent.first) + u64::from(at);
-        let count = disk.read_at(place, self.bytes.as_mut_slice())?;
-        self.len = 0;
-        self.from = at;
-        self.len = left.min(count as u32);
+        let start = self.len as usize;
+        let count = (WINDOW - self.len).min(self.extent.bytes - self.asked);
+        let place = BLOCK * u64::from(self.extent.first) + u64::from(self.from + self.len);
+        self.asked += count;
+        let room = &mut self.bytes.as_mut_slice()[start..start + count as usize];
+        let read = disk.read_at(place, room)?;
+        self.len += read as u32;
         Ok(())
     }
 
@@ -83,6 +109,7 @@ impl Window {
         ensures found { IfOk result
             (λ r. HasRecord (bytes_in self.now) (at - self.now.from) r.0) }
         ensures next { IfOk result (λ r. r.1 ≡ at + length (record_of r.0)) }
+        ensures reached { IfOk result (λ r. r.1 ≤ self.now.from + self.now.len) }
         ensures within { IfOk result (λ r. r.1 ≤ self.now.extent.bytes) }
         ensures only { IfErr result
             (λ e. HasNoRecord e (bytes_in self.now) (at - self.now.from)) }
@@ -101,9 +128,11 @@ impl Window {
         at: u32,
     ) -> Result<(StampedRow, u32), ImageFault>
         requires from { self.old.from ≤ at }
-        requires within { at ≤ self.old.extent.bytes }
+        requires reached { at ≤ self.old.from + self.old.len }
         ensures extent { self.new.extent ≡ self.old.extent }
         ensures from { IfOk result (λ r. self.new.from ≤ r.1) }
+        ensures reached { IfOk result (λ r. r.1 ≤ self.new.from + self.new.len) }
+        ensures asked { self.old.asked ≤ self.new.asked }
         ensures is { IfOk result (λ r. IsStamped r.0) }
         ensures next { IfOk result (λ r. r.1 ≡ at + length (record_of r.0)) }
         ensures within { IfOk result (λ r. r.1 ≤ self.old.extent.bytes) }
@@ -122,7 +151,8 @@ impl Window {
             Ok((row, next)) => Ok((row, next)),
             Err(SegmentFault::OutOfMemory) => Err(ImageFault::OutOfMemory),
             Err(SegmentFault::BadSegment) => {
-                self.fill(disk, at)?;
+                self.forget_before(at);
+                self.fill(disk)?;
                 let (row, next) = self.row_in(alloc, at)?;
                 Ok((row, next))
             }

@@ -1,4 +1,3 @@
-use Rattle.std.proofs.lemmas.Result.{err_from_is_err_and}
 use Rattle.line_server.proofs.Importing.{lacking, missing, taking, refusing}
 use Rattle.line_server.proofs.answering.import.Goals as goal
 
@@ -11,15 +10,14 @@ returns-in-Err-NoFolder-clause-response g c session pins =
     missing (g.S.Source.is_honest c.args.source.now) (g.S.Source.releases c.args.source.now) g.D.Disk.is_honest g.D.Disk.moments g.D.Disk.failures c.args.name.now session pins c.args.store.now
     (λ h. let given = c.in-Err-NoFolder.ensures.given h in rw c.in-Err-NoFolder.field-0-is at given)
 
-pub returns-in_err-receipt-clause-response : goal.returns-in_err-receipt-clause-response
-returns-in_err-receipt-clause-response g c session pins =
-    let p = err_from_is_err_and c.from_residual.result c.from_residual.ensures.1 in
-    let e = c.in_err-receipt.ensures in
-    rw (p.1, p.2) (refusing (g.S.Source.is_honest c.args.source.now) (g.S.Source.releases c.args.source.now) g.D.Disk.is_honest g.D.Disk.moments g.D.Disk.failures c.args.name.now session pins c.args.store.now c.import.new.self c.in-Ok.release
-    (λ h. c.in-Ok.ensures.given h) e.any_moment e.acknowledged e.honesty c.in_err-receipt.field-0.0 e.kept e.answer e.failures e.closed e.refused)
+pub returns-in-Ok-import-clause-response : goal.returns-in-Ok-import-clause-response
+returns-in-Ok-import-clause-response g c session pins =
+    let e = c.in-Ok-import.ensures in
+    taking (g.S.Source.is_honest c.args.source.now) (g.S.Source.releases c.args.source.now) g.D.Disk.is_honest g.D.Disk.moments g.D.Disk.failures c.args.name.now session pins c.args.store.now c.import.new.self c.in-Ok.release
+    (λ h. c.in-Ok.ensures.given h) e.any_moment e.acknowledged e.honesty c.in-Ok-import.receipt c.received.result e.kept e.answer e.failures c.received.ensures
 
 pub returns-clause-response : goal.returns-clause-response
 returns-clause-response g c session pins =
-    let e = c.in_ok-receipt.ensures in
-    taking (g.S.Source.is_honest c.args.source.now) (g.S.Source.releases c.args.source.now) g.D.Disk.is_honest g.D.Disk.moments g.D.Disk.failures c.args.name.now session pins c.args.store.now c.import.new.self c.in-Ok.release
-    (λ h. c.in-Ok.ensures.given h) e.any_moment e.acknowledged e.honesty c.in_ok-receipt.receipt c.received.result e.kept e.answer e.failures c.received.ensures
+    let e = c.in-Err.ensures in
+    refusing (g.S.Source.is_honest c.args.source.now) (g.S.Source.releases c.args.source.now) g.D.Disk.is_honest g.D.Disk.moments g.D.Disk.failures c.args.name.now session pins c.args.store.now c.import.new.self c.in-Ok.release
+    (λ h. c.in-Ok.ensures.given h) e.any_moment e.acknowledged e.honesty c.in-Err.refusal e.kept e.answer e.failures e.closed e.refused

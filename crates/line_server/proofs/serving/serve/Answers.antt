@@ -85,6 +85,7 @@ returns-in-Err-feed-clause-served g c =
     unwritten hs has g.D.Disk.is_honest g.D.Disk.moments g.D.Disk.failures _ _ _ _ _ _ _ _ _ _ _ _ i.0 _ came _ _ i.2 f
     (Consumes-trans _ _ _ _ _ i.1 c.in-Ok-read.ensures.bytes.0)
     (few_after (length (i.0 ++ came)) _ _ (few_more i.0 came _ i.7 (few_taken c.in-Ok-read.n c.read.new.buf long)) c.loop-reads-test.true)
+    (few_taken c.in-Ok-read.n c.read.new.buf long)
 
 pub feed-requires : goal.feed-requires
 feed-requires g c = c.loop-reads.invariant.5

@@ -20,6 +20,7 @@ rows-init g c = record {
   count = subst (λ (rows : List StampedRow). ◌≡◌ {A = ℕ} (length rows) 0) (sym c.new.ensures) refl;
   extent = c.requires.extent;
   from = omega (arith, c.requires.from);
+  reached = omega arith;
   within = omega arith;
   sees = λ honest. c.requires.sees _;
   begins = λ honest. none_begins _ _ c.new.ensures;
@@ -54,6 +55,7 @@ rows-preserved g c =
       count = omega (arith, one, count);
       extent = read.extent ∙ inv.extent;
       from = read.from;
+      reached = read.reached;
       within = subst (λ (x : Extent). c.in_ok-at.at ≤ x.bytes) inv.extent read.within;
       sees = λ honest.
           let same = same_now _ _ (inv.moments honest) in

@@ -1,4 +1,4 @@
-use Rattle.std.proofs.Common.{◌≡◌, ◌↔◌, ◌≤◌, List, [], length}
+use Rattle.std.proofs.Common.{◌≡◌, ◌↔◌, ◌+◌, ◌≤◌, List, [], length}
 use Rattle.blocks.specs.Extents.{bytes_of}
 use Rattle.directory.specs.Places.{extent_of}
 use Rattle.history_model.specs.declared.stamped.StampedRow.{StampedRow}
@@ -16,6 +16,7 @@ invariant-rows g l =
       count : length l.rows.shown ≡ l._count;
       extent : l.window.extent ≡ extent_of l.fn.entry;
       from : l.window.from ≤ l.at;
+      reached : l.at ≤ l.window.from + l.window.len;
       within : l.at ≤ l.fn.entry.bytes;
       sees : g.D.Disk.is_honest l.fn.disk → Sees l.window old.state.now;
       begins : g.D.Disk.is_honest l.fn.disk → BeginsWith l.rows.shown (bytes_of (extent_of l.fn.entry) old.state.now);

@@ -14,6 +14,10 @@ invariant_of-result g c = (
   record { merging = tt; written = λ up still. tt },
 )
 
+pub returns-in-Ok-clause-new : goal.returns-in-Ok-clause-new
+returns-in-Ok-clause-new g c =
+    record { history = new_history _ _ c.in-Ok.ensures.empty.0 c.new.ensures.items; shelf = ap (λ (l : Listing). shelf_of l None) c.in-Ok.ensures.empty.0; open_still = refl }
+
 pub returns-in-Ok-clause-made : goal.returns-in-Ok-clause-made
 returns-in-Ok-clause-made g c = λ honest.
     (c.in-Ok.ensures.made honest, record { history = new_history _ _ c.in-Ok.ensures.empty.0 c.new.ensures.items; shelf = ap (λ (l : Listing). shelf_of l None) c.in-Ok.ensures.empty.0; open_still = refl })

@@ -1,4 +1,4 @@
-use Rattle.std.specs.Prelude.{Option}
+use Rattle.std.specs.Prelude.{Option, Ok, Err}
 use Rattle.std.specs.Option.{option_to_list}
 use Rattle.std.proofs.Common.{◌≡◌, ◌≢◌, map, refl, sym, subst, ◌∙◌}
 use Rattle.disk_model.proofs.MomentSteps.{stayed}
@@ -10,6 +10,7 @@ use Rattle.history_store.specs.Shelf.{reserved_by}
 use Rattle.history_store.specs.Ongoing.{merge_of}
 use Rattle.history_store.proofs.Held.{held_stands}
 use Rattle.history_store.proofs.SteppedStore.{held_lent, held_back, merge_back, no_fault, is_stepped, stepping_refused}
+use Rattle.history_store.proofs.StepWrites.{some_rows, none_unfinished, wrote_shown, wrote_ok, wrote_err}
 use Rattle.history_store.proofs.store.Store.merge_step.Goals as goal
 use Rattle.history_store.proofs.store.Store.merge_step.Goals.{in-DiskFault, in_default-matches}
 
@@ -81,3 +82,36 @@ pub returns-in-Ok-clause-elsewhere : goal.returns-in-Ok-clause-elsewhere
 returns-in-Ok-clause-elsewhere g c =
     rw (← c.self.view_is) (λ honest. subst (λ (o : Option Ongoing). SameOutside (map byte_range (option_to_list (reserved_by (merge_of o)))) (g.D.Disk.moments c.self.inside.disk).state.now (g.D.Disk.moments c.step-stepped.new.disk).state.now)
     c.in-Some.ensures.value (c.in-Ok.ensures.elsewhere honest))
+
+-- ---- what it writes
+
+pub returns-in_default-clause-wrote : goal.returns-in_default-clause-wrote
+returns-in_default-clause-wrote g c =
+    rw (← c.self.view_is) (λ honest still some going. absurd (none_unfinished c.self.inside.directory c.self.inside.merge (sym c.in_default.ensures.value) going))
+
+pub returns-in-Ok-clause-wrote : goal.returns-in-Ok-clause-wrote
+returns-in-Ok-clause-wrote g c =
+    let s = c.self.inside in
+    let m = c.in-Some.merge in
+    let value = c.in-Some.ensures.value in
+    rw (← c.self.view_is) (λ honest still some going.
+    wrote_shown (Ok c.left-left.result) c.args.n s.directory s.shown.items c.as_slice.result.now s.merge m (g.D.Disk.moments s.disk) (g.D.Disk.moments c.step-stepped.new.disk) value c.as_slice.ensures.value
+    (wrote_ok tt c.left-left.result c.args.n _ _ _ _ (c.in-Ok.ensures.wrote honest some (some_rows s.directory s.merge m value going))))
+
+pub returns-then-matches-clause-wrote : goal.returns-then-matches-clause-wrote
+returns-then-matches-clause-wrote g c =
+    let s = c.self.inside in
+    let m = c.in-Some.merge in
+    let value = c.in-Some.ensures.value in
+    rw (← c.self.view_is) (λ honest still some going.
+    wrote_shown (Err c.in-Err.refusal) c.args.n s.directory s.shown.items c.as_slice.result.now s.merge m (g.D.Disk.moments s.disk) (g.D.Disk.moments c.step-stepped.new.disk) value c.as_slice.ensures.value
+    (wrote_err c.in-Err.refusal c.args.n _ _ _ _ (c.in-Err.ensures.wrote honest some (some_rows s.directory s.merge m value going))))
+
+pub returns-else-matches-clause-wrote : goal.returns-else-matches-clause-wrote
+returns-else-matches-clause-wrote g c =
+    let s = c.self.inside in
+    let m = c.in-Some.merge in
+    let value = c.in-Some.ensures.value in
+    rw (← c.self.view_is) (λ honest still some going.
+    wrote_shown (Err c.in-Err.refusal) c.args.n s.directory s.shown.items c.as_slice.result.now s.merge m (g.D.Disk.moments s.disk) (g.D.Disk.moments c.step-stepped.new.disk) value c.as_slice.ensures.value
+    (wrote_err c.in-Err.refusal c.args.n _ _ _ _ (c.in-Err.ensures.wrote honest some (some_rows s.directory s.merge m value going))))

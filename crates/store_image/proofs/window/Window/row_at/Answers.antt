@@ -1,6 +1,6 @@
-use Rattle.std.proofs.Common.{refl, rules}
+use Rattle.std.proofs.Common.{refl, ◌∙◌, arith}
 use Rattle.std.proofs.lemmas.Result.{err_from_is_err_and}
-use Rattle.store_image.proofs.Windowed.{found_in, not_found_in}
+use Rattle.store_image.proofs.Windowed.{found_in, not_found_in, sees_behind}
 use Rattle.store_image.proofs.window.Window.row_at.Goals as goal
 
 pub returns-in-Ok-clause-exact : goal.returns-in-Ok-clause-exact
@@ -10,10 +10,21 @@ returns-in-Ok-clause-exact g c honest sees =
 pub returns-in_err-row-in-Err-BadSegment-clause-exact : goal.returns-in_err-row-in-Err-BadSegment-clause-exact
 returns-in_err-row-in-Err-BadSegment-clause-exact g c honest sees =
     let p = err_from_is_err_and c.from_residual-in_err-row-in-Err-BadSegment.result c.from_residual-in_err-row-in-Err-BadSegment.ensures.1 in
+    let moved = c.forget_before.ensures in
     let filled = c.in_ok-fill-in-Err-BadSegment.ensures in
-    rw (p.1, p.2) (not_found_in c.in_err-row-in-Err-BadSegment.field-0.0 c.fill.new.self c.args.self.now.extent c.args.at _ filled.extent filled.from (filled.sees honest) (filled.full honest) c.in_err-row-in-Err-BadSegment.ensures.only)
+    let before = sees_behind c.args.self.now c.forget_before.new.self c.args.at _ c.requires.from c.requires.reached moved.extent moved.from moved.end moved.asked moved.bytes sees in
+    rw (p.1, p.2) (not_found_in c.in_err-row-in-Err-BadSegment.field-0.0 c.fill.new.self c.args.self.now.extent c.args.at _ (filled.extent ∙ moved.extent) (filled.from ∙ moved.from) (filled.sees honest before) (filled.full honest before) c.in_err-row-in-Err-BadSegment.ensures.only)
 
 pub returns-in_ok-row-in-Err-BadSegment-clause-exact : goal.returns-in_ok-row-in-Err-BadSegment-clause-exact
 returns-in_ok-row-in-Err-BadSegment-clause-exact g c honest sees =
+    let moved = c.forget_before.ensures in
     let filled = c.in_ok-fill-in-Err-BadSegment.ensures in
-    found_in c.fill.new.self c.args.self.now.extent c.args.at _ c.in_ok-row-in-Err-BadSegment.row filled.extent (search rules) (filled.sees honest) c.in_ok-row-in-Err-BadSegment.ensures.found
+    let before = sees_behind c.args.self.now c.forget_before.new.self c.args.at _ c.requires.from c.requires.reached moved.extent moved.from moved.end moved.asked moved.bytes sees in
+    let from = filled.from ∙ moved.from in
+    found_in c.fill.new.self c.args.self.now.extent c.args.at _ c.in_ok-row-in-Err-BadSegment.row (filled.extent ∙ moved.extent) (omega (arith, from)) (filled.sees honest before) c.in_ok-row-in-Err-BadSegment.ensures.found
+
+pub returns-in_ok-row-in-Err-BadSegment-clause-sees : goal.returns-in_ok-row-in-Err-BadSegment-clause-sees
+returns-in_ok-row-in-Err-BadSegment-clause-sees g c honest sees =
+    let moved = c.forget_before.ensures in
+    let filled = c.in_ok-fill-in-Err-BadSegment.ensures in
+    filled.sees honest (sees_behind c.args.self.now c.forget_before.new.self c.args.at _ c.requires.from c.requires.reached moved.extent moved.from moved.end moved.asked moved.bytes sees)

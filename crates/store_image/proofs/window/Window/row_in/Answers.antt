@@ -13,3 +13,8 @@ returns-clause-within c =
     let ends = record_ends c.args.self.now.len _ c.in_ok-row.next c.as_slice.result.now c.in_ok-row.row c.in_ok-row.ensures.found in
     let within = c.args.self.now.within in
     omega (arith, ends, within)
+
+pub returns-clause-reached : goal.returns-clause-reached
+returns-clause-reached c =
+    let ends = record_ends c.args.self.now.len _ c.in_ok-row.next c.as_slice.result.now c.in_ok-row.row c.in_ok-row.ensures.found in
+    omega (arith, ends)
