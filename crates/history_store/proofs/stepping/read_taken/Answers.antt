@@ -73,3 +73,9 @@ returns-in_err-push-clause-agrees g c = λ up agrees.
     let so_far = c.loop-t.invariant in
     let agrees_still = subst (λ (m : Moments). AgreesWith c.loop-t.cache m.state.now) (sym (so_far.moments up)) (so_far.agrees up agrees) in
     subst (λ (m : Moments). AgreesWith c.read_row.new.cache m.state.now) (so_far.moments up) (c.in_ok-row.ensures.agrees (so_far.honesty.0 up) agrees_still)
+
+pub returns-in_err-row-clause-looked_up : goal.returns-in_err-row-clause-looked_up
+returns-in_err-row-clause-looked_up g c = some_more c.args.cache.now c.loop-t.cache c.read_row.new.cache c.loop-t.invariant.looked_up c.in_err-row.ensures.looked_up
+
+pub returns-in_err-push-clause-looked_up : goal.returns-in_err-push-clause-looked_up
+returns-in_err-push-clause-looked_up g c = some_more c.args.cache.now c.loop-t.cache c.read_row.new.cache c.loop-t.invariant.looked_up c.in_ok-row.ensures.looked_up
