@@ -5,6 +5,7 @@ mod answering;
 mod demonstration;
 mod endings;
 mod folders;
+mod helps;
 mod importing;
 mod inspecting;
 mod making;
