@@ -45,16 +45,6 @@ const NO_COMMAND: &str = "error: 'sctd' requires a subcommand but one was not pr
 Usage: sctd <COMMAND>\n\n\
 For more information, try '--help'.\n";
 
-const HELP: &str = "Imports the Full and Delta files of an unpacked RF2 release\n\n\
-Usage: sctd import [OPTIONS] --store <FILE> <NAME>\n\n\
-Arguments:\n  \
-<NAME>  The release's folder: its name below DIR, or its path\n\n\
-Options:\n      \
---store <FILE>    The file that holds the store\n      \
---releases <DIR>  The folder that holds the release's folder, if NAME isn't its path\n      \
---quiet           Tells of warnings and refusals alone on standard error\n  \
--h, --help            Print help\n";
-
 const NAMES: &str =
     "sctd: a release's name is letters, digits, _, - and ., in parts with one / between them\n";
 
@@ -64,7 +54,6 @@ fn statuses(rt: HostRuntime) -> Result<(), Fail> {
     // The words, the status, the output, what is written of faults.
     let cases = [
         ("sctd", 2, "", NO_COMMAND),
-        ("sctd import --help", 0, HELP, ""),
         (
             "sctd --version",
             0,
