@@ -1,15 +1,15 @@
 #!/usr/bin/env python3
-"""Checks the tables of docs/PROMISES.md under "Proved" against the sources.
+"""Checks the promises of docs/PROMISES.md under "Proved" against the sources.
 
 check_promises.py
 
-Each row has a promise, the clauses that prove it, and what shows that they do. A clause is named as
-`function · clause`: the function has to stand in the sources of the crates that the table's heading
-names, or of the crate that the name begins with, and has to have that clause. The last column names
-must-fail edits as `crate/edit`, tests as `crate::test`, or says `law`, which is enough for a row
-that names a law: a law's body is empty, and so no edit can change it. A row that has none of these,
-or names what isn't there, is said in a line of its own on standard error, and the status is 1 then.
-Nothing is built. Standard library alone.
+Each promise is an item of a list with two items below it: `Clause:` names the clauses that prove it,
+and `Shown by:` what shows that they do. A clause is named as `function · clause`: the function has to
+stand in the sources of the crates that the heading names, or of the crate that the name begins with,
+and has to have that clause. What shows it are must-fail edits as `crate/edit`, tests as `crate::test`,
+or the word `law`, which is enough for a promise that names a law: a law's body is empty, and so no
+edit can change it. A promise that has none of these, or names what isn't there, is said in a line of
+its own on standard error, and the status is 1 then. Nothing is built. Standard library alone.
 """
 
 import glob
@@ -19,7 +19,7 @@ import sys
 
 ROOT = os.path.dirname(os.path.dirname(os.path.abspath(__file__)))
 DOCUMENT = "docs/PROMISES.md"
-HEAD = ["Promise", "Clause", "Edit or test"]
+PARTS = ("- ", "  - Clause: ", "  - Shown by: ")
 
 OWNER = re.compile(
     r"(?:pub(?:\(crate\))? )?(?:trait (?P<made>\w+)"
@@ -140,7 +140,7 @@ def faults_of_clauses(path, clauses, crates, sources):
 
 
 def faults_of_token(token, crates, sources):
-    """What isn't so of one name of the second column, or of some with their clauses."""
+    """What isn't so of one name behind `Clause:`, or of some with their clauses."""
     if sources.is_impl(token, crates):
         return
     names, dot, clauses = token.partition(" · ")
@@ -179,18 +179,18 @@ def faults_of_lists(cell, crates, sources):
 
 
 def laws_in(cell):
-    """The laws that the second column names."""
+    """The laws that are named behind `Clause:`."""
     for part in re.findall(r"\blaws?\b([^;]*)", cell):
         for token in TOKEN.findall(part):
             yield from spelled_out(token)
 
 
-def faults_of_row(cells, crates, sources):
-    """What isn't so of a row."""
-    if len(cells) != len(HEAD):
-        yield "the row has %d columns" % len(cells)
+def faults_of_promise(parts, crates, sources):
+    """What isn't so of a promise."""
+    if len(parts) != len(PARTS):
+        yield "the promise has %d parts" % len(parts)
         return
-    _, clause, shown = cells
+    _, clause, shown = parts
     for token in TOKEN.findall(clause):
         yield from faults_of_token(token, crates, sources)
     yield from faults_of_lists(clause, crates, sources)
@@ -212,18 +212,24 @@ def faults_of_row(cells, crates, sources):
         yield "it names no edit, no test and no law"
 
 
-def rows(text):
-    """The rows of the tables under "Proved": line, cells, and the crates of the heading."""
-    crates, is_proved = [], False
-    for number, line in enumerate(text.split("\n"), 1):
+def promises(text):
+    """The promises under "Proved": line, parts, and the crates of the heading."""
+    crates, is_proved, promise = [], False, None
+    for number, line in enumerate(text.split("\n") + [""], 1):
+        part = next((part for part in PARTS if line.startswith(part)), None)
+        if promise and (part == PARTS[0] or not line.startswith("  ")):
+            yield promise
+            promise = None
         if line.startswith("## "):
             is_proved = line == "## Proved"
         elif line.startswith("### "):
             crates = TOKEN.findall(line)
-        elif is_proved and line.startswith("|") and not line.startswith("|---"):
-            cells = [cell.strip() for cell in line.strip().strip("|").split("|")]
-            if cells != HEAD:
-                yield number, cells, crates
+        elif is_proved and part == PARTS[0]:
+            promise = number, [line[len(part):]], crates
+        elif promise and part:
+            promise[1].append(line[len(part):])
+        elif promise:
+            promise[1][-1] += " " + line.strip()
 
 
 def main(words):
@@ -231,9 +237,9 @@ def main(words):
         print(__doc__.strip(), file=sys.stderr)
         return 2
     sources, count, wrong = Sources(), 0, 0
-    for number, cells, crates in rows(text_of(os.path.join(ROOT, DOCUMENT))):
+    for number, parts, crates in promises(text_of(os.path.join(ROOT, DOCUMENT))):
         count += 1
-        for fault in dict.fromkeys(faults_of_row(cells, crates, sources)):
+        for fault in dict.fromkeys(faults_of_promise(parts, crates, sources)):
             wrong += 1
             print("%s:%d: %s" % (DOCUMENT, number, fault), file=sys.stderr)
     print("%d promises, %d not so" % (count, wrong), file=sys.stderr)

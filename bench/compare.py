@@ -211,7 +211,7 @@ class Sctd:
         return told, (time.monotonic() - start, usage.ru_utime + usage.ru_stime)
 
     def take(self, name):
-        return self.run("import", ["--releases", self.place, name])
+        return self.run("import", ["--quiet", "--releases", self.place, name])
 
 
 class Served:

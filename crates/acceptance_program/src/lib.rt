@@ -7,6 +7,8 @@ mod demonstration;
 #[cfg(test)]
 mod growths;
 #[cfg(test)]
+mod helps;
+#[cfg(test)]
 mod refused;
 #[cfg(test)]
 mod shown;

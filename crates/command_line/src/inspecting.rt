@@ -5,7 +5,7 @@ ghost use Rattle.command_line.specs.Tasks.{IsStatus};
 
 use crate::answering::answer_line;
 use crate::endings::{Ending, refuse};
-use crate::telling::Told;
+use crate::telling::{Figures, Told};
 use disk_model::Disk;
 use history_store::{Refusal, Store};
 use import_check::Release;
@@ -34,23 +34,26 @@ impl Source for NoReleases {
     fn note_refusal(&mut self, _release: &Release, _refusal: Refusal) {}
 }
 
-/// Tells the status of the store of a device, which comes back; and the
-/// number of its layout, for people. Nothing but the opening is asked of the device.
+/// Tells the status of the store of a device, which comes back; and what is told of
+/// the store to people. Nothing but the opening is asked of the device.
 pub(crate) fn status<D: Disk + Drop, O: Write>(
     alloc: Global,
     device: D,
     output: &mut O,
     told: &mut Told,
-) -> (Result<Ending, ServeFault>, D, Option<u32>)
+) -> (Result<Ending, ServeFault>, D, Option<Figures>)
     ensures { IsStatus D.is_honest D.moments D.failures device result.1 result.0
         (O.contents output.old) (O.contents output.new) }
 {
     match Store::open(alloc, device) {
         Ok(store) => {
             let mut store = store;
-            let layout = store.version();
+            let figures = Figures {
+                layout: store.version(),
+                latest: store.latest_time(),
+            };
             let ended = answer_line(alloc, STATUS, &mut NoReleases, &mut store, output, told);
-            (ended, store.close(), Some(layout))
+            (ended, store.close(), Some(figures))
         }
         Err((refusal, device)) => (refuse(alloc, output, refusal, told), device, None),
     }

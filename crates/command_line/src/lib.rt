@@ -6,6 +6,7 @@ mod demonstration;
 mod differing;
 mod endings;
 mod folders;
+mod helps;
 mod importing;
 mod inspecting;
 mod making;

@@ -14,7 +14,7 @@ use crate::making::init;
 use crate::merging::merge;
 use crate::places::Places;
 use crate::serving::{serve_device, serve_new};
-use crate::telling::{Scene, Told, tell_layout, tell_why};
+use crate::telling::{Scene, Told, tell_figures, tell_why};
 use crate::words::{Refused, Task, task_of};
 use disk_model::{DiskFault, MemDisk};
 use history_store::Refusal;
@@ -233,13 +233,13 @@ fn status_at<P: Places, O: Write, E: Write>(
     match found {
         Ok(device) => {
             let size = places.size(path);
-            let (ended, left, layout) = status(alloc, device, output, &mut told);
+            let (ended, left, figures) = status(alloc, device, output, &mut told);
             let scene = Scene {
                 store: path,
                 said: places.said(&left),
             };
             tell_why(told, &scene, faults);
-            tell_layout(path, layout, size, faults);
+            tell_figures(path, figures, size, faults);
             (ended, Some(left))
         }
         Err(_) => (refuse(alloc, output, Refusal::DiskFault, &mut told), None),

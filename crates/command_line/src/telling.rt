@@ -4,6 +4,7 @@ use crate::differing::find_other;
 use history_store::Refusal;
 use import_check::{Release, ReleaseFile};
 use line_server::Reply;
+use rf2_values::EffectiveTime;
 use std::io::{self, Write};
 
 /// The number of the refusal of a row that differs from another one of the same id and date.
@@ -88,20 +89,42 @@ pub(crate) fn tell_why<E: Write>(told: Told, scene: &Scene<'_>, faults: &mut E) 
     let _ = write_why(told, scene, faults);
 }
 
-/// Tells how a store that was opened is laid out, and how long its file is.
-pub(crate) fn tell_layout<E: Write>(
+/// What is told of a store that was opened: the version of its
+/// layout, and the greatest effective time of a row.
+#[derive(Clone, Copy)]
+pub(crate) struct Figures {
+    pub layout: u32,
+    pub latest: Option<EffectiveTime>,
+}
+
+/// Tells how a store that was opened is laid out, how long its file is, and how late its rows are.
+pub(crate) fn tell_figures<E: Write>(
     store: &str,
-    layout: Option<u32>,
+    figures: Option<Figures>,
     size: Option<u64>,
     faults: &mut E,
 ) {
-    let _ = match (layout, size) {
-        (Some(layout), Some(bytes)) => {
-            writeln!(faults, "sctd: {store}: layout {layout}, {bytes} bytes")
-        }
-        (Some(layout), None) => writeln!(faults, "sctd: {store}: layout {layout}"),
-        (None, _) => Ok(()),
-    };
+    if let Some(figures) = figures {
+        let _ = write_figures(store, figures, size, faults);
+    }
+}
+
+/// Writes the line.
+fn write_figures<E: Write>(
+    store: &str,
+    figures: Figures,
+    size: Option<u64>,
+    faults: &mut E,
+) -> io::Result<()> {
+    write!(faults, "sctd: {store}: layout {}", figures.layout)?;
+    if let Some(bytes) = size {
+        write!(faults, ", {bytes} bytes")?;
+    }
+    if let Some(latest) = figures.latest {
+        let day = latest.value();
+        write!(faults, ", latest effective time {day}")?;
+    }
+    writeln!(faults)
 }
 
 /// Tells how many segments a store has, after a merge.

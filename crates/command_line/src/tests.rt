@@ -45,16 +45,6 @@ const NO_COMMAND: &str = "error: 'sctd' requires a subcommand but one was not pr
 Usage: sctd <COMMAND>\n\n\
 For more information, try '--help'.\n";
 
-const HELP: &str = "Imports the Full and Delta files of an unpacked RF2 release\n\n\
-Usage: sctd import [OPTIONS] --store <FILE> <NAME>\n\n\
-Arguments:\n  \
-<NAME>  The release's folder: its name below DIR, or its path\n\n\
-Options:\n      \
---store <FILE>    The file that holds the store\n      \
---releases <DIR>  The folder that holds the release's folder, if NAME isn't its path\n      \
---quiet           Tells of warnings and refusals alone on standard error\n  \
--h, --help            Print help\n";
-
 const NAMES: &str =
     "sctd: a release's name is letters, digits, _, - and ., in parts with one / between them\n";
 
@@ -64,7 +54,6 @@ fn statuses(rt: HostRuntime) -> Result<(), Fail> {
     // The words, the status, the output, what is written of faults.
     let cases = [
         ("sctd", 2, "", NO_COMMAND),
-        ("sctd import --help", 0, HELP, ""),
         (
             "sctd --version",
             0,
@@ -274,6 +263,46 @@ fn why_a_release_was_refused(rt: HostRuntime) -> Result<(), Fail> {
     let told: &[u8] = b"sctd: releases/package: no folder Terminology or Refset/Content in it; \
 its folder Full is the one to name\n";
     assert!(rt; served.faults.as_slice() == told);
+    Ok(())
+}
+
+#[test]
+fn what_a_contradiction_is_told(rt: HostRuntime) -> Result<(), Fail> {
+    let name = "sct2_Concept_Delta_INT_20200131.txt";
+    let columns = "id\teffectiveTime\tactive\tmoduleId\tdefinitionStatusId\n";
+    let row = "138875005\t20200131\t1\t900000000000207008\t900000000000074008\n";
+    let other = "138875005\t20200131\t0\t900000000000207008\t900000000000074008\n";
+    for (folder, rows) in [("one", row), ("other", other)] {
+        fs::create_dir_all(
+            &rt,
+            format!(in rt.alloc(); "rows/{folder}/Terminology")?.as_str(),
+        )?;
+        let path = format!(in rt.alloc(); "rows/{folder}/Terminology/{name}")?;
+        fs::write(
+            &rt,
+            path.as_str(),
+            format!(in rt.alloc(); "{columns}{rows}")?.as_bytes(),
+        )?;
+    }
+    fs::create_dir_all(&rt, "rows/both/Terminology")?;
+    let path = format!(in rt.alloc(); "rows/both/Terminology/{name}")?;
+    let both = format!(in rt.alloc(); "{columns}{row}{row}{other}")?;
+    fs::write(&rt, path.as_str(), both.as_bytes())?;
+    assert_eq!(rt; run_words(&rt, "sctd init --store facts", b"")?.status, 0);
+    let lines = b"0 IMPORT both\n0 IMPORT one\n0 IMPORT other\n";
+    let served = run_words(
+        &rt,
+        "sctd serve --store facts --releases rows",
+        lines.as_slice(),
+    )?;
+    let replies: &[u8] = b"ERR 32 Contradiction 1 4\nOK 1 1 0\nERR 32 Contradiction 1 2\n";
+    assert!(rt; served.output.as_slice() == replies);
+    let why = "the row differs from another one of the same id and date";
+    let told = format!(in rt.alloc();
+        "sctd: {name}, line 4: {why}: {name}, line 2\n\
+sctd: {name}, line 2: {why}: one that the store has\n"
+    )?;
+    assert!(rt; tells(&served, told.as_str()));
     Ok(())
 }
 

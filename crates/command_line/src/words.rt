@@ -3,13 +3,14 @@
 ghost use Rattle.std.specs.Prelude.{◌≡◌, ◌↔◌, true, Some, IfOk, IfErr, IfSome, map, codes};
 ghost use Rattle.std.specs.Prelude.{string_bytes};
 ghost use Rattle.clap.specs.Matches.{found_of};
-ghost use Rattle.clap.specs.Simple.{subcommand_rows_of};
+ghost use Rattle.clap.specs.Simple.{new_app, subcommand_rows_of};
 ghost use Rattle.clap.specs.Walk.{first_of, rows_of};
 ghost use Rattle.command_line.specs.Words.{IsArgument, IsCommand, IsImportOf, Reads, AskFor, AskForNone};
 ghost use Rattle.command_line.specs.Words.{wanted, option, optional, flag, segments_option};
 ghost use Rattle.command_line.specs.Words.{init_command, import_command, serve_command, status_command, merge_command, demo_command};
 ghost use Rattle.command_line.specs.Words.{empty_program, program};
 
+use crate::helps;
 use crate::paths::place_of;
 use clap::builder::ValueParser;
 use clap::error::ErrorKind;
@@ -158,19 +159,25 @@ fn segments<'a>(alloc: Global) -> Arg<'a>
         .action(ArgAction::Set)
 }
 
+/// A command without arguments, and what its help begins and ends with.
+fn new_command<'a>(alloc: Global, name: &'a str, about: &'a str, examples: &'a str) -> Command<'a>
+    ensures { IsCommand (new_app name.now) result }
+{
+    Command::new(alloc, name).about(about).after_help(examples)
+}
+
 fn init<'a>(alloc: Global) -> Result<Command<'a>, AllocError>
     ensures { IfOk result (IsCommand init_command) }
 {
-    Command::new(alloc, "init")
-        .about("Makes a store in a new or empty file")
-        .arg(store(alloc))
+    let about = "Makes a store in a new or empty file";
+    new_command(alloc, "init", about, helps::INIT).arg(store(alloc))
 }
 
 fn import<'a>(alloc: Global) -> Result<Command<'a>, AllocError>
     ensures { IfOk result (IsCommand import_command) }
 {
-    Command::new(alloc, "import")
-        .about("Imports the Full and Delta files of an unpacked RF2 release")
+    let about = "Imports the Full and Delta files of an unpacked RF2 release";
+    new_command(alloc, "import", about, helps::IMPORT)
         .arg(store(alloc))?
         .arg(releases_if_given(alloc))?
         .arg(quiet(alloc))?
@@ -180,8 +187,8 @@ fn import<'a>(alloc: Global) -> Result<Command<'a>, AllocError>
 fn serve<'a>(alloc: Global) -> Result<Command<'a>, AllocError>
     ensures { IfOk result (IsCommand serve_command) }
 {
-    Command::new(alloc, "serve")
-        .about("Answers the lines of standard input on standard output")
+    let about = "Answers the lines of standard input on standard output";
+    new_command(alloc, "serve", about, helps::SERVE)
         .arg(store(alloc))?
         .arg(releases(alloc))
 }
@@ -189,18 +196,16 @@ fn serve<'a>(alloc: Global) -> Result<Command<'a>, AllocError>
 fn status<'a>(alloc: Global) -> Result<Command<'a>, AllocError>
     ensures { IfOk result (IsCommand status_command) }
 {
-    Command::new(alloc, "status")
-        .about("Opens a store, which checks it, and tells its imports, rows and segments")
-        .arg(store(alloc))
+    let about = "Opens a store, which checks it, and tells its imports, rows and segments";
+    new_command(alloc, "status", about, helps::STATUS).arg(store(alloc))
 }
 
 fn merge<'a>(alloc: Global) -> Result<Command<'a>, AllocError>
     ensures { IfOk result (IsCommand merge_command) }
 {
-    Command::new(alloc, "merge")
-        .about(
-            "Merges the smallest segments until at most N stand, and gives back what is behind them",
-        )
+    let about =
+        "Merges the smallest segments until at most N stand, and gives back what is behind them";
+    new_command(alloc, "merge", about, helps::MERGE)
         .arg(store(alloc))?
         .arg(segments(alloc))
 }
@@ -208,9 +213,8 @@ fn merge<'a>(alloc: Global) -> Result<Command<'a>, AllocError>
 fn demo<'a>(alloc: Global) -> Command<'a>
     ensures { IsCommand demo_command result }
 {
-    Command::new(alloc, "demo").about(
-        "Answers a short script on a store in memory, from three made releases",
-    )
+    let about = "Answers a short script on a store in memory, from three made releases";
+    new_command(alloc, "demo", about, helps::DEMO)
 }
 
 /// The program, without its commands.
@@ -220,6 +224,7 @@ fn sctd<'a>(alloc: Global) -> Command<'a>
     Command::new(alloc, "sctd")
         .version(VERSION)
         .about("Answers what each component of a SNOMED CT terminology said on any past date")
+        .after_help(helps::PROGRAM)
         .subcommand_required(true)
 }
 

@@ -1,0 +1,75 @@
+//! What stands at the end of each help: examples, and where the guide is.
+
+/// Of the program.
+pub(crate) const PROGRAM: &str = "Examples:
+  sctd demo
+  sctd init --store terms.store
+  sctd serve --help
+
+The guide goes from an unpacked release to the first answers: docs/GUIDE.md";
+
+pub(crate) const INIT: &str = "Example:
+  sctd init --store terms.store
+
+The guide tells more: docs/GUIDE.md, \"A store\"";
+
+pub(crate) const IMPORT: &str = "Examples:
+  sctd import --store terms.store --releases releases r1
+  sctd import --quiet --store terms.store releases/r1
+
+The guide tells more: docs/GUIDE.md, \"Importing a release\"";
+
+/// Has an example of each command of a line.
+pub(crate) const SERVE: &str =
+    "A line is the number of a session, 0 to 1023, a command and its arguments, with
+single spaces between them. A date is eight digits. A kind is C (concepts),
+D (descriptions), R (relationships), A (association members) or V (relationships
+with concrete values). An id is an SCTID, of an association member its UUID.
+
+Questions, of the latest version of each component up to a date:
+  0 GET C 1000004 20210131       the component's row
+  0 HISTORY C 1000004            all its versions, of any date
+  0 CHILDREN 138875005 20210131  the concepts with an active \"is a\" to this one
+  0 TERMS 20210131 10 we         at most 10 active descriptions that begin with \"we\"
+  0 REPLACED 1000004 20210131    the active associations of the component
+  0 PAGE C 20210131 - 100        at most 100 rows of the kind, from the first id on
+  0 PAGE C 20210131 1000004 100  the same, behind this id
+  0 STATUS                       how many imports, rows and segments there are, and
+                                 how many rows are left to a merge
+
+Imports and pins:
+  0 IMPORT r3                    imports the release in this folder below DIR
+  0 PIN                          the session sees the present imports from now on
+  0 PIN 1                        it sees the first import alone
+  0 UNPIN                        it sees every import again
+
+Merges of segments:
+  0 MERGE                        begins to merge the two of fewest rows
+  0 STEP 100000                  takes at most so many rows, until none is left
+  0 PUBLISH                      puts the merged segment in the place of the two
+  0 ABANDON                      forgets the merge
+  0 TRIM                         gives back what is behind the last segment
+
+Example:
+  echo '0 GET C 1000004 20210131' | sctd serve --store terms.store --releases releases
+
+The guide tells more: docs/GUIDE.md, \"The questions\"";
+
+pub(crate) const STATUS: &str = "Example:
+  sctd status --store terms.store
+
+The answer is OK, the numbers of imports, rows and segments, and a - (no merge goes
+on). Standard error tells the version of the layout, the length of the file and the
+greatest effective time of a row.
+
+The guide tells more: docs/GUIDE.md, \"Importing a release\"";
+
+pub(crate) const MERGE: &str = "Example:
+  sctd merge --store terms.store --segments 10
+
+The guide tells more: docs/GUIDE.md, \"Merges\"";
+
+pub(crate) const DEMO: &str = "Example:
+  sctd demo
+
+The guide tells more: docs/GUIDE.md";
