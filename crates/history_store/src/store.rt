@@ -84,7 +84,8 @@ impl<D: Disk> Store<D> {
     ghost use Rattle.history_store.specs.Prepared.{IsNotSpent, IsPreparedFor};
     ghost use Rattle.blocks.specs.Calls.{MakesCalls};
     ghost use Rattle.blocks.specs.Outside.{SameOutside, StemsWithin};
-    ghost use Rattle.blocks.specs.Slots.{slots_range};
+    ghost use Rattle.blocks.specs.Slots.{slots_range, slots_read};
+    ghost use Rattle.store_image.specs.Says.{bytes_listed};
     ghost use Rattle.store_image.specs.Answers.{IsNewStore};
     ghost use Rattle.history_store.specs.Written.{added_ranges};
     ghost use Rattle.history_store.specs.Calls.{MakesImportCalls};
@@ -183,6 +184,9 @@ impl<D: Disk> Store<D> {
         ensures cache { IfOk result (λ s. s.cache ≡ no_blocks) }
         ensures honesty { D.is_honest disk ↔ D.is_honest (device_of result) }
         ensures failures { CountsOpening result (D.failures disk) (D.failures (device_of result)) }
+        // On every disk it reads the slots, and each byte of the listed segments once.
+        ensures bytes_read { IfOk result (λ s. D.bytes_read s.disk
+            ≤ D.bytes_read disk + slots_read + bytes_listed s.shelf.entries) }
     {
         let mut disk = disk;
         let mut posting = Posting::new(alloc);

@@ -1,6 +1,6 @@
 -- What stood for a history before there was a second version of the layout.
-use Rattle.std.specs.Prelude.{All, take}
-use Rattle.std.proofs.Common.{◌≡◌, ℕ, List, length, refl, sym, ap, subst, ◌∙◌}
+use Rattle.std.specs.Prelude.{take}
+use Rattle.std.proofs.Common.{◌≡◌, ℕ, List, length, refl, sym, subst}
 use Rattle.rf2_values.specs.declared.row.Kind.{Kind}
 use Rattle.rf2_values.specs.declared.row.Kind.TheVariants as kinds
 use Rattle.directory.specs.declared.entry.Entry.{Entry}

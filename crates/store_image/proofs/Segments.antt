@@ -1,6 +1,7 @@
 -- Segments, as their entries say.
 use Rattle.std.proofs.Common.{◌≡◌, ℕ, zero, suc, ◌+◌, ◌*◌, ◌<◌, ◌≤◌, ◌++◌, List, [], ◌∷◌, length, get_or, map, take, drop, refl, sym, ap, ◌∙◌, subst, arith, length-take, length-drop, length-append, append_assoc}
 use Rattle.std.specs.List.{AllByRecursion}
+use Rattle.std.proofs.lemmas.List.Sums.{sum_by_push, sum_by-take-le}
 use Rattle.std.proofs.lemmas.List.{append-nil, take_more}
 use Rattle.std.proofs.lemmas.List.Elements.{All-nil, All-push, All-head, All-tail}
 use Rattle.blocks.specs.Extents.{start_of, bytes_of}
@@ -16,7 +17,7 @@ use Rattle.segment.proofs.SegmentLaws.{no_rows, goes_on, one_segment}
 use Rattle.store_image.specs.declared.fault.ImageFault.{ImageFault}
 use Rattle.store_image.specs.declared.fault.ImageFault.TheVariants as faults
 use Rattle.store_image.specs.Stands.{Holds, HoldsAll}
-use Rattle.store_image.specs.Says.{IsSegmentOf, AreSegments, pieces_of}
+use Rattle.store_image.specs.Says.{IsSegmentOf, AreSegments, bytes_listed, pieces_of}
 use Rattle.store_image.specs.Reading.{AreReadTo, AreNumbered, BeginsWith, IsNotNext, IsAt, IsNotReadAt, AreNotRead}
 use Rattle.store_image.proofs.Added.{AreSegments-push, pieces_of-push}
 use Rattle.store_image.proofs.Standing.{same_segments}
@@ -150,6 +151,17 @@ all_pushed P (y ∷ xs) x all p = (all.0, all_pushed P xs x all.1 p)
 pub map-push : {X Y : Type 0} (f : X → Y) (xs : List X) (x : X) → map f (xs ++ x ∷ []) ≡ map f xs ++ f x ∷ []
 map-push f [] x = refl
 map-push f (y ∷ xs) x = ap (λ l. f y ∷ l) (map-push f xs x)
+
+-- the bytes of the entries so far, and of one more
+pub bytes_more : (entries : List Entry) (i : ℕ) (d : Entry) → i < length entries → bytes_listed (take (i + 1) entries) ≡ bytes_listed (take i entries) + (get_or entries i d).bytes
+bytes_more entries i d lt =
+    ap bytes_listed (take_more entries i d lt) ∙ sum_by_push (λ (entry : Entry). entry.bytes) (take i entries) (get_or entries i d)
+
+pub bytes_within : (entries : List Entry) (i : ℕ) → bytes_listed (take i entries) ≤ bytes_listed entries
+bytes_within entries i = sum_by-take-le (λ (entry : Entry). entry.bytes) entries i
+
+pub bytes_up_to : (entries : List Entry) (i : ℕ) (d : Entry) → i < length entries → bytes_listed (take i entries) + (get_or entries i d).bytes ≤ bytes_listed entries
+bytes_up_to entries i d lt = omega (arith, bytes_more entries i d lt, bytes_within entries (i + 1))
 
 module _ (entries : List Entry) (i : ℕ) (d : Entry) (lists more : List (List StampedRow)) (rows : List StampedRow) (lt : i < length entries) (more_is : more ≡ lists ++ rows ∷ []) where
   front : take (i + 1) entries ≡ take i entries ++ get_or entries i d ∷ []

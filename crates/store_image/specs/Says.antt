@@ -1,5 +1,5 @@
 -- What a content block and the rows of its segments say. No file is seen here.
-use Rattle.std.specs.Prelude.{◌≡◌, ℕ, List, [], ◌∷◌, length, All}
+use Rattle.std.specs.Prelude.{◌≡◌, ℕ, List, [], ◌∷◌, length, sum_by, All}
 use Rattle.rf2_values.specs.declared.row.Kind.{Kind}
 use Rattle.rf2_values.specs.declared.row.Kind.TheVariants as kinds
 use Rattle.rf2_values.specs.Row.{kind_of}
@@ -20,6 +20,10 @@ pub record IsSegmentOf (entry : Entry) (rows : List StampedRow) : Type 0 where
   pub is : IsSegment rows (segment_of rows)
   pub bytes : length (segment_of rows) ≡ entry.bytes
   pub count : length rows ≡ entry.rows
+
+-- the bytes of the listed segments
+abbrev pub bytes_listed : List Entry → ℕ
+bytes_listed entries = sum_by (λ entry. entry.bytes) entries
 
 -- one list of rows for each entry
 abbrev pub AreSegments : List Entry → List (List StampedRow) → Type 0

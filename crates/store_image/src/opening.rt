@@ -1,11 +1,12 @@
 //! Reading what a disk stands for.
 
-ghost use Rattle.std.specs.Prelude.{◌≡◌, ◌≢◌, ◌↔◌, ◌++◌, [], List, map, vec_items, IfOk, IfErr, MatchResult};
+ghost use Rattle.std.specs.Prelude.{◌≡◌, ◌≢◌, ◌↔◌, ◌+◌, ◌≤◌, ◌++◌, [], List, map, vec_items, IfOk, IfErr, MatchResult};
 ghost use Rattle.disk_model.specs.Disk.{IsImage, LeavesOnly};
+ghost use Rattle.blocks.specs.Slots.{slots_read};
 ghost use Rattle.history_model.specs.declared.stamped.StampedRow.{StampedRow};
 ghost use Rattle.segment.specs.declared.place.Posted.{Posted};
 ghost use Rattle.segment.specs.Standing.{places_of, with_places};
-ghost use Rattle.store_image.specs.Says.{IsKept};
+ghost use Rattle.store_image.specs.Says.{bytes_listed, IsKept};
 ghost use Rattle.store_image.specs.Shown.{Shows, IsOnDisk};
 ghost use Rattle.store_image.specs.Answers.{IsNotOpened, IsSynced, CountsFault};
 ghost use Rattle.store_image.specs.declared.fault.ImageFault.TheVariants as faults;
@@ -70,6 +71,9 @@ pub fn load<D: Disk, S: RowSink>(
     ensures causes { IfErr result (λ e. e ≢ faults.NotEmpty) }
     ensures honesty { D.is_honest disk.old ↔ D.is_honest disk.new }
     ensures failures { CountsFault result (D.failures disk.old) (D.failures disk.new) }
+    // On every disk it reads the slots, and each byte of the listed segments once.
+    ensures bytes_read { IfOk result (λ l. D.bytes_read disk.new
+        ≤ D.bytes_read disk.old + slots_read + bytes_listed l.directory.entries) }
 {
     disk.sync()?;
     let mut content = [0; 4096];

@@ -13,7 +13,7 @@ ghost use Rattle.std.specs.declared.cmp.Ordering.TheVariants.{Less};
 ghost use Rattle.segment.specs.declared.place.Posted.{Posted};
 ghost use Rattle.segment.specs.Standing.{posted, places_of, with_places};
 ghost use Rattle.store_image.specs.Stands.{HoldsAll};
-ghost use Rattle.store_image.specs.Says.{IsSegmentOf, pieces_of};
+ghost use Rattle.store_image.specs.Says.{IsSegmentOf, bytes_listed, pieces_of};
 ghost use Rattle.store_image.specs.Reading.{Sees, AreReadTo, BeginsWith, IsNotNext, AreNumbered, IsAt, IsNotReadAt, AreRead, AreNotRead};
 ghost use Rattle.store_image.specs.Answers.{CountsFault};
 ghost use Rattle.store_image.specs.declared.fault.ImageFault.TheVariants as faults;
@@ -83,6 +83,8 @@ pub(crate) fn read_segments<D: Disk, S: RowSink>(
     ensures causes { IfErr result (λ e. e ≢ faults.NotEmpty) }
     ensures honesty { D.is_honest disk.old ↔ D.is_honest disk.new }
     ensures failures { CountsFault result (D.failures disk.old) (D.failures disk.new) }
+    // Whatever it answers.
+    ensures bytes_read { D.bytes_read disk.new ≤ D.bytes_read disk.old + bytes_listed entries.now }
 {
     let mut window = Window::new(alloc)?;
     let mut places = Vec::with_capacity(alloc, entries.len())?;
@@ -121,6 +123,7 @@ fn read_segment<D: Disk, S: RowSink>(
     ensures causes { IfErr result (λ e. e ≢ faults.NotEmpty) }
     ensures honesty { D.is_honest disk.old ↔ D.is_honest disk.new }
     ensures failures { CountsFault result (D.failures disk.old) (D.failures disk.new) }
+    ensures bytes_read { D.bytes_read disk.new ≤ D.bytes_read disk.old + entry.bytes }
 {
     check_room(disk, entry)?;
     window.begin(entry.extent());
@@ -138,6 +141,7 @@ fn check_room<D: Disk>(disk: &mut D, entry: Entry) -> Result<(), ImageFault>
     ensures causes { IfErr result (λ e. e ≢ faults.NotEmpty) }
     ensures honesty { D.is_honest disk.old ↔ D.is_honest disk.new }
     ensures failures { CountsFault result (D.failures disk.old) (D.failures disk.new) }
+    ensures bytes_read { D.bytes_read disk.new ≡ D.bytes_read disk.old }
 {
     let end = BLOCK * u64::from(entry.first) + u64::from(entry.bytes);
     if end > disk.len()? {
@@ -175,6 +179,7 @@ fn read_rows<D: Disk, S: RowSink>(
     ensures causes { IfErr result (λ e. e ≢ faults.NotEmpty) }
     ensures honesty { D.is_honest disk.old ↔ D.is_honest disk.new }
     ensures failures { CountsFault result (D.failures disk.old) (D.failures disk.new) }
+    ensures bytes_read { D.bytes_read disk.new ≤ D.bytes_read disk.old + entry.bytes }
 {
     let mut rows = Rows {
         places: Vec::with_capacity(alloc, entry.rows as usize)?,
@@ -227,6 +232,8 @@ fn read_row<D: Disk, S: RowSink>(
     ensures causes { IfErr result (λ e. e ≢ faults.NotEmpty) }
     ensures honesty { D.is_honest disk.old ↔ D.is_honest disk.new }
     ensures failures { CountsFault result (D.failures disk.old) (D.failures disk.new) }
+    ensures bytes_read { D.bytes_read disk.new + window.old.asked
+        ≤ D.bytes_read disk.old + window.new.asked }
 {
     let (row, next) = window.row_at(alloc, disk, at)?;
     if row.import > imports {

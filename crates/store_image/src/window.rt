@@ -91,6 +91,9 @@ impl Window {
         ensures moments { D.is_honest disk.old → D.moments disk.new ≡ D.moments disk.old }
         ensures honesty { D.is_honest disk.old ↔ D.is_honest disk.new }
         ensures failures { CountsEach result (D.failures disk.old) (D.failures disk.new) }
+        // Whatever it answers.
+        ensures bytes_read { D.bytes_read disk.new + self.old.asked
+            ≤ D.bytes_read disk.old + self.new.asked }
     {
         let start = self.len as usize;
         let count = (WINDOW - self.len).min(self.extent.bytes - self.asked);
@@ -146,6 +149,9 @@ impl Window {
         ensures causes { IfErr result (λ e. e ≢ faults.NotEmpty) }
         ensures honesty { D.is_honest disk.old ↔ D.is_honest disk.new }
         ensures failures { CountsFault result (D.failures disk.old) (D.failures disk.new) }
+        // Whatever it answers.
+        ensures bytes_read { D.bytes_read disk.new + self.old.asked
+            ≤ D.bytes_read disk.old + self.new.asked }
     {
         match self.row_in(alloc, at) {
             Ok((row, next)) => Ok((row, next)),

@@ -28,6 +28,7 @@ rows-init g c = record {
   moments = λ honest. refl;
   honesty = (λ h. h, λ h. h);
   failures = refl;
+  bytes_read = omega arith;
 }
 
 pub returns-in_err-at-clause-exact : goal.returns-in_err-at-clause-exact
@@ -71,6 +72,7 @@ rows-preserved g c =
       moments = λ honest. read.moments (inv.honesty.0 honest) ∙ inv.moments honest;
       honesty = (λ h. read.honesty.0 (inv.honesty.0 h), λ h. inv.honesty.1 (read.honesty.1 h));
       failures = read.failures ∙ inv.failures;
+      bytes_read = omega (arith, inv.bytes_read, read.bytes_read);
     }
 
 pub returns-then-at-entry-clause-exact : goal.returns-then-at-entry-clause-exact
@@ -80,3 +82,21 @@ returns-then-at-entry-clause-exact g c honest =
     let most = c.rows.auto._count-end in
     let count = inv.count in
     wrong_end c.rows.at c.args.imports c.args.entry c.rows.rows.places.items c.rows.rows.shown _ inv.read (omega (arith, ended, most, count)) c.if-at-entry.true (inv.begins honest)
+
+pub returns-in_err-at-clause-bytes_read : goal.returns-in_err-at-clause-bytes_read
+returns-in_err-at-clause-bytes_read g c =
+    let inv = c.rows.invariant in
+    let extent = ap (λ (x : Extent). x.bytes) (c.in_err-at.ensures.extent ∙ inv.extent) in
+    omega (arith, inv.bytes_read, c.in_err-at.ensures.bytes_read, c.read_row.new.window.within, extent)
+
+pub returns-then-at-entry-clause-bytes_read : goal.returns-then-at-entry-clause-bytes_read
+returns-then-at-entry-clause-bytes_read g c =
+    let inv = c.rows.invariant in
+    let extent = ap (λ (x : Extent). x.bytes) inv.extent in
+    omega (arith, inv.bytes_read, c.rows.window.within, extent)
+
+pub returns-clause-bytes_read : goal.returns-clause-bytes_read
+returns-clause-bytes_read g c =
+    let inv = c.rows.invariant in
+    let extent = ap (λ (x : Extent). x.bytes) inv.extent in
+    omega (arith, inv.bytes_read, c.rows.window.within, extent)

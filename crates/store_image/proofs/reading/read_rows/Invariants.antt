@@ -24,4 +24,5 @@ invariant-rows g l =
       moments : g.D.Disk.is_honest l.fn.disk → g.D.Disk.moments l.disk ≡ old;
       honesty : g.D.Disk.is_honest l.fn.disk ↔ g.D.Disk.is_honest l.disk;
       failures : g.D.Disk.failures l.disk ≡ g.D.Disk.failures l.fn.disk;
+      bytes_read : g.D.Disk.bytes_read l.disk ≤ g.D.Disk.bytes_read l.fn.disk + l.window.asked;
     }

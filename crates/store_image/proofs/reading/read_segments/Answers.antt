@@ -13,7 +13,7 @@ use Rattle.store_image.specs.Stands.{HoldsAll}
 use Rattle.store_image.specs.Says.{AreSegments, pieces_of}
 use Rattle.store_image.specs.Reading.{IsAt, IsNotReadAt}
 use Rattle.store_image.specs.Keys.{keys_of, EachKeyOnce}
-use Rattle.store_image.proofs.Segments.{not_read_at, not_apart, map-push, more_segments, more_numbered, more_held, more_segments_taken}
+use Rattle.store_image.proofs.Segments.{bytes_more, bytes_up_to, bytes_within, not_read_at, not_apart, map-push, more_segments, more_numbered, more_held, more_segments_taken}
 use Rattle.store_image.proofs.KeyLists.{ascending_keys, lists_from_once, once_from_lists}
 use Rattle.store_image.proofs.reading.read_segments.Goals as goal
 
@@ -66,6 +66,7 @@ loop-entry-preserved g c =
       moments = λ honest. read.moments (inv.honesty.0 honest) ∙ inv.moments honest;
       honesty = (λ h. read.honesty.0 (inv.honesty.0 h), λ h. inv.honesty.1 (read.honesty.1 h));
       failures = read.failures ∙ inv.failures;
+      bytes_read = omega (arith, inv.bytes_read, read.bytes_read, bytes_more entries i none lt);
     }
 
 pub are_apart-requires : goal.are_apart-requires
@@ -107,3 +108,38 @@ returns-clause-read g c =
       apart = lists_from_once (map vec_items c.loop-entry.places.items) lists inv.places entries are once;
       numbered = inv.numbered;
     }
+
+-- ---- the bytes that were read
+
+pub returns-in_err-rows-clause-bytes_read : goal.returns-in_err-rows-clause-bytes_read
+unfolding none
+returns-in_err-rows-clause-bytes_read g c =
+    let entries = c.args.entries.now in
+    let i = c.loop-entry.entry-index in
+    omega (arith, c.loop-entry.invariant.bytes_read, c.in_err-rows.ensures.bytes_read, bytes_up_to entries i none c.loop-entry-test.true)
+
+pub returns-in_err-push-clause-bytes_read : goal.returns-in_err-push-clause-bytes_read
+unfolding none
+returns-in_err-push-clause-bytes_read g c =
+    let entries = c.args.entries.now in
+    let i = c.loop-entry.entry-index in
+    omega (arith, c.loop-entry.invariant.bytes_read, c.in_ok-rows.ensures.bytes_read, bytes_up_to entries i none c.loop-entry-test.true)
+
+pub returns-in_err-push-2-clause-bytes_read : goal.returns-in_err-push-2-clause-bytes_read
+unfolding none
+returns-in_err-push-2-clause-bytes_read g c =
+    let entries = c.args.entries.now in
+    let i = c.loop-entry.entry-index in
+    omega (arith, c.loop-entry.invariant.bytes_read, c.in_ok-rows.ensures.bytes_read, bytes_up_to entries i none c.loop-entry-test.true)
+
+pub returns-in_err-are_apart-clause-bytes_read : goal.returns-in_err-are_apart-clause-bytes_read
+returns-in_err-are_apart-clause-bytes_read g c =
+    omega (arith, c.loop-entry.invariant.bytes_read, bytes_within c.args.entries.now c.loop-entry.entry-index)
+
+pub returns-then-not-branch-clause-bytes_read : goal.returns-then-not-branch-clause-bytes_read
+returns-then-not-branch-clause-bytes_read g c =
+    omega (arith, c.loop-entry.invariant.bytes_read, bytes_within c.args.entries.now c.loop-entry.entry-index)
+
+pub returns-clause-bytes_read : goal.returns-clause-bytes_read
+returns-clause-bytes_read g c =
+    omega (arith, c.loop-entry.invariant.bytes_read, bytes_within c.args.entries.now c.loop-entry.entry-index)

@@ -1,11 +1,11 @@
 use Rattle.std.specs.Prelude.{vec_items, map}
 use Rattle.std.specs.List.{AllByRecursion}
-use Rattle.std.proofs.Common.{◌≡◌, ◌↔◌, ◌++◌, List, [], take}
+use Rattle.std.proofs.Common.{◌≡◌, ◌↔◌, ◌+◌, ◌≤◌, ◌++◌, List, [], take}
 use Rattle.history_model.specs.declared.stamped.StampedRow.{StampedRow}
 use Rattle.segment.specs.declared.place.Posted.{Posted}
 use Rattle.segment.specs.Standing.{places_of, with_places}
 use Rattle.store_image.specs.Stands.{HoldsAll}
-use Rattle.store_image.specs.Says.{AreSegments, pieces_of}
+use Rattle.store_image.specs.Says.{AreSegments, bytes_listed, pieces_of}
 use Rattle.store_image.specs.Reading.{AreNumbered}
 use Rattle.store_image.proofs.reading.read_segments.Given as goal
 
@@ -23,4 +23,5 @@ invariant-loop-entry g l =
       moments : g.D.Disk.is_honest l.fn.disk → g.D.Disk.moments l.disk ≡ old;
       honesty : g.D.Disk.is_honest l.fn.disk ↔ g.D.Disk.is_honest l.disk;
       failures : g.D.Disk.failures l.disk ≡ g.D.Disk.failures l.fn.disk;
+      bytes_read : g.D.Disk.bytes_read l.disk ≤ g.D.Disk.bytes_read l.fn.disk + bytes_listed done;
     }
