@@ -20,7 +20,7 @@ const LONG_STEP: usize = 256;
 /// How many runs are tried.
 const RUNS: usize = 10_000;
 
-/// The last line of a reply that is refused for want of memory.
+/// The last line of a reply that is refused because memory ran out.
 const OUT_OF_MEMORY: &[u8] = b"ERR 1 OutOfMemory\n";
 
 /// Answers a line.
@@ -48,7 +48,7 @@ fn reply_with_little(
     Ok(reply)
 }
 
-/// Whether a line is refused for want of memory.
+/// Whether a line is refused because memory ran out.
 fn is_refusal(reply: &Reply) -> bool {
     reply.body().is_empty() && reply.last() == OUT_OF_MEMORY
 }
@@ -71,7 +71,7 @@ fn is_right(
 }
 
 /// Answers a line with little memory, and again with all of it
-/// where it is refused for want of memory, and tells if it was.
+/// where it is refused because memory ran out, and tells if it was.
 fn last_reply(
     means: &mut Means,
     line: &str,

@@ -122,11 +122,11 @@ fn is_as_often(refused: u32, least: u32) -> bool {
 /// What came of a call.
 #[derive(Debug, Drop)]
 enum Outcome {
-    /// The answer, after so many refusals for want of memory.
+    /// The answer, after so many refusals because memory ran out.
     Answered(Answer, u32),
     /// Another refusal.
     Refused(Refusal),
-    /// It was refused for want of memory, and the counts changed.
+    /// It was refused because memory ran out, and the counts changed.
     Changed,
     /// It was refused with as much memory as there is.
     Never,

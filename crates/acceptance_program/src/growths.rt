@@ -19,7 +19,7 @@ const TRIES: usize = 40_000;
 
 const OUT_OF_MEMORY: &str = "ERR 1 OutOfMemory\n";
 
-/// How a run is refused for want of memory: what it writes, and what it writes of faults.
+/// How a run is refused because memory ran out: what it writes, and what it writes of faults.
 type Refusal = (&'static str, &'static str);
 
 /// Where the words are no task yet, or the buffer of a server isn't made.

@@ -48,7 +48,7 @@ fn replies_in(alloc: Global, output: &[u8]) -> Result<Vec<Vec<u8>>, AllocError> 
     Ok(replies)
 }
 
-/// How many lines were refused for want of memory, where only such lines were that may be.
+/// How many lines were refused because memory ran out, where only such lines were that may be.
 fn count_refused(replies: &[Vec<u8>]) -> Option<usize> {
     let mut refused = 0usize;
     for (place, (line, _)) in SCRIPT.iter().enumerate() {
@@ -78,7 +78,7 @@ fn is_as_without(alloc: Global, replies: &[Vec<u8>]) -> Result<bool, AllocError>
 /// What came of a run.
 #[derive(Clone, Copy, Debug, PartialEq, Eq)]
 enum Outcome {
-    /// No line was refused for want of memory.
+    /// No line was refused because memory ran out.
     Whole,
     /// The buffer was, and no line was read.
     NotBegun,

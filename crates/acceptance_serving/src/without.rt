@@ -1,7 +1,7 @@
 //! What lines of the script are told where lines before them never came.
 
 /// The places of the lines of the script that change
-/// the store and may be refused for want of memory.
+/// the store and may be refused because memory ran out.
 pub const FIRST: usize = 2;
 
 pub const SECOND: usize = 4;
@@ -158,7 +158,7 @@ const VARIANTS: [Variant; 40] = [
     (24, &[FIRST, SECOND], &[STEP_100], &["OK"]),
 ];
 
-/// Whether the line at a place of the script wasn't refused for want of memory.
+/// Whether the line at a place of the script wasn't refused because memory ran out.
 pub fn came(replies: &[Vec<u8>], place: usize) -> bool {
     !matches!(replies.get(place), Some(said) if said.as_slice() == OUT_OF_MEMORY)
 }

@@ -111,7 +111,7 @@ impl MemDisk {
     }
 
     /// Takes all the memory for a disk of so many bytes, and for so many changing calls more that
-    /// write no more bytes together. Until either is passed no call fails for want of memory. An
+    /// write no more bytes together. Until either is passed no call runs out of memory. An
     /// `Err` changes neither the bytes nor the record.
     pub fn reserve(&mut self, bytes: u64, calls: u32) -> Result<(), AllocError>
         ensures room { OnOk result (HasRoomFor self.new bytes calls bytes) }
@@ -151,7 +151,7 @@ impl MemDisk {
 
     /// An image of the moment right after the changing call of this number among those that
     /// answered Ok; for 0, of the moment when it was made. Writes and cuts that failed before it
-    /// count as made. It only fails for want of memory.
+    /// count as made. It only fails if memory runs out.
     pub fn image(&self, after: u64, choice: Choice) -> Result<Vec<u8>, AllocError>
         requires { after ≤ changes_of self.now }
         ensures chosen { IfOk result
@@ -166,7 +166,7 @@ impl MemDisk {
         Ok(moment.into_image(choice))
     }
 
-    /// An image of the present moment. It only fails for want of memory.
+    /// An image of the present moment. It only fails if memory runs out.
     pub fn image_now(&self, choice: Choice) -> Result<Vec<u8>, AllocError>
         ensures chosen { IfOk result
             (λ image. IsChosen (memory_moments self.now).state choice image.items) }

@@ -74,7 +74,7 @@ pub fn publication() -> &'static [Turn] {
     &SCRIPT[..10]
 }
 
-/// Whether a line of the script is never refused for want of memory.
+/// Whether a line of the script is never refused because memory ran out.
 pub fn takes_none(line: &str) -> bool {
     let commands = [
         " PIN", " UNPIN", " STATUS", " MERGE", " PUBLISH", " ABANDON", " TRIM",

@@ -106,7 +106,7 @@ TakesSome h releases failed after =
     ((front : List Release) × IsFront front releases × TakesAll h front after)
     ⊎ ((release : Release) × (failed ≡ Some release) × TakesAll h (releases ++ release ∷ []) after)
 
--- a store is opened of the bytes with such a history, unless memory lacks or the device fails
+-- a store is opened of the bytes with such a history, unless memory runs out or the device fails
 abbrev pub OpensWith : (D : Type 0) → History → List Release → Option Release → List ℕ → Type 0
 OpensWith D h releases failed bytes =
     (result : Result (Stored D) (Refusal × D)) → IsOpeningOf result bytes

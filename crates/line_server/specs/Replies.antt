@@ -135,7 +135,7 @@ abbrev pub IsClosed : {D : Type 0} → Refusal → Desk D → Desk D → Type 0
 IsClosed refusal old new =
     (refusal ≡ store.ReopenNeeded) × (old.store.needs_reopen ≡ true) × (new ≡ old)
 
--- memory lacks
+-- memory ran out
 abbrev pub IsLacking : {D : Type 0} → Refusal → Desk D → Desk D → Type 0
 IsLacking refusal old new =
     (refusal ≡ store.OutOfMemory) × (old.store.needs_reopen ≡ false) × Same old new

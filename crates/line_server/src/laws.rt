@@ -24,12 +24,13 @@ pub fn imports_compose<D: Disk>()
     ensures { ImportsCompose D D.is_honest D.moments }
 {}
 
-/// A release is answered alike by stores that are alike, unless memory lacks or the device fails.
+/// A release is answered alike by stores that are alike,
+/// unless memory runs out or the device fails.
 pub fn one_import<D: Disk>()
     ensures { OneImport D }
 {}
 
-/// A line has one reply, unless memory lacks or the device fails.
+/// A line has one reply, unless memory runs out or the device fails.
 pub fn one_reply<D: Disk>()
     ensures { OneReply D D.is_honest }
 {}

@@ -8,7 +8,7 @@ use Rattle.release_folder.specs.declared.fault.FolderFault.TheVariants as faults
 use Rattle.release_folder.specs.declared.obstacle.ReadFault.{ReadFault}
 use Rattle.release_folder.specs.declared.obstacle.ReadFault.TheVariants as reading
 
--- want of memory is named as that, and whatever else fails is no folder
+-- out of memory is named as that, and whatever else fails is no folder
 abbrev pub IsFaultOf : Error → FolderFault → Type 0
 IsFaultOf error fault =
     ((error_kind error ≡ kinds.OutOfMemory) × (fault ≡ faults.OutOfMemory))
