@@ -1,7 +1,7 @@
 #!/usr/bin/env python3
 """Tries, for each public call that may be refused for want of memory, a body that always is.
 
-always_refused.py [--rt COMMAND] [--only WORD] [--keep FOLDER]
+always_refused.py [--rt COMMAND] [--only WORD] [--keep FOLDER] [--table]
 
 A contract allows such a refusal at any time, so such a body could be proved: a test has to fail.
 Each call of CALLS is made to give its refusal at once, in a copy of this repository; there the
@@ -12,7 +12,9 @@ line counts the calls, and those that were not caught: the status is 1 where the
 WORD takes the calls with this text in their crate and name. COMMAND is the kit's, `rt` where none
 is given. The copy lies in a temporary folder, or in FOLDER, and then it stays. Each crate's tests
 are run once as they are, before the first of its calls: a test that fails then catches nothing. A
-run takes about half a minute to a minute and a half of one processor. Standard library alone.
+run takes about half a minute to a minute and a half of one processor. Before all that it looks if
+each call and each test of the table stands in the sources, which takes no time; with --table it
+does that alone. Standard library alone.
 """
 
 import argparse
@@ -62,7 +64,7 @@ CALLS = [
          "test_values", "read_and_written"),
     Call("history_model", "StampedRow::try_clone", "stamped.rt", "pub fn try_clone(", ALLOC,
          "test_values", "receipts"),
-    Call("history_model", "Shown::push", "shown.rt", "pub fn push(", ALLOC,
+    Call("history_model", "GhostRows::push", "ghost_rows.rt", "pub fn push(", ALLOC,
          "test_values", "shown_rows_take_rows_and_no_memory"),
     Call("history_model", "plain::snapshot", "plain.rt", "pub fn snapshot(", ALLOC,
          "test_values", "versions_and_snapshots"),
@@ -76,6 +78,10 @@ CALLS = [
          "test_values", "children_and_replacements"),
     Call("history_model", "plain::replacements", "plain.rt", "pub fn replacements(", ALLOC,
          "test_values", "children_and_replacements"),
+    Call("history_model", "plain::about", "plain.rt", "pub fn about(", ALLOC,
+         "test_values", "rows_about_a_component"),
+    Call("history_model", "plain::search_terms", "plain.rt", "pub fn search_terms<", ALLOC,
+         "test_values", "searches_that_go_on"),
     Call("history_model", "plain::rows_at", "plain.rt", "pub fn rows_at(", ALLOC,
          "test_values", "concepts_at_a_date_and_a_pin"),
     Call("history_model", "plain::after_release", "plain.rt", "pub fn after_release(", ALLOC,
@@ -94,7 +100,7 @@ CALLS = [
     Call("directory", "Directory::new", "listing.rt", "pub fn new(", ALLOC,
          "test_blocks", "entries_go_last_and_close_up"),
     Call("directory", "Directory::try_clone", "listing.rt", "pub fn try_clone(", ALLOC,
-         "acceptance_imports", "one_concept_is_found_from_its_day_on"),
+         "test_store", "one_concept_is_found_from_its_day_on"),
     Call("directory", "Directory::decode", "listing.rt",
          "pub fn decode(", "Err(DirectoryFault::OutOfMemory)",
          "test_blocks", "each_way_in_which_a_block_is_bad"),
@@ -105,9 +111,9 @@ CALLS = [
     Call("segment", "record_at", "decoding.rt", "pub fn record_at(", SEGMENT,
          "segment", "a_row_at_its_place"),
     Call("store_image", "make", "making.rt", "pub fn make<", IMAGE,
-         "store_image", "an_empty_store"),
+         "test_images", "an_empty_store"),
     Call("store_image", "load", "opening.rt", "pub fn load<", IMAGE,
-         "store_image", "an_empty_store"),
+         "test_images", "an_empty_store"),
     # Releases.
     Call("import_check", "sample", "samples.rt", "pub fn sample(", ALLOC,
          "test_releases", "samples_are_as_written"),
@@ -122,66 +128,72 @@ CALLS = [
     Call("release_folder", "release_of", "folder.rt", "pub fn release_of(", FOLDER,
          "test_releases", "files_of_one_kind_come_in_the_byte_order_of_their_names"),
     # The index.
-    Call("merge", "Merging::take", "lib.rt", "pub fn take(", ALLOC,
+    Call("merge", "MergeProgress::take", "lib.rt", "pub fn take(", ALLOC,
          "merge", "the_first_places_come_in_key_order"),
     Call("as_of_index", "Index::new", "index.rt", "pub fn new(", ALLOC,
-         "acceptance_index", "what_three_releases_say_at_a_date"),
-    Call("as_of_index", "Index::pick", "index.rt", "pub fn pick<", READ,
-         "acceptance_index", "what_three_releases_say_at_a_date"),
+         "test_index", "what_three_releases_say_at_a_date"),
+    Call("as_of_index", "Index::get", "index.rt", "pub fn get<", READ,
+         "test_index", "what_three_releases_say_at_a_date"),
     Call("as_of_index", "Index::history", "index.rt", "pub fn history<", READ,
-         "acceptance_index", "versions_and_pages_of_three_releases"),
+         "test_index", "versions_and_pages_of_three_releases"),
     Call("as_of_index", "Index::page", "index.rt", "pub fn page<", READ,
-         "acceptance_index", "versions_and_pages_of_three_releases"),
-    Call("as_of_index", "KeptRows::row", "kept.rt", "fn row(&mut self,", READ,
-         "acceptance_index", "what_three_releases_say_at_a_date"),
+         "test_index", "versions_and_pages_of_three_releases"),
+    Call("as_of_index", "KeptRows::row", "kept.rt", "Result<StampedRow, ReadFault> {", READ,
+         "test_index", "what_three_releases_say_at_a_date"),
     Call("as_of_index", "read_all", "chosen.rt", "pub fn read_all<", READ,
-         "acceptance_index", "a_street_is_replaced_once_an_association_says_so"),
-    Call("as_of_index", "Beside::new", "beside.rt", "pub fn new(", ALLOC,
-         "acceptance_index", "terms_of_as_many_lists_as_may_be"),
+         "test_index", "a_street_is_replaced_once_an_association_says_so"),
+    Call("as_of_index", "PerList::new", "per_list.rt", "pub fn new(", ALLOC,
+         "test_index", "terms_of_as_many_lists_as_may_be"),
     Call("term_prefix", "Postings::push", "postings.rt", "pub fn push(", ALLOC,
-         "acceptance_index", "posted_terms_grow_and_are_cut"),
+         "test_index", "posted_terms_grow_and_are_cut"),
     Call("term_prefix", "find", "search.rt", "pub fn find<", READ,
-         "acceptance_index", "streets_by_the_beginning_of_their_names"),
+         "test_index", "streets_by_the_beginning_of_their_names"),
     Call("associations", "Postings::push", "postings.rt", "pub fn push(", ALLOC,
-         "acceptance_index", "posted_links_grow_and_are_cut"),
+         "test_index", "posted_links_grow_and_are_cut"),
     Call("associations", "children", "hierarchy.rt", "pub fn children(", ALLOC,
-         "acceptance_index", "a_street_is_a_child_while_a_relationship_says_so"),
+         "test_index", "a_street_is_a_child_while_a_relationship_says_so"),
     Call("associations", "replacements", "substitutes.rt", "pub fn replacements<", READ,
-         "acceptance_index", "a_street_is_replaced_once_an_association_says_so"),
+         "test_index", "a_street_is_replaced_once_an_association_says_so"),
+    Call("associations", "about", "subjects.rt", "pub fn about<", READ,
+         "test_index", "what_is_about_a_street"),
     # The store.
     Call("history_store", "Store::create", "store.rt", "pub fn create(", BACK,
-         "acceptance_queries", "nothing_is_found_in_an_empty_store"),
+         "test_store", "nothing_is_found_in_an_empty_store"),
     Call("history_store", "Store::open", "store.rt", "pub fn open(", BACK,
-         "acceptance_disk", "a_store_is_opened_as_it_was_closed"),
+         "test_store", "a_merge_ends_with_the_store"),
     Call("history_store", "Store::import", "store.rt", "pub fn import(", STORE,
-         "acceptance_imports", "one_concept_is_found_from_its_day_on"),
-    Call("history_store", "Store::lookup", "store.rt", "pub fn lookup(", STORE,
-         "acceptance_queries", "a_pin_shows_the_imports_up_to_it"),
-    Call("history_store", "Store::history", "store.rt", "pub fn history(", STORE,
-         "acceptance_queries", "versions_ascend_by_time"),
-    Call("history_store", "Store::page", "store.rt", "pub fn page(", STORE,
-         "acceptance_queries", "pages_follow_one_another"),
-    Call("history_store", "Store::terms", "store.rt", "pub fn terms(", STORE,
-         "acceptance_queries", "terms_are_found_whatever_their_case"),
-    Call("history_store", "Store::children", "store.rt", "pub fn children(", STORE,
-         "acceptance_queries", "a_child_is_named_once"),
-    Call("history_store", "Store::replacements", "store.rt", "pub fn replacements(", STORE,
-         "acceptance_queries", "a_replacement_holds_from_its_day_on"),
+         "test_store", "one_concept_is_found_from_its_day_on"),
+    Call("history_store", "Store::get", "queries.rt", "pub fn get(", STORE,
+         "test_store", "a_pin_shows_the_imports_up_to_it"),
+    Call("history_store", "Store::history", "queries.rt", "pub fn history(", STORE,
+         "test_store", "versions_ascend_by_time"),
+    Call("history_store", "Store::page", "queries.rt", "pub fn page(", STORE,
+         "test_store", "pages_follow_one_another"),
+    Call("history_store", "Store::about", "queries.rt", "pub fn about(", STORE,
+         "test_store", "a_component_has_rows_about_it"),
+    Call("history_store", "Store::terms", "queries.rt", "pub fn terms(", STORE,
+         "test_store", "terms_are_found_whatever_their_case"),
+    Call("history_store", "Store::search", "queries.rt", "pub fn search(", STORE,
+         "test_store", "a_search_goes_on_above_an_id"),
+    Call("history_store", "Store::children", "queries.rt", "pub fn children(", STORE,
+         "test_store", "a_child_is_named_once"),
+    Call("history_store", "Store::replacements", "queries.rt", "pub fn replacements(", STORE,
+         "test_store", "a_replacement_holds_from_its_day_on"),
     Call("history_store", "Store::merge_step", "merge_calls.rt", "pub fn merge_step(", STORE,
-         "acceptance_merging", "a_merge_beside_an_import"),
+         "test_store", "a_merge_beside_an_import"),
     # The server and the program.
     Call("line_server", "Sample::release", "source.rt",
-         "Result<Release, SourceFault> {", SOURCE, "acceptance_streams",
+         "Result<Release, SourceFault> {", SOURCE, "test_lines",
          "pieces_play_no_part"),
     Call("line_server", "answer", "answering.rt",
-         "pub fn answer<", "refused(alloc, LineRefusal::Store(Refusal::OutOfMemory))",
-         "acceptance_lines", "lines_on_a_new_store"),
+         "pub fn answer<", "reply_refusal(alloc, LineRefusal::Store(Refusal::OutOfMemory))",
+         "test_lines", "lines_on_a_new_store"),
     Call("line_server", "serve", "serving.rt", "pub fn serve<", "Err(ServeFault::OutOfMemory)",
-         "acceptance_streams", "pieces_play_no_part"),
+         "test_lines", "pieces_play_no_part"),
     Call("command_line", "FolderSource::release", "folders.rt", "fn release(", SOURCE,
-         "command_line", "a_file_keeps_what_was_imported"),
-    Call("command_line", "run", "running.rt",
-         "pub fn run<", "(fail(ServeFault::OutOfMemory, faults), None)", "command_line", "statuses"),
+         "test_program", "a_file_keeps_what_was_imported"),
+    Call("command_line", "run", "running.rt", "pub fn run<",
+         "(fail(ServeFault::OutOfMemory, faults), None)", "test_program", "statuses"),
 ]
 
 
@@ -203,6 +215,33 @@ def planted(text, call):
     lines = text.split("\n")
     lines.insert(body_of(lines, call.head), "return %s;" % call.refusal)
     return "\n".join(lines)
+
+
+def faults_of(call):
+    """What isn't so of a call in the sources, if anything."""
+    folder = os.path.join(TOP, "crates", call.crate, "src")
+    tests = os.path.join(TOP, "crates", call.tests, "src")
+    try:
+        with open(os.path.join(folder, call.file), encoding="utf-8") as file:
+            planted(file.read(), call)
+        texts = []
+        for name in os.listdir(tests):
+            with open(os.path.join(tests, name), encoding="utf-8") as file:
+                texts.append(file.read())
+    except (OSError, ValueError) as why:
+        return str(why)
+    is_test = re.search(r"#\[test\]\s+fn %s\(" % call.must_fail, "\n".join(texts))
+    return None if is_test else "%s has no test %s" % (call.tests, call.must_fail)
+
+
+def is_in_sources(calls):
+    """Whether each call can be planted and its test is there; what isn't so is told."""
+    wrong = [(call, faults_of(call)) for call in calls]
+    wrong = [(call, why) for call, why in wrong if why]
+    for call, why in wrong:
+        print("%s %s: %s" % (call.crate, call.name, why), file=sys.stderr)
+    print("%d calls, %d not in the sources" % (len(calls), len(wrong)), file=sys.stderr)
+    return not wrong
 
 
 def failed_tests(rt, folder):
@@ -259,9 +298,13 @@ def main():
     parser = argparse.ArgumentParser(description=__doc__.strip().split("\n", maxsplit=1)[0])
     parser.add_argument("--rt", default="rt", help="the command of the kit")
     parser.add_argument("--only", default="", help="the calls with this word in crate or name")
+    parser.add_argument("--table", action="store_true", help="look at the table alone")
     parser.add_argument("--keep", help="the folder of the copy, which stays")
     asked = parser.parse_args()
     calls = [call for call in CALLS if asked.only in call.crate + " " + call.name]
+    is_right = is_in_sources(calls)
+    if asked.table or not is_right:
+        return 0 if calls and is_right else 1
     top = asked.keep or tempfile.mkdtemp(prefix="sctd-refused-")
     try:
         shutil.copytree(TOP, top, ignore=shutil.ignore_patterns(".git", "out"), dirs_exist_ok=True)

@@ -3,13 +3,13 @@
 
 check_figures.py [--renew]
 
-FIGURES names each of them with the command that prints it: the document, the text around the number,
-and the command, which bash runs at the top of the repository. The text stands in its document just
-once, and its number has to be the one that is printed. And a number of edits, tests or crates that
-stands in a document without being in FIGURES is an error, but for the rows of dated measurements.
---renew writes what the commands print into the documents. Nothing is built, and it takes a second or
-two; what there is to say goes to standard error. The status is 1 where a figure isn't so. Standard
-library alone.
+FIGURES names each of them with the command that prints it: the document, the text around the
+number, and the command, which bash runs at the top of the repository. The text stands in its
+document just once, and its number has to be the one that is printed. And a number of edits, tests
+or crates that stands in a document without being in FIGURES is an error, but for the rows of dated
+measurements. --renew writes what the commands print into the documents. Nothing is built, and it
+takes a second or two; what there is to say goes to standard error. The status is 1 where a figure
+isn't so. Standard library alone.
 """
 
 import glob
@@ -40,14 +40,38 @@ def number_in(path, text):
     return "sed -nE 's/.*%s([0-9_]+).*/\\1/p' crates/%s | head -n 1 | tr -d _" % (text, path)
 
 
-STOPS, FAULTS = "acceptance_stops/src/stops.rt", "acceptance_stops/src/faults.rt"
-CHANGED = "acceptance_images/src/changed.rt"
+def reckoned(command, sum_of):
+    """A command that prints a sum of what another one prints, `n`, or nothing as that one."""
+    return "n=$(%s) && echo $(( %s ))" % (command, sum_of.replace("n", "${n:?}"))
+
+
+STOPS, FAULTS = "test_crashes/src/script_stops.rt", "test_crashes/src/script_faults.rt"
+CHANGED = "test_crashes/src/changed_images.rt"
 SCRIPT_CALLS = number_in(STOPS, "const CALLS: u64 = ")
 BREAKS = number_in(FAULTS, "runs\\(rt.alloc\\(\\), Fault::Change\\(0\\)\\)\\?, Some\\(")
 ALL_BREAKS = number_in(FAULTS, "runs\\(rt.alloc\\(\\), Fault::All\\)\\?, Some\\(")
 READS = number_in(FAULTS, "runs\\(rt.alloc\\(\\), Fault::Read\\)\\?, Some\\(")
-OPENINGS = number_in(FAULTS, "openings\\(rt.alloc\\(\\), disk.bytes\\(\\), Fault::Read\\)\\?, Some\\(")
-IMAGES = "grep -oE 'count, [0-9_]+' crates/%s | tr -dc '0-9\\n' | awk '{s += $1} END {print s}'" % CHANGED
+OPENINGS = number_in(
+    FAULTS, "openings\\(rt.alloc\\(\\), disk.bytes\\(\\), Fault::Read\\)\\?, Some\\(")
+IMAGES = ("grep -oE 'count, [0-9_]+' crates/%s | tr -dc '0-9\\n'"
+          " | awk '{s += $1} END {print s}'" % CHANGED)
+OLD_STOPS = ("grep -oE 'each_stop\\(Old::[A-Za-z]+, First::[A-Za-z]+, rt.alloc\\(\\), [0-9]+'"
+             " crates/test_crashes/src/old_stops.rt | awk '{s += $NF + 1} END {print s}'")
+ALL_OPENINGS = number_in(
+    FAULTS, "openings\\(rt.alloc\\(\\), disk.bytes\\(\\), Fault::All\\)\\?, Some\\(")
+MEMORY, RUNS = "test_memory/src/call_growths.rt", "test_memory/src/run_growths.rt"
+MEMORY_CALLS = number_in(MEMORY, "const CALLS: \\[\\(Call, Wanted, u32\\); ")
+# The last number of each call stands behind the other two, or in a line of its own.
+MEMORY_REFUSALS = ("sed -n '/^const CALLS/,/^];/p' crates/%s"
+                   " | grep -oE '(\\)|^       ),? [0-9]+\\)?,$'"
+                   " | tr -dc '0-9\\n' | awk '{s += $1} END {print s}'" % MEMORY)
+
+
+def asked_for(path, what, behind):
+    """A command that prints the number that an assertion with this text behind it asks for."""
+    return ("sed -nE 's/.*%s >= ([0-9_]+)%s.*/\\1/p' crates/%s | head -n 1 | tr -d _"
+            % (what, behind, path))
+
 
 FIGURES = [
     Figure(PERFORMANCE, "There are {} edits", EDITS),
@@ -55,22 +79,38 @@ FIGURES = [
     Figure(PERFORMANCE, " functions in {} crates now", CRATES),
     Figure(PERFORMANCE, " tests and {} functions in", FUNCTIONS),
     Figure(RELIABILITY, "it makes {} changing calls", SCRIPT_CALLS),
-    Figure(RELIABILITY, "| A stop | {} moments, 4 images each", "echo $(( $(%s) + 1 ))" % SCRIPT_CALLS),
-    Figure(RELIABILITY, "4 images each: {} disks | before, between and after all calls of the script", "echo $(( ($(%s) + 1) * 4 ))" % SCRIPT_CALLS),
+    Figure(RELIABILITY, "| A stop | {} moments, 4 images each", reckoned(SCRIPT_CALLS, "n + 1")),
+    Figure(RELIABILITY, ": {} disks | before, between and after all calls of the script",
+           reckoned(SCRIPT_CALLS, "(n + 1) * 4")),
+    Figure(RELIABILITY, "becomes version 2 | {} moments, 4 images each", OLD_STOPS),
+    Figure(RELIABILITY, ": {} disks | see below", reckoned(OLD_STOPS, "n * 4")),
     Figure(RELIABILITY, "runs: {} calls, twice", BREAKS),
-    Figure(RELIABILITY, "| {} runs: ", "echo $(( $(%s) * 2 ))" % BREAKS),
+    Figure(RELIABILITY, "| {} runs: ", reckoned(BREAKS, "n * 2")),
     Figure(RELIABILITY, "each of the {} reads", READS),
     Figure(RELIABILITY, "and each of the {} calls, in turn", ALL_BREAKS),
     Figure(RELIABILITY, "its sync, each of its {} reads", OPENINGS),
-    Figure(RELIABILITY, "| for each of {} calls, and for a making",
-           number_in("acceptance_memory/src/growths.rt", "const CALLS: \\[\\(Call, Wanted, u32\\); ")),
+    Figure(RELIABILITY, "all calls from each of these {} on", ALL_OPENINGS),
+    Figure(RELIABILITY, "| for each of {} calls, and for a making", MEMORY_CALLS),
+    Figure(RELIABILITY, "test asks for {} refusals of `create`",
+           asked_for(MEMORY, "refused", ", \"making")),
+    Figure(RELIABILITY, "of `create`, and for {} of the calls", MEMORY_REFUSALS),
+    Figure(RELIABILITY, "up to 133 KB; the test asks for {} |",
+           asked_for(MEMORY, "refused", ", \"[{]refused")),
+    Figure(RELIABILITY, "asks for {} runs that aren't begun",
+           asked_for(RUNS, "runs.not_begun", "")),
+    Figure(RELIABILITY, "and for {} in which lines are refused",
+           asked_for(RUNS, "runs.refused", " &&")),
+    Figure(RELIABILITY, "refused: at least {} lines in", asked_for(RUNS, "runs.most", ",")),
     Figure(RELIABILITY, "runs of {} lines, each with 16 bytes more",
-           number_in("line_fixtures/src/script.rt", "const SCRIPT: \\[Turn; ")),
+           number_in("line_support/src/script.rt", "const SCRIPT: \\[Turn; ")),
     Figure(RELIABILITY, "| {} calls, one by one", "grep -c '^    Call(' bench/always_refused.py"),
     Figure(RELIABILITY, "makes each of {} public calls",
            "grep -c '^    Call(' bench/always_refused.py"),
-    Figure(RELIABILITY, "| {} lengths", "echo $(( $(%s) + 1 ))"
-           % number_in(CHANGED, "assert_eq!\\(rt; bytes.len\\(\\), ")),
+    Figure(RELIABILITY, "| {} lengths",
+           reckoned(number_in(CHANGED, "assert_eq!\\(rt; bytes.len\\(\\), "), "n + 1")),
+    Figure(RELIABILITY, "| A field changed | {}, and one",
+           reckoned(number_in(
+               CHANGED, "let cases: \\[\\(usize, &\\[u8\\], Result<u32, Refusal>\\); "), "n - 1")),
     Figure(RELIABILITY, "| {} images | all", IMAGES),
     Figure(RELIABILITY, "Of {} changed images", IMAGES),
     Figure(RELIABILITY, "all {} bytes of a disk",
@@ -83,10 +123,12 @@ DATED = re.compile(r"\| (?:20[0-9]{2}-|the same )")
 
 
 def printed(command, known):
-    """The number that a command prints, as the documents write it."""
+    """The number that a command prints, as the documents write it; None where it prints none."""
     if command not in known:
-        done = subprocess.run(["bash", "-c", command], cwd=ROOT, stdout=subprocess.PIPE, check=True)
-        known[command] = "{:,}".format(int(done.stdout))
+        done = subprocess.run(["bash", "-c", command], cwd=ROOT, stdout=subprocess.PIPE,
+                              stderr=subprocess.DEVNULL, check=False)
+        is_number = done.returncode == 0 and done.stdout.strip().isdigit()
+        known[command] = "{:,}".format(int(done.stdout)) if is_number else None
     return known[command]
 
 
@@ -120,9 +162,14 @@ def checked(name, text, known, wrong):
             wrong.append("%s: %r stands there %d times" % (name, figure.text, len(found)))
             continue
         number = printed(figure.command, known)
+        if number is None:
+            what = (name, figure.text, figure.command)
+            wrong.append("%s: %r: no number is printed by: %s" % what)
+            continue
         if found[0][1] != number:
             sentence = figure.text.replace("{}", found[0][1])
-            wrong.append("%s: %r, and %s is printed by: %s" % (name, sentence, number, figure.command))
+            what = (name, sentence, number, figure.command)
+            wrong.append("%s: %r, and %s is printed by: %s" % what)
         text = pattern_of(figure).sub(lambda match: match.group(1) + number, text)
     for line, count in unlisted(name, text):
         wrong.append("%s:%d: %r has no command" % (name, line, count))

@@ -6,7 +6,8 @@ check_guide.py PROGRAM [GUIDE]
 PROGRAM is the built program sctd. Each line that begins with `$ ` in a ```console block of the
 guide, with the lines after it that begin with `> `, is run by bash in one fresh folder, in order;
 what it writes to standard output and standard error has to be the lines up to the next command,
-byte for byte, and it has to end within a minute. Standard library alone.
+byte for byte, and it has to end within a minute, with the status 0: one that ends with another
+says so in its own lines, as by `echo "status $?"`. Standard library alone.
 """
 
 import difflib
@@ -53,17 +54,20 @@ def examples(text):
 
 
 def run(command, folder, around):
-    """What a command prints, and with it all that it started, and whether it ended in time."""
+    """What a command prints, and with it all that it started; behind that, what it ends with, where
+    it doesn't end in time or with the status 0."""
     made = subprocess.Popen(
         ["bash", "-c", command], cwd=folder, env=around, start_new_session=True,
         stdin=subprocess.DEVNULL, stdout=subprocess.PIPE, stderr=subprocess.STDOUT,
     )
     try:
-        printed, ended = made.communicate(timeout=SECONDS)[0], True
+        printed = made.communicate(timeout=SECONDS)[0]
+        end = "(it ended with the status %d)\n" % made.returncode if made.returncode else ""
     except subprocess.TimeoutExpired:
         os.killpg(made.pid, signal.SIGKILL)
-        printed, ended = made.communicate()[0], False
-    return printed.decode("utf-8", "backslashreplace"), ended
+        printed = made.communicate()[0]
+        end = "(it had not ended after %d seconds)\n" % SECONDS
+    return printed.decode("utf-8", "backslashreplace") + end
 
 
 def main(words):
@@ -81,9 +85,7 @@ def main(words):
         os.symlink(os.path.abspath(words[0]), os.path.join(tools, "sctd"))
         around = dict(os.environ, SCTD=ROOT, PATH=tools + os.pathsep + os.environ["PATH"], LC_ALL="C")
         for example in wanted:
-            printed, ended = run(example.command, work, around)
-            if not ended:
-                printed += "(it had not ended after %d seconds)\n" % SECONDS
+            printed = run(example.command, work, around)
             if printed != example.wanted:
                 wrong += 1
                 print("line %d: %s" % (example.number, example.command.split("\n")[0]))
@@ -91,7 +93,7 @@ def main(words):
                     example.wanted.splitlines(), printed.splitlines(), "guide", "printed", lineterm=""
                 ):
                     print("    " + line)
-    print("%d commands, %d print something else" % (len(wanted), wrong))
+    print("%d commands, %d print something else or fail" % (len(wanted), wrong))
     return 1 if wrong or not wanted else 0
 
 

@@ -35,6 +35,8 @@ from collections import namedtuple
 # A call: which file it changes, what it does (write, sync, cut), where, how many bytes, the first.
 Call = namedtuple("Call", "path what place length first")
 
+# How long the program may take.
+SECONDS = 60
 BLOCK = 4096
 DATA = 4 * BLOCK
 OPEN = 0xA5
@@ -122,11 +124,15 @@ class Tracer:
             words = ["strace", "-f", "-y", "-xx", "-o", self.log, "-e", "trace=" + TRACED, *words]
         else:
             around["LD_PRELOAD"] = self.library
-        done = subprocess.run(
-            words, input=text.encode(), stdout=subprocess.PIPE, env=around, check=False, timeout=60
-        )
+        try:
+            done = subprocess.run(words, input=text.encode(), stdout=subprocess.PIPE, env=around,
+                                  check=False, timeout=SECONDS)
+        except subprocess.TimeoutExpired:
+            raise SystemExit("WRONG: the program hasn't ended after %d seconds" % SECONDS) from None
         if done.returncode:
-            raise SystemExit("status %d: %r" % (done.returncode, done.stdout))
+            raise SystemExit("WRONG: status %d: %r" % (done.returncode, done.stdout))
+        if not os.path.exists(self.log):
+            raise SystemExit("WRONG: no call was taken down by %s" % self.how)
         with open(self.log, encoding="utf-8", errors="replace") as file:
             lines = file.read().splitlines()
         parse = of_strace if self.how == "strace" else of_library

@@ -38,6 +38,8 @@ COLUMNS = {
     "V": ("id", "time", "active", "module", "source", "value", "part", "type", "characteristic", "modifier"),
 }
 TABLES = {"C": "concept", "D": "description", "R": "relationship", "A": "association", "V": "concrete"}
+# The column that says what a row is about, of the kinds that questions ask.
+SUBJECTS = {"D": "concept", "R": "source"}
 TEXTS = ("language", "term", "value")
 BEGINNINGS = {
     "C": "sct2_Concept_",
@@ -50,6 +52,8 @@ INDEXES = (
     "CREATE INDEX terms ON description (folded) WHERE active = 1",
     "CREATE INDEX children ON relationship (destination, source) WHERE active = 1 AND type = %d" % IS_A,
     "CREATE INDEX replacements ON association (referenced) WHERE active = 1",
+    "CREATE INDEX descriptions ON description (concept) WHERE active = 1",
+    "CREATE INDEX relationships ON relationship (source) WHERE active = 1",
 )
 
 
@@ -105,6 +109,10 @@ class Sqlite:
             )
             self.queries["HISTORY " + kind] = start + "x.id = :id AND x.import <= :pin ORDER BY x.time"
             self.queries["PAGE " + kind] = start + "x.id > :after" + newest + " ORDER BY x.id LIMIT :limit"
+            if kind in SUBJECTS:
+                self.queries["ABOUT " + kind] = (
+                    start + "x.active = 1 AND x.%s = :id" % SUBJECTS[kind] + newest + " ORDER BY x.id"
+                )
             if kind == "D":
                 self.queries["TERMS"] = (
                     start + "x.active = 1 AND x.folded >= :from AND x.folded < :to" + newest
@@ -150,6 +158,9 @@ class Sqlite:
             query = "%s %s" % (command, words[2])
             given["id"] = words[3] if words[2] == "A" else int(words[3])
             given["date"] = int(words[4]) if command == "GET" else 0
+        elif command == "ABOUT":
+            query = "ABOUT " + words[2]
+            given.update(id=int(words[3]), date=int(words[4]))
         elif command == "PAGE":
             query = "PAGE " + words[2]
             lowest = "" if words[2] == "A" else -1
@@ -301,6 +312,12 @@ class Questions:
     def replacements(self):
         return "REPLACED %s %s" % (self.column("A", 5), self.date())
 
+    def descriptions(self):
+        return "ABOUT D %s %s" % (self.column("D", 4), self.date())
+
+    def relationships(self):
+        return "ABOUT R %s %s" % (self.column("R", 4), self.date())
+
     def drawn(self):
         """Lists of lines, each with its title. Every other line is of session 1."""
         for title, count, make in (
@@ -310,6 +327,8 @@ class Questions:
             ("searches of terms", 1000, self.terms),
             ("questions for children", 1000, self.children),
             ("questions for replacements", 1000, self.replacements),
+            ("questions for descriptions", 10000, self.descriptions),
+            ("questions for relationships", 10000, self.relationships),
         ):
             yield "%d %s" % (count, title), ["%d %s" % (number % 2, make()) for number in range(count)]
 

@@ -15,9 +15,9 @@ searched without regard to case in ASCII alone. It may keep as many bytes of pag
 holds. Processor seconds are of the whole process for the shell; those of sctd's questions are what the
 system says of a process that has opened the store and answered a STATUS before. A peak is the greatest
 resident size of the process, which the system counts from this script's own on: so only those are
-told of what runs before it holds rows, and each size has a process of its own. The status is 1 where
-an answer is another one. Standard library, and the
-command sqlite3.
+told of what runs before it holds rows, and each size has a process of its own. The replies to the
+imports have to count the rows as this script does. The status is 1 where a reply or an answer is
+another one. Standard library, and the command sqlite3.
 """
 
 import os
@@ -26,7 +26,7 @@ import subprocess
 import sys
 import time
 
-from compare import BEGINNINGS, COLUMNS, HERE, IS_A, TABLES, TEXTS, Served, release_rows
+from compare import BEGINNINGS, COLUMNS, HERE, IS_A, SUBJECTS, TABLES, TEXTS, Served, release_rows
 
 NEWEST = (
     " AND x.time <= {date} AND NOT EXISTS (SELECT 1 FROM {table} y"
@@ -36,6 +36,8 @@ INDEXES = (
     "CREATE INDEX terms ON description (term COLLATE NOCASE) WHERE active = 1;",
     "CREATE INDEX children ON relationship (destination, source) WHERE active = 1 AND type = %d;" % IS_A,
     "CREATE INDEX replacements ON association (referenced) WHERE active = 1;",
+    "CREATE INDEX descriptions ON description (concept) WHERE active = 1;",
+    "CREATE INDEX relationships ON relationship (source) WHERE active = 1;",
 )
 SETTINGS = ("PRAGMA journal_mode = WAL;", "PRAGMA synchronous = FULL;")
 
@@ -128,6 +130,10 @@ def query_of(line):
     if command == "GET":
         return ("SELECT %s FROM %s x WHERE id = %s AND time <= %s ORDER BY time DESC LIMIT 1;"
                 % (", ".join(COLUMNS[kind]), TABLES[kind], words[3], words[4]))
+    if command == "ABOUT":
+        newest = NEWEST.format(date=words[4], table=TABLES[kind])
+        return ("SELECT %s FROM %s x WHERE x.active = 1 AND x.%s = %s%s ORDER BY x.id;"
+                % (", ".join(COLUMNS[kind]), TABLES[kind], SUBJECTS[kind], words[3], newest))
     if command == "PAGE":
         date, after, limit = words[3:6]
         newest = NEWEST.format(date=date, table=TABLES[kind])
@@ -157,11 +163,24 @@ def questions(rows, chance):
     terms = [term for term in terms if is_plain(term)]
     yield "100 searches, limit 1,000", ["0 TERMS %s 1000 %s" % (date(), chance.choice(terms).upper())
                                         for _ in range(100)]
+    for kind, title in (("D", "the descriptions"), ("R", "the relationships")):
+        yield "%s of 10,000 concepts" % title, [
+            "0 ABOUT %s %s %s" % (kind, chance.choice(rows[kind])[4], date()) for _ in range(10000)]
 
 
 def rows_alone(told):
-    """The rows of replies, without the words around them."""
-    return b"".join(line[4:] + b"\n" for line in told.split(b"\n") if line.startswith(b"ROW "))
+    """The rows of replies, without the words around them; None where a reply ends otherwise than
+    with the number of its rows."""
+    rows, count = [], 0
+    for line in told.split(b"\n")[:-1]:
+        if line.startswith(b"ROW "):
+            rows.append(line[4:] + b"\n")
+            count += 1
+        elif line == b"END %d" % count:
+            count = 0
+        else:
+            return None
+    return b"".join(rows)
 
 
 class Table:
@@ -169,6 +188,17 @@ class Table:
 
     def __init__(self, rows):
         self.rows, self.alike = rows, True
+
+    def check_imports(self, told, full, delta):
+        """Compares the replies to the imports with the numbers of rows. It is done once they are
+        measured, since the rows would count in the peaks of what this process starts."""
+        of_full, of_delta = (sum(map(len, rows.values())) for rows in (full, delta))
+        wanted = {1: (of_full, 0), 2: (0, of_full), 3: (of_delta, 0)}
+        for number, counts in wanted.items():
+            reply = b"OK %d %d %d\n" % (number, *counts)
+            if told[number] != reply:
+                self.alike = False
+                print("import %d: %r, NOT the same as %r" % (number, told[number], reply), flush=True)
 
     def show(self, title, ours, theirs, same=True):
         self.alike = self.alike and same
@@ -207,15 +237,16 @@ def compare(program, folder, count):
     ran([program, "init", "--store", store], b"", place)
     table, shell, full = Table(count), Shell(place), os.path.join(place, "full")
     words = [program, "import", "--quiet", "--store", store, "--releases", place]
-    _, ours = ran(words + ["full"], b"", place)
+    told = {}
+    told[1], ours = ran(words + ["full"], b"", place)
     table.show("import the Full release, with its indexes", ours, shell.take(full, True))
-    told, ours = ran(words + ["full"], b"", place)
-    table.show("import it over itself", ours, shell.take_again(full), told.startswith(b"OK 2 0 "))
-    told, ours = ran(words + ["delta"], b"", place)
-    table.show("import a Delta of 100 rows", ours, shell.take(os.path.join(place, "delta"), False),
-               told.startswith(b"OK 3 "))
+    told[2], ours = ran(words + ["full"], b"", place)
+    table.show("import it over itself", ours, shell.take_again(full))
+    told[3], ours = ran(words + ["delta"], b"", place)
+    table.show("import a Delta of 100 rows", ours, shell.take(os.path.join(place, "delta"), False))
     sctd = type("At", (), {"program": program, "path": store, "place": place})
     rows = release_rows(full)
+    table.check_imports(told, rows, release_rows(os.path.join(place, "delta")))
     served = Served(sctd)
     table.show("open", Cost(*served.opening, served.held()), None)
     shell.kept = served.held()

@@ -5,13 +5,15 @@ refuse_growths.py PROGRAM [LINES [SEED]]
 
 A store is made, and a session of LINES random lines (40 where none are given), as those of soak.py,
 is served again and again on a copy of it; behind them it asks for the terms of each first letter,
-the children and the replacements of each component that has any, and some histories, so that
-what a refusal made the program forget shows. In the Nth run the Nth call of malloc, calloc or
-realloc gets no memory, for N = 1, 2, .. until a run makes fewer calls. What has to hold of each
-run: the program refuses to start with `ERR 1 OutOfMemory`, or each line is answered as the model of
-soak.py answers it, but for lines that say `ERR 1 OutOfMemory` and change nothing, of which there is
-at most one; and afterwards the store is opened with what the model then holds. Some runs have to be
-refused at their start, and some in a line: else nothing was tried, and the status is 1.
+the children and the replacements of each component that has any, what is about some components,
+some histories and each receipt, so that what a refusal made the program forget shows. In the Nth
+run the Nth call of malloc, calloc or realloc gets no memory, for N = 1, 2, .. until a run makes
+fewer calls. What has to hold of each run: the program refuses to start with `ERR 1 OutOfMemory` (on
+standard error as long as its words aren't read, and then as its reply, with a line that names the
+store), or each line is answered as the model of soak.py answers it, but for lines that say
+`ERR 1 OutOfMemory` and change nothing, of which there is at most one; and afterwards the store is
+opened with what the model then holds. Some runs have to be refused at their start, and some in a
+line: else nothing was tried, and the status is 1.
 
 It needs Linux, glibc and a C compiler (`cc`), builds a library of a few lines for LD_PRELOAD, and
 ends by itself. Standard library alone.
@@ -26,8 +28,10 @@ import tempfile
 sys.path.insert(0, os.path.dirname(os.path.abspath(__file__)))
 import soak  # noqa: E402
 
+# How long a run may take.
+SECONDS = 60
 REFUSED = ["ERR 1 OutOfMemory"]
-NEVER = ("PIN", "UNPIN", "STATUS", "MERGE", "PUBLISH", "ABANDON", "TRIM")
+NEVER = ("PIN", "UNPIN", "STATUS", "RECEIPT", "MERGE", "PUBLISH", "ABANDON", "TRIM")
 
 LIBRARY = """
 #include <errno.h>
@@ -60,6 +64,13 @@ def replies_in(output):
             reply = []
 
 
+def is_refused_start(done, store):
+    """Whether a program has ended as one that is refused before its first line."""
+    told = b"sctd: %s: memory ran out\n" % os.fsencode(store)
+    ends = ((b"", b"ERR 1 OutOfMemory\n"), (b"ERR 1 OutOfMemory\n", told))
+    return done.returncode == 1 and (done.stdout, done.stderr) in ends
+
+
 class Runs:
     """All runs of one session."""
 
@@ -88,8 +99,12 @@ class Runs:
         lines = ["10 TERMS %s 1000 %s" % (day, letter) for letter in letters]
         lines += ["10 CHILDREN %s %s" % (parent, day) for parent in parents]
         lines += ["10 REPLACED %s %s" % (component, day) for component in replaced]
+        for kind, place in soak.SUBJECTS.items():
+            subjects = sorted({columns[place] for columns in shown[kind]})
+            lines += ["10 ABOUT %s %s %s" % (kind, subject, day) for subject in subjects[:20]]
         for kind in "CDVRA":
             lines += ["10 HISTORY %s %s" % (kind, name) for name in self.made.names(kind)[:20]]
+        lines += ["10 RECEIPT %d" % number for number in range(1, model.state.imports + 1)]
         for line in lines:
             model.reply(line)
         return lines
@@ -107,14 +122,18 @@ class Runs:
         """Serves lines; the call with this number gets no memory."""
         mark = os.path.join(self.folder, "refused")
         environment = dict(os.environ, LD_PRELOAD=self.library, REFUSE=str(number), REFUSED=mark)
-        done = subprocess.run(
-            self.words(store),
-            input="".join(line + "\n" for line in lines).encode(),
-            stdout=subprocess.PIPE,
-            stderr=subprocess.PIPE,
-            env=environment if number else None,
-            check=False,
-        )
+        try:
+            done = subprocess.run(
+                self.words(store),
+                input="".join(line + "\n" for line in lines).encode(),
+                stdout=subprocess.PIPE,
+                stderr=subprocess.PIPE,
+                env=environment if number else None,
+                timeout=SECONDS,
+                check=False,
+            )
+        except subprocess.TimeoutExpired:
+            raise soak.Wrong("the program hasn't ended after %d seconds" % SECONDS) from None
         was_refused = os.path.exists(mark)
         if was_refused:
             os.remove(mark)
@@ -139,10 +158,11 @@ class Runs:
         done, was_refused = self.serve(store, self.lines, number)
         replies = list(replies_in(done.stdout))
         model = soak.Model(self.made.releases.files)
-        if done.returncode == 1 and replies in ([], [REFUSED]):
+        if was_refused and is_refused_start(done, store):
             self.refused_starts += 1
         elif done.returncode or len(replies) != len(self.lines):
-            raise soak.Wrong("status %d, %d replies" % (done.returncode, len(replies)))
+            what = (done.returncode, len(replies), done.stderr[:300])
+            raise soak.Wrong("status %d, %d replies, %r on standard error" % what)
         else:
             refused = self.check(model, replies)
             if refused > was_refused:

@@ -16,14 +16,14 @@ hold:
 - after a kill the store is what the model is after the first so many of the lines that were sent,
   at least those whose replies came: each import is there whole or not at all, in order;
 - the second `sctd` is refused, and the file is as it was;
-- then all that two pins show at two dates is the model's, and at the end each version of each
-  component.
+- then all that two pins show at two dates is the model's, with the receipts of the first and the
+  last import that they show, and at the end each version of each component, and each receipt.
 
 It ends by itself, prints its figures, and has the status 1 at the first reply that is another one
 and at bytes behind the last reply, and 3 where no import or no publication was cut short: until
-both were, a run goes on for up to four times SECONDS. The same SEED gives the same lines up to the first
-kill: the moments of the kills are those of the machine, and what comes behind one goes on from what
-it left. Standard library alone.
+both were, a run goes on for up to four times SECONDS. The same SEED gives the same lines up to the
+first kill: the moments of the kills are those of the machine, and what comes behind one goes on
+from what it left. Standard library alone.
 """
 
 import bisect
@@ -43,7 +43,11 @@ DATES = ["%d%s31" % (year, month) for year in range(2015, 2026) for month in ("0
 LAST_DATE = "99991231"
 # The kinds in the order of their files in a release.
 KINDS = "CDVRA"
+# The column that says what a row of a kind is about; a concept's row has none.
+SUBJECTS = {"D": 4, "V": 4, "R": 4, "A": 5}
 MOST_SEGMENTS = 250
+# How long a reply may take, and a program that ends by itself.
+SECONDS = 60
 # Where the versions of the layout stand in the two directories of a store, and version 1.
 VERSIONS_AT = (4111, 12303)
 VERSION_ONE = b"1"
@@ -75,6 +79,10 @@ class Versions:
     def all_of(self, name, pin):
         found = sorted(self.of.get(name, {}).items())
         return [v[1] for _, v in found if v[0] <= pin]
+
+    def dates_of(self, number):
+        """The dates of the rows that an import brought, one for each row."""
+        return [d for dates in self.of.values() for d, v in dates.items() if v[0] == number]
 
     def keep_first(self, imports):
         """Forgets what later imports brought."""
@@ -176,9 +184,31 @@ class Model:
 
     def do_terms(self, session, words):
         date, limit, prefix = words.split(" ", 2)
+        return self.do_search(session, "%s - %s %s" % (date, limit, prefix))
+
+    def do_search(self, session, words):
+        date, after, limit, prefix = words.split(" ", 3)
         folded = prefix.casefold()
         found = [c for c in self.active(session, "D", date) if c[7].casefold().startswith(folded)]
+        if after != "-":
+            found = [c for c in found if int(c[0]) > int(after)]
         return self.rows_and_end(found[: int(limit)])
+
+    def do_about(self, session, words):
+        kind, name, date = words.split(" ")
+        if kind not in SUBJECTS:
+            return ["ERR 43 Arguments"]
+        place = SUBJECTS[kind]
+        return self.rows_and_end([c for c in self.active(session, kind, date) if c[place] == name])
+
+    def do_receipt(self, session, words):
+        number = int(words)
+        if number == 0:
+            return ["ERR 43 Arguments"]
+        if number > self.pin(session):
+            return ["ERR 44 PinRange"]
+        dates = [date for kind in KINDS for date in self.kinds[kind].dates_of(number)]
+        return ["OK %d %d %s" % (number, len(dates), max(dates, default="-"))]
 
     def do_children(self, session, words):
         concept, date = words.split(" ")
@@ -399,9 +429,9 @@ class Program:
     def end(self):
         """Ends the input, and gives the status and what came behind the last reply."""
         self.process.stdin.close()
-        self.read(sys.maxsize, time.monotonic() + 60)
+        self.read(sys.maxsize, time.monotonic() + SECONDS)
         try:
-            status = self.process.wait(timeout=60)
+            status = self.process.wait(timeout=SECONDS)
         except subprocess.TimeoutExpired:
             raise Wrong("the program doesn't end behind the last line") from None
         self.process.stdout.close()
@@ -456,20 +486,37 @@ class Soak:
         chance = self.chance
         date = chance.choice(DATES + [LAST_DATE])
         kind = chance.choice(KINDS)
-        what = chance.randrange(10)
+        what = chance.randrange(15)
         if what < 4:
             return "%d GET %s %s %s" % (session, kind, self.component(kind), date)
         if what < 6:
             return "%d HISTORY %s %s" % (session, kind, self.component(kind))
-        if what == 6:
-            after = chance.choice(["-", self.component(kind)])
-            return "%d PAGE %s %s %s %d" % (session, kind, date, after, chance.choice([1, 7, 50]))
-        if what == 7:
-            prefix = chance.choice(rf2.WORDS)[: chance.choice([1, 2, 9])].upper()
-            return "%d TERMS %s %d %s" % (session, date, chance.choice([1, 10]), prefix)
+        if what < 8:
+            after = chance.choice(["-", self.component(kind if what == 6 else "D")])
+            limit = chance.choice([1, 7, 50])
+            if what == 6:
+                return "%d PAGE %s %s %s %d" % (session, kind, date, after, limit)
+            return "%d SEARCH %s %s %d %s" % (session, date, after, limit, self.prefix())
         if what == 8:
+            return "%d TERMS %s %d %s" % (session, date, chance.choice([1, 10]), self.prefix())
+        if what == 9:
             return "%d CHILDREN %s %s" % (session, self.component("C"), date)
-        return "%d REPLACED %s %s" % (session, self.component("C"), date)
+        if what == 10:
+            return "%d REPLACED %s %s" % (session, self.component("C"), date)
+        if what < 14:
+            return "%d ABOUT %s %s %s" % (session, kind, self.subject(kind), date)
+        return "%d RECEIPT %d" % (session, chance.randint(0, self.model.state.imports + 1))
+
+    def prefix(self):
+        """The beginning of a term, in capitals."""
+        return self.chance.choice(rf2.WORDS)[: self.chance.choice([1, 2, 9])].upper()
+
+    def subject(self, kind):
+        """What a row of a kind is about, as a rule, or a concept that there is."""
+        rows = self.releases.lines[kind]
+        if kind in SUBJECTS and rows and self.chance.random() < 0.7:
+            return self.chance.choice(rows)[SUBJECTS[kind]]
+        return self.component("C")
 
     def line(self):
         """One line of one session."""
@@ -511,7 +558,7 @@ class Soak:
         begun = time.monotonic()
         wanted = b"".join(replies)
         self.served.send("".join(line + "\n" for line in lines).encode())
-        self.served.read(len(wanted), begun + 60)
+        self.served.read(len(wanted), begun + SECONDS)
         came, self.served.came = self.served.came, b""
         self.compare(came, replies, lines, all_of_it=True)
         self.took = 0.9 * self.took + 0.1 * (time.monotonic() - begun)
@@ -554,8 +601,10 @@ class Soak:
             self.counts["kills_in_openings"] += 1
         self.start()
         self.served.send(b"0 STATUS\n")
-        self.served.read_line(time.monotonic() + 60)
+        self.served.read_line(time.monotonic() + SECONDS)
         came, self.served.came = self.served.came.decode(errors="replace"), b""
+        if not came:
+            raise Wrong("after a kill: no reply to STATUS, with %d lines answered" % answered)
         said = [state.reopened().status() + "\n" for state in states]
         allowed = [number for number in range(answered, len(states)) if came == said[number]]
         if not allowed:
@@ -576,6 +625,8 @@ class Soak:
         imports = self.model.state.imports
         for pin in {imports, self.chance.randint(0, imports)}:
             self.check("9 PIN %d" % pin)
+            self.check("9 RECEIPT 1")
+            self.check("9 RECEIPT %d" % pin)
             for kind in KINDS:
                 self.pages(kind, self.chance.choice(DATES))
                 self.pages(kind, LAST_DATE)
@@ -594,23 +645,26 @@ class Soak:
         self.ask([line], ["".join(part + "\n" for part in said).encode()])
         return said
 
-    def histories(self):
-        """Compares every version of every component."""
+    def everything(self):
+        """Compares every version of every component, and what each import brought."""
         for kind in KINDS:
-            lines = ["0 HISTORY %s %s" % (kind, name) for name in self.names(kind)]
-            for start in range(0, len(lines), 50):
-                part = lines[start : start + 50]
-                said = ["".join(p + "\n" for p in self.model.reply(line)).encode() for line in part]
-                self.ask(part, said)
+            self.check_all(["0 HISTORY %s %s" % (kind, name) for name in self.names(kind)])
+        imports = self.model.state.imports
+        self.check_all(["0 RECEIPT %d" % number for number in range(1, imports + 1)])
+
+    def check_all(self, lines):
+        """Asks lines, fifty at a time."""
+        for start in range(0, len(lines), 50):
+            part = lines[start : start + 50]
+            said = ["".join(p + "\n" for p in self.model.reply(line)).encode() for line in part]
+            self.ask(part, said)
 
     def names(self, kind):
         shown = self.model.kinds[kind].of
         return [next(iter(shown[name].values()))[1][0] for name in self.model.kinds[kind].ids]
 
     def run(self, seconds):
-        made = subprocess.run(
-            [self.program, "init", "--store", self.store], stdout=subprocess.PIPE, check=False
-        )
+        made = self.ended(["init", "--store", self.store])
         if made.returncode or made.stdout != b"OK\n":
             raise Wrong("init: %r, status %d" % (made.stdout, made.returncode))
         if self.seed % 2:
@@ -629,7 +683,7 @@ class Soak:
                 self.count(states)
                 self.counts["trims"] += lines.count("0 TRIM")
         self.check("0 UNPIN")
-        self.histories()
+        self.everything()
         status, rest = self.served.end()
         if rest:
             raise Wrong("behind the last reply: %r" % rest[:300])
@@ -650,15 +704,22 @@ class Soak:
         with open(self.store, "rb") as file:
             before = file.read()
         name = self.releases.make()
-        words = ["import", "--store", self.store, "--releases", self.releases.folder, name]
-        done = subprocess.run(
-            [self.program] + words, stdout=subprocess.PIPE, stderr=subprocess.DEVNULL, check=False
-        )
+        done = self.ended(
+            ["import", "--store", self.store, "--releases", self.releases.folder, name])
         with open(self.store, "rb") as file:
             after = file.read()
         if (done.returncode, done.stdout) != (1, b"ERR 2 DiskFault\n") or before != after:
             raise Wrong("a second program: %r, status %d" % (done.stdout, done.returncode))
         self.counts["seconds_refused"] += 1
+
+    def ended(self, words):
+        """The program run with these words, once it has ended."""
+        try:
+            return subprocess.run(
+                [self.program] + words, stdout=subprocess.PIPE, stderr=subprocess.DEVNULL,
+                timeout=SECONDS, check=False)
+        except subprocess.TimeoutExpired:
+            raise Wrong("sctd %s hasn't ended after %d seconds" % (words[0], SECONDS)) from None
 
     def figures(self, seconds):
         state = self.model.state

@@ -4,12 +4,14 @@
 try_hub.py PROGRAM [HUB]
 
 PROGRAM is the built `sctd`; HUB is another hub than examples/hub.py. The status is 1 at the first
-thing that isn't as it has to be, and 3 where the system doesn't allow so many open files. Standard
-library alone.
+thing that isn't as it has to be, and the last line then says what: a client that the hub hangs up
+on, one that gets no reply, a hub that doesn't end. It is 3 where the system doesn't allow so many
+open files. No hub is left running, however it ends. Standard library alone.
 """
 
 import os
 import resource
+import select
 import signal
 import socket
 import subprocess
@@ -22,9 +24,17 @@ RELEASES = os.path.join(ROOT, "docs", "releases")
 CLIENT = os.path.join(ROOT, "examples", "client.py")
 CLIENTS = 1_100
 SESSIONS = 1_023
+# How long a line, the end of a process, and all of it may take.
+SECONDS = 30
+ALL_SECONDS = 150
 CONCEPT = "ROW 1000004\t%s\t900000000000207008\t900000000000074008"
 AS_IN_2020 = CONCEPT % "20200131\t1"
 AS_IN_2021 = CONCEPT % "20210131\t0"
+TERM = "ROW 1000015\t%s\t1\t900000000000207008\t1000004\tde\t900000000000013009\t%s\t900000000000448009"
+TERM_IN_2020 = TERM % ("20200131", "Straße")
+TERM_IN_2021 = TERM % ("20210131", "Weg")
+# The first import answers it otherwise than the first two.
+QUESTION = "GET C 1000004 20210131"
 
 
 class Wrong(Exception):
@@ -37,38 +47,98 @@ def same(what, found, wanted):
 
 
 class Hub:
-    """A hub on a store in a folder."""
+    """A hub on a store in a folder. It runs no longer than its `with` block."""
 
     def __init__(self, script, program, folder, store):
         self.socket = os.path.join(folder, "hub")
         words = ["--program", program, "--store", store, "--releases", RELEASES]
         self.process = subprocess.Popen(
-            [sys.executable, script, *words, "--socket", self.socket], stdout=subprocess.PIPE, text=True)
-        self.first_line = self.process.stdout.readline().rstrip("\n")
+            [sys.executable, script, *words, "--socket", self.socket], stdout=subprocess.PIPE)
+        try:
+            if not select.select([self.process.stdout], [], [], SECONDS)[0]:
+                raise Wrong("a hub says nothing for %d seconds after its start" % SECONDS)
+            self.first_line = self.process.stdout.readline().decode("utf-8", "replace").rstrip("\n")
+        except BaseException:
+            self.close()
+            raise
 
-    def stop(self):
-        self.process.send_signal(signal.SIGTERM)
-        status = self.process.wait(60)
+    def __enter__(self):
+        return self
+
+    def __exit__(self, *_):
+        self.close()
+
+    def programs(self):
+        """The processes that it has started."""
+        children = "/proc/%d/task/%d/children" % (self.process.pid, self.process.pid)
+        try:
+            with open(children, encoding="ascii") as file:
+                return [int(word) for word in file.read().split()]
+        except OSError:
+            return []
+
+    def close(self):
+        """Ends it and its program, whatever they do."""
+        started = self.programs()
+        if self.process.poll() is None:
+            self.process.kill()
+            self.process.wait()
+            for number in started:
+                try:
+                    os.kill(number, signal.SIGKILL)
+                except ProcessLookupError:
+                    pass  # Its input ended.
         self.process.stdout.close()
-        return status
+
+    def end(self, what):
+        """Its status, once it has ended."""
+        try:
+            return self.process.wait(SECONDS)
+        except subprocess.TimeoutExpired:
+            raise Wrong("%s: it hasn't ended after %d seconds" % (what, SECONDS)) from None
+
+    def stop(self, what):
+        self.process.send_signal(signal.SIGTERM)
+        return self.end(what)
 
 
 class Client:
     def __init__(self, hub):
+        self.sent = b""
         self.connection = socket.socket(socket.AF_UNIX)
-        self.connection.settimeout(30)
-        self.connection.connect(hub.socket)
+        self.connection.settimeout(SECONDS)
+        try:
+            self.connection.connect(hub.socket)
+        except OSError as why:
+            raise Wrong("a client can't reach the hub: %s" % why) from None
         self.lines = self.connection.makefile("rb")
 
     def send(self, data):
-        self.connection.sendall(data)
+        self.sent = data[-60:]
+        try:
+            self.connection.sendall(data)
+        except ConnectionError:
+            pass  # What the hub said before it hung up is read next.
+        except OSError as why:
+            raise Wrong("a client can't send %r: %s" % (self.sent, why)) from None
+
+    def line(self):
+        """The next line, and none where the hub hung up."""
+        try:
+            return self.lines.readline()
+        except ConnectionError:
+            return b""
+        except OSError:
+            raise Wrong("no reply to %r within %d seconds" % (self.sent, SECONDS)) from None
 
     def read(self):
         reply = []
         while not reply or reply[-1].split(" ")[0] not in ("OK", "ERR", "END"):
-            reply.append(self.lines.readline().decode().rstrip("\n"))
-            if not reply[-1]:
-                raise Wrong("the hub hangs up")
+            line = self.line()
+            if not line.endswith(b"\n"):
+                raise Wrong("the hub hangs up on a client that sent %r, after %r"
+                            % (self.sent, reply + [line] if line else reply))
+            reply.append(line.decode("utf-8", "backslashreplace")[:-1])
         return reply
 
     def ask(self, line):
@@ -86,15 +156,23 @@ def two_clients(hub):
     same("an import", first.ask("IMPORT r1"), ["OK 1 6 0"])
     same("a pin", second.ask("PIN"), ["OK 1"])
     same("another import", first.ask("IMPORT r2"), ["OK 2 4 0"])
-    question = "GET C 1000004 20210131"
-    same("without a pin", first.ask(question), [AS_IN_2021, "END 1"])
-    same("with a pin", second.ask(question), [AS_IN_2020, "END 1"])
+    same("without a pin", first.ask(QUESTION), [AS_IN_2021, "END 1"])
+    same("with a pin", second.ask(QUESTION), [AS_IN_2020, "END 1"])
+    about = "ABOUT D 1000004 20210131"
+    same("its terms without a pin", first.ask(about), [TERM_IN_2021, "END 1"])
+    same("its terms with a pin", second.ask(about), [TERM_IN_2020, "END 1"])
+    same("a receipt behind a pin", second.ask("RECEIPT 2"), ["ERR 44 PinRange"])
     second.leave()
     later = Client(hub)
-    same("a session that another had", later.ask(question), [AS_IN_2021, "END 1"])
-    done = subprocess.run([sys.executable, CLIENT, hub.socket], input="STATUS\n" + question + "\n",
-                          stdout=subprocess.PIPE, text=True, check=False)
-    same("examples/client.py", done.stdout.split("\n"), ["OK 2 10 2 -", AS_IN_2021, "END 1", ""])
+    same("a session that another had", later.ask(QUESTION), [AS_IN_2021, "END 1"])
+    try:
+        done = subprocess.run(
+            [sys.executable, CLIENT, hub.socket], input=("STATUS\n%s\n" % QUESTION).encode(),
+            stdout=subprocess.PIPE, timeout=SECONDS, check=False)
+    except subprocess.TimeoutExpired:
+        raise Wrong("examples/client.py hasn't ended after %d seconds" % SECONDS) from None
+    wanted = "OK 2 10 2 -\n%s\nEND 1\n" % AS_IN_2021
+    same("examples/client.py", (done.stdout, done.returncode), (wanted.encode(), 0))
     later.leave()
     first.leave()
 
@@ -125,7 +203,8 @@ def many_clients(hub):
         same("one client more", one_more.read(), ["ERR 41 Session"])
         one_more.leave()
     for client in clients:
-        same("one of many", client.ask("STATUS"), ["OK 2 10 2 -"])
+        # A pin that one of the clients before them left would show.
+        same("one of many", client.ask(QUESTION), [AS_IN_2021, "END 1"])
         client.leave()
     served(hub).leave()
 
@@ -146,33 +225,54 @@ def served(hub):
 
 def openings(script, program, folder, store):
     """A store in use, and one that is none, are refused; a hub that is stopped leaves the store."""
-    hub = Hub(script, program, folder, store)
-    same("an opening", hub.first_line, "OK ready")
-    other = os.path.join(folder, "other")
-    os.mkdir(other)
-    second = Hub(script, program, other, store)
-    same("a second hub", (second.first_line, second.process.wait(60)), ("ERR 2 DiskFault", 1))
-    second.process.stdout.close()
-    same("the end of a hub", hub.stop(), 0)
-    same("its socket", os.path.exists(hub.socket), False)
+    with Hub(script, program, folder, store) as hub:
+        same("an opening", hub.first_line, "OK ready")
+        other = os.path.join(folder, "other")
+        os.mkdir(other)
+        with Hub(script, program, other, store) as second:
+            same("a second hub", second.first_line, "ERR 2 DiskFault")
+            same("the end of a second hub", second.end("a second hub"), 1)
+        same("the end of a hub", hub.stop("a hub that is stopped"), 0)
+        same("its socket", os.path.exists(hub.socket), False)
     none = os.path.join(folder, "none")
     with open(none, "wb") as file:
         file.write(b"no store")
-    third = Hub(script, program, folder, none)
-    same("no store", (third.first_line.split(" ")[0], third.process.wait(60)), ("ERR", 1))
-    third.process.stdout.close()
+    with Hub(script, program, folder, none) as third:
+        same("no store", third.first_line.split(" ")[0], "ERR")
+        same("the end of a hub without a store", third.end("a hub without a store"), 1)
 
 
 def kill_program(hub):
     """Where the program ends, the hub ends, so that what started it starts it again."""
-    children = "/proc/%d/task/%d/children" % (hub.process.pid, hub.process.pid)
-    with open(children, encoding="ascii") as file:
-        os.kill(int(file.read().split()[0]), signal.SIGKILL)
+    programs = hub.programs()
+    same("the programs of a hub", len(programs), 1)
+    os.kill(programs[0], signal.SIGKILL)
     client = Client(hub)
     client.send(b"STATUS\n")
-    same("the hub's end", hub.process.wait(60) != 0, True)
+    same("the hub's end", hub.end("a hub whose program was killed") != 0, True)
     client.leave()
-    hub.process.stdout.close()
+
+
+def all_trials(script, program, folder):
+    """How many trials there were."""
+    store = os.path.join(folder, "store")
+    made = subprocess.run([program, "init", "--store", store], stdout=subprocess.PIPE,
+                          timeout=SECONDS, check=False)
+    same("init", (made.stdout, made.returncode), (b"OK\n", 0))
+    tries = [two_clients, bad_clients, many_clients]
+    with Hub(script, program, folder, store) as hub:
+        same("an opening", hub.first_line, "OK ready")
+        for each in tries:
+            each(hub)
+        same("the end of the hub", hub.stop("a hub that is stopped"), 0)
+    openings(script, program, folder, store)
+    with Hub(script, program, folder, store) as hub:
+        kill_program(hub)
+    return len(tries) + 2
+
+
+def late(*_):
+    raise Wrong("the trials haven't ended after %d seconds" % ALL_SECONDS)
 
 
 def main(words):
@@ -186,27 +286,17 @@ def main(words):
     resource.setrlimit(resource.RLIMIT_NOFILE, (most_files, most_files))
     program = os.path.abspath(words[0])
     script = words[1] if len(words) == 2 else os.path.join(ROOT, "examples", "hub.py")
+    # The hubs are ended on the way out, so that is taken at a signal too.
+    signal.signal(signal.SIGTERM, lambda *_: sys.exit(1))
+    signal.signal(signal.SIGALRM, late)
+    signal.alarm(ALL_SECONDS)
     with tempfile.TemporaryDirectory() as folder:
-        store = os.path.join(folder, "store")
-        subprocess.run([program, "init", "--store", store], stdout=subprocess.DEVNULL, check=True)
-        hub = None
         try:
-            hub = Hub(script, program, folder, store)
-            same("an opening", hub.first_line, "OK ready")
-            tries = [two_clients, bad_clients, many_clients]
-            for each in tries:
-                each(hub)
-            same("the end of the hub", hub.stop(), 0)
-            openings(script, program, folder, store)
-            hub = Hub(script, program, folder, store)
-            kill_program(hub)
+            count = all_trials(script, program, folder)
         except (Wrong, OSError, subprocess.TimeoutExpired) as wrong:
             print("WRONG: %s" % wrong)
             return 1
-        finally:
-            if hub is not None and hub.process.poll() is None:
-                hub.process.kill()
-    print("hub: %d trials" % (len(tries) + 2))
+    print("hub: %d trials" % count)
     return 0
 
 

@@ -13,12 +13,15 @@ something isn't as wanted. Standard library alone.
 """
 
 import os
+import select
 import shutil
 import stat
 import subprocess
 import sys
 import tempfile
 
+# How long a call may take.
+SECONDS = 10
 ROOT = os.path.dirname(os.path.dirname(os.path.abspath(__file__)))
 CONCEPTS = "sct2_Concept_Full_INT_20200131.txt"
 COLUMNS = "id\teffectiveTime\tactive\tmoduleId\tdefinitionStatusId\n"
@@ -43,7 +46,8 @@ class Tries:
         """The status, what was written to each stream; the status is None where it didn't end."""
         try:
             ran = subprocess.run([self.program] + words, cwd=self.place, input=text.encode(),
-                                 stdout=subprocess.PIPE, stderr=subprocess.PIPE, timeout=10)
+                                 stdout=subprocess.PIPE, stderr=subprocess.PIPE,
+                                 timeout=SECONDS)
         except subprocess.TimeoutExpired:
             return None, "", ""
         return ran.returncode, ran.stdout.decode(), ran.stderr.decode()
@@ -67,6 +71,9 @@ class Tries:
         self.refused(what, words, reply, why)
 
     def bytes_of_store(self):
+        """The bytes of the store; None where there is no such file."""
+        if not os.path.exists(self.path("store")):
+            return None
         with open(self.path("store"), "rb") as file:
             return file.read()
 
@@ -245,9 +252,26 @@ def start(tries, words):
 
 
 def ask(server, line):
-    server.stdin.write(line.encode() + b"\n")
-    server.stdin.flush()
-    return server.stdout.readline().decode()
+    """The line that a server answers; none where it has ended, or says nothing in time."""
+    try:
+        server.stdin.write(line.encode() + b"\n")
+        server.stdin.flush()
+    except BrokenPipeError:
+        return ""
+    came = select.select([server.stdout], [], [], SECONDS)[0]
+    return server.stdout.readline().decode() if came else ""
+
+
+def ended(process):
+    """The status and what was written to each stream, once it has ended; the status is None where
+    it doesn't end in time."""
+    try:
+        output, faults = process.communicate(timeout=SECONDS)
+    except subprocess.TimeoutExpired:
+        process.kill()
+        output, faults = process.communicate()
+        return None, output, faults
+    return process.returncode, output, faults
 
 
 def import_at_once(tries, what, store, names, may_pass):
@@ -255,19 +279,19 @@ def import_at_once(tries, what, store, names, may_pass):
     begun = [start(tries, ["import", "--store", store, "--releases", "releases", name]) for name in names]
     passed = 0
     for name, process in zip(names, begun):
-        output, faults = process.communicate(timeout=60)
-        if may_pass and process.returncode == 0 and output.startswith(b"OK "):
+        status, output, faults = ended(process)
+        if may_pass and status == 0 and output.startswith(b"OK "):
             passed += 1
             continue
-        fine = process.returncode == 1 and output == b"ERR 2 DiskFault\n" and b"in use by another" in faults
-        tries.check(what + ", " + name, fine, (process.returncode, output, faults))
+        fine = status == 1 and output == b"ERR 2 DiskFault\n" and b"in use by another" in faults
+        tries.check(what + ", " + name, fine, (status, output, faults))
     return passed
 
 
 def count_imports(tries, store):
-    """How many imports and rows are there after an opening."""
+    """The words for how many imports and rows there are after an opening."""
     status = tries.run(["serve", "--store", store, "--releases", "releases"], "0 STATUS\n")[1]
-    return [int(word) for word in status.split()[1:3]]
+    return status.split()[1:3]
 
 
 def try_at_once(tries):
@@ -279,16 +303,21 @@ def try_at_once(tries):
         passed = import_at_once(tries, "four at once", store, names, True)
         tries.check("one of four", passed >= 1, passed)
         got = count_imports(tries, store)
-        tries.check("four at once", got == [passed, passed], (passed, got))
+        tries.check("four at once", got == [str(passed), str(passed)], (passed, got))
+    before = count_imports(tries, "store")
+    tries.check("before the server", before == ["0", "0"], before)
     server = start(tries, ["serve", "--store", "store", "--releases", "releases"])
-    before = ask(server, "0 STATUS").split()
+    status = ask(server, "0 STATUS")
+    tries.check("the server's status", status == "OK 0 0 0 -\n", status)
     import_at_once(tries, "beside a server", "store", names, False)
     replies = [ask(server, "0 IMPORT " + name) for name in names]
-    tries.check("the server's imports", all(reply.startswith("OK ") for reply in replies), replies)
+    wanted = ["OK %d 1 0\n" % number for number in range(1, 5)]
+    tries.check("the server's imports", replies == wanted, replies)
     import_at_once(tries, "beside a server", "store", names, False)
-    server.communicate()
+    got = ended(server)
+    tries.check("the end of the server", got[:2] == (0, b""), got)
     got = count_imports(tries, "store")
-    tries.check("beside a server", got[0] == int(before[1]) + len(names), (before, got))
+    tries.check("beside a server", got == ["4", "4"], got)
 
 
 def main(words):

@@ -5,11 +5,11 @@ use Rattle.std.specs.List.{filter, find}
 use Rattle.std.proofs.lemmas.Bool.Decides.{nat_tests}
 use Rattle.rf2_values.specs.declared.row.Kind.{Kind}
 use Rattle.rf2_values.specs.declared.key.Key.{Key}
-use Rattle.rf2_values.specs.Row.{Version}
+use Rattle.rf2_values.specs.Row.{RowValue}
 use Rattle.rf2_values.specs.Key.{kind_place, key_of}
 use Rattle.history_model.specs.declared.stamped.StampedRow.{StampedRow}
 use Rattle.history_model.specs.InOrder.{Has, joined}
-use Rattle.history_model.specs.Queries.{lookup, snapshot, is_version_of}
+use Rattle.history_model.specs.Queries.{get, snapshot, is_version_of}
 use Rattle.history_model.proofs.InOrder.{Has-append_left, Has-append_right}
 use Rattle.history_model.proofs.Filtered.{both}
 use Rattle.history_model.proofs.Keys.{same_kind}
@@ -48,29 +48,29 @@ key_from_test j k e =
       and_assoc true b c e = e
       and_assoc false b c e = e
 
-pub among_from : (keys : List Key) (row : Version) (k : Key) → Has keys k → k ≡ key_of row → is_among keys row ≡ true
+pub among_from : (keys : List Key) (row : RowValue) (k : Key) → Has keys k → k ≡ key_of row → is_among keys row ≡ true
 among_from [] row k h e = absurd h
 among_from (j ∷ keys) row k h e = elim h [
   | inl q ↦ or_left (is_same_key j (key_of row)) (is_among keys row) (subst (λ z. is_same_key j z ≡ true) (q ∙ e) (key_test j))
   | inr t ↦ or_right (is_same_key j (key_of row)) (is_among keys row) (among_from keys row k t e)
 ]
 
-pub among_has : (keys : List Key) (row : Version) → is_among keys row ≡ true → Has keys (key_of row)
+pub among_has : (keys : List Key) (row : RowValue) → is_among keys row ≡ true → Has keys (key_of row)
 among_has [] row e = absurd (cc)
 among_has (j ∷ keys) row e = elim (either (is_same_key j (key_of row)) (is_among keys row) e) [
   | inl q ↦ inl (key_from_test j (key_of row) q)
   | inr t ↦ inr (among_has keys row t)
 ]
 
--- ---- a lookup and the snapshot
+-- ---- a component's row and the snapshot
 
 found_there : {X : Type 0} (p : X → Bool) (xs : List X) (b : X) → find p xs ≡ Some b → Has xs b
 found_there p [] b e = absurd (cc)
 found_there p (x ∷ xs) b e =
     elim (p x) as (λ t. cond t (Some x) (find p xs) ≡ Some b → Has (x ∷ xs) b) [ true ↦ λ f. inl (cc) | false ↦ λ f. inr (found_there p xs b f) ] e
 
-pub looked_up : (kind : Kind) (id date : ℕ) (rows : List Version) (b : Version) → lookup kind id date rows ≡ Some b → Has (snapshot rows date) b
-unfolding lookup
+pub looked_up : (kind : Kind) (id date : ℕ) (rows : List RowValue) (b : RowValue) → get kind id date rows ≡ Some b → Has (snapshot rows date) b
+unfolding get
 looked_up kind id date rows b e = found_there (is_version_of kind id) (snapshot rows date) b e
 
 -- ---- rows of several lists

@@ -4,7 +4,7 @@ use Rattle.std.specs.List.{AllByRecursion}
 use Rattle.std.proofs.lemmas.List.{take_more, take-append-drop}
 use Rattle.history_model.specs.InOrder.{Has, IsAscending}
 use Rattle.history_model.proofs.InOrder.{Has-append_left, Has-append_right, Has-append_cases}
-use Rattle.segment.specs.declared.place.Posted.{Posted}
+use Rattle.segment.specs.declared.place.RowPlace.{RowPlace}
 use Rattle.segment.proofs.SegmentLaws.{all_push}
 use Rattle.as_of_index.specs.Places.{place_cmp, ShareNoKey, EachApart, ArePlaces}
 
@@ -17,15 +17,15 @@ Has-taken xs i x lt is =
 
 -- ---- one list
 
-pub none_shared : (list other : List Posted) (p : Posted) → ShareNoKey list other → ((q : Posted) → Has other q → p.key ≡ q.key → ⊥) → ShareNoKey (list ++ p ∷ []) other
+pub none_shared : (list other : List RowPlace) (p : RowPlace) → ShareNoKey list other → ((q : RowPlace) → Has other q → p.key ≡ q.key → ⊥) → ShareNoKey (list ++ p ∷ []) other
 none_shared list other p apart new = λ a b h k e. elim (Has-append_cases list (p ∷ []) a h) [
   | inl l ↦ apart a b l k e
-  | inr r ↦ elim r [ inl s ↦ new b k (ap (λ (q : Posted). q.key) s ∙ e) | inr t ↦ absurd t ]
+  | inr r ↦ elim r [ inl s ↦ new b k (ap (λ (q : RowPlace). q.key) s ∙ e) | inr t ↦ absurd t ]
 ]
 
 -- ---- one list more
 
-apart_push : (index : List (List Posted)) (list : List Posted) → EachApart index → AllByRecursion (λ places. ShareNoKey places list) index → EachApart (index ++ list ∷ [])
+apart_push : (index : List (List RowPlace)) (list : List RowPlace) → EachApart index → AllByRecursion (λ places. ShareNoKey places list) index → EachApart (index ++ list ∷ [])
 apart_push [] list a each = (tt, tt)
 apart_push (places ∷ index) list a each = (all_push (λ others. ShareNoKey places others) index list a.0 each.0, apart_push index list a.1 each.1)
 
@@ -33,9 +33,9 @@ pub all_last : {X : Type 0} (P : X → Type 0) (xs : List X) (l : X) → AllByRe
 all_last P [] l all = all.0
 all_last P (x ∷ xs) l all = all_last P xs l all.1
 
-pub apart_each : (index : List (List Posted)) (list : List Posted) → EachApart (index ++ list ∷ []) → AllByRecursion (λ places. ShareNoKey places list) index
+pub apart_each : (index : List (List RowPlace)) (list : List RowPlace) → EachApart (index ++ list ∷ []) → AllByRecursion (λ places. ShareNoKey places list) index
 apart_each [] list a = tt
 apart_each (places ∷ index) list a = (all_last (λ others. ShareNoKey places others) index list a.0, apart_each index list a.1)
 
-pub places_push : (index : List (List Posted)) (list : List Posted) → ArePlaces index → IsAscending place_cmp list → AllByRecursion (λ places. ShareNoKey places list) index → ArePlaces (index ++ list ∷ [])
+pub places_push : (index : List (List RowPlace)) (list : List RowPlace) → ArePlaces index → IsAscending place_cmp list → AllByRecursion (λ places. ShareNoKey places list) index → ArePlaces (index ++ list ∷ [])
 places_push index list are up each = record { ascending = all_push (λ places. IsAscending place_cmp places) index list are.ascending up; apart = apart_push index list are.apart each }

@@ -1,50 +1,51 @@
 -- Rows that stand at places, and which of them are current.
 use Rattle.std.proofs.Common.{◌≡◌, ℕ, zero, suc, ◌+◌, ◌<◌, ◌≤◌, List, [], ◌∷◌, ◌++◌, length, get_or, take, map, refl, sym, ap, subst, inl, inr, ◌∙◌, arith}
 use Rattle.std.specs.Prelude.{Some}
+use Rattle.std.specs.Cmp.{IsTotalOrder, nat_cmp_total, on_total}
 use Rattle.std.specs.declared.cmp.Ordering.{Ordering}
 use Rattle.std.specs.declared.cmp.Ordering.TheVariants.{Less}
 use Rattle.rf2_values.specs.declared.key.Key.{Key}
-use Rattle.rf2_values.specs.Row.{Version, kind_of}
+use Rattle.rf2_values.specs.Row.{RowValue, kind_of}
 use Rattle.rf2_values.specs.Key.{key_of}
 use Rattle.history_model.specs.declared.stamped.StampedRow.{StampedRow}
 use Rattle.history_model.specs.InOrder.{Has, IsAscending, joined}
 use Rattle.history_model.specs.History.{row_cmp, rows_at}
 use Rattle.history_model.specs.Lists.{listed}
-use Rattle.history_model.specs.Queries.{lookup, snapshot, is_current}
+use Rattle.history_model.specs.Queries.{get, snapshot, is_current}
 use Rattle.history_model.proofs.InOrder.{Has-all, all_from_has}
 use Rattle.history_model.proofs.Filtered.{IsAscending-filter}
-use Rattle.history_model.proofs.Snapshots.{lookup_is, listed_once, current_from_snapshot, IsConsistent-from_ascending, IsAscending-rows_at, IsAscending-listed, Has-listed_cases, Has-rows_at_cases}
-use Rattle.segment.specs.declared.place.Posted.{Posted}
+use Rattle.history_model.proofs.Snapshots.{get_is, listed_once, current_from_snapshot, IsConsistent-from_ascending, IsAscending-rows_at, IsAscending-listed, Has-listed_cases, Has-rows_at_cases}
+use Rattle.segment.specs.declared.place.RowPlace.{RowPlace}
 use Rattle.as_of_index.specs.declared.chosen.Chosen.{Chosen}
 use Rattle.segment.specs.Standing.{places_of, StandsAt}
 use Rattle.as_of_index.specs.Places.{ArePlaces}
 use Rattle.as_of_index.specs.Current.{IsCurrentAt}
-use Rattle.as_of_index.specs.Chosen.{StandAtAll}
+use Rattle.as_of_index.specs.Chosen.{chosen_cmp, StandAtAll}
 use Rattle.segment.proofs.Posting.{says, row_there}
 use Rattle.as_of_index.proofs.Standing.{are_lists}
 use Rattle.as_of_index.proofs.Among.{has_joined}
 
-pub IsAscending-at_date : (rows : List Version) (date : ℕ) → IsAscending row_cmp rows → IsAscending row_cmp (snapshot rows date)
+pub IsAscending-at_date : (rows : List RowValue) (date : ℕ) → IsAscending row_cmp rows → IsAscending row_cmp (snapshot rows date)
 unfolding snapshot
 IsAscending-at_date rows date up = IsAscending-filter (is_current rows date) row_cmp rows up
 
 module _ (lists : List (List StampedRow)) (are : ArePlaces (map places_of lists)) where
-  pub standing_row : (n : ℕ) (p : Posted) (s : StampedRow) → StandsAt lists n p s → Has (joined lists) s × (p.key ≡ key_of s.row)
+  pub standing_row : (n : ℕ) (p : RowPlace) (s : StampedRow) → StandsAt lists n p s → Has (joined lists) s × (p.key ≡ key_of s.row)
   standing_row n p s w = (has_joined lists n w.rows s w.list_is (row_there 0 w.rows (s, p) w.there), (says 0 w.rows (s, p) w.there).key_is)
 
   -- one row stands at a place
-  pub one_row : (n m : ℕ) (p q : Posted) (s t : StampedRow) → StandsAt lists n p s → StandsAt lists m q t → p ≡ q → s ≡ t
+  pub one_row : (n m : ℕ) (p q : RowPlace) (s t : StampedRow) → StandsAt lists n p s → StandsAt lists m q t → p ≡ q → s ≡ t
   one_row n m p q s t a b e =
       let x = standing_row n p s a in
       let y = standing_row m q t b in
-      listed_once lists (are_lists lists are) s t x.0 y.0 (sym x.1 ∙ ap (λ (z : Posted). z.key) e ∙ y.1)
+      listed_once lists (are_lists lists are) s t x.0 y.0 (sym x.1 ∙ ap (λ (z : RowPlace). z.key) e ∙ y.1)
 
   module _ (date pin : ℕ) where
-    abbrev pub shown : List Version
+    abbrev pub shown : List RowValue
     shown = rows_at pin (listed lists)
 
     -- a row that is shown is the one that stands where its key does
-    pub standing_is : (n : ℕ) (p : Posted) (s : StampedRow) (row : Version) → StandsAt lists n p s → Has shown row → key_of row ≡ key_of s.row → row ≡ s.row
+    pub standing_is : (n : ℕ) (p : RowPlace) (s : StampedRow) (row : RowValue) → StandsAt lists n p s → Has shown row → key_of row ≡ key_of s.row → row ≡ s.row
     standing_is n p s row w h e =
         let k = Has-rows_at_cases pin (listed lists) row h in
         let x = standing_row n p s w in
@@ -54,14 +55,18 @@ module _ (lists : List (List StampedRow)) (are : ArePlaces (map places_of lists)
     shown_ascends = IsAscending-at_date shown date (IsAscending-rows_at pin (listed lists) (IsAscending-listed lists))
 
     -- a row at the date is current where its key stands
-    pub current_where : (n : ℕ) (p : Posted) (s : StampedRow) (row : Version) → StandsAt lists n p s → Has (snapshot shown date) row → p.key ≡ key_of row → (row ≡ s.row) × IsCurrentAt lists date pin n p
+    pub current_where : (n : ℕ) (p : RowPlace) (s : StampedRow) (row : RowValue) → StandsAt lists n p s → Has (snapshot shown date) row → p.key ≡ key_of row → (row ≡ s.row) × IsCurrentAt lists date pin n p
     current_where n p s row w h e =
         let current = current_from_snapshot shown date row h in
         let same : row ≡ s.row = standing_is n p s row w current.known (sym e ∙ (standing_row n p s w).1) in
-        let found : lookup (kind_of row) row.id date shown ≡ Some row = lookup_is (kind_of row) row.id date shown row (IsConsistent-from_ascending shown (IsAscending-rows_at pin (listed lists) (IsAscending-listed lists))) current.known (record { kind_is = refl; id_is = refl }) current.early current.latest in
-        (same, (s, w, ap (λ (k : Key). lookup k.kind k.id date shown) e ∙ found ∙ ap Some same))
+        let found : get (kind_of row) row.id date shown ≡ Some row = get_is (kind_of row) row.id date shown row (IsConsistent-from_ascending shown (IsAscending-rows_at pin (listed lists) (IsAscending-listed lists))) current.known (record { kind_is = refl; id_is = refl }) current.early current.latest in
+        (same, (s, w, ap (λ (k : Key). get k.kind k.id date shown) e ∙ found ∙ ap Some same))
 
 -- ---- the rows of places that are current
+
+-- places that are to be read, by id
+pub chosen_total : IsTotalOrder chosen_cmp
+chosen_total = on_total (λ (k : Chosen). k.at.key.id) nat_cmp_total
 
 module _ (lists : List (List StampedRow)) (date pin : ℕ) where
   abbrev pub AllCurrent : List Chosen → Type 0
@@ -80,31 +85,31 @@ module _ (lists : List (List StampedRow)) (date pin : ℕ) where
   length-rows_for (k ∷ ks) c = ap suc (length-rows_for ks (λ j h. c j (inr h)))
 
   -- a row of a place that is current
-  pub record IsRowAt (ks : List Chosen) (row : Version) : Type 0 where
+  pub record IsRowAt (ks : List Chosen) (row : RowValue) : Type 0 where
     pub k : Chosen
     pub there : Has ks k
     pub s : StampedRow
     pub stands : StandsAt lists k.segment k.at s
-    pub found : lookup k.at.key.kind k.at.key.id date (rows_at pin (listed lists)) ≡ Some s.row
+    pub found : get k.at.key.kind k.at.key.id date (rows_at pin (listed lists)) ≡ Some s.row
     pub row_is : s.row ≡ row
 
-  pub row_for : (ks : List Chosen) (c : AllCurrent ks) (row : Version) → Has (map (λ (s : StampedRow). s.row) (rows_for ks c)) row → IsRowAt ks row
+  pub row_for : (ks : List Chosen) (c : AllCurrent ks) (row : RowValue) → Has (map (λ (s : StampedRow). s.row) (rows_for ks c)) row → IsRowAt ks row
   row_for [] c row h = absurd h
   row_for (k ∷ ks) c row h = elim h [
     | inl e ↦ (let w = c k (inl refl) in record { k = k; there = inl refl; s = w.0; stands = w.1; found = w.2; row_is = e })
     | inr t ↦ (let w = row_for ks (λ j g. c j (inr g)) row t in record { k = w.k; there = inr w.there; s = w.s; stands = w.stands; found = w.found; row_is = w.row_is })
   ]
 
-  pub for_row : (ks : List Chosen) (c : AllCurrent ks) (k : Chosen) → Has ks k → (s : StampedRow) × StandsAt lists k.segment k.at s × (lookup k.at.key.kind k.at.key.id date (rows_at pin (listed lists)) ≡ Some s.row) × Has (map (λ (s : StampedRow). s.row) (rows_for ks c)) s.row
+  pub for_row : (ks : List Chosen) (c : AllCurrent ks) (k : Chosen) → Has ks k → (s : StampedRow) × StandsAt lists k.segment k.at s × (get k.at.key.kind k.at.key.id date (rows_at pin (listed lists)) ≡ Some s.row) × Has (map (λ (s : StampedRow). s.row) (rows_for ks c)) s.row
   for_row [] c k h = absurd h
   for_row (j ∷ ks) c k h = elim h [
-    | inl e ↦ subst (λ (x : Chosen). (s : StampedRow) × StandsAt lists x.segment x.at s × (lookup x.at.key.kind x.at.key.id date (rows_at pin (listed lists)) ≡ Some s.row) × Has (map (λ (s : StampedRow). s.row) (rows_for (j ∷ ks) c)) s.row) e
+    | inl e ↦ subst (λ (x : Chosen). (s : StampedRow) × StandsAt lists x.segment x.at s × (get x.at.key.kind x.at.key.id date (rows_at pin (listed lists)) ≡ Some s.row) × Has (map (λ (s : StampedRow). s.row) (rows_for (j ∷ ks) c)) s.row) e
         (let w = c j (inl refl) in (w.0, w.1, w.2, inl refl))
     | inr t ↦ (let w = for_row ks (λ i g. c i (inr g)) k t in (w.0, w.1, w.2, inr w.3))
   ]
 
   -- where one place is before another its row is
-  pub ascending_rows_for : (rank : Version → Version → Ordering) (cmp : Chosen → Chosen → Ordering) (ks : List Chosen) (c : AllCurrent ks)
+  pub ascending_rows_for : (rank : RowValue → RowValue → Ordering) (cmp : Chosen → Chosen → Ordering) (ks : List Chosen) (c : AllCurrent ks)
       → ((j k : Chosen) (s t : StampedRow) → Has ks j → Has ks k → StandsAt lists j.segment j.at s → StandsAt lists k.segment k.at t → cmp j k ≡ Less → rank s.row t.row ≡ Less)
       → IsAscending cmp ks → IsAscending rank (map (λ (s : StampedRow). s.row) (rows_for ks c))
   ascending_rows_for rank cmp [] c less up = tt

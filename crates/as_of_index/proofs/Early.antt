@@ -6,7 +6,7 @@ use Rattle.history_model.specs.declared.stamped.StampedRow.{StampedRow}
 use Rattle.history_model.specs.History.{rows_at}
 use Rattle.history_model.specs.Lists.{listed}
 use Rattle.history_model.proofs.Snapshots.{current_from_snapshot, Has-rows_at_cases, Has-listed_cases, listed_once}
-use Rattle.segment.specs.declared.place.Posted.{Posted}
+use Rattle.segment.specs.declared.place.RowPlace.{RowPlace}
 use Rattle.segment.specs.Standing.{places_of}
 use Rattle.segment.proofs.Posting.{says, row_there}
 use Rattle.as_of_index.specs.Places.{ArePlaces}
@@ -14,7 +14,7 @@ use Rattle.as_of_index.specs.Current.{IsCurrentAt}
 use Rattle.as_of_index.proofs.Among.{looked_up, has_joined}
 use Rattle.as_of_index.proofs.Standing.{are_lists}
 
-pub current_is_early : (lists : List (List StampedRow)) → ArePlaces (map places_of lists) → (date pin n : ℕ) (p : Posted) → IsCurrentAt lists date pin n p → (p.key.time ≤ date) × (p.import ≤ pin)
+pub current_is_early : (lists : List (List StampedRow)) → ArePlaces (map places_of lists) → (date pin n : ℕ) (p : RowPlace) → IsCurrentAt lists date pin n p → (p.key.time ≤ date) × (p.import ≤ pin)
 current_is_early lists are date pin n p now =
     let s = now.0 in
     let stands = now.1 in

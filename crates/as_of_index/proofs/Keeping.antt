@@ -16,7 +16,7 @@ use Rattle.history_model.specs.InOrder.{IsAscending}
 use Rattle.history_model.specs.Lists.{AreLists}
 use Rattle.history_model.proofs.Filtered.{find_only}
 use Rattle.history_model.proofs.Snapshots.{listed_once}
-use Rattle.segment.specs.declared.place.Posted.{Posted}
+use Rattle.segment.specs.declared.place.RowPlace.{RowPlace}
 use Rattle.segment.specs.Standing.{StandsAt}
 use Rattle.as_of_index.specs.Reader.{is_row_at}
 use Rattle.segment.proofs.Posting.{says, row_there}
@@ -35,7 +35,7 @@ kept_within [] i rows e = absurd (cc)
 kept_within (x ∷ xs) zero rows e = omega arith
 kept_within (x ∷ xs) (suc i) rows e = let lt = kept_within xs i rows e in omega arith
 
-pub kept_up : (lists : List (Vec StampedRow Global)) (i : ℕ) (at : Posted) (s : StampedRow) (v : Vec StampedRow Global) → AreLists (kept lists) → StandsAt (kept lists) i at s → IsAscending stamped_cmp (get_or lists i v).items
+pub kept_up : (lists : List (Vec StampedRow Global)) (i : ℕ) (at : RowPlace) (s : StampedRow) (v : Vec StampedRow Global) → AreLists (kept lists) → StandsAt (kept lists) i at s → IsAscending stamped_cmp (get_or lists i v).items
 kept_up lists i at s v are w =
     subst (λ (rows : List StampedRow). IsAscending stamped_cmp rows) (kept_at lists i v w.rows w.list_is)
     (Has-all (λ (rows : List StampedRow). IsAscending stamped_cmp rows) (kept lists) w.rows are.ascending (has_got (kept lists) i w.rows (sym w.list_is)))
@@ -60,7 +60,7 @@ find_drop key (r ∷ rows) (suc i) below =
     let none = not_there key r below.0 in
     rw none (find_drop key rows i below.1)
 
-pub kept_row : (lists : List (Vec StampedRow Global)) (i : ℕ) (at : Posted) (s : StampedRow) (v : Vec StampedRow Global) → AreLists (kept lists) → StandsAt (kept lists) i at s → find (is_row_at at.key) (get_or lists i v).items ≡ Some s
+pub kept_row : (lists : List (Vec StampedRow Global)) (i : ℕ) (at : RowPlace) (s : StampedRow) (v : Vec StampedRow Global) → AreLists (kept lists) → StandsAt (kept lists) i at s → find (is_row_at at.key) (get_or lists i v).items ≡ Some s
 kept_row lists i at s v are w =
     let rows_are = kept_at lists i v w.rows w.list_is in
     let here = row_there 0 w.rows (s, at) w.there in

@@ -9,7 +9,7 @@ use Rattle.std.specs.declared.cmp.Ordering.TheVariants.{Less, Equal, Greater}
 use Rattle.std.proofs.lemmas.Bool.Decides.{nat_tests}
 use Rattle.rf2_values.specs.declared.row.Kind.{Kind}
 use Rattle.rf2_values.specs.declared.key.Key.{Key}
-use Rattle.rf2_values.specs.Row.{Version, kind_of}
+use Rattle.rf2_values.specs.Row.{RowValue, kind_of}
 use Rattle.rf2_values.specs.Key.{kind_place, key_of}
 use Rattle.history_model.specs.declared.stamped.StampedRow.{StampedRow}
 use Rattle.history_model.specs.InOrder.{Has, joined}
@@ -19,7 +19,7 @@ use Rattle.history_model.specs.Queries.{is_version_of, is_above}
 use Rattle.history_model.proofs.Filtered.{both}
 use Rattle.history_model.proofs.Keys.{same_kind}
 use Rattle.history_model.proofs.Snapshots.{version_from_test, IsHistoryRow, versions_above, versions_first, versions_none, IsAscending-rows_at, IsAscending-listed, Has-listed_cases, Has-listed_from, Has-rows_at_cases, Has-rows_at_from, listed_once}
-use Rattle.segment.specs.declared.place.Posted.{Posted}
+use Rattle.segment.specs.declared.place.RowPlace.{RowPlace}
 use Rattle.as_of_index.specs.declared.search.Start.TheVariants.{Later}
 use Rattle.segment.specs.Standing.{places_of, StandsAt}
 use Rattle.as_of_index.specs.Places.{place_cmp}
@@ -30,7 +30,7 @@ use Rattle.as_of_index.proofs.Among.{has_joined}
 use Rattle.segment.proofs.Posting.{says, row_there}
 use Rattle.as_of_index.proofs.Paging.{less_by_id, less_by_kind, less_from, not_above, filter_same, same_test, above_further, above_test, fewer, weaker}
 
-less_by_time : (a b : Posted) → kind_place a.key.kind ≡ kind_place b.key.kind → a.key.id ≡ b.key.id → nat_cmp a.key.time b.key.time ≡ Less → place_cmp a b ≡ Less
+less_by_time : (a b : RowPlace) → kind_place a.key.kind ≡ kind_place b.key.kind → a.key.id ≡ b.key.id → nat_cmp a.key.time b.key.time ≡ Less → place_cmp a b ≡ Less
 less_by_time a b k i e =
     let tie : nat_cmp (kind_place a.key.kind) (kind_place b.key.kind) ≡ Equal = subst (λ n. nat_cmp (kind_place a.key.kind) n ≡ Equal) k (tied_itself nat_cmp_total (kind_place a.key.kind)) in
     let same : nat_cmp a.key.id b.key.id ≡ Equal = subst (λ n. nat_cmp a.key.id n ≡ Equal) i (tied_itself nat_cmp_total a.key.id) in
@@ -65,8 +65,8 @@ id_beyond k kind i id a e f g = grind (arith, nat_tests, e, f, g)
 both_true : (a b : Bool) → a ≡ true → b ≡ true → (a && b) ≡ true
 both_true a b e f = rw (e, f) refl
 
-module _ (kind : Kind) (id : ℕ) (after : Option ℕ) (xs : List (ℕ × Posted)) where
-  pub next_version_is : (x : ℕ × Posted) → IsNext (Later kind id after) (λ (y : ℕ × Posted). y.1) xs (Some x) → is_of kind id x.1 ≡ true → IsNextVersion kind id after xs (Some x)
+module _ (kind : Kind) (id : ℕ) (after : Option ℕ) (xs : List (ℕ × RowPlace)) where
+  pub next_version_is : (x : ℕ × RowPlace) → IsNext (Later kind id after) (λ (y : ℕ × RowPlace). y.1) xs (Some x) → is_of kind id x.1 ≡ true → IsNextVersion kind id after xs (Some x)
   unfolding IsNext IsNextVersion
   next_version_is x n o =
       let above = later_above (kind_place x.1.key.kind) (kind_place kind) x.1.key.id id (is_above after x.1.key.time) n.passes o in
@@ -80,7 +80,7 @@ module _ (kind : Kind) (id : ℕ) (after : Option ℕ) (xs : List (ℕ × Posted
             not_above y.1.key.time x.1.key.time (λ less. n.least y h outside (less_by_time y.1 x.1 k i less));
       }
 
-  pub next_version_other : (x : ℕ × Posted) → IsNext (Later kind id after) (λ (y : ℕ × Posted). y.1) xs (Some x) → is_of kind id x.1 ≡ false → IsNextVersion kind id after xs None
+  pub next_version_other : (x : ℕ × RowPlace) → IsNext (Later kind id after) (λ (y : ℕ × RowPlace). y.1) xs (Some x) → is_of kind id x.1 ≡ false → IsNextVersion kind id after xs None
   unfolding IsNext IsNextVersion
   next_version_other x n o = λ y h e.
       let outside = version_not_passed (kind_place y.1.key.kind) (kind_place kind) y.1.key.id id (is_above after y.1.key.time) e in
@@ -88,7 +88,7 @@ module _ (kind : Kind) (id : ℕ) (after : Option ℕ) (xs : List (ℕ × Posted
       let i = id_of_version (kind_place y.1.key.kind) (kind_place kind) y.1.key.id id (is_above after y.1.key.time) e in
       let le = kind_not_below (kind_place x.1.key.kind) (kind_place kind) x.1.key.id id (is_above after x.1.key.time) n.passes in
       n.least y h outside (by y k i le (nat_cmp (kind_place y.1.key.kind) (kind_place x.1.key.kind)) refl) where
-        by : (y : ℕ × Posted) → kind_place y.1.key.kind ≡ kind_place kind → y.1.key.id ≡ id → kind_place kind ≤ kind_place x.1.key.kind → (r : Ordering) → nat_cmp (kind_place y.1.key.kind) (kind_place x.1.key.kind) ≡ r → place_cmp y.1 x.1 ≡ Less
+        by : (y : ℕ × RowPlace) → kind_place y.1.key.kind ≡ kind_place kind → y.1.key.id ≡ id → kind_place kind ≤ kind_place x.1.key.kind → (r : Ordering) → nat_cmp (kind_place y.1.key.kind) (kind_place x.1.key.kind) ≡ r → place_cmp y.1 x.1 ≡ Less
         by y k i le Less e = less_by_kind y.1 x.1 e
         by y k i le Equal e =
             let same : kind_place y.1.key.kind ≡ kind_place x.1.key.kind = ranked (kind_place y.1.key.kind) (kind_place x.1.key.kind) Equal (sym e) in
@@ -96,7 +96,7 @@ module _ (kind : Kind) (id : ℕ) (after : Option ℕ) (xs : List (ℕ × Posted
             less_by_id y.1 x.1 same (less_from y.1.key.id x.1.key.id (omega arith))
         by y k i le Greater e = absurd (let gt : kind_place x.1.key.kind < kind_place y.1.key.kind = ranked (kind_place y.1.key.kind) (kind_place x.1.key.kind) Greater (sym e) in omega arith)
 
-  pub next_version_none : IsNext (Later kind id after) (λ (y : ℕ × Posted). y.1) xs None → IsNextVersion kind id after xs None
+  pub next_version_none : IsNext (Later kind id after) (λ (y : ℕ × RowPlace). y.1) xs None → IsNextVersion kind id after xs None
   unfolding IsNext IsNextVersion
   next_version_none n = λ y h e.
       let outside = version_not_passed (kind_place y.1.key.kind) (kind_place kind) y.1.key.id id (is_above after y.1.key.time) e in
@@ -106,22 +106,22 @@ not_within : (a b pin : ℕ) → a ≡ b → a ≤ pin → pin < b → ⊥
 not_within a b pin e le lt = absurd (omega arith)
 
 module _ (kind : Kind) (id pin : ℕ) (lists : List (List StampedRow)) (are : AreLists lists) where
-  abbrev shown : List Version
+  abbrev shown : List RowValue
   shown = rows_at pin (listed lists)
 
-  abbrev places : List (ℕ × Posted)
+  abbrev places : List (ℕ × RowPlace)
   places = all_places 0 (map places_of lists)
 
-  pub version_row : (after : Option ℕ) (x : ℕ × Posted) → IsNextVersion kind id after places (Some x) → (s : StampedRow) × StandsAt lists x.0 x.1 s
+  pub version_row : (after : Option ℕ) (x : ℕ × RowPlace) → IsNextVersion kind id after places (Some x) → (s : StampedRow) × StandsAt lists x.0 x.1 s
   unfolding IsNextVersion
   version_row after x n = let w = row_of_place 0 lists x n.there in (w.0, stands_at lists x.0 x.1 w.0 w.1)
 
   -- what a place says of the row that stands there
-  its_row : (x : ℕ × Posted) (s : StampedRow) → StandsAt lists x.0 x.1 s → Has (joined lists) s × Says x.1 s
+  its_row : (x : ℕ × RowPlace) (s : StampedRow) → StandsAt lists x.0 x.1 s → Has (joined lists) s × Says x.1 s
   its_row x s w = (has_joined lists x.0 w.rows s w.list_is (row_there 0 w.rows (s, x.1) w.there), says 0 w.rows (s, x.1) w.there)
 
   -- a version that comes is no earlier
-  no_earlier : (after : Option ℕ) (x : ℕ × Posted) → IsNextVersion kind id after places (Some x) → (c : Version) → Has shown c → IsHistoryRow kind id after c → x.1.key.time ≤ c.time
+  no_earlier : (after : Option ℕ) (x : ℕ × RowPlace) → IsNextVersion kind id after places (Some x) → (c : RowValue) → Has shown c → IsHistoryRow kind id after c → x.1.key.time ≤ c.time
   unfolding IsNextVersion
   no_earlier after x n c h v =
       let w = Has-rows_at_cases pin (listed lists) c h in
@@ -135,7 +135,7 @@ module _ (kind : Kind) (id pin : ℕ) (lists : List (List StampedRow)) (are : Ar
         number_test : (k l i j : ℕ) → k ≡ l → i ≡ j → (k == l && i == j) ≡ true
         number_test k l i j e f = grind (arith, nat_tests, e, f)
 
-  no_version : (after : Option ℕ) → IsNextVersion kind id after places None → (c : Version) → Has shown c → IsHistoryRow kind id after c → ⊥
+  no_version : (after : Option ℕ) → IsNextVersion kind id after places None → (c : RowValue) → Has shown c → IsHistoryRow kind id after c → ⊥
   unfolding IsNextVersion
   no_version after n c h v =
       let w = Has-rows_at_cases pin (listed lists) c h in
@@ -149,13 +149,13 @@ module _ (kind : Kind) (id pin : ℕ) (lists : List (List StampedRow)) (are : Ar
         number_test k l i j e f = grind (arith, nat_tests, e, f)
 
   -- the row of the next version
-  record IsItsRow (after : Option ℕ) (x : ℕ × Posted) (s : StampedRow) : Type 0 where
+  record IsItsRow (after : Option ℕ) (x : ℕ × RowPlace) (s : StampedRow) : Type 0 where
     known : Has (joined lists) s
     wanted : IsHistoryRow kind id after s.row
     time_is : s.row.time ≡ x.1.key.time
     import_is : x.1.import ≡ s.import
 
-  its_version : (after : Option ℕ) (x : ℕ × Posted) (s : StampedRow) → IsNextVersion kind id after places (Some x) → StandsAt lists x.0 x.1 s → IsItsRow after x s
+  its_version : (after : Option ℕ) (x : ℕ × RowPlace) (s : StampedRow) → IsNextVersion kind id after places (Some x) → StandsAt lists x.0 x.1 s → IsItsRow after x s
   unfolding IsNextVersion
   its_version after x s n w =
       let r = its_row x s w in
@@ -165,7 +165,7 @@ module _ (kind : Kind) (id pin : ℕ) (lists : List (List StampedRow)) (are : Ar
       let times : s.row.time ≡ x.1.key.time = ap (λ (z : Key). z.time) (sym r.1.key_is) in
       record { known = r.0; wanted = record { version = record { kind_is = kinds; id_is = ids }; above = ap (is_above after) times ∙ e.1 }; time_is = times; import_is = r.1.import_is }
 
-  pub versions_push : (after : Option ℕ) (x : ℕ × Posted) (rows target : List Version) (s : StampedRow) → IsNextVersion kind id after places (Some x) → StandsAt lists x.0 x.1 s → x.1.import ≤ pin → rows ++ versions_above kind id after shown ≡ target → (rows ++ s.row ∷ []) ++ versions_above kind id (Some x.1.key.time) shown ≡ target
+  pub versions_push : (after : Option ℕ) (x : ℕ × RowPlace) (rows target : List RowValue) (s : StampedRow) → IsNextVersion kind id after places (Some x) → StandsAt lists x.0 x.1 s → x.1.import ≤ pin → rows ++ versions_above kind id after shown ≡ target → (rows ++ s.row ∷ []) ++ versions_above kind id (Some x.1.key.time) shown ≡ target
   versions_push after x rows target s n w le so_far =
       let t = its_version after x s n w in
       let shown_is = t.import_is in
@@ -176,11 +176,11 @@ module _ (kind : Kind) (id pin : ℕ) (lists : List (List StampedRow)) (are : Ar
       ∙ ap (λ ys. rows ++ ys) (sym (versions_first kind id after shown s.row (IsAscending-rows_at pin (listed lists) (IsAscending-listed lists)) inside t.wanted (λ c h v. let early = no_earlier after x n c h v in omega arith)))
       ∙ so_far
 
-  its_above : (after : Option ℕ) (x : ℕ × Posted) → IsNextVersion kind id after places (Some x) → is_above after x.1.key.time ≡ true
+  its_above : (after : Option ℕ) (x : ℕ × RowPlace) → IsNextVersion kind id after places (Some x) → is_above after x.1.key.time ≡ true
   unfolding IsNextVersion
   its_above after x n = (both (is_of kind id x.1) (is_above after x.1.key.time) n.version).1
 
-  pub versions_skip : (after : Option ℕ) (x : ℕ × Posted) (rows target : List Version) → IsNextVersion kind id after places (Some x) → pin < x.1.import → rows ++ versions_above kind id after shown ≡ target → rows ++ versions_above kind id (Some x.1.key.time) shown ≡ target
+  pub versions_skip : (after : Option ℕ) (x : ℕ × RowPlace) (rows target : List RowValue) → IsNextVersion kind id after places (Some x) → pin < x.1.import → rows ++ versions_above kind id after shown ≡ target → rows ++ versions_above kind id (Some x.1.key.time) shown ≡ target
   versions_skip after x rows target n gt so_far =
       let r = version_row after x n in
       let t = its_version after x r.0 n r.1 in
@@ -201,17 +201,17 @@ module _ (kind : Kind) (id pin : ℕ) (lists : List (List StampedRow)) (are : Ar
       not_within w.stamped_row.import x.1.import pin (ap (λ (z : StampedRow). z.import) one ∙ sym t.import_is) w.early gt))
       (λ e. above_further after x.1.key.time c.time (its_above after x n) e)))) ∙ so_far
 
-  pub versions_end : (after : Option ℕ) (rows target : List Version) → IsNextVersion kind id after places None → rows ++ versions_above kind id after shown ≡ target → rows ≡ target
+  pub versions_end : (after : Option ℕ) (rows target : List RowValue) → IsNextVersion kind id after places None → rows ++ versions_above kind id after shown ≡ target → rows ≡ target
   versions_end after rows target n so_far = sym (append-nil rows) ∙ ap (λ ys. rows ++ ys) (sym (versions_none kind id after shown (no_version after n))) ∙ so_far
 
 own_not_later : (o : Bool) (t : ℕ) → (o && nat_lt t t) ≡ false
 own_not_later true t = grind (arith, nat_tests)
 own_not_later false t = refl
 
-pub fewer_versions : (kind : Kind) (id : ℕ) (after : Option ℕ) (xs : List (ℕ × Posted)) (x : ℕ × Posted) → IsNextVersion kind id after xs (Some x) → length (filter (λ y. is_version_above kind id (Some x.1.key.time) y.1) xs) < length (filter (λ y. is_version_above kind id after y.1) xs)
+pub fewer_versions : (kind : Kind) (id : ℕ) (after : Option ℕ) (xs : List (ℕ × RowPlace)) (x : ℕ × RowPlace) → IsNextVersion kind id after xs (Some x) → length (filter (λ y. is_version_above kind id (Some x.1.key.time) y.1) xs) < length (filter (λ y. is_version_above kind id after y.1) xs)
 unfolding IsNextVersion
 fewer_versions kind id after xs x n =
     let above = (both (is_of kind id x.1) (is_above after x.1.key.time) n.version).1 in
-    fewer (λ (y : ℕ × Posted). is_version_above kind id after y.1) (λ (y : ℕ × Posted). is_version_above kind id (Some x.1.key.time) y.1) xs x
+    fewer (λ (y : ℕ × RowPlace). is_version_above kind id after y.1) (λ (y : ℕ × RowPlace). is_version_above kind id (Some x.1.key.time) y.1) xs x
     (λ y e. weaker (is_of kind id y.1) (is_above after y.1.key.time) (nat_lt x.1.key.time y.1.key.time) (λ f. above_further after x.1.key.time y.1.key.time above f) e)
     n.there n.version (own_not_later (is_of kind id x.1) x.1.key.time)

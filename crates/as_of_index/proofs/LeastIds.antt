@@ -6,7 +6,7 @@ use Rattle.rf2_values.specs.declared.row.Kind.{Kind}
 use Rattle.rf2_values.specs.Key.{kind_place}
 use Rattle.history_model.specs.InOrder.{IsAscending}
 use Rattle.history_model.proofs.InOrder.{Has-append_left, Has-append_right, Has-append_cases}
-use Rattle.segment.specs.declared.place.Posted.{Posted}
+use Rattle.segment.specs.declared.place.RowPlace.{RowPlace}
 use Rattle.as_of_index.specs.declared.search.Start.TheVariants.{Components}
 use Rattle.as_of_index.specs.Places.{place_cmp}
 use Rattle.as_of_index.specs.Search.{in_segment, is_before, SplitsAt, IsNext, IsNextId, id_of_kind, lesser_of}
@@ -17,14 +17,14 @@ itself : (n : ℕ) → (n == n) ≡ true
 itself n = grind (arith, nat_tests)
 
 module _ (kind : Kind) (after : Option ℕ) where
-  abbrev pub NextIds : List (ℕ × Posted) → Option ℕ → Type 0
+  abbrev pub NextIds : List (ℕ × RowPlace) → Option ℕ → Type 0
   NextIds xs best = IsNextId kind after xs best
 
   pub id_nothing : NextIds [] None
   unfolding IsNextId
   id_nothing = λ x h e. absurd h
 
-  id_found : (n : ℕ) (ps : List Posted) (found : Option Posted) → IsNext (Components kind after) (λ p. p) ps found → NextIds (in_segment n ps) (id_of_kind kind found)
+  id_found : (n : ℕ) (ps : List RowPlace) (found : Option RowPlace) → IsNext (Components kind after) (λ p. p) ps found → NextIds (in_segment n ps) (id_of_kind kind found)
   id_found n ps None r = next_id_none kind after (in_segment n ps) (next_more (Components kind after) n ps [] None None (next_nothing (Components kind after)) r)
   id_found n ps (Some p) r =
       let next = next_more (Components kind after) n ps [] None (Some p) (next_nothing (Components kind after)) r in
@@ -34,10 +34,10 @@ module _ (kind : Kind) (after : Option ℕ) where
       ] refl
 
   -- where a search splits a list stands its least id
-  pub id_of_list : (n : ℕ) (ps : List Posted) (i : ℕ) → IsAscending place_cmp ps → SplitsAt (is_before (Components kind after)) ps i → NextIds (in_segment n ps) (id_of_kind kind (slice_get ps i))
+  pub id_of_list : (n : ℕ) (ps : List RowPlace) (i : ℕ) → IsAscending place_cmp ps → SplitsAt (is_before (Components kind after)) ps i → NextIds (in_segment n ps) (id_of_kind kind (slice_get ps i))
   id_of_list n ps i up split = id_found n ps (slice_get ps i) (next_of_list (Components kind after) ps i (slice_get ps i) up split refl)
 
-  pub id_more : (xs ys : List (ℕ × Posted)) (best found : Option ℕ) → NextIds xs best → NextIds ys found → NextIds (xs ++ ys) (lesser_of best found)
+  pub id_more : (xs ys : List (ℕ × RowPlace)) (best found : Option ℕ) → NextIds xs best → NextIds ys found → NextIds (xs ++ ys) (lesser_of best found)
   unfolding IsNextId
   id_more xs ys None None a r = λ x h e. elim (Has-append_cases xs ys x h) [ inl l ↦ a x l e | inr t ↦ r x t e ]
   id_more xs ys (Some b) None a r = record {

@@ -16,3 +16,4 @@ pub mod Apart
 pub mod Current
 pub mod Early
 pub mod Pushing
+pub mod ByByte

@@ -13,7 +13,7 @@ use Rattle.history_model.specs.InOrder.{Has, IsAscending}
 use Rattle.history_model.proofs.InOrder.{Has-all}
 use Rattle.rf2_values.specs.Key.{keys_total}
 use Rattle.history_model.proofs.Snapshots.{first_half}
-use Rattle.segment.specs.declared.place.Posted.{Posted}
+use Rattle.segment.specs.declared.place.RowPlace.{RowPlace}
 use Rattle.as_of_index.specs.declared.search.Start.{Start}
 use Rattle.as_of_index.specs.declared.search.Start.TheVariants.{AfterVersion, Later, Components}
 use Rattle.as_of_index.specs.Places.{place_cmp}
@@ -26,7 +26,7 @@ places_total = on_total (λ p. p.key) keys_total
 abbrev pub IsBelow : ℕ → ℕ → ℕ → ℕ → ℕ → ℕ → Type 0
 IsBelow k i t l j u = (k < l) ⊎ ((k ≡ l) × ((i < j) ⊎ ((i ≡ j) × (t < u))))
 
-pub below : (a b : Posted) → place_cmp a b ≡ Less → IsBelow (kind_place a.key.kind) a.key.id a.key.time (kind_place b.key.kind) b.key.id b.key.time
+pub below : (a b : RowPlace) → place_cmp a b ≡ Less → IsBelow (kind_place a.key.kind) a.key.id a.key.time (kind_place b.key.kind) b.key.id b.key.time
 below a b less =
     elim (first_half (nat_cmp (kind_place a.key.kind) (kind_place b.key.kind)) (ordering_then (nat_cmp a.key.id b.key.id) (nat_cmp a.key.time b.key.time)) less) [
       | inl l ↦ inl (ranked (kind_place a.key.kind) (kind_place b.key.kind) Less (sym l))
@@ -70,7 +70,7 @@ components-falls : (kind after k i t l j u : ℕ) → IsBelow k i t l j u
     → (nat_lt k kind || (k == kind && not (nat_lt after i))) ≡ true
 components-falls kind after k i t l j u h e = grind (arith, nat_tests, h, e)
 
-pub before-falls : (start : Start) (p q : Posted) → place_cmp p q ≡ Less → is_before start q ≡ true → is_before start p ≡ true
+pub before-falls : (start : Start) (p q : RowPlace) → place_cmp p q ≡ Less → is_before start q ≡ true → is_before start p ≡ true
 before-falls (AfterVersion kind id time) p q less e = after_version-falls (kind_place kind) id time _ _ p.key.time _ _ q.key.time (below p q less) e
 before-falls (Later kind id None) p q less e = all-falls (kind_place kind) id _ _ p.key.time _ _ q.key.time (below p q less) e
 before-falls (Later kind id (Some after)) p q less e = later-falls (kind_place kind) id after _ _ p.key.time _ _ q.key.time (below p q less) e
@@ -82,7 +82,7 @@ has_at [] i d lt = absurd (omega arith)
 has_at (x ∷ xs) zero d lt = inl refl
 has_at (x ∷ xs) (suc i) d lt = inr (has_at xs i d (omega arith))
 
-pub partitioned : (start : Start) (places : List Posted) → IsAscending place_cmp places → IsPartitionedBy (is_before start) places
+pub partitioned : (start : Start) (places : List RowPlace) → IsAscending place_cmp places → IsPartitionedBy (is_before start) places
 partitioned start [] up i j d le lt e = absurd (omega arith)
 partitioned start (p ∷ ps) up zero zero d le lt e = e
 partitioned start (p ∷ ps) up zero (suc j) d le lt e = before-falls start p (get_or ps j d) (Has-all (λ q. place_cmp p q ≡ Less) ps (get_or ps j d) up.0 (has_at ps j d (omega arith))) e

@@ -10,29 +10,29 @@ use Rattle.std.proofs.lemmas.Bool.Decides.{nat_tests}
 use Rattle.std.proofs.lemmas.List.{length_push}
 use Rattle.rf2_values.specs.declared.row.Kind.{Kind}
 use Rattle.rf2_values.specs.declared.key.Key.{Key}
-use Rattle.rf2_values.specs.Row.{Version, kind_of}
+use Rattle.rf2_values.specs.Row.{RowValue, kind_of}
 use Rattle.rf2_values.specs.Key.{kind_place, key_of}
 use Rattle.history_model.specs.declared.stamped.StampedRow.{StampedRow}
 use Rattle.history_model.specs.InOrder.{Has, IsAscending}
 use Rattle.history_model.specs.History.{row_cmp, rows_at}
 use Rattle.history_model.specs.Lists.{listed}
-use Rattle.history_model.specs.Queries.{is_kind, is_version_of, is_above, snapshot, lookup, all_above, page}
+use Rattle.history_model.specs.Queries.{is_kind, is_version_of, is_above, snapshot, get, all_above, page}
 use Rattle.history_model.proofs.Filtered.{both}
 use Rattle.history_model.proofs.Keys.{same_kind}
 use Rattle.history_model.proofs.Snapshots.{version_from_test, test_from_version, page_first, page_none, current_from_snapshot, IsAscending-rows_at, IsAscending-listed, Has-listed_cases, Has-rows_at_cases}
-use Rattle.segment.specs.declared.place.Posted.{Posted}
+use Rattle.segment.specs.declared.place.RowPlace.{RowPlace}
 use Rattle.as_of_index.specs.declared.search.Start.TheVariants.{Components}
 use Rattle.segment.specs.Standing.{places_of}
 use Rattle.as_of_index.specs.Places.{place_cmp}
 use Rattle.as_of_index.specs.Search.{all_places, is_of, IsNext, IsNextId, is_kind_above}
 use Rattle.as_of_index.proofs.Standing.{place_of_row}
 
-pub less_by_id : (a b : Posted) → kind_place a.key.kind ≡ kind_place b.key.kind → nat_cmp a.key.id b.key.id ≡ Less → place_cmp a b ≡ Less
+pub less_by_id : (a b : RowPlace) → kind_place a.key.kind ≡ kind_place b.key.kind → nat_cmp a.key.id b.key.id ≡ Less → place_cmp a b ≡ Less
 less_by_id a b k e =
     let tie : nat_cmp (kind_place a.key.kind) (kind_place b.key.kind) ≡ Equal = subst (λ n. nat_cmp (kind_place a.key.kind) n ≡ Equal) k (tied_itself nat_cmp_total (kind_place a.key.kind)) in
     rw (tie, e) refl
 
-pub less_by_kind : (a b : Posted) → nat_cmp (kind_place a.key.kind) (kind_place b.key.kind) ≡ Less → place_cmp a b ≡ Less
+pub less_by_kind : (a b : RowPlace) → nat_cmp (kind_place a.key.kind) (kind_place b.key.kind) ≡ Less → place_cmp a b ≡ Less
 less_by_kind a b e = rw e refl
 
 pub not_above : (m n : ℕ) → (nat_cmp m n ≡ Less → ⊥) → n ≤ m
@@ -66,8 +66,8 @@ kind_is k kind a e = grind (arith, nat_tests, e)
 of_itself : (k kind i : ℕ) → (k == kind && i == i) ≡ false → (k == kind) ≡ false
 of_itself k kind i e = grind (arith, nat_tests, e)
 
-module _ (kind : Kind) (after : Option ℕ) (xs : List (ℕ × Posted)) where
-  pub next_id_is : (x : ℕ × Posted) → IsNext (Components kind after) (λ (y : ℕ × Posted). y.1) xs (Some x) → is_of kind x.1.key.id x.1 ≡ true → IsNextId kind after xs (Some x.1.key.id)
+module _ (kind : Kind) (after : Option ℕ) (xs : List (ℕ × RowPlace)) where
+  pub next_id_is : (x : ℕ × RowPlace) → IsNext (Components kind after) (λ (y : ℕ × RowPlace). y.1) xs (Some x) → is_of kind x.1.key.id x.1 ≡ true → IsNextId kind after xs (Some x.1.key.id)
   unfolding IsNext IsNextId
   next_id_is x n o =
       let k : kind_place x.1.key.kind ≡ kind_place kind = kind_is _ _ _ o in
@@ -80,7 +80,7 @@ module _ (kind : Kind) (after : Option ℕ) (xs : List (ℕ × Posted)) where
             not_above y.1.key.id x.1.key.id (λ less. n.least y h outside (less_by_id y.1 x.1 (l ∙ sym k) less));
       }
 
-  pub next_id_other : (x : ℕ × Posted) → IsNext (Components kind after) (λ (y : ℕ × Posted). y.1) xs (Some x) → is_of kind x.1.key.id x.1 ≡ false → IsNextId kind after xs None
+  pub next_id_other : (x : ℕ × RowPlace) → IsNext (Components kind after) (λ (y : ℕ × RowPlace). y.1) xs (Some x) → is_of kind x.1.key.id x.1 ≡ false → IsNextId kind after xs None
   unfolding IsNext IsNextId
   next_id_other x n o = λ y h e.
       let l : kind_place y.1.key.kind ≡ kind_place kind = kind_is _ _ _ e in
@@ -88,7 +88,7 @@ module _ (kind : Kind) (after : Option ℕ) (xs : List (ℕ × Posted)) where
       let beyond = kind_beyond (kind_place x.1.key.kind) (kind_place kind) (is_above after x.1.key.id) n.passes (of_itself _ _ _ o) in
       n.least y h outside (less_by_kind y.1 x.1 (less_from (kind_place y.1.key.kind) (kind_place x.1.key.kind) (omega arith)))
 
-  pub next_id_none : IsNext (Components kind after) (λ (y : ℕ × Posted). y.1) xs None → IsNextId kind after xs None
+  pub next_id_none : IsNext (Components kind after) (λ (y : ℕ × RowPlace). y.1) xs None → IsNextId kind after xs None
   unfolding IsNext IsNextId
   next_id_none n = λ y h e.
       let outside = kind_not_passed (kind_place y.1.key.kind) (kind_place kind) (is_above after y.1.key.id) e in
@@ -140,14 +140,14 @@ id_at : (after : Option ℕ) (k kind : ℕ) (a : Bool) → k ≡ kind → a ≡ 
 id_at after k kind a e f = rw f (grind (arith, nat_tests, e))
 
 module _ (kind : Kind) (date pin : ℕ) (lists : List (List StampedRow)) where
-  abbrev shown : List Version
+  abbrev shown : List RowValue
   shown = rows_at pin (listed lists)
 
-  abbrev places : List (ℕ × Posted)
+  abbrev places : List (ℕ × RowPlace)
   places = all_places 0 (map places_of lists)
 
   -- the next id is not above that of a row that comes
-  not_passed : (last : Option ℕ) (id : ℕ) → IsNextId kind last places (Some id) → (c : Version) → Has shown c → kind_of c ≡ kind → is_above last c.id ≡ true → id ≤ c.id
+  not_passed : (last : Option ℕ) (id : ℕ) → IsNextId kind last places (Some id) → (c : RowValue) → Has shown c → kind_of c ≡ kind → is_above last c.id ≡ true → id ≤ c.id
   unfolding IsNextId
   not_passed last id n c h k a =
       let w = Has-rows_at_cases pin (listed lists) c h in
@@ -158,7 +158,7 @@ module _ (kind : Kind) (date pin : ℕ) (lists : List (List StampedRow)) where
       let le = n.least q.0 q.1 (id_at last _ _ _ kinds (ap (is_above last) ids ∙ a)) in
       omega arith
 
-  nothing_passed : (last : Option ℕ) → IsNextId kind last places None → (c : Version) → Has shown c → kind_of c ≡ kind → is_above last c.id ≡ true → ⊥
+  nothing_passed : (last : Option ℕ) → IsNextId kind last places None → (c : RowValue) → Has shown c → kind_of c ≡ kind → is_above last c.id ≡ true → ⊥
   unfolding IsNextId
   nothing_passed last n c h k a =
       let w = Has-rows_at_cases pin (listed lists) c h in
@@ -175,8 +175,8 @@ module _ (kind : Kind) (date pin : ℕ) (lists : List (List StampedRow)) where
   ascends : IsAscending row_cmp shown
   ascends = IsAscending-rows_at pin (listed lists) (IsAscending-listed lists)
 
-  pub page_nobody : (last : Option ℕ) (id n : ℕ) → IsNextId kind last places (Some id) → lookup kind id date shown ≡ None → page kind date last n shown ≡ page kind date (Some id) n shown
-  unfolding page all_above lookup
+  pub page_nobody : (last : Option ℕ) (id n : ℕ) → IsNextId kind last places (Some id) → get kind id date shown ≡ None → page kind date last n shown ≡ page kind date (Some id) n shown
+  unfolding page all_above get
   page_nobody last id n next none = ap (take n) (filter_same (λ row. is_kind kind row && is_above last row.id) (λ row. is_kind kind row && nat_lt id row.id) (snapshot shown date) (λ x h.
       same_test (is_kind kind x) (is_above last x.id) (nat_lt id x.id)
       (λ e.
@@ -190,8 +190,8 @@ module _ (kind : Kind) (date pin : ℕ) (lists : List (List StampedRow)) where
   pub page_nomore : (last : Option ℕ) (n : ℕ) → IsNextId kind last places None → page kind date last n shown ≡ []
   page_nomore last n next = page_none kind date last n shown (λ c h v. nothing_passed last next c h v.kind_is v.above)
 
-  pub page_somebody : (last : Option ℕ) (id n : ℕ) (b : Version) → IsNextId kind last places (Some id) → lookup kind id date shown ≡ Some b → page kind date last (suc n) shown ≡ b ∷ page kind date (Some id) n shown
-  unfolding lookup
+  pub page_somebody : (last : Option ℕ) (id n : ℕ) (b : RowValue) → IsNextId kind last places (Some id) → get kind id date shown ≡ Some b → page kind date last (suc n) shown ≡ b ∷ page kind date (Some id) n shown
+  unfolding get
   page_somebody last id n b next found =
       let f = found_test (is_version_of kind id) (snapshot shown date) b found in
       let v = version_from_test kind id b f.1 in
@@ -208,7 +208,7 @@ module _ (kind : Kind) (date pin : ℕ) (lists : List (List StampedRow)) where
 
   -- ---- the steps of the loop
 
-  pub page_more : (last : Option ℕ) (id limit : ℕ) (rows target : List Version) (b : Version) → length rows < limit → IsNextId kind last places (Some id) → lookup kind id date shown ≡ Some b → rows ++ page kind date last (limit - length rows) shown ≡ target → (rows ++ b ∷ []) ++ page kind date (Some id) (limit - length (rows ++ b ∷ [])) shown ≡ target
+  pub page_more : (last : Option ℕ) (id limit : ℕ) (rows target : List RowValue) (b : RowValue) → length rows < limit → IsNextId kind last places (Some id) → get kind id date shown ≡ Some b → rows ++ page kind date last (limit - length rows) shown ≡ target → (rows ++ b ∷ []) ++ page kind date (Some id) (limit - length (rows ++ b ∷ [])) shown ≡ target
   page_more last id limit rows target b lt next found so_far =
       let longer = length_push rows b in
       let left : limit - length (rows ++ b ∷ []) ≡ limit - (length rows + 1) = ap (λ n. limit - n) longer in
@@ -218,13 +218,13 @@ module _ (kind : Kind) (date pin : ℕ) (lists : List (List StampedRow)) where
       ∙ ap (λ ys. rows ++ ys) (sym (page_somebody last id (limit - (length rows + 1)) b next found))
       ∙ ap (λ n. rows ++ page kind date last n shown) (sym one_less) ∙ so_far
 
-  pub page_same : (last : Option ℕ) (id n : ℕ) (rows target : List Version) → IsNextId kind last places (Some id) → lookup kind id date shown ≡ None → rows ++ page kind date last n shown ≡ target → rows ++ page kind date (Some id) n shown ≡ target
+  pub page_same : (last : Option ℕ) (id n : ℕ) (rows target : List RowValue) → IsNextId kind last places (Some id) → get kind id date shown ≡ None → rows ++ page kind date last n shown ≡ target → rows ++ page kind date (Some id) n shown ≡ target
   page_same last id n rows target next none so_far = ap (λ ys. rows ++ ys) (sym (page_nobody last id n next none)) ∙ so_far
 
-  pub page_done : (last : Option ℕ) (n : ℕ) (rows target : List Version) → IsNextId kind last places None → rows ++ page kind date last n shown ≡ target → rows ≡ target
+  pub page_done : (last : Option ℕ) (n : ℕ) (rows target : List RowValue) → IsNextId kind last places None → rows ++ page kind date last n shown ≡ target → rows ≡ target
   page_done last n rows target next so_far = sym (append-nil rows) ∙ ap (λ ys. rows ++ ys) (sym (page_nomore last n next)) ∙ so_far
 
-  pub page_full : (last : Option ℕ) (limit : ℕ) (rows target : List Version) → limit ≤ length rows → rows ++ page kind date last (limit - length rows) shown ≡ target → rows ≡ target
+  pub page_full : (last : Option ℕ) (limit : ℕ) (rows target : List RowValue) → limit ≤ length rows → rows ++ page kind date last (limit - length rows) shown ≡ target → rows ≡ target
   unfolding page
   page_full last limit rows target le so_far =
       let nothing : limit - length rows ≡ 0 = omega arith in
@@ -270,13 +270,13 @@ pub weaker : (k a b : Bool) → (b ≡ true → a ≡ true) → (k && b) ≡ tru
 weaker true a b f e = f e
 weaker false a b f e = e
 
-pub fewer_left : (kind : Kind) (last : Option ℕ) (id : ℕ) (xs : List (ℕ × Posted)) → IsNextId kind last xs (Some id) → length (filter (λ x. is_kind_above kind (Some id) x.1) xs) < length (filter (λ x. is_kind_above kind last x.1) xs)
+pub fewer_left : (kind : Kind) (last : Option ℕ) (id : ℕ) (xs : List (ℕ × RowPlace)) → IsNextId kind last xs (Some id) → length (filter (λ x. is_kind_above kind (Some id) x.1) xs) < length (filter (λ x. is_kind_above kind last x.1) xs)
 unfolding IsNextId
 fewer_left kind last id xs n =
     let b = n.there.0 in
     let own = n.there.2 in
     let at_own : is_above last b.1.key.id ≡ true = ap (is_above last) (own_id _ _ b.1.key.id id own) ∙ n.above in
-    fewer (λ (x : ℕ × Posted). is_kind_above kind last x.1) (λ (x : ℕ × Posted). is_kind_above kind (Some id) x.1) xs b
+    fewer (λ (x : ℕ × RowPlace). is_kind_above kind last x.1) (λ (x : ℕ × RowPlace). is_kind_above kind (Some id) x.1) xs b
     (λ x e. weaker (kind_place x.1.key.kind == kind_place kind) (is_above last x.1.key.id) (nat_lt id x.1.key.id) (λ f. above_further last id x.1.key.id n.above f) e)
     n.there.1
     (of_kind_above _ _ b.1.key.id id (is_above last b.1.key.id) own at_own)

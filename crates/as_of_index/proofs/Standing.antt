@@ -6,21 +6,21 @@ use Rattle.std.specs.declared.cmp.Ordering.TheVariants.{Less}
 use Rattle.std.proofs.lemmas.Bool.Decides.{nat_tests}
 use Rattle.rf2_values.specs.declared.row.Kind.{Kind}
 use Rattle.rf2_values.specs.declared.key.Key.{Key}
-use Rattle.rf2_values.specs.Row.{Version, kind_of}
+use Rattle.rf2_values.specs.Row.{RowValue, kind_of}
 use Rattle.rf2_values.specs.Key.{kind_place, key_of, key_cmp}
 use Rattle.history_model.specs.declared.stamped.StampedRow.{StampedRow}
 use Rattle.history_model.specs.InOrder.{Has, IsAscending, joined}
 use Rattle.history_model.specs.History.{stamped_cmp, rows_at}
 use Rattle.history_model.specs.Lists.{listed, AreLists}
 use Rattle.history_model.specs.Lists.{ShareNoKey as RowsShareNoKey, EachApart as RowsApart}
-use Rattle.history_model.specs.Queries.{lookup}
+use Rattle.history_model.specs.Queries.{get}
 use Rattle.history_model.proofs.InOrder.{Has-all, all_from_has, Has-append_left, Has-append_right, Has-append_cases}
 use Rattle.history_model.proofs.Filtered.{Has-map, Has-map_from}
 use Rattle.history_model.proofs.Keys.{same_kind}
-use Rattle.history_model.proofs.Snapshots.{IsVersionOf, lookup_is, lookup_none, IsConsistent-from_ascending, IsAscending-rows_at, IsAscending-listed, Has-listed_cases, Has-listed_from, Has-rows_at_cases, Has-rows_at_from}
+use Rattle.history_model.proofs.Snapshots.{IsVersionOf, get_is, get_none, IsConsistent-from_ascending, IsAscending-rows_at, IsAscending-listed, Has-listed_cases, Has-listed_from, Has-rows_at_cases, Has-rows_at_from}
 use Rattle.segment.specs.Standing.{record_len}
-use Rattle.segment.specs.declared.place.Posted.{Posted}
-use Rattle.segment.specs.Standing.{posted, with_places, places_of, StandsAt}
+use Rattle.segment.specs.declared.place.RowPlace.{RowPlace}
+use Rattle.segment.specs.Standing.{row_place, with_places, places_of, StandsAt}
 use Rattle.as_of_index.specs.Places.{place_cmp, ShareNoKey, EachApart, ArePlaces}
 use Rattle.segment.proofs.Posting.{Says, says_posted, says, placed, row_there}
 use Rattle.as_of_index.specs.Search.{in_segment, all_places, is_candidate, IsPick, IsPlaceOf}
@@ -28,20 +28,20 @@ use Rattle.as_of_index.proofs.Found.{Picks, candidate, candidate_test}
 
 -- ---- the rows' lists are lists
 
-ascending_rows : (at : ℕ) (rows : List StampedRow) → IsAscending place_cmp (map (λ (x : StampedRow × Posted). x.1) (with_places at rows)) → IsAscending stamped_cmp rows
+ascending_rows : (at : ℕ) (rows : List StampedRow) → IsAscending place_cmp (map (λ (x : StampedRow × RowPlace). x.1) (with_places at rows)) → IsAscending stamped_cmp rows
 ascending_rows at [] up = tt
 ascending_rows at (r ∷ rows) up = (
   all_from_has (λ t. stamped_cmp r t ≡ Less) rows (λ t h.
       let w = placed (at + record_len r) rows t h in
-      let less = Has-all (λ q. place_cmp (posted r at) q ≡ Less) (map (λ (x : StampedRow × Posted). x.1) (with_places (at + record_len r) rows)) w.0 up.0 (Has-map_from (λ (x : StampedRow × Posted). x.1) (with_places (at + record_len r) rows) (t, w.0) w.1) in
-      subst (λ k. key_cmp k (key_of t.row) ≡ Less) (says_posted r at).key_is (subst (λ k. key_cmp (posted r at).key k ≡ Less) (says (at + record_len r) rows (t, w.0) w.1).key_is less)),
+      let less = Has-all (λ q. place_cmp (row_place r at) q ≡ Less) (map (λ (x : StampedRow × RowPlace). x.1) (with_places (at + record_len r) rows)) w.0 up.0 (Has-map_from (λ (x : StampedRow × RowPlace). x.1) (with_places (at + record_len r) rows) (t, w.0) w.1) in
+      subst (λ k. key_cmp k (key_of t.row) ≡ Less) (says_posted r at).key_is (subst (λ k. key_cmp (row_place r at).key k ≡ Less) (says (at + record_len r) rows (t, w.0) w.1).key_is less)),
   ascending_rows (at + record_len r) rows up.1,
 )
 
-place_there : (rows : List StampedRow) (s : StampedRow) → Has rows s → (p : Posted) × Has (places_of rows) p × Says p s
+place_there : (rows : List StampedRow) (s : StampedRow) → Has rows s → (p : RowPlace) × Has (places_of rows) p × Says p s
 place_there rows s h =
     let w = placed 0 rows s h in
-    (w.0, Has-map_from (λ (x : StampedRow × Posted). x.1) (with_places 0 rows) (s, w.0) w.1, says 0 rows (s, w.0) w.1)
+    (w.0, Has-map_from (λ (x : StampedRow × RowPlace). x.1) (with_places 0 rows) (s, w.0) w.1, says 0 rows (s, w.0) w.1)
 
 rows_apart : (rows others : List StampedRow) → ShareNoKey (places_of rows) (places_of others) → RowsShareNoKey rows others
 rows_apart rows others apart = λ s t h k e.
@@ -67,21 +67,21 @@ are_lists lists a = record { ascending = ascending_lists lists a.ascending; apar
 -- ---- a place of the index and its row
 
 -- the row stands at the place, in one of these lists, the first of which has the number k
-pub record StandsFrom (k : ℕ) (lists : List (List StampedRow)) (n : ℕ) (p : Posted) (s : StampedRow) : Type 0 where
+pub record StandsFrom (k : ℕ) (lists : List (List StampedRow)) (n : ℕ) (p : RowPlace) (s : StampedRow) : Type 0 where
   pub i : ℕ
   pub number_is : n ≡ k + i
   pub rows : List StampedRow
   pub list_is : slice_get lists i ≡ Some rows
   pub there : Has (with_places 0 rows) (s, p)
 
-pub row_of_place : (k : ℕ) (lists : List (List StampedRow)) (x : ℕ × Posted) → Has (all_places k (map places_of lists)) x → (s : StampedRow) × StandsFrom k lists x.0 x.1 s × Has (joined lists) s
+pub row_of_place : (k : ℕ) (lists : List (List StampedRow)) (x : ℕ × RowPlace) → Has (all_places k (map places_of lists)) x → (s : StampedRow) × StandsFrom k lists x.0 x.1 s × Has (joined lists) s
 row_of_place k [] x h = absurd h
 row_of_place k (rows ∷ lists) x h = elim (Has-append_cases (in_segment k (places_of rows)) (all_places (k + 1) (map places_of lists)) x h) [
   | inl l ↦
-      let m = Has-map (λ (p : Posted). (k, p)) (places_of rows) x l in
-      let w = Has-map (λ (y : StampedRow × Posted). y.1) (with_places 0 rows) m.0 m.1 in
-      let number : x.0 ≡ k + 0 = (let e = ap (λ (y : ℕ × Posted). y.0) m.2 in omega arith) in
-      let place : w.0.1 ≡ x.1 = w.2 ∙ ap (λ (y : ℕ × Posted). y.1) m.2 in
+      let m = Has-map (λ (p : RowPlace). (k, p)) (places_of rows) x l in
+      let w = Has-map (λ (y : StampedRow × RowPlace). y.1) (with_places 0 rows) m.0 m.1 in
+      let number : x.0 ≡ k + 0 = (let e = ap (λ (y : ℕ × RowPlace). y.0) m.2 in omega arith) in
+      let place : w.0.1 ≡ x.1 = w.2 ∙ ap (λ (y : ℕ × RowPlace). y.1) m.2 in
       (w.0.0, record { i = 0; number_is = number; rows = rows; list_is = refl; there = subst (λ q. Has (with_places 0 rows) (w.0.0, q)) place w.1 }, Has-append_left rows (joined lists) w.0.0 (row_there 0 rows w.0 w.1))
   | inr r ↦
       let w = row_of_place (k + 1) lists x r in
@@ -89,24 +89,24 @@ row_of_place k (rows ∷ lists) x h = elim (Has-append_cases (in_segment k (plac
       (w.0, record { i = suc w.1.i; number_is = number; rows = w.1.rows; list_is = w.1.list_is; there = w.1.there }, Has-append_right rows (joined lists) w.0 w.2)
 ]
 
-pub place_of_row : (k : ℕ) (lists : List (List StampedRow)) (s : StampedRow) → Has (joined lists) s → (x : ℕ × Posted) × Has (all_places k (map places_of lists)) x × Says x.1 s
+pub place_of_row : (k : ℕ) (lists : List (List StampedRow)) (s : StampedRow) → Has (joined lists) s → (x : ℕ × RowPlace) × Has (all_places k (map places_of lists)) x × Says x.1 s
 place_of_row k [] s h = absurd h
 place_of_row k (rows ∷ lists) s h = elim (Has-append_cases rows (joined lists) s h) [
   | inl l ↦
       let w = place_there rows s l in
-      ((k, w.0), Has-append_left (in_segment k (places_of rows)) (all_places (k + 1) (map places_of lists)) (k, w.0) (Has-map_from (λ (p : Posted). (k, p)) (places_of rows) w.0 w.1), w.2)
+      ((k, w.0), Has-append_left (in_segment k (places_of rows)) (all_places (k + 1) (map places_of lists)) (k, w.0) (Has-map_from (λ (p : RowPlace). (k, p)) (places_of rows) w.0 w.1), w.2)
   | inr r ↦
       let w = place_of_row (k + 1) lists s r in
       (w.0, Has-append_right (in_segment k (places_of rows)) (all_places (k + 1) (map places_of lists)) w.0 w.1, w.2)
 ]
 
-pub stands_at : (lists : List (List StampedRow)) (n : ℕ) (p : Posted) (s : StampedRow) → StandsFrom 0 lists n p s → StandsAt lists n p s
+pub stands_at : (lists : List (List StampedRow)) (n : ℕ) (p : RowPlace) (s : StampedRow) → StandsFrom 0 lists n p s → StandsAt lists n p s
 stands_at lists n p s w = record { rows = w.rows; list_is = subst (λ j. slice_get lists j ≡ Some w.rows) (let e = w.number_is in omega arith) w.list_is; there = w.there }
 
-pub says_at : (k : ℕ) (lists : List (List StampedRow)) (n : ℕ) (p : Posted) (s : StampedRow) → StandsFrom k lists n p s → Says p s
+pub says_at : (k : ℕ) (lists : List (List StampedRow)) (n : ℕ) (p : RowPlace) (s : StampedRow) → StandsFrom k lists n p s → Says p s
 says_at k lists n p s w = says 0 w.rows (s, p) w.there
 
--- ---- what the latest candidate says of a lookup
+-- ---- what the latest candidate says of a component's row
 
 number_test : (k l i j : ℕ) → k ≡ l → i ≡ j → (k == l && i == j) ≡ true
 number_test k l i j e f = grind (arith, nat_tests, e, f)
@@ -118,17 +118,17 @@ id_from : (k l i j : ℕ) → (k == l && i == j) ≡ true → i ≡ j
 id_from k l i j e = grind (arith, nat_tests, e)
 
 module _ (kind : Kind) (id date pin : ℕ) (lists : List (List StampedRow)) (are : AreLists lists) where
-  abbrev shown : List Version
+  abbrev shown : List RowValue
   shown = rows_at pin (listed lists)
 
   -- a version that is shown has a candidate
-  record HasCandidate (c : Version) : Type 0 where
-    x : ℕ × Posted
+  record HasCandidate (c : RowValue) : Type 0 where
+    x : ℕ × RowPlace
     there : Has (all_places 0 (map places_of lists)) x
     passes : is_candidate kind id date pin x.1 ≡ true
     time_is : x.1.key.time ≡ c.time
 
-  candidate_of : (c : Version) → Has shown c → IsVersionOf kind id c → c.time ≤ date → HasCandidate c
+  candidate_of : (c : RowValue) → Has shown c → IsVersionOf kind id c → c.time ≤ date → HasCandidate c
   candidate_of c h v early =
       let w = Has-rows_at_cases pin (listed lists) c h in
       let q = place_of_row 0 lists w.stamped_row (Has-listed_cases lists w.stamped_row w.known) in
@@ -145,10 +145,10 @@ module _ (kind : Kind) (id date pin : ℕ) (lists : List (List StampedRow)) (are
         time_is = times;
       }
 
-  pub lookup_from_pick : (best : Option (ℕ × Posted)) → Picks kind id date pin (all_places 0 (map places_of lists)) best → IsPlaceOf lists (lookup kind id date shown) best
+  pub get_from_pick : (best : Option (ℕ × RowPlace)) → Picks kind id date pin (all_places 0 (map places_of lists)) best → IsPlaceOf lists (get kind id date shown) best
   unfolding IsPick
-  lookup_from_pick None none = lookup_none kind id date shown (λ c h v early. let k = candidate_of c h v early in none k.x k.there k.passes)
-  lookup_from_pick (Some b) l =
+  get_from_pick None none = get_none kind id date shown (λ c h v early. let k = candidate_of c h v early in none k.x k.there k.passes)
+  get_from_pick (Some b) l =
       let w = row_of_place 0 lists b l.there in
       let m = says_at 0 lists b.0 b.1 w.0 w.1 in
       let k = candidate kind id date pin b.1 l.passes in
@@ -161,7 +161,7 @@ module _ (kind : Kind) (id date pin : ℕ) (lists : List (List StampedRow)) (are
       let early = k.early in (
         w.0,
         stands_at lists b.0 b.1 w.0 w.1,
-        lookup_is kind id date shown w.0.row (IsConsistent-from_ascending shown (IsAscending-rows_at pin (listed lists) (IsAscending-listed lists)))
+        get_is kind id date shown w.0.row (IsConsistent-from_ascending shown (IsAscending-rows_at pin (listed lists) (IsAscending-listed lists)))
             (Has-rows_at_from pin (listed lists) w.0 (Has-listed_from lists w.0 are w.2) (omega arith))
             (record { kind_is = kinds; id_is = ids })
             (omega arith)

@@ -12,33 +12,33 @@ use Rattle.history_model.specs.Lists.{ShareNoKey as RowsShareNoKey, EachApart as
 use Rattle.history_model.proofs.InOrder.{Has-all, all_from_has}
 use Rattle.history_model.proofs.Filtered.{Has-map}
 use Rattle.segment.specs.Standing.{record_len}
-use Rattle.segment.specs.declared.place.Posted.{Posted}
-use Rattle.segment.specs.Standing.{posted, with_places, places_of}
+use Rattle.segment.specs.declared.place.RowPlace.{RowPlace}
+use Rattle.segment.specs.Standing.{row_place, with_places, places_of}
 use Rattle.as_of_index.specs.Places.{place_cmp, ShareNoKey, EachApart, PlacesOfLists, ListsMore, ListsMerged}
 use Rattle.segment.proofs.Posting.{says, row_there}
 
 -- ---- the places of lists are places
 
-ascending_places : (at : ℕ) (rows : List StampedRow) → IsAscending stamped_cmp rows → IsAscending place_cmp (map (λ (x : StampedRow × Posted). x.1) (with_places at rows))
+ascending_places : (at : ℕ) (rows : List StampedRow) → IsAscending stamped_cmp rows → IsAscending place_cmp (map (λ (x : StampedRow × RowPlace). x.1) (with_places at rows))
 ascending_places at [] up = tt
 ascending_places at (r ∷ rows) up = (
-  all_from_has (λ q. place_cmp (posted r at) q ≡ Less) (map (λ (x : StampedRow × Posted). x.1) (with_places (at + record_len r) rows)) (λ q h.
-      let m = Has-map (λ (x : StampedRow × Posted). x.1) (with_places (at + record_len r) rows) q h in
+  all_from_has (λ q. place_cmp (row_place r at) q ≡ Less) (map (λ (x : StampedRow × RowPlace). x.1) (with_places (at + record_len r) rows)) (λ q h.
+      let m = Has-map (λ (x : StampedRow × RowPlace). x.1) (with_places (at + record_len r) rows) q h in
       let less = Has-all (λ t. stamped_cmp r t ≡ Less) rows m.0.0 up.0 (row_there (at + record_len r) rows m.0 m.1) in
-      let here = says at (r ∷ rows) (r, posted r at) (inl refl) in
+      let here = says at (r ∷ rows) (r, row_place r at) (inl refl) in
       let there = says (at + record_len r) rows m.0 m.1 in
-      subst (λ (k : Key). key_cmp k q.key ≡ Less) (sym here.key_is) (subst (λ (k : Key). key_cmp (key_of r.row) k ≡ Less) (sym there.key_is ∙ ap (λ (p : Posted). p.key) m.2) less)),
+      subst (λ (k : Key). key_cmp k q.key ≡ Less) (sym here.key_is) (subst (λ (k : Key). key_cmp (key_of r.row) k ≡ Less) (sym there.key_is ∙ ap (λ (p : RowPlace). p.key) m.2) less)),
   ascending_places (at + record_len r) rows up.1,
 )
 
 places_apart : (rows others : List StampedRow) → RowsShareNoKey rows others → ShareNoKey (places_of rows) (places_of others)
 places_apart rows others apart = λ p q h k e.
-    let a = Has-map (λ (x : StampedRow × Posted). x.1) (with_places 0 rows) p h in
-    let b = Has-map (λ (x : StampedRow × Posted). x.1) (with_places 0 others) q k in
+    let a = Has-map (λ (x : StampedRow × RowPlace). x.1) (with_places 0 rows) p h in
+    let b = Has-map (λ (x : StampedRow × RowPlace). x.1) (with_places 0 others) q k in
     let s = says 0 rows a.0 a.1 in
     let t = says 0 others b.0 b.1 in
     apart a.0.0 b.0.0 (row_there 0 rows a.0 a.1) (row_there 0 others b.0 b.1)
-    (sym s.key_is ∙ ap (λ (x : Posted). x.key) a.2 ∙ e ∙ ap (λ (x : Posted). x.key) (sym b.2) ∙ t.key_is)
+    (sym s.key_is ∙ ap (λ (x : RowPlace). x.key) a.2 ∙ e ∙ ap (λ (x : RowPlace). x.key) (sym b.2) ∙ t.key_is)
 
 ascending_each : (lists : List (List StampedRow)) → AllByRecursion (λ rows. IsAscending stamped_cmp rows) lists → AllByRecursion (λ places. IsAscending place_cmp places) (map places_of lists)
 ascending_each [] a = tt

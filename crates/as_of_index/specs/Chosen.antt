@@ -3,11 +3,11 @@ use Rattle.std.specs.Prelude.{ℕ, List, [], ◌∷◌}
 use Rattle.std.specs.Ordering.{nat_cmp, ordering_then}
 use Rattle.std.specs.declared.cmp.Ordering.{Ordering}
 use Rattle.history_model.specs.declared.stamped.StampedRow.{StampedRow}
-use Rattle.segment.specs.declared.place.Posted.{Posted}
+use Rattle.segment.specs.declared.place.RowPlace.{RowPlace}
 use Rattle.as_of_index.specs.declared.chosen.Chosen.{Chosen}
 use Rattle.segment.specs.Standing.{StandsAt}
 
-abbrev pub chosen : ℕ → Posted → Chosen
+abbrev pub chosen : ℕ → RowPlace → Chosen
 chosen n at = record { segment = n; at = at; refset = 0; target = 0 }
 
 -- by refset, then by target, then by member

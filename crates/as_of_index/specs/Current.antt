@@ -3,13 +3,13 @@
 use Rattle.std.specs.Prelude.{◌≡◌, ℕ, Bool, ◌&&◌, ◌==◌, List, Some}
 use Rattle.std.specs.List.{list_any}
 use Rattle.rf2_values.specs.declared.key.Key.{Key}
-use Rattle.rf2_values.specs.Row.{Version}
+use Rattle.rf2_values.specs.Row.{RowValue}
 use Rattle.rf2_values.specs.Key.{kind_place, key_of}
 use Rattle.history_model.specs.declared.stamped.StampedRow.{StampedRow}
 use Rattle.history_model.specs.History.{rows_at}
 use Rattle.history_model.specs.Lists.{listed}
-use Rattle.history_model.specs.Queries.{lookup}
-use Rattle.segment.specs.declared.place.Posted.{Posted}
+use Rattle.history_model.specs.Queries.{get}
+use Rattle.segment.specs.declared.place.RowPlace.{RowPlace}
 use Rattle.segment.specs.Standing.{StandsAt}
 
 -- the keys are one
@@ -17,16 +17,16 @@ abbrev pub is_same_key : Key → Key → Bool
 is_same_key a b = kind_place a.kind == kind_place b.kind && a.id == b.id && a.time == b.time
 
 -- the places are one
-abbrev pub is_same_place : ℕ → Posted → ℕ → Posted → Bool
+abbrev pub is_same_place : ℕ → RowPlace → ℕ → RowPlace → Bool
 is_same_place n p m q =
     n == m && kind_place p.key.kind == kind_place q.key.kind && p.key.id == q.key.id
     && p.key.time == q.key.time && p.import == q.import && p.at == q.at && p.bytes == q.bytes
 
 -- the version is one of those with these keys
-abbrev pub is_among : List Key → Version → Bool
+abbrev pub is_among : List Key → RowValue → Bool
 is_among keys row = list_any (λ key. is_same_key key (key_of row)) keys
 
 -- the version that stands at the place is the one at the date, of those that the pin shows
-abbrev pub IsCurrentAt : List (List StampedRow) → ℕ → ℕ → ℕ → Posted → Type 0
+abbrev pub IsCurrentAt : List (List StampedRow) → ℕ → ℕ → ℕ → RowPlace → Type 0
 IsCurrentAt lists date pin n at = (s : StampedRow) × StandsAt lists n at s
-    × (lookup at.key.kind at.key.id date (rows_at pin (listed lists)) ≡ Some s.row)
+    × (get at.key.kind at.key.id date (rows_at pin (listed lists)) ≡ Some s.row)

@@ -1,13 +1,13 @@
 -- What is posted of rows, each with its own place: any of what a version may be looked for by.
 use Rattle.std.specs.Prelude.{ℕ, ◌+◌, List, [], ◌∷◌, ◌++◌, map}
 use Rattle.std.specs.List.Sorted.{IsPermutation}
-use Rattle.rf2_values.specs.Row.{Version}
+use Rattle.rf2_values.specs.Row.{RowValue}
 use Rattle.history_model.specs.declared.stamped.StampedRow.{StampedRow}
-use Rattle.segment.specs.declared.place.Posted.{Posted}
+use Rattle.segment.specs.declared.place.RowPlace.{RowPlace}
 use Rattle.segment.specs.Standing.{with_places}
 
 -- what is posted of each row, one after the other
-abbrev pub posted_all : {X : Type 0} → (Version → Posted → List X) → List (StampedRow × Posted)
+abbrev pub posted_all : {X : Type 0} → (RowValue → RowPlace → List X) → List (StampedRow × RowPlace)
     → List X
 posted_all posted [] = []
 posted_all posted (x ∷ xs) = posted x.0.row x.1 ++ posted_all posted xs
@@ -18,7 +18,7 @@ numbered n [] = []
 numbered n (xs ∷ lists) = map (λ x. (n, x)) xs ++ numbered (n + 1) lists
 
 -- the lists are the postings of these lists' rows, each row pushed with its own place
-abbrev pub AllPosted : {X : Type 0} → (Version → Posted → List X) → List (List StampedRow)
+abbrev pub AllPosted : {X : Type 0} → (RowValue → RowPlace → List X) → List (List StampedRow)
     → List (List X) → Type 0
 AllPosted posted [] [] = Unit {0}
 AllPosted posted [] (ts ∷ postings) = ⊥

@@ -10,14 +10,14 @@ ghost use Rattle.fault_counts.specs.declared.fault.ReadFault.TheVariants as read
 use crate::reader::RowReader;
 use fault_counts::ReadFault;
 use rf2_values::Row;
-use segment::Posted;
+use segment::RowPlace;
 use std::alloc::Global;
 
 /// A row that is to be read: the number of its list, from 0 on, and where it stands.
 #[derive(Clone, Copy, Debug)]
 pub struct Chosen {
     pub segment: usize,
-    pub at: Posted,
+    pub at: RowPlace,
     /// The refset and the target of an association; else 0.
     pub refset: u64,
     pub target: u64,

@@ -4,16 +4,16 @@ ghost use Rattle.std.specs.Prelude.{IfOk, None};
 ghost use Rattle.as_of_index.specs.Search.{all_places, ArePassed, IsPick, IsNextId};
 ghost use Rattle.as_of_index.specs.declared.search.Start.TheVariants as starts;
 
-use crate::listed::Listed;
+use crate::place_list::PlaceList;
 use crate::search::{Start, go_on, id_at, later, latest_from, lesser, place};
 use rf2_values::{EffectiveTime, Kind};
-use segment::Posted;
+use segment::RowPlace;
 use std::alloc::{AllocError, Global};
 
 /// Each at the first place of its list that isn't passed over.
 pub(crate) fn cursors_at(
     alloc: Global,
-    lists: &[Listed],
+    lists: &[PlaceList],
     start: &Start,
 ) -> Result<Vec<usize>, AllocError>
     ensures { IfOk result (λ cursors. ArePassed start.now lists.now cursors.items) }
@@ -27,7 +27,7 @@ pub(crate) fn cursors_at(
 
 /// The least id of a kind above `after`, if that is given.
 pub(crate) fn next_id(
-    lists: &[Listed],
+    lists: &[PlaceList],
     cursors: &mut Vec<usize>,
     kind: Kind,
     after: Option<u128>,
@@ -50,13 +50,13 @@ pub(crate) fn next_id(
 /// The latest version of the component up to the date
 /// that the pin shows, and the number of its list.
 pub(crate) fn latest_on(
-    lists: &[Listed],
+    lists: &[PlaceList],
     cursors: &[usize],
     kind: Kind,
     id: u128,
     time: EffectiveTime,
     pin: u32,
-) -> Option<(usize, Posted)>
+) -> Option<(usize, RowPlace)>
     requires { ArePassed (starts.Later kind id None) lists.now cursors.now }
     ensures { IsPick kind id time pin (λ x. x.1) (all_places 0 lists.now) result }
 {

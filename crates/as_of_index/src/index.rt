@@ -8,7 +8,9 @@ ghost use Rattle.std.specs.Option.{option_to_list};
 ghost use Rattle.history_model.specs.declared.stamped.StampedRow.{StampedRow};
 ghost use Rattle.history_model.specs.History.{rows_at};
 ghost use Rattle.history_model.specs.Lists.{listed};
-ghost use Rattle.history_model.specs.Queries.{lookup, versions, page};
+ghost use Rattle.history_model.specs.Queries.{get, versions, page};
+ghost use Rattle.segment.specs.Standing.{StandsAt};
+ghost use Rattle.segment.specs.declared.place.RowPlace.{RowPlace};
 ghost use Rattle.as_of_index.specs.Places.{max_lists, ArePlaces, Lists};
 ghost use Rattle.fault_counts.specs.Counting.{Counts, CountsDiskFault, CountsDamage};
 ghost use Rattle.as_of_index.specs.Current.{is_same_place, IsCurrentAt};
@@ -16,13 +18,13 @@ ghost use Rattle.as_of_index.specs.Search.{all_places, IsPick, IsPlaceOf, IsNext
 ghost use Rattle.fault_counts.specs.declared.fault.ReadFault.TheVariants as readfault;
 
 use crate::cursors::{cursors_at, latest_on, next_id};
-use crate::listed::Listed;
+use crate::place_list::PlaceList;
 use crate::reader::RowReader;
-use crate::search::Start;
+use crate::search::{Start, from_byte};
 use crate::several::{is_apart, latest, next_version};
 use fault_counts::ReadFault;
 use rf2_values::{EffectiveTime, Kind, Row};
-use segment::Posted;
+use segment::RowPlace;
 use std::alloc::{AllocError, Global};
 use std::marker::Model;
 
@@ -32,16 +34,16 @@ pub const MAX_LISTS: usize = 250;
 /// The places of several segments' rows, no key of which is listed twice.
 #[derive(Drop)]
 pub struct Index {
-    lists: Vec<Listed>,
+    lists: Vec<PlaceList>,
     alloc: Global,
 }
 
 impl Model for Index {
     ghost use Rattle.std.specs.Prelude.{List, vec_capacity, ◌≤◌};
-    ghost use Rattle.segment.specs.declared.place.Posted.{Posted};
+    ghost use Rattle.segment.specs.declared.place.RowPlace.{RowPlace};
     ghost use Rattle.as_of_index.specs.Places.{ArePlaces, max_lists};
 
-    ghost Value = { List (List Posted) };
+    ghost Value = { List (List RowPlace) };
 
     ghost view = { λ a. a.lists.items };
 
@@ -49,7 +51,7 @@ impl Model for Index {
         { places : ArePlaces a.lists.items; room : max_lists ≤ vec_capacity a.lists } };
 }
 
-fn is_same_place(n: usize, p: &Posted, m: usize, q: &Posted) -> bool
+fn is_same_place(n: usize, p: &RowPlace, m: usize, q: &RowPlace) -> bool
     ensures { result ≡ is_same_place n p.now m q.now }
 {
     n == m
@@ -61,20 +63,20 @@ fn is_same_place(n: usize, p: &Posted, m: usize, q: &Posted) -> bool
         && p.bytes == q.bytes
 }
 
-fn time_of(p: &Posted) -> EffectiveTime
+fn time_of(p: &RowPlace) -> EffectiveTime
     ensures { result ≡ p.now.key.time }
 {
     p.key.time
 }
 
-fn is_shown(p: &Posted, pin: u32) -> bool
+fn is_shown(p: &RowPlace, pin: u32) -> bool
     ensures { IsTrue result ↔ (p.now.import ≤ pin) }
 {
     p.import <= pin
 }
 
 /// Whether the version holds from the date on or before it, and the pin shows it.
-fn is_early(p: &Posted, time: EffectiveTime, pin: u32) -> bool
+fn is_early(p: &RowPlace, time: EffectiveTime, pin: u32) -> bool
     ensures { IsTrue result ↔ ((p.now.key.time ≤ time) × (p.now.import ≤ pin)) }
 {
     p.key.time <= time && p.import <= pin
@@ -90,7 +92,7 @@ impl Index {
     }
 
     /// Whether a list may be added: there is room, and none of its keys is listed already.
-    pub fn may_add(&self, list: &Listed) -> bool
+    pub fn may_add(&self, list: &PlaceList) -> bool
         ensures { IsTrue result
             ↔ ((length self.now < max_lists) × ArePlaces (self.now ++ list.now ∷ [])) }
     {
@@ -98,7 +100,7 @@ impl Index {
     }
 
     /// Adds a list as the last. It takes no memory.
-    pub fn add(&mut self, list: Listed)
+    pub fn add(&mut self, list: PlaceList)
         requires room { length self.old < max_lists }
         requires places { ArePlaces (self.old ++ list ∷ []) }
         ensures { self.new ≡ self.old ++ list ∷ [] }
@@ -109,7 +111,7 @@ impl Index {
     }
 
     /// Puts a list in the place of two, at the first's. It takes no memory.
-    pub fn replace_two(&mut self, i: usize, j: usize, list: Listed)
+    pub fn replace_two(&mut self, i: usize, j: usize, list: PlaceList)
         requires places { i < j }
         requires within { j < length self.old }
         requires lists { ArePlaces (remove (slice_set self.old i list) j) }
@@ -128,7 +130,7 @@ impl Index {
     }
 
     /// The places of a list, in key order.
-    pub fn list(&self, i: usize) -> &[Posted]
+    pub fn list(&self, i: usize) -> &[RowPlace]
         requires { i < length self.now }
         ensures { slice_get self.now i ≡ Some result.now }
     {
@@ -137,23 +139,42 @@ impl Index {
 
     /// Where the component's row at the date stands, of the rows that the pin shows,
     /// and the number of its list. It makes one bisection a list, and reads no row.
-    pub fn picked(
+    pub fn place_at(
         &self,
         kind: Kind,
         id: u128,
         time: EffectiveTime,
         pin: u32,
-    ) -> Option<(usize, Posted)>
+    ) -> Option<(usize, RowPlace)>
         ensures places { ArePlaces self.now }
         ensures found { (lists : List (List StampedRow)) → Lists self.now lists
-            → IsPlaceOf lists (lookup kind id time (rows_at pin (listed lists))) result }
+            → IsPlaceOf lists (get kind id time (rows_at pin (listed lists))) result }
     {
         latest(self.lists.as_slice(), kind, id, time, pin)
     }
 
+    /// The place in a list of the row whose record begins at this byte, by one bisection. No row is
+    /// read.
+    pub fn place_from_byte(&self, segment: usize, byte: u32) -> Option<RowPlace>
+        // Where a row's record begins at the byte, its place is the answer.
+        ensures found { (lists : List (List StampedRow)) → Lists self.now lists
+            → (at : RowPlace) (s : StampedRow) → StandsAt lists segment at s → at.at ≡ byte
+            → result ≡ Some at }
+        ensures only { (lists : List (List StampedRow)) → Lists self.now lists
+            → (at : RowPlace) → result ≡ Some at
+            → (at.at ≡ byte) × (s : StampedRow) × StandsAt lists segment at s }
+    {
+        let lists = self.lists.as_slice();
+        if segment < lists.len() {
+            from_byte(lists[segment].places(), byte)
+        } else {
+            None
+        }
+    }
+
     /// Whether the version that stands at the place is the one
     /// at the date, of those that the pin shows. No row is read.
-    pub fn is_current(&self, segment: usize, at: Posted, time: EffectiveTime, pin: u32) -> bool
+    pub fn is_current(&self, segment: usize, at: RowPlace, time: EffectiveTime, pin: u32) -> bool
         ensures { (lists : List (List StampedRow)) → Lists self.now lists
             → IsTrue result ↔ IsCurrentAt lists time pin segment at }
     {
@@ -161,14 +182,14 @@ impl Index {
         if !is_early(&at, time, pin) {
             return false;
         }
-        match self.picked(at.key.kind, at.key.id, time, pin) {
+        match self.place_at(at.key.kind, at.key.id, time, pin) {
             Some((n, p)) => is_same_place(n, &p, segment, &at),
             None => false,
         }
     }
 
     /// The component's row at the date, of the rows that the pin shows. One row is read at most.
-    pub fn pick<R: RowReader>(
+    pub fn get<R: RowReader>(
         &self,
         reader: &mut R,
         kind: Kind,
@@ -178,7 +199,7 @@ impl Index {
     ) -> Result<Option<Row>, ReadFault>
         ensures found { R.is_honest reader.old → Lists self.now (R.lists reader.old)
             → IfOk result (λ found. found
-            ≡ lookup kind id time (rows_at pin (listed (R.lists reader.old)))) }
+            ≡ get kind id time (rows_at pin (listed (R.lists reader.old)))) }
         ensures undamaged { R.is_honest reader.old → Lists self.now (R.lists reader.old)
             → IfErr result (λ e. e ≢ readfault.Damaged) }
         // No more is read than the row that it answers takes, and nothing where it answers none.
@@ -191,7 +212,7 @@ impl Index {
             (R.disk_faults reader.old) (R.disk_faults reader.new) }
         ensures damages { Counts CountsDamage result (R.damages reader.old) (R.damages reader.new) }
     {
-        match self.picked(kind, id, time, pin) {
+        match self.place_at(kind, id, time, pin) {
             None => Ok(None),
             Some((segment, at)) => {
                 let found = reader.row(self.alloc, segment, at)?;
@@ -244,9 +265,9 @@ impl Index {
         reader: &mut R,
         kind: Kind,
         time: EffectiveTime,
-        pin: u32,
         after: Option<u128>,
         limit: u32,
+        pin: u32,
     ) -> Result<Vec<Row>, ReadFault>
         ensures found { R.is_honest reader.old → Lists self.now (R.lists reader.old)
             → IfOk result (λ rows. rows.items

@@ -15,7 +15,7 @@ use crate::reader::RowReader;
 use fault_counts::{ReadFault, raised};
 use history_model::StampedRow;
 use rf2_values::Key;
-use segment::Posted;
+use segment::RowPlace;
 use std::alloc::Global;
 use std::cmp::Ordering;
 
@@ -92,7 +92,12 @@ impl RowReader for KeptRows<'_> {
 
     ghost stays_on = { λ a b c ab bc. bc ∙ ab };
 
-    fn row(&mut self, alloc: Global, segment: usize, at: Posted) -> Result<StampedRow, ReadFault> {
+    fn row(
+        &mut self,
+        alloc: Global,
+        segment: usize,
+        at: RowPlace,
+    ) -> Result<StampedRow, ReadFault> {
         self.reads = self.reads.saturating_add(1);
         if segment < self.lists.len() {
             let rows = &self.lists[segment];

@@ -2,22 +2,22 @@
 //! rows are read through a reader that is lent.
 #![tactic(auto)]
 
-mod beside;
 mod chosen;
 mod cursors;
 mod index;
 mod kept;
 pub mod laws;
-mod listed;
+mod per_list;
+mod place_list;
 mod reader;
 mod search;
 mod several;
 
-pub use beside::Beside;
 pub use chosen::{Chosen, read_all};
 pub use fault_counts::ReadFault;
 pub use index::{Index, MAX_LISTS};
 pub use kept::KeptRows;
-pub use listed::Listed;
+pub use per_list::PerList;
+pub use place_list::PlaceList;
 pub use reader::RowReader;
-pub use segment::Posted;
+pub use segment::RowPlace;

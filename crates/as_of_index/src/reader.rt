@@ -1,7 +1,7 @@
 //! Rows that are read at their places.
 
 ghost use Rattle.std.specs.Prelude.{◌≡◌, ◌≢◌, ℕ, ◌+◌, ◌≤◌, List, ◌↔◌, IfOk, IfErr, ◌<◌};
-ghost use Rattle.rf2_values.specs.Row.{Version};
+ghost use Rattle.rf2_values.specs.Row.{RowValue};
 ghost use Rattle.history_model.specs.declared.stamped.StampedRow.{StampedRow};
 ghost use Rattle.segment.specs.Standing.{StandsAt};
 ghost use Rattle.fault_counts.specs.Counting.{Counts, CountsDiskFault, CountsDamage};
@@ -9,7 +9,7 @@ ghost use Rattle.fault_counts.specs.declared.fault.ReadFault.TheVariants as read
 
 use fault_counts::ReadFault;
 use history_model::StampedRow;
-use segment::Posted;
+use segment::RowPlace;
 use std::alloc::Global;
 
 /// Lists of rows, lent to be read at their places. A call leaves them as they are.
@@ -27,7 +27,7 @@ pub trait RowReader {
     ghost work: { Self → ℕ };
 
     /// The most that reading a row takes, in this measure.
-    ghost cost: { Version → ℕ };
+    ghost cost: { RowValue → ℕ };
 
     /// What it gives are the rows of its lists.
     ghost is_honest: { Self → Type 0 };
@@ -36,7 +36,7 @@ pub trait RowReader {
     ghost stays: { Self → Self → Type 0 };
 
     /// The row at a place of a list.
-    fn row(&mut self, alloc: Global, segment: usize, at: Posted) -> Result<StampedRow, ReadFault>
+    fn row(&mut self, alloc: Global, segment: usize, at: RowPlace) -> Result<StampedRow, ReadFault>
         ensures found { is_honest self.old → (s : StampedRow)
             → StandsAt (lists self.old) segment at s → IfOk result (λ row. row ≡ s) }
         // Where a row stands, its reader answers a fault of the device or of memory alone.

@@ -1,6 +1,6 @@
 //! Searches in one list of places, by bisection.
 
-ghost use Rattle.std.specs.Prelude.{◌≡◌, ◌≤◌, ◌++◌, ◌∷◌, [], ℕ, ◌↔◌, length, IsTrue, find, reverse, take, drop, true, slice_get, None};
+ghost use Rattle.std.specs.Prelude.{◌≡◌, ◌≤◌, ◌++◌, ◌∷◌, [], ℕ, ◌↔◌, length, IsTrue, find, reverse, take, drop, true, slice_get, Some, None};
 ghost use Rattle.std.specs.List.{AllByRecursion};
 ghost use Rattle.std.specs.Option.{option_copied};
 ghost use Rattle.std.specs.declared.cmp.Ordering.TheVariants.{Equal};
@@ -8,12 +8,12 @@ ghost use Rattle.rf2_values.specs.Key.{kind_place, key_cmp};
 ghost use Rattle.history_model.specs.InOrder.{Has, IsAscending};
 ghost use Rattle.history_model.specs.Queries.{is_above};
 ghost use Rattle.as_of_index.specs.Places.{place_cmp, ShareNoKey};
-ghost use Rattle.as_of_index.specs.Search.{is_under, is_of, is_before, SplitsAt, stops, IsPassed, IsPick, id_of_kind, later_of, lesser_of, IsNext, sooner_of};
+ghost use Rattle.as_of_index.specs.Search.{byte_cmp, is_under, is_of, is_before, SplitsAt, stops, IsPassed, IsPick, id_of_kind, later_of, lesser_of, IsNext, sooner_of};
 ghost use Rattle.as_of_index.specs.declared.search.Start.TheVariants as starts;
-ghost use Rattle.segment.specs.declared.place.Posted.{Posted};
+ghost use Rattle.segment.specs.declared.place.RowPlace.{RowPlace};
 
 use rf2_values::{EffectiveTime, Key, Kind};
-use segment::Posted;
+use segment::RowPlace;
 use std::cmp::Ordering;
 
 /// Where a search begins: what it passes over.
@@ -57,13 +57,13 @@ fn is_time_above(after: Option<EffectiveTime>, time: EffectiveTime) -> bool
 }
 
 /// Whether the place is that of a version of the component.
-pub(crate) fn is_of(kind: Kind, id: u128, p: &Posted) -> bool
+pub(crate) fn is_of(kind: Kind, id: u128, p: &RowPlace) -> bool
     ensures { result ≡ is_of kind id p.now }
 {
     p.key.kind as u8 == kind as u8 && p.key.id == id
 }
 
-fn is_before(start: Start, p: &Posted) -> bool
+fn is_before(start: Start, p: &RowPlace) -> bool
     ensures { result ≡ is_before start p.now }
 {
     match start {
@@ -85,7 +85,7 @@ fn is_before(start: Start, p: &Posted) -> bool
 }
 
 /// The first place that isn't passed over.
-pub(crate) fn place(list: &[Posted], start: Start) -> usize
+pub(crate) fn place(list: &[RowPlace], start: Start) -> usize
     ensures within { result ≤ length list.now }
     ensures split { IsAscending place_cmp list.now → SplitsAt (is_before start) list.now result }
 {
@@ -93,14 +93,14 @@ pub(crate) fn place(list: &[Posted], start: Start) -> usize
 }
 
 /// The place there, not copied.
-pub(crate) fn lent_at(list: &[Posted], i: usize) -> Option<&Posted>
+pub(crate) fn lent_at(list: &[RowPlace], i: usize) -> Option<&RowPlace>
     ensures { option_copied result ≡ slice_get list.now i }
 {
     list.get(i)
 }
 
 /// The first place from `from` on that isn't passed over.
-pub(crate) fn go_on(list: &[Posted], from: usize, start: &Start) -> usize
+pub(crate) fn go_on(list: &[RowPlace], from: usize, start: &Start) -> usize
     requires { from ≤ length list.now }
     ensures within { result ≤ length list.now }
     ensures split { IsAscending place_cmp list.now
@@ -117,13 +117,13 @@ pub(crate) fn go_on(list: &[Posted], from: usize, start: &Start) -> usize
     place
 }
 
-fn stops(kind: Kind, id: u128, pin: u32, p: &Posted) -> bool
+fn stops(kind: Kind, id: u128, pin: u32, p: &RowPlace) -> bool
     ensures { result ≡ stops kind id pin p.now }
 {
     !is_of(kind, id, p) || p.import <= pin
 }
 
-fn last_stop(list: &[Posted], kind: Kind, id: u128, pin: u32) -> Option<&Posted>
+fn last_stop(list: &[RowPlace], kind: Kind, id: u128, pin: u32) -> Option<&RowPlace>
     ensures { option_copied result ≡ find (stops kind id pin) (reverse list.now) }
 {
     list.iter().rev().find(|p| stops(kind, id, pin, p))
@@ -131,12 +131,12 @@ fn last_stop(list: &[Posted], kind: Kind, id: u128, pin: u32) -> Option<&Posted>
 
 /// The last version of the component before a place that the pin shows.
 pub(crate) fn latest_before(
-    list: &[Posted],
+    list: &[RowPlace],
     end: usize,
     kind: Kind,
     id: u128,
     pin: u32,
-) -> Option<Posted>
+) -> Option<RowPlace>
     requires { end ≤ length list.now }
     ensures { (date : ℕ) → IsAscending place_cmp list.now
         → SplitsAt (is_before (starts.AfterVersion kind id date)) list.now end
@@ -151,13 +151,13 @@ pub(crate) fn latest_before(
 /// The latest version of the component in the list, up to the date, that the pin shows.
 /// All that stands before the cursor is below the component: a search that stops there finds none.
 pub(crate) fn latest_from(
-    list: &[Posted],
+    list: &[RowPlace],
     cursor: usize,
     kind: Kind,
     id: u128,
     time: EffectiveTime,
     pin: u32,
-) -> Option<Posted>
+) -> Option<RowPlace>
     requires { IsPassed (starts.Later kind id None) list.now cursor }
     ensures { IsAscending place_cmp list.now → IsPick kind id time pin (λ p. p) list.now result }
 {
@@ -170,12 +170,12 @@ pub(crate) fn latest_from(
 
 /// The latest version of the component in the list, up to the date, that the pin shows.
 pub(crate) fn latest_in(
-    list: &[Posted],
+    list: &[RowPlace],
     kind: Kind,
     id: u128,
     time: EffectiveTime,
     pin: u32,
-) -> Option<Posted>
+) -> Option<RowPlace>
     ensures { IsAscending place_cmp list.now → IsPick kind id time pin (λ p. p) list.now result }
 {
     let end = place(list, Start::AfterVersion { kind, id, time });
@@ -183,10 +183,10 @@ pub(crate) fn latest_in(
 }
 
 pub(crate) fn later(
-    best: Option<(usize, Posted)>,
+    best: Option<(usize, RowPlace)>,
     segment: usize,
-    found: Option<Posted>,
-) -> Option<(usize, Posted)>
+    found: Option<RowPlace>,
+) -> Option<(usize, RowPlace)>
     ensures { result ≡ later_of best segment found }
 {
     match (best, found) {
@@ -202,22 +202,35 @@ pub(crate) fn later(
     }
 }
 
-pub(crate) fn place_at(list: &[Posted], i: usize) -> Option<Posted>
+pub(crate) fn nth_place(list: &[RowPlace], i: usize) -> Option<RowPlace>
     ensures { result ≡ slice_get list.now i }
 {
     list.get(i).copied()
 }
 
+/// The place at this byte, in a list in which the bytes ascend.
+pub(crate) fn from_byte(list: &[RowPlace], byte: u32) -> Option<RowPlace>
+    ensures found { IsAscending byte_cmp list.now → (p : RowPlace) → Has list.now p → p.at ≡ byte
+        → result ≡ Some p }
+    ensures only { (p : RowPlace) → result ≡ Some p → Has list.now p × (p.at ≡ byte) }
+{
+    let first = list.partition_point(|p| p.at < byte);
+    match nth_place(list, first) {
+        Some(p) if p.at == byte => Some(p),
+        _ => None,
+    }
+}
+
 /// The first place of the list that isn't passed over.
-pub(crate) fn next_in(list: &[Posted], start: Start) -> Option<Posted>
+pub(crate) fn next_in(list: &[RowPlace], start: Start) -> Option<RowPlace>
     ensures { IsAscending place_cmp list.now → IsNext start (λ p. p) list.now result }
 {
     let first = place(list, start);
-    place_at(list, first)
+    nth_place(list, first)
 }
 
 /// The id of the place there, if it is one of the kind.
-pub(crate) fn id_at(list: &[Posted], i: usize, kind: Kind) -> Option<u128>
+pub(crate) fn id_at(list: &[RowPlace], i: usize, kind: Kind) -> Option<u128>
     ensures { result ≡ id_of_kind kind (slice_get list.now i) }
 {
     match lent_at(list, i) {
@@ -243,17 +256,17 @@ pub(crate) fn lesser(best: Option<u128>, found: Option<u128>) -> Option<u128>
     }
 }
 
-fn compare(a: &Posted, b: &Posted) -> Ordering
+fn compare(a: &RowPlace, b: &RowPlace) -> Ordering
     ensures { result ≡ place_cmp a.now b.now }
 {
     a.key.compare(&b.key)
 }
 
 pub(crate) fn sooner(
-    best: Option<(usize, Posted)>,
+    best: Option<(usize, RowPlace)>,
     segment: usize,
-    found: Option<Posted>,
-) -> Option<(usize, Posted)>
+    found: Option<RowPlace>,
+) -> Option<(usize, RowPlace)>
     ensures { result ≡ sooner_of best segment found }
 {
     match (best, found) {
@@ -266,7 +279,7 @@ pub(crate) fn sooner(
     }
 }
 
-fn is_under(p: &Posted, key: &Key) -> bool
+fn is_under(p: &RowPlace, key: &Key) -> bool
     ensures { result ≡ is_under (λ p. p.key) key.now p.now }
 {
     match p.key.compare(key) {
@@ -277,14 +290,14 @@ fn is_under(p: &Posted, key: &Key) -> bool
 }
 
 /// The first place whose key isn't below a key.
-fn place_of_key(list: &[Posted], key: Key) -> usize
+fn place_of_key(list: &[RowPlace], key: Key) -> usize
     ensures { IsAscending place_cmp list.now
         → SplitsAt (is_under (λ p. p.key) key) list.now result }
 {
     list.partition_point(|p| is_under(p, &key))
 }
 
-fn is_key(p: &Posted, key: &Key) -> bool
+fn is_key(p: &RowPlace, key: &Key) -> bool
     ensures { IsTrue result ↔ (key_cmp p.now.key key.now ≡ Equal) }
 {
     match p.key.compare(key) {
@@ -293,18 +306,18 @@ fn is_key(p: &Posted, key: &Key) -> bool
     }
 }
 
-fn has_key(list: &[Posted], key: Key) -> bool
+fn has_key(list: &[RowPlace], key: Key) -> bool
     requires { IsAscending place_cmp list.now }
-    ensures { IsTrue result ↔ ((p : Posted) × Has list.now p × (p.key ≡ key)) }
+    ensures { IsTrue result ↔ ((p : RowPlace) × Has list.now p × (p.key ≡ key)) }
 {
-    match place_at(list, place_of_key(list, key)) {
+    match nth_place(list, place_of_key(list, key)) {
         Some(p) => is_key(&p, &key),
         None => false,
     }
 }
 
 /// Whether no key is in both lists.
-pub(crate) fn share_no_key(list: &[Posted], other: &[Posted]) -> bool
+pub(crate) fn share_no_key(list: &[RowPlace], other: &[RowPlace]) -> bool
     requires { IsAscending place_cmp other.now }
     ensures { IsTrue result ↔ ShareNoKey list.now other.now }
 {
@@ -317,7 +330,7 @@ pub(crate) fn share_no_key(list: &[Posted], other: &[Posted]) -> bool
 }
 
 /// Whether the last of some places in key order is below a place.
-fn comes_after(list: &[Posted], p: &Posted) -> bool
+fn comes_after(list: &[RowPlace], p: &RowPlace) -> bool
     requires { IsAscending place_cmp list.now }
     ensures { IsTrue result ↔ IsAscending place_cmp (list.now ++ p.now ∷ []) }
 {
@@ -328,7 +341,7 @@ fn comes_after(list: &[Posted], p: &Posted) -> bool
 }
 
 /// Whether the keys of the places strictly ascend.
-pub(crate) fn are_ascending(list: &[Posted]) -> bool
+pub(crate) fn are_ascending(list: &[RowPlace]) -> bool
     ensures { IsTrue result ↔ IsAscending place_cmp list.now }
 {
     for (i, p) in list.iter().enumerate() {

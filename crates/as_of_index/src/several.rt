@@ -6,20 +6,20 @@ ghost use Rattle.history_model.specs.InOrder.{IsAscending};
 ghost use Rattle.as_of_index.specs.Places.{place_cmp, ShareNoKey};
 ghost use Rattle.as_of_index.specs.Search.{all_places, IsPick, IsNext, IsNextVersion};
 
-use crate::listed::Listed;
+use crate::place_list::PlaceList;
 use crate::search::{Start, is_of, later, latest_in, next_in, share_no_key, sooner};
 use rf2_values::{EffectiveTime, Kind};
-use segment::Posted;
+use segment::RowPlace;
 
 /// The latest version of the component up to the date
 /// that the pin shows, and the number of its list.
 pub(crate) fn latest(
-    lists: &[Listed],
+    lists: &[PlaceList],
     kind: Kind,
     id: u128,
     time: EffectiveTime,
     pin: u32,
-) -> Option<(usize, Posted)>
+) -> Option<(usize, RowPlace)>
     ensures { IsPick kind id time pin (λ x. x.1) (all_places 0 lists.now) result }
 {
     let mut best = None;
@@ -31,7 +31,7 @@ pub(crate) fn latest(
 }
 
 /// The first place of all lists that isn't passed over, and the number of its list.
-fn next(lists: &[Listed], start: &Start) -> Option<(usize, Posted)>
+fn next(lists: &[PlaceList], start: &Start) -> Option<(usize, RowPlace)>
     ensures { IsNext start.now (λ x. x.1) (all_places 0 lists.now) result }
 {
     let mut best = None;
@@ -44,11 +44,11 @@ fn next(lists: &[Listed], start: &Start) -> Option<(usize, Posted)>
 
 /// The first version of a component after a time, if that is given.
 pub(crate) fn next_version(
-    lists: &[Listed],
+    lists: &[PlaceList],
     kind: Kind,
     id: u128,
     after: Option<EffectiveTime>,
-) -> Option<(usize, Posted)>
+) -> Option<(usize, RowPlace)>
     ensures { IsNextVersion kind id after (all_places 0 lists.now) result }
 {
     let start = Start::Later { kind, id, after };
@@ -59,7 +59,7 @@ pub(crate) fn next_version(
 }
 
 /// Whether no key of the list is in one of the others.
-pub(crate) fn is_apart(lists: &[Listed], list: &Listed) -> bool
+pub(crate) fn is_apart(lists: &[PlaceList], list: &PlaceList) -> bool
     ensures apart { IsTrue result
         ↔ AllByRecursion (λ places. ShareNoKey places list.now) lists.now }
     ensures ascending { IsAscending place_cmp list.now }

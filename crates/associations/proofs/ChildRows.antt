@@ -8,7 +8,7 @@ use Rattle.std.specs.declared.cmp.Ordering.TheVariants.{Equal}
 use Rattle.std.proofs.lemmas.Bool.Decides.{nat_tests}
 use Rattle.rf2_values.specs.declared.row.Body.{Body}
 use Rattle.rf2_values.specs.declared.row.Body.TheVariants as body
-use Rattle.rf2_values.specs.Row.{Version}
+use Rattle.rf2_values.specs.Row.{RowValue}
 use Rattle.rf2_values.specs.Key.{key_of}
 use Rattle.history_model.specs.declared.stamped.StampedRow.{StampedRow}
 use Rattle.history_model.specs.InOrder.{Has, in_order, joined}
@@ -38,7 +38,7 @@ says_dest c d (body.Relationship r) e f = sym (eq_of r.destination c (both (r.de
 says_dest c d (body.Association x) e f = absurd (cc)
 says_dest c d (body.Concrete x) e f = absurd (cc)
 
-dest_of : (c d : ℕ) (row : Version) → is_child_of c row ≡ true → is_child_of d row ≡ true → c ≡ d
+dest_of : (c d : ℕ) (row : RowValue) → is_child_of c row ≡ true → is_child_of d row ≡ true → c ≡ d
 dest_of c d row e f = says_dest c d row.body (both row.active (says_is_a c row.body) e).1 (both row.active (says_is_a d row.body) f).1
 
 -- a number that ties with one that is there is there
@@ -46,32 +46,32 @@ number_there : (ids : List ℕ) (id : ℕ) → IsThere nat_cmp ids id → Has id
 number_there ids id w = subst (λ m. Has ids m) (sym (ranked id w.0 Equal (sym w.2))) w.1
 
 module _ (lists : List (List StampedRow)) (are : ArePlaces (map places_of lists)) (edges : List Edges) (posts : PostsLinks lists edges) (concept date pin : ℕ) where
-  abbrev at_date : List Version
+  abbrev at_date : List RowValue
   at_date = snapshot (shown lists are date pin) date
 
-  abbrev counts : Version → Bool
+  abbrev counts : RowValue → Bool
   counts row = is_child_of concept row && is_among (link_keys edges) row
 
   abbrev sources : List ℕ
-  sources = map (λ (row : Version). source_of row.body) (filter counts at_date)
+  sources = map (λ (row : RowValue). source_of row.body) (filter counts at_date)
 
   module _ (ids : List ℕ) (a : AreSources lists date pin concept (numbered 0 (links_in edges)) ids) where
     to_children : (id : ℕ) → Has ids id → Has sources id
     to_children id h =
         let w = a.1.only id (a.2.only id h) in
         let x = w.0 in
-        let s = w.3.0 in
+        let s = w.3.current.0 in
         let post = posts x w.1 in
-        let same : s ≡ post.0 = one_row lists are x.0 x.0 x.1.at x.1.at s post.0 w.3.1 post.1 refl in
+        let same : s ≡ post.0 = one_row lists are x.0 x.0 x.1.at x.1.at s post.0 w.3.current.1 post.1 refl in
         let child : is_child_of concept s.row ≡ true = subst (λ (z : StampedRow). is_child_of concept z.row ≡ true) (sym same) (subst (λ d. is_child_of d post.0.row ≡ true) w.2 post.2.says) in
-        let among : is_among (link_keys edges) s.row ≡ true = among_from (link_keys edges) s.row x.1.at.key (Has-map_from (λ (l : Link). l.at.key) (joined (links_in edges)) x.1 (has_numbered 0 (links_in edges) x w.1)) (standing_row lists are x.0 x.1.at s w.3.1).1 in
-        let there = Has-filter_from counts at_date s.row (looked_up x.1.at.key.kind x.1.at.key.id date (shown lists are date pin) s.row w.3.2) (rw (child, among) refl) in
-        let id_is : source_of s.row.body ≡ id = ap (λ (z : StampedRow). source_of z.row.body) same ∙ post.2.source_is ∙ w.4 in
-        subst (λ k. Has sources k) id_is (Has-map_from (λ (row : Version). source_of row.body) (filter counts at_date) s.row there)
+        let among : is_among (link_keys edges) s.row ≡ true = among_from (link_keys edges) s.row x.1.at.key (Has-map_from (λ (l : Link). l.at.key) (joined (links_in edges)) x.1 (has_numbered 0 (links_in edges) x w.1)) (standing_row lists are x.0 x.1.at s w.3.current.1).1 in
+        let there = Has-filter_from counts at_date s.row (looked_up x.1.at.key.kind x.1.at.key.id date (shown lists are date pin) s.row w.3.current.2) (rw (child, among) refl) in
+        let id_is : source_of s.row.body ≡ id = ap (λ (z : StampedRow). source_of z.row.body) same ∙ post.2.source_is ∙ w.3.answer_is in
+        subst (λ k. Has sources k) id_is (Has-map_from (λ (row : RowValue). source_of row.body) (filter counts at_date) s.row there)
 
     from_children : (id : ℕ) → Has sources id → Has ids id
     from_children id h =
-        let m = Has-map (λ (row : Version). source_of row.body) (filter counts at_date) id h in
+        let m = Has-map (λ (row : RowValue). source_of row.body) (filter counts at_date) id h in
         let row = m.0 in
         let f = Has-filter counts at_date row m.1 in
         let t = both (is_child_of concept row) (is_among (link_keys edges) row) f.1 in
@@ -80,9 +80,9 @@ module _ (lists : List (List StampedRow)) (are : ArePlaces (map places_of lists)
         let n = number_of 0 (links_in edges) l g.1 in
         let post = posts (n.0, l) n.1 in
         let now = current_where lists are date pin n.0 l.at post.0 row post.1 f.0 g.2 in
-        let dest : l.destination ≡ concept = dest_of l.destination concept post.0.row post.2.says (subst (λ (z : Version). is_child_of concept z ≡ true) now.0 t.0) in
-        let id_is : l.source ≡ id = sym post.2.source_is ∙ ap (λ (z : Version). source_of z.body) (sym now.0) ∙ m.2 in
-        subst (λ k. Has ids k) id_is (number_there ids l.source (a.2.there l.source (a.1.taken (n.0, l) n.1 dest now.1)))
+        let dest : l.destination ≡ concept = dest_of l.destination concept post.0.row post.2.says (subst (λ (z : RowValue). is_child_of concept z ≡ true) now.0 t.0) in
+        let id_is : l.source ≡ id = sym post.2.source_is ∙ ap (λ (z : RowValue). source_of z.body) (sym now.0) ∙ m.2 in
+        subst (λ k. Has ids k) id_is (number_there ids l.source (a.2.there l.source (a.1.taken (n.0, l) l.source n.1 dest (record { current = now.1; answer_is = refl }))))
 
     pub children_from_sources : ids ≡ children_among (link_keys edges) concept date (shown lists are date pin)
     unfolding children_among

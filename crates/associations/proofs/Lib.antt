@@ -4,3 +4,4 @@ pub mod Ranked
 pub mod ChildRows
 pub mod ReplacingRows
 pub mod Posted
+pub mod AboutRows

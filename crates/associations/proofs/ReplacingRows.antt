@@ -9,14 +9,14 @@ use Rattle.rf2_values.specs.declared.row.Kind.TheVariants as kinds
 use Rattle.rf2_values.specs.declared.row.Body.{Body}
 use Rattle.rf2_values.specs.declared.row.Body.TheVariants as body
 use Rattle.rf2_values.specs.declared.key.Key.{Key}
-use Rattle.rf2_values.specs.Row.{Version, kind_of, kind_of_body}
+use Rattle.rf2_values.specs.Row.{RowValue, kind_of, kind_of_body}
 use Rattle.rf2_values.specs.Key.{key_of}
 use Rattle.history_model.specs.declared.stamped.StampedRow.{StampedRow}
 use Rattle.history_model.specs.InOrder.{Has, IsAscending, in_order, joined}
-use Rattle.history_model.specs.Queries.{lookup, snapshot, is_replacement_of, refers_to, replacement_cmp}
+use Rattle.history_model.specs.Queries.{get, snapshot, is_replacement_of, refers_to, replacement_cmp}
 use Rattle.history_model.proofs.InOrder.{same_ascending, Has-put_all_cases, Has-put_all_new, IsAscending-in_order}
 use Rattle.history_model.proofs.Filtered.{both, Has-filter, Has-filter_from, Has-map, Has-map_from}
-use Rattle.segment.specs.declared.place.Posted.{Posted}
+use Rattle.segment.specs.declared.place.RowPlace.{RowPlace}
 use Rattle.segment.specs.Standing.{places_of, StandsAt}
 use Rattle.as_of_index.specs.declared.chosen.Chosen.{Chosen}
 use Rattle.as_of_index.specs.Places.{ArePlaces}
@@ -42,7 +42,7 @@ refers_dest c d (body.Relationship x) e f = absurd (cc)
 refers_dest c d (body.Association a) e f = sym (eq_of a.referenced c e) ∙ eq_of a.referenced d f
 refers_dest c d (body.Concrete x) e f = absurd (cc)
 
-associated : (d : ℕ) (row : Version) (b : Body) → row.body ≡ b → refers_to d b ≡ true → kind_of row ≡ kinds.Association
+associated : (d : ℕ) (row : RowValue) (b : Body) → row.body ≡ b → refers_to d b ≡ true → kind_of row ≡ kinds.Association
 associated d row (body.Concept x) e f = absurd (cc)
 associated d row (body.Description x) e f = absurd (cc)
 associated d row (body.Relationship x) e f = absurd (cc)
@@ -50,13 +50,13 @@ associated d row (body.Association a) e f = ap (λ (x : Body). kind_of_body x) e
 associated d row (body.Concrete x) e f = absurd (cc)
 
 module _ (lists : List (List StampedRow)) (are : ArePlaces (map places_of lists)) (edges : List Edges) (posts : PostsReferences lists edges) (d date pin : ℕ) where
-  abbrev at_date : List Version
+  abbrev at_date : List RowValue
   at_date = snapshot (shown lists are date pin) date
 
-  abbrev counts : Version → Bool
+  abbrev counts : RowValue → Bool
   counts row = is_replacement_of d row && is_among (reference_keys edges) row
 
-  abbrev wanted : List Version
+  abbrev wanted : List RowValue
   wanted = filter counts at_date
 
   -- what is posted of one that is chosen
@@ -79,17 +79,17 @@ module _ (lists : List (List StampedRow)) (are : ArePlaces (map places_of lists)
         record {
           r = w.0.1;
           there = has_numbered 0 (references_in edges) w.0 w.1;
-          place_is = ap (λ (j : Chosen). j.at) w.4;
-          refset_is = ap (λ (j : Chosen). j.refset) w.4;
-          target_is = ap (λ (j : Chosen). j.target) w.4;
+          place_is = ap (λ (j : Chosen). j.at) w.3.answer_is;
+          refset_is = ap (λ (j : Chosen). j.refset) w.3.answer_is;
+          target_is = ap (λ (j : Chosen). j.target) w.3.answer_is;
           d_is = w.2;
           s = p.0;
-          stands = subst (λ (j : Chosen). StandsAt lists j.segment j.at p.0) w.4 p.1;
+          stands = subst (λ (j : Chosen). StandsAt lists j.segment j.at p.0) w.3.answer_is p.1;
           says = p.2;
         }
 
     each_current : AllCurrent lists date pin kept
-    each_current k h = let w = a.1.only k (a.2.only k h) in subst (λ (j : Chosen). IsCurrentAt lists date pin j.segment j.at) w.4 w.3
+    each_current k h = let w = a.1.only k (a.2.only k h) in subst (λ (j : Chosen). IsCurrentAt lists date pin j.segment j.at) w.3.answer_is w.3.current
 
     said : (k : Chosen) (s : StampedRow) → (h : Has kept k) → StandsAt lists k.segment k.at s → IsReferenceOf (posted_of k h).r s.row
     said k s h w = let p = posted_of k h in subst (λ (z : StampedRow). IsReferenceOf p.r z.row) (one_row lists are k.segment k.segment k.at k.at p.s s p.stands w refl) p.says
@@ -106,20 +106,20 @@ module _ (lists : List (List StampedRow)) (are : ArePlaces (map places_of lists)
         λ i. ordering_then (nat_cmp ((ps.refset_is ∙ p.refset_is) i) ((qs.refset_is ∙ q.refset_is) i))
         (ordering_then (nat_cmp ((ps.target_is ∙ p.target_is) i) ((qs.target_is ∙ q.target_is) i)) (nat_cmp (id_s i) (id_t i)))
 
-    abbrev found_rows : List Version
+    abbrev found_rows : List RowValue
     found_rows = map (λ (s : StampedRow). s.row) (rows_for lists date pin kept each_current)
 
-    to_wanted : (row : Version) → Has found_rows row → Has wanted row
+    to_wanted : (row : RowValue) → Has found_rows row → Has wanted row
     to_wanted row h =
         let x = row_for lists date pin kept each_current row h in
         let p = posted_of x.k x.there in
         let says = said x.k x.s x.there x.stands in
         let replaces : is_replacement_of d x.s.row ≡ true = subst (λ n. is_replacement_of n x.s.row ≡ true) p.d_is says.says in
-        let among : is_among (reference_keys edges) x.s.row ≡ true = among_from (reference_keys edges) x.s.row p.r.at.key (Has-map_from (λ (r : Reference). r.at.key) (joined (references_in edges)) p.r p.there) (ap (λ (q : Posted). q.key) p.place_is ∙ (standing_row lists are x.k.segment x.k.at x.s x.stands).1) in
+        let among : is_among (reference_keys edges) x.s.row ≡ true = among_from (reference_keys edges) x.s.row p.r.at.key (Has-map_from (λ (r : Reference). r.at.key) (joined (references_in edges)) p.r p.there) (ap (λ (q : RowPlace). q.key) p.place_is ∙ (standing_row lists are x.k.segment x.k.at x.s x.stands).1) in
         subst (λ z. Has wanted z) x.row_is
         (Has-filter_from counts at_date x.s.row (looked_up x.k.at.key.kind x.k.at.key.id date (shown lists are date pin) x.s.row x.found) (rw (replaces, among) refl))
 
-    from_wanted : (row : Version) → Has wanted row → Has found_rows row
+    from_wanted : (row : RowValue) → Has wanted row → Has found_rows row
     from_wanted row h =
         let f = Has-filter counts at_date row h in
         let t = both (is_replacement_of d row) (is_among (reference_keys edges) row) f.1 in
@@ -128,9 +128,9 @@ module _ (lists : List (List StampedRow)) (are : ArePlaces (map places_of lists)
         let post = posts (n.0, g.0) n.1 in
         let now = current_where lists are date pin n.0 g.0.at post.0 row post.1 f.0 g.2 in
         let refers = (both row.active (refers_to d row.body) t.0).1 in
-        let refers_post : refers_to g.0.referenced row.body ≡ true = subst (λ (z : Version). refers_to g.0.referenced z.body ≡ true) (sym now.0) (both post.0.row.active (refers_to g.0.referenced post.0.row.body) post.2.says).1 in
+        let refers_post : refers_to g.0.referenced row.body ≡ true = subst (λ (z : RowValue). refers_to g.0.referenced z.body ≡ true) (sym now.0) (both post.0.row.active (refers_to g.0.referenced post.0.row.body) post.2.says).1 in
         let kind : kind_of row ≡ kinds.Association = associated d row row.body refl refers in
-        let w = a.2.there (ranked n.0 g.0) (a.1.taken (n.0, g.0) n.1 (refers_dest g.0.referenced d row.body refers_post refers) now.1) in
+        let w = a.2.there (ranked n.0 g.0) (a.1.taken (n.0, g.0) (ranked n.0 g.0) n.1 (refers_dest g.0.referenced d row.body refers_post refers) (record { current = now.1; answer_is = refl })) in
         let j = w.0 in
         let v = for_row lists date pin kept each_current j w.1 in
         let keys = (standing_row lists are j.segment j.at v.0 v.1).1 in
@@ -139,7 +139,7 @@ module _ (lists : List (List StampedRow)) (are : ArePlaces (map places_of lists)
         let kind_j : kind_of v.0.row ≡ kinds.Association = associated p.r.referenced v.0.row v.0.row.body refl (both v.0.row.active (refers_to p.r.referenced v.0.row.body) says.says).1 in
         let kinds_are : j.at.key.kind ≡ g.0.at.key.kind = ap (λ (k : Key). k.kind) keys ∙ kind_j ∙ sym kind ∙ ap (λ (k : Key). k.kind) (sym g.2) in
         let ids_are : j.at.key.id ≡ g.0.at.key.id = sym (one_id (ranked n.0 g.0) j w.2) in
-        let both_found = sym v.2 ∙ (λ i. lookup (kinds_are i) (ids_are i) date (shown lists are date pin)) ∙ now.1.2 in
+        let both_found = sym v.2 ∙ (λ i. get (kinds_are i) (ids_are i) date (shown lists are date pin)) ∙ now.1.2 in
         let one : v.0.row ≡ now.1.0.row = cc in
         let same : v.0.row ≡ row = one ∙ ap (λ (z : StampedRow). z.row) (one_row lists are n.0 n.0 g.0.at g.0.at now.1.0 post.0 now.1.1 post.1 refl) ∙ sym now.0 in
         subst (λ z. Has found_rows z) same v.3
@@ -148,7 +148,7 @@ module _ (lists : List (List StampedRow)) (are : ArePlaces (map places_of lists)
     rows_ascend = ascending_rows_for lists date pin replacement_cmp ranked_cmp kept each_current (λ j k s t g h v w less. rank_is j k s t g h v w ∙ less) a.2.ascending
 
     -- of those that count no two have one rank
-    one_of_rank : (x y : Version) → Has wanted x → Has wanted y → replacement_cmp x y ≡ Equal → y ≡ x
+    one_of_rank : (x y : RowValue) → Has wanted x → Has wanted y → replacement_cmp x y ≡ Equal → y ≡ x
     one_of_rank x y h k tie =
         let m = row_for lists date pin kept each_current x (from_wanted x h) in
         let n = row_for lists date pin kept each_current y (from_wanted y k) in
@@ -159,8 +159,8 @@ module _ (lists : List (List StampedRow)) (are : ArePlaces (map places_of lists)
         let kind_m : kind_of m.s.row ≡ kinds.Association = associated _ m.s.row m.s.row.body refl (both m.s.row.active _ km.says).1 in
         let kind_n : kind_of n.s.row ≡ kinds.Association = associated _ n.s.row n.s.row.body refl (both n.s.row.active _ kn.says).1 in
         let kinds_are : m.k.at.key.kind ≡ n.k.at.key.kind = ap (λ (q : Key). q.kind) key_m ∙ kind_m ∙ sym kind_n ∙ ap (λ (q : Key). q.kind) (sym key_n) in
-        let ids_are : m.k.at.key.id ≡ n.k.at.key.id = ap (λ (q : Key). q.id) key_m ∙ ap (λ (v : Version). v.id) m.row_is ∙ one_row_id x y tie ∙ ap (λ (v : Version). v.id) (sym n.row_is) ∙ ap (λ (q : Key). q.id) (sym key_n) in
-        let found = sym m.found ∙ (λ i. lookup (kinds_are i) (ids_are i) date (shown lists are date pin)) ∙ n.found in
+        let ids_are : m.k.at.key.id ≡ n.k.at.key.id = ap (λ (q : Key). q.id) key_m ∙ ap (λ (v : RowValue). v.id) m.row_is ∙ one_row_id x y tie ∙ ap (λ (v : RowValue). v.id) (sym n.row_is) ∙ ap (λ (q : Key). q.id) (sym key_n) in
+        let found = sym m.found ∙ (λ i. get (kinds_are i) (ids_are i) date (shown lists are date pin)) ∙ n.found in
         let one : m.s.row ≡ n.s.row = cc in
         sym n.row_is ∙ sym one ∙ m.row_is
 

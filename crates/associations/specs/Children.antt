@@ -3,7 +3,7 @@ use Rattle.std.specs.Prelude.{◌≡◌, ℕ, true, ◌&&◌, List, map}
 use Rattle.std.specs.List.{filter}
 use Rattle.std.specs.Ordering.{nat_cmp}
 use Rattle.rf2_values.specs.declared.key.Key.{Key}
-use Rattle.rf2_values.specs.Row.{Version}
+use Rattle.rf2_values.specs.Row.{RowValue}
 use Rattle.history_model.specs.declared.stamped.StampedRow.{StampedRow}
 use Rattle.history_model.specs.InOrder.{Has, in_order, joined}
 use Rattle.history_model.specs.Queries.{snapshot, is_child_of, source_of, children}
@@ -14,7 +14,7 @@ use Rattle.associations.specs.declared.postings.Link.{Link}
 use Rattle.associations.specs.Edges.{Edges, links_in}
 
 -- the link is what the row says
-pub record IsLinkOf (l : Link) (row : Version) : Type 0 where
+pub record IsLinkOf (l : Link) (row : RowValue) : Type 0 where
   pub says : is_child_of l.destination row ≡ true
   pub source_is : source_of row.body ≡ l.source
 
@@ -28,14 +28,14 @@ abbrev pub link_keys : List Edges → List Key
 link_keys edges = map (λ l. l.at.key) (joined (links_in edges))
 
 -- the children at the date, drawn from the versions with these keys alone
-unfoldable pub children_among : List Key → ℕ → ℕ → List Version → List ℕ
+unfoldable pub children_among : List Key → ℕ → ℕ → List RowValue → List ℕ
 children_among keys concept date rows =
     in_order nat_cmp (map (λ row. source_of row.body)
     (filter (λ row. is_child_of concept row && is_among keys row) (snapshot rows date)))
 
 -- where each version that says a child is among them, these are the children
 abbrev pub EachChildIsPosted : Type 0
-EachChildIsPosted = (keys : List Key) (concept date : ℕ) (rows : List Version)
-    → ((row : Version) → Has (snapshot rows date) row → is_child_of concept row ≡ true
+EachChildIsPosted = (keys : List Key) (concept date : ℕ) (rows : List RowValue)
+    → ((row : RowValue) → Has (snapshot rows date) row → is_child_of concept row ≡ true
     → is_among keys row ≡ true)
     → children_among keys concept date rows ≡ children concept date rows

@@ -3,33 +3,31 @@ use Rattle.std.specs.Prelude.{◌≡◌, ◌⊎◌, ℕ, List}
 use Rattle.std.specs.Ordering.{nat_cmp}
 use Rattle.std.specs.declared.cmp.Ordering.{Ordering}
 use Rattle.std.specs.declared.cmp.Ordering.TheVariants.{Equal}
+use Rattle.rf2_values.specs.declared.row.Kind.{Kind}
 use Rattle.history_model.specs.declared.stamped.StampedRow.{StampedRow}
 use Rattle.history_model.specs.InOrder.{Has, IsAscending}
-use Rattle.segment.specs.declared.place.Posted.{Posted}
+use Rattle.segment.specs.declared.place.RowPlace.{RowPlace}
 use Rattle.as_of_index.specs.declared.chosen.Chosen.{Chosen}
-use Rattle.as_of_index.specs.Chosen.{ranked_cmp}
+use Rattle.as_of_index.specs.Chosen.{chosen, chosen_cmp, ranked_cmp}
 use Rattle.as_of_index.specs.Current.{IsCurrentAt}
 use Rattle.associations.specs.declared.postings.Link.{Link}
 use Rattle.associations.specs.declared.postings.Reference.{Reference}
+use Rattle.associations.specs.declared.postings.Subject.{Subject}
 
--- of the postings of the list with the number n, those that are current are taken, and no others
-pub record Takes {X Y : Type 0} (place : X → Posted) (answer : ℕ → X → Y)
-    (lists : List (List StampedRow)) (date pin n : ℕ) (xs : List X)
-    (old new : List Y) : Type 0 where
+-- what the postings give is taken, and nothing else
+pub record Takes {X Y : Type 0} (Gives : X → Y → Type 0) (xs : List X) (old new : List Y)
+    : Type 0 where
   pub kept : (y : Y) → Has old y → Has new y
-  pub taken : (x : X) → Has xs x → IsCurrentAt lists date pin n (place x) → Has new (answer n x)
-  pub only : (y : Y) → Has new y
-      → Has old y ⊎ ((x : X) × Has xs x × IsCurrentAt lists date pin n (place x) × (answer n x ≡ y))
+  pub taken : (x : X) (y : Y) → Has xs x → Gives x y → Has new y
+  pub only : (y : Y) → Has new y → Has old y ⊎ ((x : X) × Has xs x × Gives x y)
 
--- of some postings, those of component d that are current are taken, and no others
-pub record AreTaken {X Y : Type 0} (place : X → Posted) (of : X → ℕ) (answer : ℕ → X → Y)
-    (lists : List (List StampedRow)) (date pin d : ℕ) (xs : List (ℕ × X))
-    (ys : List Y) : Type 0 where
-  pub taken : (x : ℕ × X) → Has xs x → of x.1 ≡ d → IsCurrentAt lists date pin x.0 (place x.1)
-      → Has ys (answer x.0 x.1)
+-- of some postings, each with the number of its list, what those of component d give is taken, and
+-- nothing else
+pub record AreTaken {X Y : Type 0} (Gives : ℕ → X → Y → Type 0) (of : X → ℕ) (d : ℕ)
+    (xs : List (ℕ × X)) (ys : List Y) : Type 0 where
+  pub taken : (x : ℕ × X) (y : Y) → Has xs x → of x.1 ≡ d → Gives x.0 x.1 y → Has ys y
   pub only : (y : Y) → Has ys y
-      → (x : ℕ × X) × Has xs x × (of x.1 ≡ d) × IsCurrentAt lists date pin x.0 (place x.1)
-      × (answer x.0 x.1 ≡ y)
+      → (x : ℕ × X) × Has xs x × (of x.1 ≡ d) × Gives x.0 x.1 y
 
 -- one that ties with it is there
 abbrev pub IsThere : {Y : Type 0} → (Y → Y → Ordering) → List Y → Y → Type 0
@@ -41,30 +39,59 @@ pub record AreOnce {Y : Type 0} (cmp : Y → Y → Ordering) (all once : List Y)
   pub there : (y : Y) → Has all y → IsThere cmp once y
   pub only : (y : Y) → Has once y → Has all y
 
--- of links their sources
-abbrev pub TakesLinks : List (List StampedRow) → ℕ → ℕ → ℕ → List Link → List ℕ → List ℕ → Type 0
-TakesLinks = Takes (λ l. l.at) (λ n l. l.source)
+-- a posting in the list with the number n that is current gives its answer
+pub record GivesAnswer {X Y : Type 0} (place : X → RowPlace) (answer : ℕ → X → Y)
+    (lists : List (List StampedRow)) (date pin n : ℕ) (x : X) (y : Y) : Type 0 where
+  pub current : IsCurrentAt lists date pin n (place x)
+  pub answer_is : answer n x ≡ y
+
+-- a link its source
+abbrev pub GivesSource : List (List StampedRow) → ℕ → ℕ → ℕ → Link → ℕ → Type 0
+GivesSource = GivesAnswer (λ l. l.at) (λ n l. l.source)
 
 abbrev pub AreSourcesTaken : List (List StampedRow) → ℕ → ℕ → ℕ → List (ℕ × Link) → List ℕ → Type 0
-AreSourcesTaken = AreTaken (λ l. l.at) (λ l. l.destination) (λ n l. l.source)
+AreSourcesTaken lists date pin = AreTaken (GivesSource lists date pin) (λ l. l.destination)
 
 abbrev pub AreSources : List (List StampedRow) → ℕ → ℕ → ℕ → List (ℕ × Link) → List ℕ → Type 0
 AreSources lists date pin d xs ids =
     (all : List ℕ) × AreSourcesTaken lists date pin d xs all × AreOnce nat_cmp all ids
 
--- of references what is to be read, with its rank
+-- a reference what is to be read, with its rank
 abbrev pub ranked : ℕ → Reference → Chosen
 ranked n r = record { segment = n; at = r.at; refset = r.refset; target = r.target }
 
-abbrev pub TakesReferences : List (List StampedRow) → ℕ → ℕ → ℕ → List Reference → List Chosen
-    → List Chosen → Type 0
-TakesReferences = Takes (λ r. r.at) ranked
+abbrev pub GivesRanked : List (List StampedRow) → ℕ → ℕ → ℕ → Reference → Chosen → Type 0
+GivesRanked = GivesAnswer (λ r. r.at) ranked
 
 abbrev pub AreRankedTaken : List (List StampedRow) → ℕ → ℕ → ℕ → List (ℕ × Reference) → List Chosen
     → Type 0
-AreRankedTaken = AreTaken (λ r. r.at) (λ r. r.referenced) ranked
+AreRankedTaken lists date pin = AreTaken (GivesRanked lists date pin) (λ r. r.referenced)
 
 abbrev pub AreRanked : List (List StampedRow) → ℕ → ℕ → ℕ → List (ℕ × Reference) → List Chosen
     → Type 0
 AreRanked lists date pin d xs kept =
     (all : List Chosen) × AreRankedTaken lists date pin d xs all × AreOnce ranked_cmp all kept
+
+-- the place is that of the list's record that begins at the byte, its row is of the kind, and it is
+-- current
+pub record IsCurrentFrom (lists : List (List StampedRow)) (kind : Kind) (date pin n byte : ℕ)
+    (at : RowPlace) : Type 0 where
+  pub byte_is : at.at ≡ byte
+  pub kind_is : at.key.kind ≡ kind
+  pub current : IsCurrentAt lists date pin n at
+
+-- a subject gives what is to be read where such a record begins at its byte
+pub record GivesRow (lists : List (List StampedRow)) (kind : Kind) (date pin n : ℕ)
+    (x : Subject) (k : Chosen) : Type 0 where
+  pub at : RowPlace
+  pub row_there : IsCurrentFrom lists kind date pin n x.byte at
+  pub chosen_is : k ≡ chosen n at
+
+abbrev pub AreRowsTaken : List (List StampedRow) → Kind → ℕ → ℕ → ℕ → List (ℕ × Subject)
+    → List Chosen → Type 0
+AreRowsTaken lists kind date pin = AreTaken (GivesRow lists kind date pin) (λ x. x.subject)
+
+abbrev pub AreRows : List (List StampedRow) → Kind → ℕ → ℕ → ℕ → List (ℕ × Subject) → List Chosen
+    → Type 0
+AreRows lists kind date pin d xs kept =
+    (all : List Chosen) × AreRowsTaken lists kind date pin d xs all × AreOnce chosen_cmp all kept

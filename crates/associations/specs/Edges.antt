@@ -1,66 +1,89 @@
--- What is posted of relationships and associations.
-use Rattle.std.specs.Prelude.{◌==◌, List, [], ◌∷◌, ◌++◌, length, take, map, if◌then◌else◌}
+-- What is posted of rows: links of relationships, references of associations, and what any but a
+-- concept is about.
+use Rattle.std.specs.Prelude.{ℕ, ◌==◌, List, [], ◌∷◌, ◌++◌, length, take, map, if◌then◌else◌}
+use Rattle.std.specs.Prelude.{Option, Some, None}
 use Rattle.std.specs.List.Sorted.{IsNonDecreasingBy, IsPermutation}
 use Rattle.rf2_values.specs.declared.row.Association.{Association}
 use Rattle.rf2_values.specs.declared.row.Body.{Body}
 use Rattle.rf2_values.specs.declared.row.Relationship.{Relationship}
 use Rattle.rf2_values.specs.declared.row.Body.TheVariants as body
-use Rattle.rf2_values.specs.Row.{Version}
-use Rattle.history_model.specs.Queries.{is_a}
+use Rattle.rf2_values.specs.Row.{RowValue}
+use Rattle.history_model.specs.Queries.{is_a, subject_of}
 use Rattle.history_model.specs.declared.stamped.StampedRow.{StampedRow}
-use Rattle.segment.specs.declared.place.Posted.{Posted}
+use Rattle.segment.specs.declared.place.RowPlace.{RowPlace}
 use Rattle.as_of_index.specs.Postings.{posted_all}
 use Rattle.associations.specs.declared.postings.Link.{Link}
 use Rattle.associations.specs.declared.postings.Reference.{Reference}
+use Rattle.associations.specs.declared.postings.Subject.{Subject}
 use Rattle.associations.specs.declared.postings.EdgeCount.{EdgeCount}
 
--- links of relationships, and references of associations
+-- links of relationships, references of associations, and subjects of rows
 pub record Edges : Type 0 where
   pub links : List Link
   pub references : List Reference
+  pub subjects : List Subject
 
 abbrev pub no_edges : Edges
-no_edges = record { links = []; references = [] }
+no_edges = record { links = []; references = []; subjects = [] }
 
 -- those of one, and after them those of the other
 abbrev pub joined_edges : Edges → Edges → Edges
-joined_edges a b = record { links = a.links ++ b.links; references = a.references ++ b.references }
+joined_edges a b =
+    record {
+      links = a.links ++ b.links;
+      references = a.references ++ b.references;
+      subjects = a.subjects ++ b.subjects;
+    }
 
 -- how many of each
 abbrev pub count_of : Edges → EdgeCount
-count_of e = record { links = length e.links; references = length e.references }
+count_of e =
+    record {
+      links = length e.links;
+      references = length e.references;
+      subjects = length e.subjects;
+    }
 
 -- the first so many of each
 abbrev pub first_edges : EdgeCount → Edges → Edges
 first_edges n e =
-    record { links = take n.links e.links; references = take n.references e.references }
+    record {
+      links = take n.links e.links;
+      references = take n.references e.references;
+      subjects = take n.subjects e.subjects;
+    }
 
 -- the same, in whatever order
 pub record AreSameEdges (a b : Edges) : Type 0 where
   pub links : IsPermutation a.links b.links
   pub references : IsPermutation a.references b.references
+  pub subjects : IsPermutation a.subjects b.subjects
 
--- the links ascend by destination, and the references by what they refer to
+-- the links ascend by destination, the references by what they refer to, and the subjects
 pub record IsSealed (e : Edges) : Type 0 where
   pub by_destination : IsNonDecreasingBy (λ l. l.destination) e.links
   pub by_referenced : IsNonDecreasingBy (λ r. r.referenced) e.references
+  pub by_subject : IsNonDecreasingBy (λ x. x.subject) e.subjects
 
--- the links of each list, and the references
+-- the links of each list, the references, and the subjects
 abbrev pub links_in : List Edges → List (List Link)
 links_in lists = map (λ e. e.links) lists
 
 abbrev pub references_in : List Edges → List (List Reference)
 references_in lists = map (λ e. e.references) lists
 
+abbrev pub subjects_in : List Edges → List (List Subject)
+subjects_in lists = map (λ e. e.subjects) lists
+
 -- a relationship's source and destination, and an association's columns, with a place
-abbrev pub link : Relationship → Posted → Link
+abbrev pub link : Relationship → RowPlace → Link
 link r at = record { destination = r.destination; source = r.source; at = at }
 
-abbrev pub reference : Association → Posted → Reference
+abbrev pub reference : Association → RowPlace → Reference
 reference a at = record { referenced = a.referenced; refset = a.refset; target = a.target; at = at }
 
 -- what a body says that stands at a place: a relationship of the type "is a" is a link
-abbrev pub link_of_body : Body → Posted → List Link
+abbrev pub link_of_body : Body → RowPlace → List Link
 link_of_body (body.Concept c) at = []
 link_of_body (body.Description d) at = []
 link_of_body (body.Relationship r) at = if r.type_id == is_a then link r at ∷ [] else []
@@ -68,24 +91,41 @@ link_of_body (body.Association a) at = []
 link_of_body (body.Concrete c) at = []
 
 -- an association is a reference
-abbrev pub reference_of_body : Body → Posted → List Reference
+abbrev pub reference_of_body : Body → RowPlace → List Reference
 reference_of_body (body.Concept c) at = []
 reference_of_body (body.Description d) at = []
 reference_of_body (body.Relationship r) at = []
 reference_of_body (body.Association a) at = reference a at ∷ []
 reference_of_body (body.Concrete c) at = []
 
--- what is posted of a row: what an active one says
-abbrev pub posted_link : Version → Posted → List Link
+-- what a row is about, with the byte at which its record begins
+abbrev pub subject_at : Option ℕ → RowPlace → List Subject
+subject_at None at = []
+subject_at (Some id) at = record { subject = id; byte = at.at } ∷ []
+
+-- what is posted of a row: what an active one says, and what it is about
+abbrev pub posted_link : RowValue → RowPlace → List Link
 posted_link row at = if row.active then link_of_body row.body at else []
 
-abbrev pub posted_reference : Version → Posted → List Reference
+abbrev pub posted_reference : RowValue → RowPlace → List Reference
 posted_reference row at = if row.active then reference_of_body row.body at else []
 
-abbrev pub edges_of : Version → Posted → Edges
-edges_of row at = record { links = posted_link row at; references = posted_reference row at }
+abbrev pub posted_subject : RowValue → RowPlace → List Subject
+posted_subject row at = if row.active then subject_at (subject_of row) at else []
+
+abbrev pub edges_of : RowValue → RowPlace → Edges
+edges_of row at =
+    record {
+      links = posted_link row at;
+      references = posted_reference row at;
+      subjects = posted_subject row at;
+    }
 
 -- and of rows with their places
-abbrev pub posted_edges : List (StampedRow × Posted) → Edges
+abbrev pub posted_edges : List (StampedRow × RowPlace) → Edges
 posted_edges rows =
-    record { links = posted_all posted_link rows; references = posted_all posted_reference rows }
+    record {
+      links = posted_all posted_link rows;
+      references = posted_all posted_reference rows;
+      subjects = posted_all posted_subject rows;
+    }

@@ -4,7 +4,7 @@ use Rattle.history_model.specs.History.{rows_at}
 use Rattle.history_model.specs.Lists.{listed}
 use Rattle.history_model.specs.Queries.{children, replacements}
 use Rattle.history_model.specs.declared.stamped.StampedRow.{StampedRow}
-use Rattle.segment.specs.declared.place.Posted.{Posted}
+use Rattle.segment.specs.declared.place.RowPlace.{RowPlace}
 use Rattle.segment.specs.Standing.{with_places}
 use Rattle.associations.specs.Edges.{Edges, AreSameEdges, edges_of, joined_edges, posted_edges}
 use Rattle.associations.specs.Children.{PostsLinks, link_keys, children_among}
@@ -23,7 +23,7 @@ EachPosted (rows ∷ lists) (e ∷ edges) = ArePostingsOf rows e × EachPosted l
 
 -- one row more
 abbrev pub PushedOneByOne : Type 0
-PushedOneByOne = (rows : List (StampedRow × Posted)) (row : StampedRow × Posted)
+PushedOneByOne = (rows : List (StampedRow × RowPlace)) (row : StampedRow × RowPlace)
     → posted_edges (rows ++ row ∷ []) ≡ joined_edges (posted_edges rows) (edges_of row.0.row row.1)
 
 -- such lists post rows of their own lists

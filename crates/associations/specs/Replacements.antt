@@ -2,7 +2,7 @@
 use Rattle.std.specs.Prelude.{◌≡◌, ℕ, true, ◌&&◌, List, map}
 use Rattle.std.specs.List.{filter}
 use Rattle.rf2_values.specs.declared.key.Key.{Key}
-use Rattle.rf2_values.specs.Row.{Version}
+use Rattle.rf2_values.specs.Row.{RowValue}
 use Rattle.history_model.specs.declared.stamped.StampedRow.{StampedRow}
 use Rattle.history_model.specs.InOrder.{Has, in_order, joined}
 use Rattle.history_model.specs.Queries.{snapshot, is_replacement_of, refset_of, target_of, replacement_cmp, replacements}
@@ -13,7 +13,7 @@ use Rattle.associations.specs.declared.postings.Reference.{Reference}
 use Rattle.associations.specs.Edges.{Edges, references_in}
 
 -- the reference is what the row says
-pub record IsReferenceOf (r : Reference) (row : Version) : Type 0 where
+pub record IsReferenceOf (r : Reference) (row : RowValue) : Type 0 where
   pub says : is_replacement_of r.referenced row ≡ true
   pub refset_is : refset_of row.body ≡ r.refset
   pub target_is : target_of row.body ≡ r.target
@@ -28,14 +28,14 @@ abbrev pub reference_keys : List Edges → List Key
 reference_keys edges = map (λ r. r.at.key) (joined (references_in edges))
 
 -- the component's active associations at the date, drawn from the versions with these keys alone
-unfoldable pub replacements_among : List Key → ℕ → ℕ → List Version → List Version
+unfoldable pub replacements_among : List Key → ℕ → ℕ → List RowValue → List RowValue
 replacements_among keys id date rows =
     in_order replacement_cmp
     (filter (λ row. is_replacement_of id row && is_among keys row) (snapshot rows date))
 
 -- where each of them is among the keys, these are the replacements
 abbrev pub EachReplacementIsPosted : Type 0
-EachReplacementIsPosted = (keys : List Key) (id date : ℕ) (rows : List Version)
-    → ((row : Version) → Has (snapshot rows date) row → is_replacement_of id row ≡ true
+EachReplacementIsPosted = (keys : List Key) (id date : ℕ) (rows : List RowValue)
+    → ((row : RowValue) → Has (snapshot rows date) row → is_replacement_of id row ≡ true
     → is_among keys row ≡ true)
     → replacements_among keys id date rows ≡ replacements id date rows

@@ -11,7 +11,7 @@ ghost use Rattle.as_of_index.specs.Places.{Lists};
 ghost use Rattle.as_of_index.specs.Postings.{numbered};
 ghost use Rattle.associations.specs.Edges.{links_in};
 ghost use Rattle.associations.specs.Children.{PostsLinks, link_keys, children_among};
-ghost use Rattle.associations.specs.Collecting.{TakesLinks, AreOnce, AreSources};
+ghost use Rattle.associations.specs.Collecting.{GivesSource, Takes, AreOnce, AreSources};
 
 use crate::Links;
 use crate::postings::{Link, Sealed};
@@ -40,7 +40,7 @@ fn add_sources(
     pin: u32,
 ) -> Result<(), AllocError>
     ensures { OnOk result ((lists : List (List StampedRow)) → Lists index.now lists
-        → TakesLinks lists time pin segment links.now ids.old.items ids.new.items) }
+        → Takes (GivesSource lists time pin segment) links.now ids.old.items ids.new.items) }
 {
     for link in links {
         if index.is_current(segment, link.at, time, pin) {

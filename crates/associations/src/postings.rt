@@ -1,12 +1,13 @@
-//! Postings of relationships and associations: in the order in which rows were pushed, and sealed.
+//! Postings of rows: of relationships, of associations, and of what rows are about. They are in the
+//! order in which rows were pushed, and sealed.
 
-ghost use Rattle.std.specs.Prelude.{◌≡◌, OnOk, OnErr};
+ghost use Rattle.std.specs.Prelude.{◌≡◌, ◌<◌, ◌++◌, length, vec_capacity, OnOk, OnErr};
 ghost use Rattle.std.specs.List.Sorted.{IsNonDecreasingBy, IsPermutation};
-ghost use Rattle.associations.specs.Edges.{Edges, no_edges, link, reference, edges_of, joined_edges, count_of, first_edges, AreSameEdges, IsSealed};
+ghost use Rattle.associations.specs.Edges.{Edges, no_edges, link, reference, posted_link, posted_reference, posted_subject, edges_of, joined_edges, count_of, first_edges, AreSameEdges, IsSealed};
 
-use history_model::{IS_A, StampedRow};
+use history_model::{IS_A, StampedRow, subject_of};
 use rf2_values::{Association, Body, Relationship};
-use segment::Posted;
+use segment::RowPlace;
 use std::alloc::{AllocError, Global};
 use std::marker::Model;
 
@@ -18,7 +19,7 @@ pub struct Link {
     pub destination: u64,
     /// The child: the SCTID of a concept.
     pub source: u64,
-    pub at: Posted,
+    pub at: RowPlace,
 }
 
 /// An active association, and where its row stands. The member's id is that of the place's key.
@@ -30,21 +31,34 @@ pub struct Reference {
     pub refset: u64,
     /// The component that it leads to, by its SCTID.
     pub target: u64,
-    pub at: Posted,
+    pub at: RowPlace,
 }
 
-/// How many links and references there are.
+/// What an active row is about, and where its record begins. There is one of nearly each row: it
+/// holds no more than that, and the index tells the place at the byte.
+#[derive(Clone, Copy)]
+pub struct Subject {
+    /// The component that the row is about, by its SCTID.
+    pub subject: u64,
+    /// The byte of the segment at which the row's record begins.
+    pub byte: u32,
+}
+
+/// How many links, references and subjects there are.
 #[derive(Clone, Copy, Debug, PartialEq, Eq)]
 pub struct EdgeCount {
     pub links: usize,
     pub references: usize,
+    pub subjects: usize,
 }
 
-/// The links and references of the rows of one segment, in the order in which they were pushed.
+/// The links, references and subjects of the rows of one segment, in the order in which they were
+/// pushed.
 #[derive(Drop)]
 pub struct Postings {
     links: Vec<Link>,
     references: Vec<Reference>,
+    subjects: Vec<Subject>,
 }
 
 impl Model for Postings {
@@ -52,15 +66,20 @@ impl Model for Postings {
 
     ghost Value = { Edges };
 
-    ghost view = { λ a. record { links = a.links.items; references = a.references.items } };
+    ghost view = { λ a. record {
+      links = a.links.items;
+      references = a.references.items;
+      subjects = a.subjects.items;
+    } };
 }
 
-/// The links of a segment, ascending by destination, and its references, ascending by what they
-/// refer to.
+/// The links of a segment, ascending by destination, its references, ascending by what they refer
+/// to, and its subjects, which ascend.
 #[derive(Drop)]
 pub struct Sealed {
     links: Vec<Link>,
     references: Vec<Reference>,
+    subjects: Vec<Subject>,
 }
 
 impl Model for Sealed {
@@ -68,13 +87,20 @@ impl Model for Sealed {
 
     ghost Value = { Edges };
 
-    ghost view = { λ a. record { links = a.links.items; references = a.references.items } };
+    ghost view = { λ a. record {
+      links = a.links.items;
+      references = a.references.items;
+      subjects = a.subjects.items;
+    } };
 
-    ghost invariant = { λ a.
-        IsSealed (record { links = a.links.items; references = a.references.items }) };
+    ghost invariant = { λ a. IsSealed (record {
+      links = a.links.items;
+      references = a.references.items;
+      subjects = a.subjects.items;
+    }) };
 }
 
-fn link_of(relationship: &Relationship, at: Posted) -> Link
+fn link_of(relationship: &Relationship, at: RowPlace) -> Link
     ensures { result ≡ link relationship.now at }
 {
     Link {
@@ -84,7 +110,7 @@ fn link_of(relationship: &Relationship, at: Posted) -> Link
     }
 }
 
-fn reference_of(association: &Association, at: Posted) -> Reference
+fn reference_of(association: &Association, at: RowPlace) -> Reference
     ensures { result ≡ reference association.now at }
 {
     Reference {
@@ -92,6 +118,49 @@ fn reference_of(association: &Association, at: Posted) -> Reference
         refset: association.refset.value(),
         target: association.target.value(),
         at,
+    }
+}
+
+/// Adds the row's link or reference, if it is active and has one. An `Err` changes nothing.
+fn push_edge(
+    links: &mut Vec<Link>,
+    references: &mut Vec<Reference>,
+    row: &StampedRow,
+    at: &RowPlace,
+) -> Result<(), AllocError>
+    ensures ok { OnOk result ((links.new.items ≡ links.old.items ++ posted_link row.now.row at.now)
+        × (references.new.items ≡ references.old.items ++ posted_reference row.now.row at.now)) }
+    ensures err { OnErr result ((links.new.items ≡ links.old.items)
+        × (references.new.items ≡ references.old.items)) }
+{
+    match &row.row.body {
+        Body::Relationship(r) if row.row.active && r.type_id.value() == IS_A => {
+            links.push(link_of(r, *at))?;
+            Ok(())
+        }
+        Body::Association(a) if row.row.active => {
+            references.push(reference_of(a, *at))?;
+            Ok(())
+        }
+        _ => Ok(()),
+    }
+}
+
+/// Adds what the row is about, if it is active. It takes no memory.
+fn push_subject(subjects: &mut Vec<Subject>, row: &StampedRow, at: &RowPlace)
+    requires { length subjects.old.items < vec_capacity subjects.old }
+    ensures { subjects.new.items ≡ subjects.old.items ++ posted_subject row.now.row at.now }
+{
+    if !row.row.active {
+        return;
+    }
+    if let Some(subject) = subject_of(&row.row) {
+        let Ok(()) = subjects.push(Subject {
+            subject: subject.value(),
+            byte: at.at,
+        }) else {
+            unreachable!()
+        };
     }
 }
 
@@ -109,6 +178,13 @@ fn sort_references(references: &mut Vec<Reference>)
     references.sort_unstable_by(|a, b| a.referenced.cmp(&b.referenced));
 }
 
+fn sort_subjects(subjects: &mut Vec<Subject>)
+    ensures permutation { IsPermutation subjects.old.items subjects.new.items }
+    ensures rising { IsNonDecreasingBy (λ x. x.subject) subjects.new.items }
+{
+    subjects.sort_unstable_by(|a, b| a.subject.cmp(&b.subject));
+}
+
 impl Postings {
     /// None. It takes no memory; later calls take theirs from `alloc`.
     pub fn new(alloc: Global) -> Postings
@@ -117,25 +193,20 @@ impl Postings {
         Postings {
             links: Vec::new(alloc),
             references: Vec::new(alloc),
+            subjects: Vec::new(alloc),
         }
     }
 
-    /// Adds the row's link or reference, if it is active and has one. An `Err` changes nothing.
-    pub fn push(&mut self, row: &StampedRow, at: Posted) -> Result<(), AllocError>
+    /// Adds the row's link or reference, and what the row is about, if it is active and has them.
+    /// An `Err` changes nothing.
+    pub fn push(&mut self, row: &StampedRow, at: RowPlace) -> Result<(), AllocError>
         ensures ok { OnOk result (self.new ≡ joined_edges self.old (edges_of row.now.row at)) }
         ensures err { OnErr result (self.new ≡ self.old) }
     {
-        match &row.row.body {
-            Body::Relationship(r) if row.row.active && r.type_id.value() == IS_A => {
-                self.links.push(link_of(r, at))?;
-                Ok(())
-            }
-            Body::Association(a) if row.row.active => {
-                self.references.push(reference_of(a, at))?;
-                Ok(())
-            }
-            _ => Ok(()),
-        }
+        self.subjects.reserve(1)?;
+        push_edge(&mut self.links, &mut self.references, row, &at)?;
+        push_subject(&mut self.subjects, row, &at);
+        Ok(())
     }
 
     /// How many there are, for `cut_to`.
@@ -145,6 +216,7 @@ impl Postings {
         EdgeCount {
             links: self.links.len(),
             references: self.references.len(),
+            subjects: self.subjects.len(),
         }
     }
 
@@ -154,9 +226,10 @@ impl Postings {
     {
         self.links.truncate(len.links);
         self.references.truncate(len.references);
+        self.subjects.truncate(len.subjects);
     }
 
-    /// Both in order. It takes no memory.
+    /// Each in order. It takes no memory.
     pub fn seal(self) -> Sealed
         ensures same { AreSameEdges self result }
         ensures rising { IsSealed result }
@@ -164,10 +237,16 @@ impl Postings {
         let Postings {
             mut links,
             mut references,
+            mut subjects,
         } = self;
         sort_links(&mut links);
         sort_references(&mut references);
-        Sealed { links, references }
+        sort_subjects(&mut subjects);
+        Sealed {
+            links,
+            references,
+            subjects,
+        }
     }
 }
 
@@ -184,5 +263,12 @@ impl Sealed {
         ensures rising { IsNonDecreasingBy (λ r. r.referenced) self.now.references }
     {
         self.references.as_slice()
+    }
+
+    pub(crate) fn subjects(&self) -> &[Subject]
+        ensures subjects { result.now ≡ self.now.subjects }
+        ensures rising { IsNonDecreasingBy (λ x. x.subject) self.now.subjects }
+    {
+        self.subjects.as_slice()
     }
 }

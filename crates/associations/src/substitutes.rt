@@ -15,7 +15,7 @@ ghost use Rattle.fault_counts.specs.Counting.{Counts, CountsDiskFault, CountsDam
 ghost use Rattle.fault_counts.specs.declared.fault.ReadFault.TheVariants as readfault;
 ghost use Rattle.associations.specs.Edges.{references_in};
 ghost use Rattle.associations.specs.Replacements.{PostsReferences, reference_keys, replacements_among};
-ghost use Rattle.associations.specs.Collecting.{ranked, TakesReferences, AreOnce, AreRanked};
+ghost use Rattle.associations.specs.Collecting.{ranked, GivesRanked, Takes, AreOnce, AreRanked};
 
 use crate::Links;
 use crate::postings::{Reference, Sealed};
@@ -77,7 +77,8 @@ fn add_references(
     pin: u32,
 ) -> Result<(), AllocError>
     ensures { OnOk result ((lists : List (List StampedRow)) → Lists index.now lists
-        → TakesReferences lists time pin segment references.now kept.old.items kept.new.items) }
+        → Takes (GivesRanked lists time pin segment) references.now kept.old.items
+        kept.new.items) }
 {
     for r in references {
         if index.is_current(segment, r.at, time, pin) {

@@ -2,8 +2,8 @@
 
 use crate::making::{Made, ROOT, day, one_association, other, sctid};
 use crate::watch::Watch;
-use as_of_index::{Index, Posted, ReadFault, RowReader};
-use associations::children;
+use as_of_index::{Index, ReadFault, RowPlace, RowReader};
+use associations::{about, children};
 use history_model::StampedRow;
 use rf2_values::Kind;
 use std::alloc::Global;
@@ -45,7 +45,7 @@ impl RowReader for OneRow {
         &mut self,
         alloc: Global,
         _segment: usize,
-        _at: Posted,
+        _at: RowPlace,
     ) -> Result<StampedRow, ReadFault> {
         self.reads = self.reads.saturating_add(1);
         Ok(self.stamped.try_clone(alloc)?)
@@ -79,7 +79,7 @@ pub(crate) fn picks(
     let mut found = 0u64;
     for n in 0..size / 20 {
         let id = u128::from(scrambled(n, size / 2));
-        let row = index.pick(reader, Kind::Association, id, date, 1);
+        let row = index.get(reader, Kind::Association, id, date, 1);
         if let Ok(Some(_row)) = row {
             found = found.wrapping_add(1);
         }
@@ -103,7 +103,7 @@ pub(crate) fn pages(
     let mut rows = 0u64;
     for n in 0..100u64 {
         let after = Some(u128::from(scrambled(n, size / 4)));
-        if let Ok(page) = index.page(reader, Kind::Association, date, 1, after, limit) {
+        if let Ok(page) = index.page(reader, Kind::Association, date, after, limit, 1) {
             rows = rows.wrapping_add(page.len() as u64);
         }
     }
@@ -137,8 +137,9 @@ pub(crate) fn searches(
             reader,
             "Finding",
             date,
-            1,
+            None,
             limit,
+            1,
         );
         if let Ok(found) = found {
             rows = rows.wrapping_add(found.len() as u64);
@@ -153,6 +154,35 @@ pub(crate) fn searches(
         "10 searches for 1,000"
     };
     watch.tell(rt, made.index.lists(), what, rows)
+}
+
+/// One question for all descriptions of the root.
+pub(crate) fn ask_about(
+    rt: &HostRuntime,
+    made: &Made,
+    reader: &mut OneRow,
+    quiet: bool,
+) -> io::Result<()> {
+    let date = day(20_210_131)?;
+    let root = sctid(ROOT)?;
+    let watch = Watch::start(rt)?;
+    let rows = about(
+        rt.alloc(),
+        &made.links,
+        &made.index,
+        reader,
+        Kind::Description,
+        root,
+        date,
+        1,
+    );
+    let Ok(rows) = rows else {
+        return Err(other("out of memory"));
+    };
+    if quiet {
+        return Ok(());
+    }
+    watch.tell(rt, made.index.lists(), "about", rows.len() as u64)
 }
 
 /// One question for the children of the root.

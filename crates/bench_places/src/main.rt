@@ -7,19 +7,21 @@ mod asking;
 mod making;
 mod watch;
 
-use asking::{OneRow, ask_children, one_row, pages, picks, searches};
+use asking::{OneRow, ask_about, ask_children, one_row, pages, picks, searches};
 use making::{Made, Order, made_lists};
 use std::rt::HostRuntime;
 use std::{env, io};
 
 const SMALL: u64 = 2_000;
 
-/// Ten questions for the first descriptions of a prefix, and one for all children.
+/// Ten questions for the first descriptions of a prefix, one for all children, and one for all
+/// descriptions of the root.
 fn questions(rt: &HostRuntime, made: &Made, reader: &mut OneRow, quiet: bool) -> io::Result<()> {
     for limit in [10u32, 1000] {
         searches(rt, made, reader, limit, quiet)?;
     }
-    ask_children(rt, made, quiet)
+    ask_children(rt, made, quiet)?;
+    ask_about(rt, made, reader, quiet)
 }
 
 fn run(rt: &HostRuntime, size: u64, lists: u64, quiet: bool) -> io::Result<()> {

@@ -1,7 +1,7 @@
 //! Made rows, and lists of their places and postings.
 
 use crate::asking::scrambled;
-use as_of_index::{Index, Listed, MAX_LISTS, Posted};
+use as_of_index::{Index, MAX_LISTS, PlaceList, RowPlace};
 use associations::Links;
 use history_model::{IS_A, StampedRow};
 use rf2_values::{
@@ -46,9 +46,11 @@ pub(crate) struct Made {
 /// The postings of one list, and the places.
 #[derive(Drop)]
 struct Pushed {
-    places: Vec<Posted>,
+    places: Vec<RowPlace>,
     terms: term_prefix::Postings,
     links: associations::Postings,
+    /// The byte at which the next record begins.
+    end: u32,
 }
 
 pub(crate) fn other(message: &'static str) -> io::Error {
@@ -135,12 +137,14 @@ impl Pushed {
             places: Vec::new(alloc),
             terms: term_prefix::Postings::new(alloc),
             links: associations::Postings::new(alloc),
+            end: 0,
         }
     }
 
     /// Adds a row, as the last of the list.
     fn push(&mut self, row: &StampedRow) -> io::Result<()> {
-        let place = Posted::new(row, 0);
+        let place = RowPlace::new(row, self.end);
+        self.end = self.end.wrapping_add(place.bytes);
         let (of_term, of_link) = (place, place);
         self.terms.push(row, of_term)?;
         self.links.push(row, of_link)?;
@@ -186,21 +190,20 @@ impl Pushed {
         time: EffectiveTime,
     ) -> io::Result<()> {
         let mut id = first;
-        let mut at = 0u32;
         for _ in 0..count {
             let key = Key {
                 id: u128::from(id),
                 time,
                 kind: Kind::Association,
             };
-            self.places.push(Posted {
+            self.places.push(RowPlace {
                 key,
                 import: 1,
-                at,
+                at: self.end,
                 bytes: BYTES,
             })?;
             id = id.wrapping_add(step);
-            at = at.wrapping_add(BYTES);
+            self.end = self.end.wrapping_add(BYTES);
         }
         Ok(())
     }
@@ -220,11 +223,12 @@ impl Made {
             places,
             terms,
             links,
+            ..
         } = pushed;
-        if !Listed::may_list(&places) {
+        if !PlaceList::may_list(&places) {
             return Err(other("not in order"));
         }
-        let list = Listed::new(places);
+        let list = PlaceList::new(places);
         if !self.index.may_add(&list) {
             return Err(other("listed twice"));
         }

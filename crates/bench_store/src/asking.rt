@@ -26,7 +26,7 @@ pub(crate) fn look_up(store: &mut Store<FileDisk>, ids: &[Sctid]) -> Option<u64>
             return None;
         }
         let row = store
-            .lookup(Kind::Concept, u128::from(id.value()), time, pin)
+            .get(Kind::Concept, u128::from(id.value()), time, pin)
             .ok()?;
         found += u64::from(row.is_some() && found < u64::MAX);
     }
@@ -43,7 +43,7 @@ pub(crate) fn turn_pages(store: &mut Store<FileDisk>, ids: &[Sctid]) -> Option<u
             return None;
         }
         let after = Some(u128::from(id.value()));
-        let rows = store.page(Kind::Concept, time, pin, after, 100).ok()?;
+        let rows = store.page(Kind::Concept, time, after, 100, pin).ok()?;
         found = found.saturating_add(rows.len() as u64);
     }
     Some(found)

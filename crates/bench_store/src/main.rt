@@ -60,7 +60,7 @@ fn search_terms(rt: &HostRuntime, path: &str, prefixes: &str) -> Option<u64> {
             if pin > store.imports() {
                 return None;
             }
-            let rows = store.terms(prefix, time, pin, 10).ok()?;
+            let rows = store.terms(prefix, time, 10, pin).ok()?;
             found = found.saturating_add(rows.len() as u64);
         }
     }

@@ -72,7 +72,7 @@ fn turn_page(store: &mut Store<FileDisk>, after: Option<u128>) -> Option<Option<
     let time = EffectiveTime::of(20_251_231)?;
     let pin = store.imports();
     let rows = store
-        .page(Kind::Description, time, pin, after, ROWS_A_STEP)
+        .page(Kind::Description, time, after, ROWS_A_STEP, pin)
         .ok()?;
     Some(rows.last().map(|row| row.id))
 }

@@ -9,9 +9,9 @@ use Rattle.std.proofs.lemmas.List.{length-set, append_assoc}
 use Rattle.std.proofs.lemmas.List.Edits.{length-remove}
 use Rattle.disk_model.specs.Disk.{Moments}
 use Rattle.import_check.specs.declared.release.Release.{Release}
-use Rattle.history_store.specs.Shelf.{Shelf}
+use Rattle.history_store.specs.Catalog.{Catalog}
 use Rattle.history_store.specs.Merging.{IsBegun, IsStepped, IsPublished}
-use Rattle.history_store.specs.Stored.{Stored}
+use Rattle.history_store.specs.StoreValue.{StoreValue}
 use Rattle.history_store.proofs.Likeness.{all_append}
 use Rattle.line_commands.specs.Commands.{Command, Merge, Step, Publish, Trim}
 use Rattle.line_commands.specs.Requests.{Asks}
@@ -19,10 +19,10 @@ use Rattle.line_commands.proofs.Readings.{one_reading}
 use Rattle.line_server.specs.declared.refusal.LineRefusal.{LineRefusal}
 use Rattle.line_server.specs.declared.refusal.LineRefusal.TheVariants as refusals
 use Rattle.line_server.specs.Sources.{Releases, files_of}
-use Rattle.line_server.specs.Said.{Answer, Said, said}
+use Rattle.line_server.specs.ReplyValue.{Answer, ReplyValue, reply_value}
 use Rattle.line_server.specs.declared.serving.ServeFault.{ServeFault}
 use Rattle.line_server.specs.Pins.{unpinned}
-use Rattle.line_server.specs.Replies.{Desk, Replies, IsAnswer, desk}
+use Rattle.line_server.specs.Replies.{Server, Replies, IsAnswer, server}
 use Rattle.line_server.specs.Turns.{Turn, IsTurn, IsAskedFor, Run, imported}
 use Rattle.line_server.proofs.Imported.{run_imported}
 use Rattle.command_line.specs.Merging.{IsMergeTurn, IsMergeLine, IsHaltedBy, IsMergedTo, IsMergedAndAsked, TellsMerge, segments_of, trim_line}
@@ -50,7 +50,7 @@ unfolding digits
 trim_asks = record { short = omega arith; is_session = omega arith; arguments = []; spelled = refl; line_is = refl }
 
 -- a line that was answered OK was answered as its command is
-module _ {D : Type 0} (honest : Type 0) (releases : Releases) (old new : Desk D) (line : List ℕ) (session : ℕ) (command : Command) (asks : Asks line session command) where
+module _ {D : Type 0} (honest : Type 0) (releases : Releases) (old new : Server D) (line : List ℕ) (session : ℕ) (command : Command) (asks : Asks line session command) where
   answered : (outcome : Result Answer LineRefusal) → IsOk outcome → Replies honest releases line outcome old new
       → (answer : Answer) × IsAnswer honest releases session command answer old new
   answered (Ok answer) ok (inl r) =
@@ -61,62 +61,62 @@ module _ {D : Type 0} (honest : Type 0) (releases : Releases) (old new : Desk D)
 
 -- ---- how many segments stand then
 
-published_less : (old new : Shelf) → IsPublished old new → length new.entries + 1 ≡ length old.entries
+published_less : (old new : Catalog) → IsPublished old new → length new.entries + 1 ≡ length old.entries
 published_less old new p =
     let within = slice_get_within old.entries p.merge.j p.b p.b_is in
     let n = length-set old.entries p.merge.i _ in
     let less = length-remove (slice_set old.entries p.merge.i _) p.merge.j (rw n within) in
     rw p.next_is (less ∙ n)
 
-begun_same : (old new : Shelf) (left : ℕ) → IsBegun old new left → length new.entries ≡ length old.entries
+begun_same : (old new : Catalog) (left : ℕ) → IsBegun old new left → length new.entries ≡ length old.entries
 begun_same old new left b = rw b.next_is refl
 
-stepped_same : (n : ℕ) (old new : Shelf) (left : ℕ) → IsStepped n old new left → length new.entries ≡ length old.entries
+stepped_same : (n : ℕ) (old new : Catalog) (left : ℕ) → IsStepped n old new left → length new.entries ≡ length old.entries
 stepped_same n old new left s = rw s.next_is refl
 
 module _ {D : Type 0} (honest : D → Type 0) (moments : D → Moments) (failures : D → ℕ) where
-  abbrev Goes : Desk D → Turn → Desk D → Type 0
+  abbrev Goes : Server D → Turn → Server D → Type 0
   Goes old turn new = IsTurn ⊤ (λ _. None) honest moments failures old turn new
 
-  abbrev Runs : Desk D → List Turn → Desk D → Type 0
+  abbrev Runs : Server D → List Turn → Server D → Type 0
   Runs old turns new = Run ⊤ (λ _. None) honest moments failures old turns new
 
-  merge_keeps : (old new : Desk D) (turn : Turn) → turn.line ≡ codes "0 MERGE" → IsOk turn.outcome → Goes old turn new → segments_of new ≡ segments_of old
+  merge_keeps : (old new : Server D) (turn : Turn) → turn.line ≡ codes "0 MERGE" → IsOk turn.outcome → Goes old turn new → segments_of new ≡ segments_of old
   merge_keeps old new turn is ok t =
       let a = answered (honest old.store.disk) t.releases old new turn.line 0 Merge (rw is merge_asks) turn.outcome ok t.goes.replies in
-      begun_same old.store.shelf new.store.shelf a.1.0 a.1.1.0
+      begun_same old.store.catalog new.store.catalog a.1.0 a.1.1.0
 
-  step_keeps : (old new : Desk D) (turn : Turn) → turn.line ≡ codes "0 STEP 100000" → IsOk turn.outcome → Goes old turn new → segments_of new ≡ segments_of old
+  step_keeps : (old new : Server D) (turn : Turn) → turn.line ≡ codes "0 STEP 100000" → IsOk turn.outcome → Goes old turn new → segments_of new ≡ segments_of old
   step_keeps old new turn is ok t =
       let a = answered (honest old.store.disk) t.releases old new turn.line 0 (Step 100000) (rw is step_asks) turn.outcome ok t.goes.replies in
-      stepped_same 100000 old.store.shelf new.store.shelf a.1.0 a.1.1.0
+      stepped_same 100000 old.store.catalog new.store.catalog a.1.0 a.1.1.0
 
-  publish_lowers : (old new : Desk D) (turn : Turn) → turn.line ≡ codes "0 PUBLISH" → IsOk turn.outcome → Goes old turn new → segments_of new + 1 ≡ segments_of old
+  publish_lowers : (old new : Server D) (turn : Turn) → turn.line ≡ codes "0 PUBLISH" → IsOk turn.outcome → Goes old turn new → segments_of new + 1 ≡ segments_of old
   publish_lowers old new turn is ok t =
       let a = answered (honest old.store.disk) t.releases old new turn.line 0 Publish (rw is publish_asks) turn.outcome ok t.goes.replies in
-      published_less old.store.shelf new.store.shelf a.1.0.0
+      published_less old.store.catalog new.store.catalog a.1.0.0
 
-  trim_keeps : (old new : Desk D) (turn : Turn) → turn.line ≡ trim_line → IsOk turn.outcome → Goes old turn new → segments_of new ≡ segments_of old
+  trim_keeps : (old new : Server D) (turn : Turn) → turn.line ≡ trim_line → IsOk turn.outcome → Goes old turn new → segments_of new ≡ segments_of old
   trim_keeps old new turn is ok t =
       let a = answered (honest old.store.disk) t.releases old new turn.line 0 Trim (rw is trim_asks) turn.outcome ok t.goes.replies in
-      ap (λ (s : Shelf). length s.entries) a.1.1.0
+      ap (λ (s : Catalog). length s.entries) a.1.1.0
 
   -- ---- lines one after the other
 
-  run_both : (old mid new : Desk D) (turns more : List Turn) → Runs old turns mid → Runs mid more new → Runs old (turns ++ more) new
-  run_both old mid new [] more e r = subst (λ (d : Desk D). Runs d more new) e r
+  run_both : (old mid new : Server D) (turns more : List Turn) → Runs old turns mid → Runs mid more new → Runs old (turns ++ more) new
+  run_both old mid new [] more e r = subst (λ (d : Server D). Runs d more new) e r
   run_both old mid new (turn ∷ turns) more r s = (r.0, r.1, run_both r.0 mid new turns more r.2 s)
 
-  one_run : (old new : Desk D) (turn : Turn) → Goes old turn new → Runs old (turn ∷ []) new
+  one_run : (old new : Server D) (turn : Turn) → Goes old turn new → Runs old (turn ∷ []) new
   one_run old new turn t = (new, t, refl)
 
-  pub have_none : (old : Desk D) → HaveMerged honest moments failures old old
+  pub have_none : (old : Server D) → HaveMerged honest moments failures old old
   have_none old = record { turns = []; merges = tt; run = refl }
 
-  pub have_one : (old new : Desk D) (turn : Turn) → IsMergeLine turn.line → IsOk turn.outcome → Goes old turn new → HaveMerged honest moments failures old new
+  pub have_one : (old new : Server D) (turn : Turn) → IsMergeLine turn.line → IsOk turn.outcome → Goes old turn new → HaveMerged honest moments failures old new
   have_one old new turn is ok t = record { turns = turn ∷ []; merges = ((is, ok), tt); run = one_run old new turn t }
 
-  pub have_both : (old mid new : Desk D) → HaveMerged honest moments failures old mid → HaveMerged honest moments failures mid new → HaveMerged honest moments failures old new
+  pub have_both : (old mid new : Server D) → HaveMerged honest moments failures old mid → HaveMerged honest moments failures mid new → HaveMerged honest moments failures old new
   have_both old mid new a b = record {
     turns = a.turns ++ b.turns;
     merges = all_append IsMergeTurn a.turns b.turns a.merges b.merges;
@@ -124,11 +124,11 @@ module _ {D : Type 0} (honest : D → Type 0) (moments : D → Moments) (failure
   }
 
   -- a line was refused, after lines of merges
-  pub halted_first : (old new : Desk D) (reply : Said) (turn : Turn) → (IsMergeLine turn.line ⊎ (turn.line ≡ trim_line)) → IsErr turn.outcome → reply ≡ said turn.outcome → Goes old turn new
+  pub halted_first : (old new : Server D) (reply : ReplyValue) (turn : Turn) → (IsMergeLine turn.line ⊎ (turn.line ≡ trim_line)) → IsErr turn.outcome → reply ≡ reply_value turn.outcome → Goes old turn new
       → IsHalted honest moments failures reply old new
   halted_first old new reply turn is err says t = (turn, says, record { turns = []; merges = tt; run = one_run old new turn t; line = is; refused = err })
 
-  pub halted_after : (old mid new : Desk D) (reply : Said) → HaveMerged honest moments failures old mid → IsHalted honest moments failures reply mid new
+  pub halted_after : (old mid new : Server D) (reply : ReplyValue) → HaveMerged honest moments failures old mid → IsHalted honest moments failures reply mid new
       → IsHalted honest moments failures reply old new
   halted_after old mid new reply a h = (
     h.0,
@@ -148,20 +148,20 @@ module _ {D : Type 0} (honest : D → Type 0) (moments : D → Moments) (failure
   none_imported turn [] all = refl
   none_imported turn (r ∷ rs) all = let no : None ≡ Some (files_of r) = all.0.3 in cc
 
-  no_releases : (old new : Desk D) (turns : List Turn) → Runs old turns new → imported turns ≡ []
+  no_releases : (old new : Server D) (turns : List Turn) → Runs old turns new → imported turns ≡ []
   no_releases old new [] run = refl
   no_releases old new (turn ∷ turns) run =
       rw (none_imported turn turn.releases (run.1.own tt).imported) (no_releases run.0 new turns run.2)
 
-  run_keeps : (old new : Desk D) (turns : List Turn) → Runs old turns new → honest old.store.disk → new.store.history ≡ old.store.history
+  run_keeps : (old new : Server D) (turns : List Turn) → Runs old turns new → honest old.store.disk → new.store.history ≡ old.store.history
   run_keeps old new turns run lie =
       let all = (run_imported honest moments failures ⊤ (λ _. None) old new turns run).history lie in
       rw (no_releases old new turns run) at all
 
-  pub halted_keeps : (old new : Desk D) (last : Turn) → IsHaltedBy honest moments failures last old new → honest old.store.disk → new.store.history ≡ old.store.history
+  pub halted_keeps : (old new : Server D) (last : Turn) → IsHaltedBy honest moments failures last old new → honest old.store.disk → new.store.history ≡ old.store.history
   halted_keeps old new last h lie = run_keeps old new (h.turns ++ last ∷ []) h.run lie
 
-  pub merged_keeps : (most : ℕ) (old new : Desk D) (last : Turn) → IsMergedAndAsked honest moments failures most last old new → honest old.store.disk
+  pub merged_keeps : (most : ℕ) (old new : Server D) (last : Turn) → IsMergedAndAsked honest moments failures most last old new → honest old.store.disk
       → new.store.history ≡ old.store.history
   merged_keeps most old new last m lie =
       run_keeps old new ((m.1.turns ++ m.1.trim ∷ []) ++ last ∷ [])
@@ -169,13 +169,13 @@ module _ {D : Type 0} (honest : D → Type 0) (moments : D → Moments) (failure
 
   -- ---- what each part of a merge leaves
 
-  pub rows_more : (old mid new : Desk D) (turn : Turn) → HaveMerged honest moments failures old mid → segments_of mid ≡ segments_of old
+  pub rows_more : (old mid new : Server D) (turn : Turn) → HaveMerged honest moments failures old mid → segments_of mid ≡ segments_of old
       → turn.line ≡ codes "0 STEP 100000" → IsOk turn.outcome → Goes mid turn new
       → HaveMerged honest moments failures old new × (segments_of new ≡ segments_of old)
   rows_more old mid new turn have same is ok t =
       (have_both old mid new have (have_one mid new turn (inr (inl is)) ok t), step_keeps mid new turn is ok t ∙ same)
 
-  pub one_less : (old a b new : Desk D) (begin : Turn) (result : Result (Unit {0}) Said) → begin.line ≡ codes "0 MERGE" → IsOk begin.outcome → Goes old begin a
+  pub one_less : (old a b new : Server D) (begin : Turn) (result : Result (Unit {0}) ReplyValue) → begin.line ≡ codes "0 MERGE" → IsOk begin.outcome → Goes old begin a
       → HaveMerged honest moments failures a b → segments_of b ≡ segments_of a → IsAsked honest moments failures (codes "0 PUBLISH") result b new
       → IsOneLess honest moments failures result old new
   one_less old a b new begin (Ok done) is ok t rows same last = (
@@ -186,7 +186,7 @@ module _ {D : Type 0} (honest : D → Type 0) (moments : D → Moments) (failure
       halted_after old b new reply (have_both old a b (have_one old a begin (inl is) ok t) rows)
       (halted_first b new reply last.0 (inl (inr (inr last.1))) last.2 last.3 last.4)
 
-  pub trimmed_to : (most : ℕ) (old mid new : Desk D) (result : Result (Unit {0}) Said) → HaveMerged honest moments failures old mid
+  pub trimmed_to : (most : ℕ) (old mid new : Server D) (result : Result (Unit {0}) ReplyValue) → HaveMerged honest moments failures old mid
       → segments_of mid ≡ min (segments_of old) most → IsAsked honest moments failures trim_line result mid new
       → IsTrimmedTo honest moments failures most result old new
   trimmed_to most old mid new (Ok done) have few last = record {
@@ -204,18 +204,18 @@ module _ {D : Type 0} (honest : D → Type 0) (moments : D → Moments) (failure
   -- ---- the whole
 
   -- so many segments stand, and the status was asked for
-  pub asked_status : (most : ℕ) (old mid : Desk D) (pins : List (Option ℕ)) (after store : Stored D) (last : Turn) (left : D) (ended : Result Ending ServeFault) (o n : Option (List ℕ))
-      → old ≡ desk unpinned store → IsMergedTo honest moments failures most old mid → last.line ≡ status_line → Goes mid last (desk pins after)
+  pub asked_status : (most : ℕ) (old mid : Server D) (pins : List (Option ℕ)) (after store : StoreValue D) (last : Turn) (left : D) (ended : Result Ending ServeFault) (o n : Option (List ℕ))
+      → old ≡ server unpinned store → IsMergedTo honest moments failures most old mid → last.line ≡ status_line → Goes mid last (server pins after)
       → IsTold ended last.outcome o n → left ≡ after.disk → TellsMerge honest moments failures most left ended o n store
   asked_status most old mid pins after store last left ended o n from merged is t told so =
-      let goes : IsMergedAndAsked honest moments failures most last (desk unpinned store) (desk pins after) =
-      subst (λ (d : Desk D). IsMergedAndAsked honest moments failures most last d (desk pins after)) from (mid, merged, is, t) in
-      record { last = last; pins = pins; after = after; goes = inl goes; told = told; left_so = so; history = merged_keeps most (desk unpinned store) (desk pins after) last goes }
+      let goes : IsMergedAndAsked honest moments failures most last (server unpinned store) (server pins after) =
+      subst (λ (d : Server D). IsMergedAndAsked honest moments failures most last d (server pins after)) from (mid, merged, is, t) in
+      record { last = last; pins = pins; after = after; goes = inl goes; told = told; left_so = so; history = merged_keeps most (server unpinned store) (server pins after) last goes }
 
-  pub told_refusal : (most : ℕ) (old : Desk D) (pins : List (Option ℕ)) (after store : Stored D) (last : Turn) (left : D) (ended : Result Ending ServeFault) (o n : Option (List ℕ))
-      → old ≡ desk unpinned store → IsHaltedBy honest moments failures last old (desk pins after)
+  pub told_refusal : (most : ℕ) (old : Server D) (pins : List (Option ℕ)) (after store : StoreValue D) (last : Turn) (left : D) (ended : Result Ending ServeFault) (o n : Option (List ℕ))
+      → old ≡ server unpinned store → IsHaltedBy honest moments failures last old (server pins after)
       → IsTold ended last.outcome o n → left ≡ after.disk → TellsMerge honest moments failures most left ended o n store
   told_refusal most old pins after store last left ended o n from halted told so =
-      let goes : IsHaltedBy honest moments failures last (desk unpinned store) (desk pins after) =
-      subst (λ (d : Desk D). IsHaltedBy honest moments failures last d (desk pins after)) from halted in
-      record { last = last; pins = pins; after = after; goes = inr goes; told = told; left_so = so; history = halted_keeps (desk unpinned store) (desk pins after) last goes }
+      let goes : IsHaltedBy honest moments failures last (server unpinned store) (server pins after) =
+      subst (λ (d : Server D). IsHaltedBy honest moments failures last d (server pins after)) from halted in
+      record { last = last; pins = pins; after = after; goes = inr goes; told = told; left_so = so; history = halted_keeps (server unpinned store) (server pins after) last goes }

@@ -4,7 +4,7 @@ use Rattle.std.specs.Io.KnownBytes.{Appends}
 use Rattle.line_server.specs.declared.refusal.LineRefusal.{LineRefusal}
 use Rattle.line_server.specs.declared.serving.ServeFault.{ServeFault}
 use Rattle.line_server.specs.declared.serving.ServeFault.TheVariants as faults
-use Rattle.line_server.specs.Said.{Answer, Said, line, said, bytes_of}
+use Rattle.line_server.specs.ReplyValue.{Answer, ReplyValue, line, reply_value, bytes_of}
 use Rattle.line_server.specs.Streams.{AppendsSome}
 use Rattle.command_line.specs.declared.endings.Ending.{Ending}
 use Rattle.command_line.specs.declared.endings.Ending.TheVariants as endings
@@ -29,16 +29,17 @@ fault_line fault = line (codes "ERR" ∷ decimal (fault_number fault) ∷ fault_
 -- was refused. Where the output failed, a front part of it stands there, and not all.
 abbrev pub IsTold : Result Ending ServeFault → Result Answer LineRefusal → Option (List ℕ)
     → Option (List ℕ) → Type 0
-IsTold (Ok endings.Done) outcome old new = IsOk outcome × Appends old new (bytes_of (said outcome))
+IsTold (Ok endings.Done) outcome old new = IsOk outcome
+    × Appends old new (bytes_of (reply_value outcome))
 IsTold (Ok endings.Refused) outcome old new =
-    IsErr outcome × Appends old new (bytes_of (said outcome))
+    IsErr outcome × Appends old new (bytes_of (reply_value outcome))
 IsTold (Err fault) outcome old new =
-    (fault ≡ faults.Write) × AppendsSome old new (bytes_of (said outcome))
+    (fault ≡ faults.Write) × AppendsSome old new (bytes_of (reply_value outcome))
 
 -- something was told so
 abbrev pub Tells : Result Ending ServeFault → Option (List ℕ) → Option (List ℕ) → Type 0
 Tells result old new = (outcome : Result Answer LineRefusal) × IsTold result outcome old new
 
 -- the reply says an answer or a refusal
-abbrev pub IsReply : Said → Type 0
-IsReply reply = (outcome : Result Answer LineRefusal) × (reply ≡ said outcome)
+abbrev pub IsReply : ReplyValue → Type 0
+IsReply reply = (outcome : Result Answer LineRefusal) × (reply ≡ reply_value outcome)

@@ -1,8 +1,8 @@
-pub use Rattle.line_server.specs.Said
+pub use Rattle.line_server.specs.ReplyValue
 pub use Rattle.line_server.specs.Turns
 pub use Rattle.line_server.specs.Serving
 pub use Rattle.line_server.specs.Imports
-pub use Rattle.history_store.specs.Stored
+pub use Rattle.history_store.specs.StoreValue
 pub use Rattle.history_store.specs.Answers
 pub mod Endings
 pub mod Paths

@@ -2,10 +2,10 @@
 use Rattle.std.specs.Prelude.{◌≡◌, ◌⊎◌, ⊤, ℕ, List, [], ◌∷◌, ◌++◌, length, min, codes, Option, None, Result, IsOk, IsErr}
 use Rattle.std.specs.List.{AllByRecursion}
 use Rattle.disk_model.specs.Disk.{Moments}
-use Rattle.history_store.specs.Stored.{Stored}
+use Rattle.history_store.specs.StoreValue.{StoreValue}
 use Rattle.line_server.specs.declared.serving.ServeFault.{ServeFault}
 use Rattle.line_server.specs.Pins.{unpinned}
-use Rattle.line_server.specs.Replies.{Desk, desk}
+use Rattle.line_server.specs.Replies.{Server, server}
 use Rattle.line_server.specs.Turns.{Turn, IsTurn, Run}
 use Rattle.command_line.specs.declared.endings.Ending.{Ending}
 use Rattle.command_line.specs.Endings.{IsTold}
@@ -25,13 +25,13 @@ abbrev pub IsMergeTurn : Turn → Type 0
 IsMergeTurn turn = IsMergeLine turn.line × IsOk turn.outcome
 
 -- how many segments the store has
-abbrev pub segments_of : {D : Type 0} → Desk D → ℕ
-segments_of desk = length desk.store.shelf.entries
+abbrev pub segments_of : {D : Type 0} → Server D → ℕ
+segments_of server = length server.store.catalog.entries
 
 -- Lines of merges were answered OK, and then the one that trims. From more than so many
 -- segments that many are left, and from fewer as many as there were.
 pub record IsMergedTo {D : Type 0} (honest : D → Type 0) (moments : D → Moments) (failures : D → ℕ)
-    (most : ℕ) (old new : Desk D) : Type 0 where
+    (most : ℕ) (old new : Server D) : Type 0 where
   pub turns : List Turn
   pub merges : AllByRecursion IsMergeTurn turns
   pub trim : Turn
@@ -42,7 +42,7 @@ pub record IsMergedTo {D : Type 0} (honest : D → Type 0) (moments : D → Mome
 
 -- lines of merges were answered OK, and then one of these lines was refused
 pub record IsHaltedBy {D : Type 0} (honest : D → Type 0) (moments : D → Moments) (failures : D → ℕ)
-    (last : Turn) (old new : Desk D) : Type 0 where
+    (last : Turn) (old new : Server D) : Type 0 where
   pub turns : List Turn
   pub merges : AllByRecursion IsMergeTurn turns
   pub run : Run ⊤ (λ _. None) honest moments failures old (turns ++ last ∷ []) new
@@ -51,21 +51,21 @@ pub record IsHaltedBy {D : Type 0} (honest : D → Type 0) (moments : D → Mome
 
 -- the segments were merged, and then the status was asked for
 abbrev pub IsMergedAndAsked : {D : Type 0} → (D → Type 0) → (D → Moments) → (D → ℕ) → ℕ → Turn
-    → Desk D → Desk D → Type 0
+    → Server D → Server D → Type 0
 IsMergedAndAsked {D} honest moments failures most last old new =
-    (mid : Desk D) × IsMergedTo honest moments failures most old mid
+    (mid : Server D) × IsMergedTo honest moments failures most old mid
     × (last.line ≡ status_line) × IsTurn ⊤ (λ _. None) honest moments failures mid last new
 
 -- the last line was that for the status, or one that was refused; its reply was told
 pub record TellsMerge {D : Type 0} (honest : D → Type 0) (moments : D → Moments) (failures : D → ℕ)
     (most : ℕ) (left : D) (ended : Result Ending ServeFault) (old new : Option (List ℕ))
-    (store : Stored D) : Type 0 where
+    (store : StoreValue D) : Type 0 where
   pub last : Turn
   pub pins : List (Option ℕ)
-  pub after : Stored D
-  pub goes : IsMergedAndAsked honest moments failures most last (desk unpinned store)
-      (desk pins after)
-      ⊎ IsHaltedBy honest moments failures last (desk unpinned store) (desk pins after)
+  pub after : StoreValue D
+  pub goes : IsMergedAndAsked honest moments failures most last (server unpinned store)
+      (server pins after)
+      ⊎ IsHaltedBy honest moments failures last (server unpinned store) (server pins after)
   pub told : IsTold ended last.outcome old new
   pub left_so : left ≡ after.disk
   -- what stands in the store stays the same

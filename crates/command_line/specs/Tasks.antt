@@ -7,15 +7,15 @@ use Rattle.blocks.specs.Slots.{slots_range}
 use Rattle.store_image.specs.Answers.{IsNewStore}
 use Rattle.history_store.specs.declared.refusal.Refusal.{Refusal}
 use Rattle.history_store.specs.declared.refusal.Refusal.TheVariants.{OutOfMemory}
-use Rattle.history_store.specs.Stored.{Stored, IsAcknowledged}
+use Rattle.history_store.specs.StoreValue.{StoreValue, IsAcknowledged}
 use Rattle.history_store.specs.Answers.{IsMakingOf, IsOpeningOf, HandsBack, SyncsOnce, CountsOpening, device_of}
 use Rattle.line_server.specs.declared.refusal.LineRefusal.{LineRefusal}
 use Rattle.line_server.specs.declared.refusal.LineRefusal.TheVariants.{Store}
 use Rattle.line_server.specs.declared.serving.ServeFault.{ServeFault}
 use Rattle.line_server.specs.Sources.{Releases}
-use Rattle.line_server.specs.Said.{Answer, Done as AllDone}
+use Rattle.line_server.specs.ReplyValue.{Answer, Done as AllDone}
 use Rattle.line_server.specs.Pins.{unpinned}
-use Rattle.line_server.specs.Replies.{desk}
+use Rattle.line_server.specs.Replies.{server}
 use Rattle.line_server.specs.Turns.{Turn, IsTurn}
 use Rattle.line_server.specs.Serving.{IsServed}
 use Rattle.command_line.specs.declared.endings.Ending.{Ending}
@@ -24,7 +24,7 @@ use Rattle.command_line.specs.Endings.{IsTold}
 
 -- a store, or why there is none, and its device
 abbrev pub StoreOr : Type 0 → Type 0
-StoreOr D = Result (Stored D) (Refusal × D)
+StoreOr D = Result (StoreValue D) (Refusal × D)
 
 -- a store was made on this device, or not: a refusal leaves the device as it was, one with
 -- a byte stays as it is whatever comes, and nothing changes behind the slots
@@ -74,27 +74,27 @@ pub record IsMade {D : Type 0} (honest : D → Type 0) (moments : D → Moments)
 -- The line was answered, where no session is pinned, the
 -- reply was told, and the device was left as it then was.
 pub record IsLineTold {D : Type 0} (honest_source : Type 0) (has : Releases) (honest : D → Type 0)
-    (moments : D → Moments) (failures : D → ℕ) (line : List ℕ) (store : Stored D) (left : D)
+    (moments : D → Moments) (failures : D → ℕ) (line : List ℕ) (store : StoreValue D) (left : D)
     (ended : Result Ending ServeFault) (old new : Option (List ℕ)) : Type 0 where
   pub turn : Turn
   pub pins : List (Option ℕ)
-  pub after : Stored D
+  pub after : StoreValue D
   pub line_is : turn.line ≡ line
   pub answered : IsTurn honest_source has honest moments failures
-      (desk unpinned store) turn (desk pins after)
+      (server unpinned store) turn (server pins after)
   pub told : IsTold ended turn.outcome old new
   pub left_so : left ≡ after.disk
 
 -- it was done on the store; or it was told why there is none, and
 -- the device was left as the opening left it
-abbrev pub OnStore : {D : Type 0} → (Stored D → Type 0) → StoreOr D → D → Result Ending ServeFault
-    → Option (List ℕ) → Option (List ℕ) → Type 0
+abbrev pub OnStore : {D : Type 0} → (StoreValue D → Type 0) → StoreOr D → D
+    → Result Ending ServeFault → Option (List ℕ) → Option (List ℕ) → Type 0
 OnStore done (Ok store) left ended old new = done store
 OnStore done (Err e) left ended old new = IsTold ended (Err (Store e.0)) old new × (left ≡ e.1)
 
 -- the store was opened from this device, and it was done on it
 pub record IsOnOpened {D : Type 0} (honest : D → Type 0) (moments : D → Moments) (failures : D → ℕ)
-    (done : Stored D → Type 0) (device left : D)
+    (done : StoreValue D → Type 0) (device left : D)
     (ended : Result Ending ServeFault) (old new : Option (List ℕ)) : Type 0 where
   pub had : StoreOr D
   pub opening : IsOpening honest moments failures device had
@@ -108,7 +108,8 @@ import_line name = codes "0 IMPORT " ++ name
 
 -- the line that imports the release was answered, or memory lacked for it
 abbrev pub Imports : {D : Type 0} → Type 0 → Releases → (D → Type 0) → (D → Moments) → (D → ℕ)
-    → List ℕ → D → Result Ending ServeFault → Option (List ℕ) → Option (List ℕ) → Stored D → Type 0
+    → List ℕ → D → Result Ending ServeFault → Option (List ℕ) → Option (List ℕ) → StoreValue D
+    → Type 0
 Imports honest_source has honest moments failures name left ended old new store =
     IsLineTold honest_source has honest moments failures (import_line name) store left ended old new
     ⊎ (IsTold ended (Err (Store OutOfMemory)) old new × (left ≡ store.disk))
@@ -129,7 +130,7 @@ status_line = codes "0 STATUS"
 
 -- the line that asks for the status was answered, where there is no release
 abbrev pub TellsStatus : {D : Type 0} → (D → Type 0) → (D → Moments) → (D → ℕ) → D
-    → Result Ending ServeFault → Option (List ℕ) → Option (List ℕ) → Stored D → Type 0
+    → Result Ending ServeFault → Option (List ℕ) → Option (List ℕ) → StoreValue D → Type 0
 TellsStatus honest moments failures left ended old new store =
     IsLineTold ⊤ (λ _. None) honest moments failures status_line store left ended old new
 
@@ -153,11 +154,12 @@ most_reads = 4294967295
 
 -- the lines of the input were served, and the device was left as it then was
 pub record IsInputServed {D : Type 0} (honest_source : Type 0) (has : Releases)
-    (honest : D → Type 0) (moments : D → Moments) (failures : D → ℕ) (store : Stored D) (left : D)
-    (ended : Result Ending ServeFault) (input rest old new : Option (List ℕ)) : Type 0 where
+    (honest : D → Type 0) (moments : D → Moments) (failures : D → ℕ) (store : StoreValue D)
+    (left : D) (ended : Result Ending ServeFault) (input rest old new : Option (List ℕ))
+    : Type 0 where
   pub result : Result ℕ ServeFault
   pub ends : ended ≡ ended_by result
-  pub after : Stored D
+  pub after : StoreValue D
   pub served : IsServed result most_reads honest_source has honest moments failures input rest old
       new store after
   pub left_so : left ≡ after.disk

@@ -4,13 +4,13 @@ ghost use Rattle.std.specs.Prelude.{◌≡◌, ◌≤◌, true, false, Result, O
 ghost use Rattle.std.specs.Io.KnownBytes.{Appends, Keeps};
 ghost use Rattle.line_server.specs.declared.refusal.LineRefusal.{LineRefusal};
 ghost use Rattle.line_server.specs.declared.refusal.LineRefusal.TheVariants.{Store};
-ghost use Rattle.line_server.specs.Said.{Answer, Done as AllDone, said};
+ghost use Rattle.line_server.specs.ReplyValue.{Answer, Done as AllDone, reply_value};
 ghost use Rattle.command_line.specs.declared.endings.Ending.TheVariants.{Done, Refused};
 ghost use Rattle.command_line.specs.Endings.{fault_number, fault_name, fault_line, IsTold};
 
 use crate::telling::Told;
 use history_store::Refusal;
-use line_server::{LineRefusal, Reply, ServeFault, done, refused};
+use line_server::{LineRefusal, Reply, ServeFault, reply_done, reply_refusal};
 use std::alloc::Global;
 use std::io::Write;
 
@@ -93,7 +93,7 @@ pub(crate) fn tell_done<O: Write>(
 ) -> Result<Ending, ServeFault>
     ensures { IsTold result (Ok (AllDone [])) (O.contents output.old) (O.contents output.new) }
 {
-    tell(output, &done(alloc), told)
+    tell(output, &reply_done(alloc), told)
 }
 
 /// Writes the line of a refusal.
@@ -105,15 +105,21 @@ pub(crate) fn refuse<O: Write>(
 ) -> Result<Ending, ServeFault>
     ensures { IsTold result (Err (Store refusal)) (O.contents output.old) (O.contents output.new) }
 {
-    tell(output, &refused(alloc, LineRefusal::Store(refusal)), told)
+    let ended = tell(
+        output,
+        &reply_refusal(alloc, LineRefusal::Store(refusal)),
+        told,
+    );
+    told.note_refusal(refusal);
+    ended
 }
 
 /// Whether a reply is a refusal.
 pub(crate) fn is_refusal(reply: &Reply) -> bool
     ensures refused { result ≡ true → (outcome : Result Answer LineRefusal)
-        → reply.now ≡ said outcome → IsErr outcome }
+        → reply.now ≡ reply_value outcome → IsErr outcome }
     ensures answered { result ≡ false → (outcome : Result Answer LineRefusal)
-        → reply.now ≡ said outcome → IsOk outcome }
+        → reply.now ≡ reply_value outcome → IsOk outcome }
 {
     reply.last().starts_with(b"ERR")
 }
@@ -124,7 +130,7 @@ pub(crate) fn tell<O: Write>(
     reply: &Reply,
     told: &mut Told,
 ) -> Result<Ending, ServeFault>
-    ensures { (outcome : Result Answer LineRefusal) → reply.now ≡ said outcome
+    ensures { (outcome : Result Answer LineRefusal) → reply.now ≡ reply_value outcome
         → IsTold result outcome (O.contents output.old) (O.contents output.new) }
 {
     if reply.write_to(output).is_err() {

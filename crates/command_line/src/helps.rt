@@ -31,7 +31,9 @@ Questions, of the latest version of each component up to a date:
   0 HISTORY C 1000004            all its versions, of any date
   0 CHILDREN 138875005 20210131  the concepts with an active \"is a\" to this one
   0 TERMS 20210131 10 we         at most 10 active descriptions that begin with \"we\"
+  0 SEARCH 20210131 - 10 we      the same; an id in place of - gives those behind it
   0 REPLACED 1000004 20210131    the active associations of the component
+  0 ABOUT D 1000004 20210131     the active rows of a kind (D, R, V, A) about it
   0 PAGE C 20210131 - 100        at most 100 rows of the kind, from the first id on
   0 PAGE C 20210131 1000004 100  the same, behind this id
   0 STATUS                       how many imports, rows and segments there are, and
@@ -39,6 +41,7 @@ Questions, of the latest version of each component up to a date:
 
 Imports and pins:
   0 IMPORT r3                    imports the release in this folder below DIR
+  0 RECEIPT 1                    how many rows import 1 brought, up to which date
   0 PIN                          the session sees the present imports from now on
   0 PIN 1                        it sees the first import alone
   0 UNPIN                        it sees every import again

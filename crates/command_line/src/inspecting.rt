@@ -50,6 +50,7 @@ pub(crate) fn status<D: Disk + Drop, O: Write>(
             let mut store = store;
             let figures = Figures {
                 layout: store.version(),
+                blocks: store.blocks_in_use(),
                 latest: store.latest_time(),
             };
             let ended = answer_line(alloc, STATUS, &mut NoReleases, &mut store, output, told);

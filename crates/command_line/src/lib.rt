@@ -17,8 +17,6 @@ mod progress;
 mod running;
 mod serving;
 mod telling;
-#[cfg(test)]
-mod tests;
 mod words;
 
 pub use demonstration::SCRIPT;

@@ -1,7 +1,7 @@
 //! The segments of a store are merged.
 
 ghost use Rattle.line_server.specs.Pins.{AreWithin};
-ghost use Rattle.line_server.specs.Replies.{desk};
+ghost use Rattle.line_server.specs.Replies.{server};
 ghost use Rattle.command_line.specs.Merging.{IsMergedOnDisk, TellsMerge};
 ghost use Rattle.command_line.specs.Private.{IsAsked, IsOneLess, IsTrimmedTo, MergesRows};
 
@@ -32,7 +32,7 @@ fn ask<D: Disk>(
     requires within { AreWithin store.old.history.imports pins.old }
     ensures within { AreWithin store.new.history.imports pins.new }
     ensures asked { IsAsked D.is_honest D.moments D.failures line.now result
-        (desk pins.old store.old) (desk pins.new store.new) }
+        (server pins.old store.old) (server pins.new store.new) }
 {
     let reply = answer(alloc, line, pins, &mut NoReleases, store);
     if is_refusal(&reply) {
@@ -47,7 +47,7 @@ fn take_rows<D: Disk>(alloc: Global, pins: &mut Pins, store: &mut Store<D>) -> R
     requires within { AreWithin store.old.history.imports pins.old }
     ensures within { AreWithin store.new.history.imports pins.new }
     ensures taken { MergesRows D.is_honest D.moments D.failures result
-        (desk pins.old store.old) (desk pins.new store.new) }
+        (server pins.old store.old) (server pins.new store.new) }
 {
     for _ in 0..u64::MAX {
         if store.merge_left().unwrap_or(0) == 0 {
@@ -63,7 +63,7 @@ fn merge_two<D: Disk>(alloc: Global, pins: &mut Pins, store: &mut Store<D>) -> R
     requires within { AreWithin store.old.history.imports pins.old }
     ensures within { AreWithin store.new.history.imports pins.new }
     ensures merged { IsOneLess D.is_honest D.moments D.failures result
-        (desk pins.old store.old) (desk pins.new store.new) }
+        (server pins.old store.old) (server pins.new store.new) }
 {
     ask(alloc, MERGE, pins, store)?;
     take_rows(alloc, pins, store)?;
@@ -82,7 +82,7 @@ fn merge_to<D: Disk, E: Write>(
     requires within { AreWithin store.old.history.imports pins.old }
     ensures within { AreWithin store.new.history.imports pins.new }
     ensures merged { IsTrimmedTo D.is_honest D.moments D.failures most result
-        (desk pins.old store.old) (desk pins.new store.new) }
+        (server pins.old store.old) (server pins.new store.new) }
 {
     for _ in 0..store.segments().saturating_sub(most) {
         merge_two(alloc, pins, store)?;

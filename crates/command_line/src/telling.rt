@@ -1,7 +1,7 @@
 //! Why, for people: a line on standard error beside the ERR line that programs read.
 
 use crate::differing::find_other;
-use history_store::Refusal;
+use history_store::{Damage, Refusal};
 use import_check::{Release, ReleaseFile};
 use line_server::Reply;
 use rf2_values::EffectiveTime;
@@ -10,17 +10,22 @@ use std::io::{self, Write};
 /// The number of the refusal of a row that differs from another one of the same id and date.
 const CONTRADICTION: usize = 32;
 
-/// The number of the refusal that was told last.
+/// The refusal that was told last.
 #[derive(Clone, Copy, Debug, PartialEq, Eq)]
 pub(crate) struct Told {
-    /// 0 where there is none.
+    /// Its number; 0 where there is none.
     pub code: usize,
+    /// The part of the store that can't be read.
+    pub damage: Option<Damage>,
 }
 
 impl Told {
     /// Nothing was told yet.
     pub(crate) fn new() -> Told {
-        Told { code: 0 }
+        Told {
+            code: 0,
+            damage: None,
+        }
     }
 
     /// Reads the last line of a reply.
@@ -31,6 +36,13 @@ impl Told {
         };
         let mut words = rest.split(|byte| *byte == b' ' || *byte == b'\n');
         self.code = number_of(words.next());
+    }
+
+    /// Notes what a refusal says and its reply doesn't.
+    pub(crate) fn note_refusal(&mut self, refusal: Refusal) {
+        if let Refusal::Unreadable(damage) = refusal {
+            self.damage = Some(damage);
+        }
     }
 }
 
@@ -89,11 +101,12 @@ pub(crate) fn tell_why<E: Write>(told: Told, scene: &Scene<'_>, faults: &mut E) 
     let _ = write_why(told, scene, faults);
 }
 
-/// What is told of a store that was opened: the version of its
-/// layout, and the greatest effective time of a row.
+/// What is told of a store that was opened: the version of its layout, how
+/// many blocks it needs, and the greatest effective time of a row.
 #[derive(Clone, Copy)]
 pub(crate) struct Figures {
     pub layout: u32,
+    pub blocks: u64,
     pub latest: Option<EffectiveTime>,
 }
 
@@ -120,6 +133,7 @@ fn write_figures<E: Write>(
     if let Some(bytes) = size {
         write!(faults, ", {bytes} bytes")?;
     }
+    write!(faults, ", {} blocks in use", figures.blocks)?;
     if let Some(latest) = figures.latest {
         let day = latest.value();
         write!(faults, ", latest effective time {day}")?;
@@ -137,6 +151,12 @@ fn write_why<E: Write>(told: Told, scene: &Scene<'_>, faults: &mut E) -> io::Res
     let store = scene.store;
     if let Some(error) = scene.said {
         return writeln!(faults, "sctd: {store}: {error}");
+    }
+    if let Some(damage) = told.damage {
+        return writeln!(
+            faults,
+            "sctd: {store}: the store is damaged: {damage}; take your copy"
+        );
     }
     let why = meaning(told.code);
     match told.code {

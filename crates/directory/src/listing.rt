@@ -23,9 +23,9 @@ pub struct Directory {
 
 impl Model for Directory {
     ghost use Rattle.std.specs.Prelude.{vec_capacity, ◌≤◌};
-    ghost use Rattle.directory.specs.Listings.{Listing, IsListing, most_places};
+    ghost use Rattle.directory.specs.Listings.{DirectoryValue, IsListing, most_places};
 
-    ghost Value = { Listing };
+    ghost Value = { DirectoryValue };
 
     ghost view = { λ d. record {
       layout = d.layout;
@@ -69,7 +69,7 @@ impl From<AllocError> for DirectoryFault {
 }
 
 impl Directory {
-    ghost use Rattle.directory.specs.Listings.{Listing, IsListing, number_of, upgraded, with_entry, with_two_replaced, with_two_back};
+    ghost use Rattle.directory.specs.Listings.{DirectoryValue, IsListing, number_of, upgraded, with_entry, with_two_replaced, with_two_back};
     ghost use Rattle.directory.specs.Content.{Lists, listing_bytes};
     ghost use Rattle.directory.specs.declared.layout.Layout.TheVariants as layouts;
     ghost use Rattle.directory.specs.declared.listing.DirectoryFault.TheVariants as faults;
@@ -106,7 +106,7 @@ impl Directory {
     pub fn decode(alloc: Global, block: &[u8; 4096]) -> Result<Directory, DirectoryFault>
         ensures found { IfOk result (λ d. Lists block.now d) }
         // A block that lists something is never refused as bad.
-        ensures only { (d : Listing) → Lists block.now d
+        ensures only { (d : DirectoryValue) → Lists block.now d
             → MatchResult result (λ found. found ≡ d) (λ e. e ≡ faults.OutOfMemory) }
     {
         let Some((header, rest)) = split_header(block) else {

@@ -10,42 +10,42 @@ use Rattle.disk_model.specs.declared.choice.Choice.{Choice}
 use Rattle.disk_model.specs.declared.choice.Choice.TheVariants.{Kept, Lost, Filled}
 use Rattle.disk_model.specs.Replayed.{memory_image}
 
--- the base is long enough to be cut to the least length
-base_after_write : (s : DiskState) (at : ℕ) (bytes : List ℕ) → s.least ≤ length s.base → (after_write s at bytes).least ≤ length (after_write s at bytes).base
+-- the durable bytes are enough to be cut to the least length
+durable_after_write : (s : DiskState) (at : ℕ) (bytes : List ℕ) → s.least ≤ length s.durable → (after_write s at bytes).least ≤ length (after_write s at bytes).durable
 unfolding after_write
-base_after_write s at [] le = le
-base_after_write s at (byte ∷ bytes) le = le
+durable_after_write s at [] le = le
+durable_after_write s at (byte ∷ bytes) le = le
 
-either : (b : Bool) (s t : DiskState) → s.least ≤ length s.base → t.least ≤ length t.base → (if b then s else t).least ≤ length (if b then s else t).base
+either : (b : Bool) (s t : DiskState) → s.least ≤ length s.durable → t.least ≤ length t.durable → (if b then s else t).least ≤ length (if b then s else t).durable
 either true s t first second = first
 either false s t first second = second
 
-base_after_cut : (s : DiskState) (len : ℕ) → s.least ≤ length s.base → (after_cut s len).least ≤ length (after_cut s len).base
+durable_after_cut : (s : DiskState) (len : ℕ) → s.least ≤ length s.durable → (after_cut s len).least ≤ length (after_cut s len).durable
 unfolding after_cut
-base_after_cut s len le =
-    either (ltb len (length s.now)) (record { now = take len s.now; base = s.base; least = min s.least len; greatest = s.greatest; loose = s.loose }) s (omega arith) le
+durable_after_cut s len le =
+    either (ltb len (length s.now)) (record { now = take len s.now; durable = s.durable; least = min s.least len; greatest = s.greatest; unsynced = s.unsynced }) s (omega arith) le
 
-base_settled : (bytes : List ℕ) → (settled bytes).least ≤ length (settled bytes).base
+durable_settled : (bytes : List ℕ) → (settled bytes).least ≤ length (settled bytes).durable
 unfolding settled
-base_settled bytes = omega arith
+durable_settled bytes = omega arith
 
-base_after : (s : DiskState) (change : Change) → s.least ≤ length s.base → (after_change s change).least ≤ length (after_change s change).base
-base_after s (Write at bytes) le = base_after_write s at bytes le
-base_after s (Cut len) le = base_after_cut s len le
-base_after s Sync le = base_settled s.now
-base_after s (FailedWrite at bytes part) le = base_after_write s at bytes le
-base_after s (FailedCut len whole) le = base_after_cut s len le
+durable_after : (s : DiskState) (change : Change) → s.least ≤ length s.durable → (after_change s change).least ≤ length (after_change s change).durable
+durable_after s (Write at bytes) le = durable_after_write s at bytes le
+durable_after s (Cut len) le = durable_after_cut s len le
+durable_after s Sync le = durable_settled s.now
+durable_after s (FailedWrite at bytes part) le = durable_after_write s at bytes le
+durable_after s (FailedCut len whole) le = durable_after_cut s len le
 
-base_replayed : (m : Moments) (changes : List Change) → m.state.least ≤ length m.state.base → (replayed m changes).state.least ≤ length (replayed m changes).state.base
-base_replayed m [] le = le
-base_replayed m (change ∷ changes) le = base_replayed (followed_by m (after_change m.state change)) changes (base_after m.state change le)
+durable_replayed : (m : Moments) (changes : List Change) → m.state.least ≤ length m.state.durable → (replayed m changes).state.least ≤ length (replayed m changes).state.durable
+durable_replayed m [] le = le
+durable_replayed m (change ∷ changes) le = durable_replayed (followed_by m (after_change m.state change)) changes (durable_after m.state change le)
 
-chosen : (s : DiskState) (choice : Choice) (image : List ℕ) → IsImage s s.now → s.least ≤ length s.base → IsChosen s choice image → IsImage s image
+chosen : (s : DiskState) (choice : Choice) (image : List ℕ) → IsImage s s.now → s.least ≤ length s.durable → IsChosen s choice image → IsImage s image
 chosen s Kept image now long is = subst (λ (c : List ℕ). IsImage s c) (sym is) now
 chosen s Lost image now long is = subst (λ (c : List ℕ). IsImage s c) (sym is) (record {
-  no_shorter = omega (arith, length-take s.least s.base);
-  no_longer = omega (arith, length-take s.least s.base, now.no_longer, now.no_shorter);
-  fixed = λ i lt out. get_or-take s.least s.base i 0 lt;
+  no_shorter = omega (arith, length-take s.least s.durable);
+  no_longer = omega (arith, length-take s.least s.durable, now.no_longer, now.no_shorter);
+  fixed = λ i lt out. get_or-take s.least s.durable i 0 lt;
 })
 chosen s (Filled byte) image now long is = record {
   no_shorter = omega (arith, is.as_long, now.no_shorter);
@@ -56,7 +56,7 @@ chosen s (Filled byte) image now long is = record {
 -- the image that was chosen, of the moment after some of the calls
 pub chosen_image : (first : List ℕ) (changes : List Change) (choice : Choice) (image : List ℕ) → IsChosen (replayed (made first) changes).state choice image → IsImage (replayed (made first) changes).state image
 chosen_image first changes choice image is =
-    chosen (replayed (made first) changes).state choice image (memory_image first changes) (base_replayed (made first) changes (base_settled first)) is
+    chosen (replayed (made first) changes).state choice image (memory_image first changes) (durable_replayed (made first) changes (durable_settled first)) is
 
 replayed-append : (m : Moments) (xs ys : List Change) → replayed m (xs ++ ys) ≡ replayed (replayed m xs) ys
 replayed-append m [] ys = refl

@@ -16,18 +16,18 @@ use Rattle.disk_model.specs.declared.memory.replay.Replay.{Replay}
 use Rattle.disk_model.proofs.Calls.{replayed-more}
 use Rattle.disk_model.proofs.Filled.{All-front, All-last}
 
-pub shows_settled : (r : Replay) (bytes : List ℕ) → r.now.items ≡ bytes → r.base.items ≡ bytes → r.least ≡ length bytes → r.loose.items ≡ [] → Shows r (settled bytes)
+pub shows_settled : (r : Replay) (bytes : List ℕ) → r.now.items ≡ bytes → r.durable.items ≡ bytes → r.least ≡ length bytes → r.unsynced.items ≡ [] → Shows r (settled bytes)
 unfolding settled
-shows_settled r bytes now base least loose = record {
+shows_settled r bytes now durable least unsynced = record {
   now = now;
-  base = base;
+  durable = durable;
   least = least;
-  loose = λ i. (λ all. All-nil (IsOutside i), λ all. subst (λ (l : List (ℕ × ℕ)). All (IsOutside i) l) (sym loose) (All-nil (IsOutside i)));
+  unsynced = λ i. (λ all. All-nil (IsOutside i), λ all. subst (λ (l : List (ℕ × ℕ)). All (IsOutside i) l) (sym unsynced) (All-nil (IsOutside i)));
 }
 
 -- the ranges in either order
-loose_more : (xs ys zs : List (ℕ × ℕ)) (range : ℕ × ℕ) → zs ≡ xs ++ range ∷ [] → ((i : ℕ) → All (IsOutside i) xs ↔ All (IsOutside i) ys) → (i : ℕ) → All (IsOutside i) zs ↔ All (IsOutside i) (range ∷ ys)
-loose_more xs ys zs range is same i = (
+unsynced_more : (xs ys zs : List (ℕ × ℕ)) (range : ℕ × ℕ) → zs ≡ xs ++ range ∷ [] → ((i : ℕ) → All (IsOutside i) xs ↔ All (IsOutside i) ys) → (i : ℕ) → All (IsOutside i) zs ↔ All (IsOutside i) (range ∷ ys)
+unsynced_more xs ys zs range is same i = (
   λ all.
       let all_2 = subst (λ (l : List (ℕ × ℕ)). All (IsOutside i) l) is all in
       All-cons (IsOutside i) range ys (All-last (IsOutside i) xs range all_2) ((same i).0 (All-front (IsOutside i) xs (range ∷ []) all_2)),
@@ -35,28 +35,28 @@ loose_more xs ys zs range is same i = (
       subst (λ (l : List (ℕ × ℕ)). All (IsOutside i) l) (sym is) (All-push (IsOutside i) xs range ((same i).1 (All-tail (IsOutside i) range ys all)) (All-head (IsOutside i) range ys all)),
 )
 
-pub shows_write : (r new : Replay) (s : DiskState) (at : ℕ) (bytes : List ℕ) (part : List ℕ) → 0 < length bytes → Shows r s → new.now.items ≡ written r.now.items at part → new.base.items ≡ r.base.items → new.least ≡ r.least
-    → new.loose.items ≡ r.loose.items ++ (at, at + length bytes) ∷ [] → Shows new (reading (after_write s at bytes) (written s.now at part))
+pub shows_write : (r new : Replay) (s : DiskState) (at : ℕ) (bytes : List ℕ) (part : List ℕ) → 0 < length bytes → Shows r s → new.now.items ≡ written r.now.items at part → new.durable.items ≡ r.durable.items → new.least ≡ r.least
+    → new.unsynced.items ≡ r.unsynced.items ++ (at, at + length bytes) ∷ [] → Shows new (reading (after_write s at bytes) (written s.now at part))
 unfolding after_write
-shows_write r new s at [] part some shows now base least loose = absurd (omega arith)
-shows_write r new s at (byte ∷ bytes) part some shows now base least loose = record {
+shows_write r new s at [] part some shows now durable least unsynced = absurd (omega arith)
+shows_write r new s at (byte ∷ bytes) part some shows now durable least unsynced = record {
   now = now ∙ ap (λ (l : List ℕ). written l at part) shows.now;
-  base = base ∙ shows.base;
+  durable = durable ∙ shows.durable;
   least = least ∙ shows.least;
-  loose = loose_more r.loose.items s.loose new.loose.items (at, at + length (byte ∷ bytes)) loose shows.loose;
+  unsynced = unsynced_more r.unsynced.items s.unsynced new.unsynced.items (at, at + length (byte ∷ bytes)) unsynced shows.unsynced;
 }
 
-pub shows_no_write : (r new : Replay) (s : DiskState) (at : ℕ) (bytes : List ℕ) (part : List ℕ) → length bytes ≡ 0 → length part ≡ 0 → Shows r s → new.now.items ≡ written r.now.items at part → new.base.items ≡ r.base.items → new.least ≡ r.least
-    → new.loose.items ≡ r.loose.items → Shows new (reading (after_write s at bytes) (written s.now at part))
+pub shows_no_write : (r new : Replay) (s : DiskState) (at : ℕ) (bytes : List ℕ) (part : List ℕ) → length bytes ≡ 0 → length part ≡ 0 → Shows r s → new.now.items ≡ written r.now.items at part → new.durable.items ≡ r.durable.items → new.least ≡ r.least
+    → new.unsynced.items ≡ r.unsynced.items → Shows new (reading (after_write s at bytes) (written s.now at part))
 unfolding after_write
-shows_no_write r new s at [] [] none_1 none_2 shows now base least loose = record {
+shows_no_write r new s at [] [] none_1 none_2 shows now durable least unsynced = record {
   now = now ∙ shows.now;
-  base = base ∙ shows.base;
+  durable = durable ∙ shows.durable;
   least = least ∙ shows.least;
-  loose = λ i. subst (λ (l : List (ℕ × ℕ)). All (IsOutside i) l ↔ All (IsOutside i) s.loose) (sym loose) (shows.loose i);
+  unsynced = λ i. subst (λ (l : List (ℕ × ℕ)). All (IsOutside i) l ↔ All (IsOutside i) s.unsynced) (sym unsynced) (shows.unsynced i);
 }
-shows_no_write r new s at [] (byte ∷ part) none_1 none_2 shows now base least loose = absurd (omega arith)
-shows_no_write r new s at (byte ∷ bytes) part none_1 none_2 shows now base least loose = absurd (omega arith)
+shows_no_write r new s at [] (byte ∷ part) none_1 none_2 shows now durable least unsynced = absurd (omega arith)
+shows_no_write r new s at (byte ∷ bytes) part none_1 none_2 shows now durable least unsynced = absurd (omega arith)
 
 when_short : (b : Bool) (cut s : DiskState) (bytes : List ℕ) (r : Replay) → b ≡ true → Shows r (reading cut bytes) → Shows r (reading (if b then cut else s) bytes)
 when_short true cut s bytes r is shows = shows
@@ -67,17 +67,17 @@ when_long true cut s bytes r is shows = absurd (cc)
 when_long false cut s bytes r is shows = shows
 
 -- a cut below the length
-pub shows_cut : (r new : Replay) (s : DiskState) (len : ℕ) (whole : Bool) → len < length r.now.items → Shows r s → new.now.items ≡ (if whole then take len r.now.items else r.now.items) → new.base.items ≡ r.base.items
-    → new.least ≡ min r.least len → new.loose.items ≡ r.loose.items → Shows new (reading (after_cut s len) (if whole then take len s.now else s.now))
+pub shows_cut : (r new : Replay) (s : DiskState) (len : ℕ) (whole : Bool) → len < length r.now.items → Shows r s → new.now.items ≡ (if whole then take len r.now.items else r.now.items) → new.durable.items ≡ r.durable.items
+    → new.least ≡ min r.least len → new.unsynced.items ≡ r.unsynced.items → Shows new (reading (after_cut s len) (if whole then take len s.now else s.now))
 unfolding after_cut
-shows_cut r new s len whole lt shows now base least loose =
+shows_cut r new s len whole lt shows now durable least unsynced =
     let short : len < length s.now = omega (arith, ap length shows.now) in
     when_short (ltb len (length s.now)) _ s (if whole then take len s.now else s.now) new (grind (arith, nat_tests))
     (record {
       now = now ∙ ap (λ (l : List ℕ). if whole then take len l else l) shows.now;
-      base = base ∙ shows.base;
+      durable = durable ∙ shows.durable;
       least = least ∙ ap (λ n. min n len) shows.least;
-      loose = λ i. subst (λ (l : List (ℕ × ℕ)). All (IsOutside i) l ↔ All (IsOutside i) s.loose) (sym loose) (shows.loose i);
+      unsynced = λ i. subst (λ (l : List (ℕ × ℕ)). All (IsOutside i) l ↔ All (IsOutside i) s.unsynced) (sym unsynced) (shows.unsynced i);
     })
 
 either_way : (whole : Bool) (len : ℕ) (bytes : List ℕ) → length bytes ≤ len → bytes ≡ (if whole then take len bytes else bytes)
@@ -90,7 +90,7 @@ unfolding after_cut
 shows_no_cut r s len whole ge shows =
     let long : length s.now ≤ len = omega (arith, ap length shows.now) in
     when_long (ltb len (length s.now)) _ s (if whole then take len s.now else s.now) r (grind (arith, nat_tests))
-    (record { now = shows.now ∙ either_way whole len s.now long; base = shows.base; least = shows.least; loose = shows.loose })
+    (record { now = shows.now ∙ either_way whole len s.now long; durable = shows.durable; least = shows.least; unsynced = shows.unsynced })
 
 -- all of a write
 whole_write : (s : DiskState) (at : ℕ) (bytes : List ℕ) (n : ℕ) → length bytes ≤ n → reading (after_write s at bytes) (written s.now at (take n bytes)) ≡ after_write s at bytes
@@ -130,20 +130,20 @@ shows_all m f all entries part i n r same is past shows =
     (ap (λ (l : List Entry). map f l) (take_all i part past ∙ is ∙ ap (λ (l : List Entry). take n l) same) ∙ sym (take-map f n entries))
     shows
 
--- the image with one byte at each loose position
-pub filled_shown : (r : Replay) (s : DiskState) (byte : ℕ) (now : List ℕ) (ranges : List (ℕ × ℕ)) (image : List ℕ) → Shows r s → now ≡ r.now.items → ranges ≡ r.loose.items → length image ≡ length now
+-- the image with one byte at each unsynced position
+pub filled_shown : (r : Replay) (s : DiskState) (byte : ℕ) (now : List ℕ) (ranges : List (ℕ × ℕ)) (image : List ℕ) → Shows r s → now ≡ r.now.items → ranges ≡ r.unsynced.items → length image ≡ length now
     → ((i : ℕ) → i < length now → (¬ (All (IsOutside i) ranges)) ⊎ (r.least ≤ i) → get_or image i 0 ≡ byte)
     → ((i : ℕ) → i < r.least → All (IsOutside i) ranges → get_or image i 0 ≡ get_or now i 0) → IsFilled s byte image
-filled_shown r s byte now ranges image shows now_is ranges_are long loose fixed = record {
+filled_shown r s byte now ranges image shows now_is ranges_are long unsynced fixed = record {
   as_long = long ∙ ap length now_is ∙ ap length shows.now;
-  loose = λ i lt is_loose.
-      loose i (omega (arith, ap length shows.now, ap length now_is))
-      (elim is_loose [
-        | inl some ↦ inl (λ all. some ((shows.loose i).0 (subst (λ (l : List (ℕ × ℕ)). All (IsOutside i) l) ranges_are all)))
+  unsynced = λ i lt is_unsynced.
+      unsynced i (omega (arith, ap length shows.now, ap length now_is))
+      (elim is_unsynced [
+        | inl some ↦ inl (λ all. some ((shows.unsynced i).0 (subst (λ (l : List (ℕ × ℕ)). All (IsOutside i) l) ranges_are all)))
         | inr ge ↦ inr (omega (arith, shows.least))
       ]);
   fixed = λ i lt out.
-      fixed i (omega (arith, shows.least)) (subst (λ (l : List (ℕ × ℕ)). All (IsOutside i) l) (sym ranges_are) ((shows.loose i).1 out))
+      fixed i (omega (arith, shows.least)) (subst (λ (l : List (ℕ × ℕ)). All (IsOutside i) l) (sym ranges_are) ((shows.unsynced i).1 out))
       ∙ ap (λ (l : List ℕ). get_or l i 0) (now_is ∙ shows.now);
 }
 

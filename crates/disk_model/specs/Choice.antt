@@ -4,19 +4,19 @@ use Rattle.disk_model.specs.Disk.{DiskState, IsOutside}
 use Rattle.disk_model.specs.declared.choice.Choice.{Choice}
 use Rattle.disk_model.specs.declared.choice.Choice.TheVariants.{Kept, Lost, Filled}
 
--- a position is loose: written since the last sync, or not below the least length since then
-abbrev pub IsLoose : DiskState → ℕ → Type 0
-IsLoose s i = (¬ (All (IsOutside i) s.loose)) ⊎ (s.least ≤ i)
+-- a position is unsynced: written since the last sync, or not below the least length since then
+abbrev pub IsUnsynced : DiskState → ℕ → Type 0
+IsUnsynced s i = (¬ (All (IsOutside i) s.unsynced)) ⊎ (s.least ≤ i)
 
--- what a read gives, with one byte at each loose position
+-- what a read gives, with one byte at each unsynced position
 pub record IsFilled (s : DiskState) (byte : ℕ) (image : List ℕ) : Type 0 where
   pub as_long : length image ≡ length s.now
-  pub loose : (i : ℕ) → i < length s.now → IsLoose s i → slice_index image i ≡ byte
-  pub fixed : (i : ℕ) → i < s.least → All (IsOutside i) s.loose
+  pub unsynced : (i : ℕ) → i < length s.now → IsUnsynced s i → slice_index image i ≡ byte
+  pub fixed : (i : ℕ) → i < s.least → All (IsOutside i) s.unsynced
       → slice_index image i ≡ slice_index s.now i
 
 -- the image of a state that is asked for
 abbrev pub IsChosen : DiskState → Choice → List ℕ → Type 0
 IsChosen s Kept image = image ≡ s.now
-IsChosen s Lost image = image ≡ take s.least s.base
+IsChosen s Lost image = image ≡ take s.least s.durable
 IsChosen s (Filled byte) image = IsFilled s byte image

@@ -6,9 +6,9 @@ use Rattle.disk_model.specs.declared.memory.replay.Replay.{Replay}
 -- all that the images of a state need
 pub record Shows (r : Replay) (s : DiskState) : Type 0 where
   pub now : r.now.items ≡ s.now
-  pub base : r.base.items ≡ s.base
+  pub durable : r.durable.items ≡ s.durable
   pub least : r.least ≡ s.least
-  pub loose : (i : ℕ) → All (IsOutside i) r.loose.items ↔ All (IsOutside i) s.loose
+  pub unsynced : (i : ℕ) → All (IsOutside i) r.unsynced.items ↔ All (IsOutside i) s.unsynced
 
 -- one byte at each position in one of the ranges, and nothing else changed
 pub record IsFilledIn (ranges : List (ℕ × ℕ)) (byte : ℕ) (old new : List ℕ) : Type 0 where

@@ -22,11 +22,13 @@ write_image s at (byte ∷ bytes) now = record {
   no_shorter = omega (arith, length-put s.now at (byte ∷ bytes), now.no_shorter);
   no_longer = omega (arith, length-put s.now at (byte ∷ bytes), now.no_longer);
   fixed = λ i lt out.
-      elim (All-head (IsOutside i) (at, at + length (byte ∷ bytes)) s.loose out) [
+      elim (All-head (IsOutside i) (at, at + length (byte ∷ bytes)) s.unsynced out) [
         | inl below ↦ get_or-put_below s.now at (byte ∷ bytes) i below
-            ∙ now.fixed i lt (All-tail (IsOutside i) (at, at + length (byte ∷ bytes)) s.loose out)
+            ∙ now.fixed i lt
+            (All-tail (IsOutside i) (at, at + length (byte ∷ bytes)) s.unsynced out)
         | inr above ↦ get_or-put_above s.now at (byte ∷ bytes) i above
-            ∙ now.fixed i lt (All-tail (IsOutside i) (at, at + length (byte ∷ bytes)) s.loose out)
+            ∙ now.fixed i lt
+            (All-tail (IsOutside i) (at, at + length (byte ∷ bytes)) s.unsynced out)
       ];
 }
 
@@ -41,10 +43,10 @@ cut_image s n now =
     by_test (ltb n (length s.now))
     (record {
       now = take n s.now;
-      base = s.base;
+      durable = s.durable;
       least = min s.least n;
       greatest = s.greatest;
-      loose = s.loose;
+      unsynced = s.unsynced;
     }) s
     (record {
       no_shorter = omega (arith, length-take n s.now, now.no_shorter);
@@ -64,10 +66,10 @@ now-after_cut s n =
     cut_now (ltb n (length s.now)) n s
     (record {
       now = take n s.now;
-      base = s.base;
+      durable = s.durable;
       least = min s.least n;
       greatest = s.greatest;
-      loose = s.loose;
+      unsynced = s.unsynced;
     }) refl
     (λ wrong. take_all n s.now (grind (arith, nat_tests)))
 
@@ -82,17 +84,19 @@ part_image s at (byte ∷ bytes) [] now le = record {
   no_shorter = now.no_shorter;
   no_longer = omega (arith, now.no_longer);
   fixed = λ i lt out. now.fixed i lt
-      (All-tail (IsOutside i) (at, at + length (byte ∷ bytes)) s.loose out);
+      (All-tail (IsOutside i) (at, at + length (byte ∷ bytes)) s.unsynced out);
 }
 part_image s at (byte ∷ bytes) (first ∷ part) now le = record {
   no_shorter = omega (arith, length-put s.now at (first ∷ part), now.no_shorter);
   no_longer = omega (arith, length-put s.now at (first ∷ part), now.no_longer);
   fixed = λ i lt out.
-      elim (All-head (IsOutside i) (at, at + length (byte ∷ bytes)) s.loose out) [
+      elim (All-head (IsOutside i) (at, at + length (byte ∷ bytes)) s.unsynced out) [
         | inl below ↦ get_or-put_below s.now at (first ∷ part) i below
-            ∙ now.fixed i lt (All-tail (IsOutside i) (at, at + length (byte ∷ bytes)) s.loose out)
+            ∙ now.fixed i lt
+            (All-tail (IsOutside i) (at, at + length (byte ∷ bytes)) s.unsynced out)
         | inr above ↦ get_or-put_above s.now at (first ∷ part) i (omega arith)
-            ∙ now.fixed i lt (All-tail (IsOutside i) (at, at + length (byte ∷ bytes)) s.loose out)
+            ∙ now.fixed i lt
+            (All-tail (IsOutside i) (at, at + length (byte ∷ bytes)) s.unsynced out)
       ];
 }
 
@@ -115,10 +119,10 @@ failed_cut_image s len false now =
     either_image (ltb len (length s.now))
     (record {
       now = take len s.now;
-      base = s.base;
+      durable = s.durable;
       least = min s.least len;
       greatest = s.greatest;
-      loose = s.loose;
+      unsynced = s.unsynced;
     }) s s.now
     (record {
       no_shorter = omega (arith, now.no_shorter);

@@ -25,12 +25,12 @@ pub const MAX_END: u64 = 17_179_869_184;
 /// a call leaves an image of the moment before it or of the one after it. So what holds of each
 /// image of each moment holds whenever a stop may come.
 ///
-/// **A state** says what a read gives now, and what a stop may leave: the *base*, which is what a
+/// **A state** says what a read gives now, and what a stop may leave: the *durable* bytes, which a
 /// read gave at the last sync that answered `Ok`; the least and the greatest length since then; and
-/// the ranges that were written since then, which are *loose*. An image has a length between the
-/// least and the greatest one, and the bytes of the base at each place below the least length that
-/// lies in no loose range. At any other place it may have any byte: the old one, the new one, a
-/// part of it or neither. A sync that answers `Ok` leaves one image, which is what a read gives.
+/// the ranges that were written since then, which are *unsynced*. An image has a length between the
+/// least and the greatest one, and the durable byte at each place below the least length that lies
+/// in no unsynced range. At any other place it may have any byte: the old one, the new one, a part
+/// of it or neither. A sync that answers `Ok` leaves one image, which is what a read gives.
 ///
 /// **Failures.** Each call may fail, once or from then on. A read or a sync that fails changes
 /// nothing. A write or a cut that fails changes nothing either, or it adds a moment: what a stop

@@ -1,13 +1,17 @@
--- Pages, one after the other.
-use Rattle.std.proofs.Common.{◌≡◌, ℕ, zero, suc, ◌+◌, ◌<◌, ◌≤◌, List, [], ◌∷◌, ◌++◌, length, take, refl, sym, ap, subst, inl, inr, ◌∙◌, arith, take_all, length-append}
-use Rattle.std.specs.Prelude.{Option, Some}
-use Rattle.rf2_values.specs.declared.row.Kind.{Kind}
-use Rattle.rf2_values.specs.Row.{Version}
+-- Pages, and searches, one after the other.
+use Rattle.std.proofs.Common.{◌≡◌, ◌↔◌, ℕ, zero, suc, ◌<◌, ◌≤◌, List, [], ◌∷◌, ◌++◌, length, take, refl, sym, ap, subst, inl, inr, ◌∙◌, arith, take_all, length-append}
+use Rattle.std.specs.Prelude.{Bool, Option, Some, None}
+use Rattle.std.specs.List.{filter}
+use Rattle.std.proofs.lemmas.List.Elements.{filter_agree}
+use Rattle.std.proofs.lemmas.List.Sums.{length-filter, count_by-le-length}
+use Rattle.rf2_values.specs.Row.{RowValue}
 use Rattle.history_model.specs.InOrder.{Has, IsAscending, joined}
 use Rattle.history_model.specs.History.{row_cmp}
-use Rattle.history_model.specs.Queries.{page, all_above}
+use Rattle.history_model.specs.Queries.{page, all_above, is_term, is_term_above, is_current, snapshot, terms, terms_above, search_terms}
 use Rattle.history_model.specs.Laws.{last_id, ArePages, PageAndTheRest, ShortPageIsLast, PagesAreAll, PagesEnd}
-use Rattle.history_model.proofs.Snapshots.{page_cons}
+use Rattle.history_model.specs.Laws.{AreSearches, SearchFromTheFirst, SearchAndTheRest, ShortSearchIsLast, SearchesAreAll, SearchesAreTerms, SearchesEnd}
+use Rattle.history_model.proofs.Snapshots.{page_cons, above_cons, and-true}
+use Rattle.history_model.proofs.Ascents.{Rises-terms}
 
 take_short : {X : Type 0} (n : ℕ) (xs : List X) → length (take n xs) < n → xs ≡ take n xs
 take_short zero xs lt = absurd (omega arith)
@@ -18,63 +22,116 @@ pub short_page_is_last : ShortPageIsLast
 unfolding page
 short_page_is_last kind date after limit rows short = take_short limit (all_above kind date after rows) short
 
-module _ (kind : Kind) (date : ℕ) (rows : List Version) (up : IsAscending row_cmp rows) where
-  abbrev all : Option ℕ → List Version
-  all after = all_above kind date after rows
+pub short_search_is_last : ShortSearchIsLast
+unfolding search_terms
+short_search_is_last prefix date after limit rows short = take_short limit (terms_above prefix date after rows) short
 
+none_left : (limit : ℕ) (xs : List RowValue) → 1 ≤ limit → take limit xs ≡ [] → xs ≡ []
+none_left zero xs le e = absurd (omega arith)
+none_left (suc n) [] le e = refl
+none_left (suc n) (x ∷ xs) le e = absurd (cc)
+
+first_has_some : (n : ℕ) (x : RowValue) (xs : List RowValue) → 1 ≤ n → 1 ≤ length (take n (x ∷ xs))
+first_has_some zero x xs le = absurd (omega arith)
+first_has_some (suc n) x xs le = omega arith
+
+-- all rows from behind an id: the first, and then all from behind that one
+module _ (all : Option ℕ → List RowValue) (split : (after : Option ℕ) (b : RowValue) (ys : List RowValue) → all after ≡ b ∷ ys → all after ≡ b ∷ all (Some b.id)) where
   goes_on : (limit : ℕ) (after : Option ℕ) → all after ≡ take limit (all after) ++ all (last_id after (take limit (all after)))
   goes_on zero after = refl
   goes_on (suc n) after =
       elim (all after) as (λ xs. all after ≡ xs → all after ≡ take (suc n) (all after) ++ all (last_id after (take (suc n) (all after)))) [
         | [] ↦ λ e. subst (λ ys. all after ≡ take (suc n) ys ++ all (last_id after (take (suc n) ys))) (sym e) refl
         | ◌∷◌ b ys ↦ λ e.
-            let split = page_cons kind date after rows b ys up e in
-            subst (λ zs. all after ≡ take (suc n) zs ++ all (last_id after (take (suc n) zs))) (sym split)
-            (split ∙ ap (λ zs. b ∷ zs) (goes_on n (Some b.id)))
+            let first = split after b ys e in
+            subst (λ zs. all after ≡ take (suc n) zs ++ all (last_id after (take (suc n) zs))) (sym first)
+            (first ∙ ap (λ zs. b ∷ zs) (goes_on n (Some b.id)))
       ] refl
 
-  none_left : (limit : ℕ) (xs : List Version) → 1 ≤ limit → take limit xs ≡ [] → xs ≡ []
-  none_left zero xs le e = absurd (omega arith)
-  none_left (suc n) [] le e = refl
-  none_left (suc n) (x ∷ xs) le e = absurd (cc)
-
-  module _ (limit : ℕ) (some : 1 ≤ limit) where
-    are_all : (after : Option ℕ) (pages : List (List Version)) → ArePages kind date limit rows after pages → joined pages ≡ all after
-    unfolding page
-    are_all after [] e = sym (none_left limit (all after) some e)
+  -- lists of which each is the first so many from behind the one before
+  module _ (limit : ℕ) (some : 1 ≤ limit) (Are : Option ℕ → List (List RowValue) → Type 0) (last : (after : Option ℕ) → Are after [] ↔ (take limit (all after) ≡ [])) (more : (after : Option ℕ) (first : List RowValue) (pages : List (List RowValue)) → Are after (first ∷ pages) ↔ ((first ≡ take limit (all after)) × Are (last_id after first) pages)) where
+    are_all : (after : Option ℕ) (pages : List (List RowValue)) → Are after pages → joined pages ≡ all after
+    are_all after [] e = sym (none_left limit (all after) some ((last after).0 e))
     are_all after (first ∷ pages) e =
-        ap (λ xs. first ++ xs) (are_all (last_id after first) pages e.1)
-        ∙ ap (λ xs. xs ++ all (last_id after xs)) e.0
+        let w = (more after first pages).0 e in
+        ap (λ xs. first ++ xs) (are_all (last_id after first) pages w.1)
+        ∙ ap (λ xs. xs ++ all (last_id after xs)) w.0
         ∙ sym (goes_on limit after)
 
     abbrev AreLeft : Option ℕ → Type 0
-    AreLeft after = (pages : List (List Version)) × ArePages kind date limit rows after pages × (Has pages [] → ⊥)
-
-    first_has_some : (n : ℕ) (x : Version) (xs : List Version) → 1 ≤ n → 1 ≤ length (take n (x ∷ xs))
-    first_has_some zero x xs le = absurd (omega arith)
-    first_has_some (suc n) x xs le = omega arith
+    AreLeft after = (pages : List (List RowValue)) × Are after pages × (Has pages [] → ⊥)
 
     -- what is behind a page is less than what is behind the one before
-    next : (after : Option ℕ) (xs : List Version) → all after ≡ xs → ((later : Option ℕ) → length (all later) < length xs → AreLeft later) → AreLeft after
-    unfolding page
-    next after [] e shorter = ([], subst (λ ys. take limit ys ≡ []) (sym e) (take_all limit [] (omega arith)), λ h. h)
+    next : (after : Option ℕ) (xs : List RowValue) → all after ≡ xs → ((later : Option ℕ) → length (all later) < length xs → AreLeft later) → AreLeft after
+    next after [] e shorter = ([], (last after).1 (subst (λ ys. take limit ys ≡ []) (sym e) (take_all limit [] (omega arith))), λ h. h)
     next after (x ∷ xs) e shorter =
         let first = take limit (all after) in
         let has_some : 1 ≤ length first = subst (λ ys. 1 ≤ length (take limit ys)) (sym e) (first_has_some limit x xs some) in
         let sum = ap length (sym e ∙ goes_on limit after) ∙ length-append first (all (last_id after first)) in
         let others = shorter (last_id after first) (omega (arith, has_some, sum)) in
-        (first ∷ others.0, (refl, others.1), λ h. elim h [ inl none ↦ (let no = ap length none in omega (arith, no, has_some)) | inr t ↦ others.2 t ])
+        (first ∷ others.0, (more after first others.0).1 (refl, others.1), λ h. elim h [ inl none ↦ (let no = ap length none in omega (arith, no, has_some)) | inr t ↦ others.2 t ])
 
     ends : (n : ℕ) (after : Option ℕ) → length (all after) ≤ n → AreLeft after
     ends zero after le = next after (all after) refl (λ later lt. absurd (omega (arith, lt, le)))
     ends (suc n) after le = next after (all after) refl (λ later lt. ends n later (omega (arith, lt, le)))
 
+-- ---- pages
+
 pub page_and_the_rest : PageAndTheRest
 unfolding page
-page_and_the_rest kind date after limit rows up = goes_on kind date rows up limit after
+page_and_the_rest kind date after limit rows up =
+    goes_on (λ id. all_above kind date id rows) (λ id b ys e. page_cons kind date id rows b ys up e) limit after
 
 pub pages_are_all : PagesAreAll
-pages_are_all kind date after limit rows pages up some are = are_all kind date rows up limit some after pages are
+unfolding page
+pages_are_all kind date after limit rows pages up some are =
+    are_all (λ id. all_above kind date id rows) (λ id b ys e. page_cons kind date id rows b ys up e) limit some (ArePages kind date limit rows) (λ id. (λ e. e, λ e. e)) (λ id first others. (λ e. e, λ e. e)) after pages are
 
 pub pages_end : PagesEnd
-pages_end kind date after limit rows up some = ends kind date rows up limit some (length (all_above kind date after rows)) after (omega arith)
+unfolding page
+pages_end kind date after limit rows up some =
+    ends (λ id. all_above kind date id rows) (λ id b ys e. page_cons kind date id rows b ys up e) limit some (ArePages kind date limit rows) (λ id. (λ e. e, λ e. e)) (λ id first others. (λ e. e, λ e. e)) (length (all_above kind date after rows)) after (omega arith)
+
+-- ---- searches
+
+search_cons : (prefix : List ℕ) (date : ℕ) (after : Option ℕ) (rows : List RowValue) (b : RowValue) (ys : List RowValue) → IsAscending row_cmp rows → terms_above prefix date after rows ≡ b ∷ ys → terms_above prefix date after rows ≡ b ∷ terms_above prefix date (Some b.id) rows
+unfolding terms_above
+search_cons prefix date after rows b ys up here = above_cons (is_term prefix) after (snapshot rows date) b ys (Rises-terms prefix date after rows up) here
+
+pub search_and_the_rest : SearchAndTheRest
+unfolding search_terms
+search_and_the_rest prefix date after limit rows up =
+    goes_on (λ id. terms_above prefix date id rows) (λ id b ys e. search_cons prefix date id rows b ys up e) limit after
+
+pub searches_are_all : SearchesAreAll
+unfolding search_terms
+searches_are_all prefix date after limit rows pages up some are =
+    are_all (λ id. terms_above prefix date id rows) (λ id b ys e. search_cons prefix date id rows b ys up e) limit some (AreSearches prefix date limit rows) (λ id. (λ e. e, λ e. e)) (λ id first others. (λ e. e, λ e. e)) after pages are
+
+pub searches_end : SearchesEnd
+unfolding search_terms
+searches_end prefix date after limit rows up some =
+    ends (λ id. terms_above prefix date id rows) (λ id b ys e. search_cons prefix date id rows b ys up e) limit some (AreSearches prefix date limit rows) (λ id. (λ e. e, λ e. e)) (λ id first others. (λ e. e, λ e. e)) (length (terms_above prefix date after rows)) after (omega arith)
+
+-- with no id to begin behind, the test of the id passes
+terms_above-none : (prefix : List ℕ) (date : ℕ) (rows : List RowValue) → terms_above prefix date None rows ≡ filter (is_term prefix) (snapshot rows date)
+unfolding terms_above
+terms_above-none prefix date rows = filter_agree (is_term_above prefix None) (is_term prefix) (λ row. sym (and-true (is_term prefix row))) (snapshot rows date)
+
+pub search_from_the_first : SearchFromTheFirst
+unfolding search_terms terms
+search_from_the_first prefix date limit rows = ap (take limit) (terms_above-none prefix date rows)
+
+length-filter_le : {X : Type 0} (p : X → Bool) (xs : List X) → length (filter p xs) ≤ length xs
+length-filter_le p xs = omega (arith, length-filter p xs, count_by-le-length p xs)
+
+few_terms : (prefix : List ℕ) (date : ℕ) (rows : List RowValue) → length (filter (is_term prefix) (snapshot rows date)) ≤ length rows
+unfolding snapshot
+few_terms prefix date rows = omega (arith, length-filter_le (is_term prefix) (filter (is_current rows date) rows), length-filter_le (is_current rows date) rows)
+
+pub searches_are_terms : SearchesAreTerms
+unfolding terms
+searches_are_terms prefix date limit many rows pages up some le are =
+    searches_are_all prefix date None limit rows pages up some are
+    ∙ terms_above-none prefix date rows
+    ∙ sym (take_all many (filter (is_term prefix) (snapshot rows date)) (omega (arith, few_terms prefix date rows, le)))

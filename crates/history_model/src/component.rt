@@ -1,9 +1,9 @@
-//! Tests on one row.
+//! Tests on one row, and what it is about.
 
 ghost use Rattle.std.specs.Prelude.{◌≡◌};
-ghost use Rattle.history_model.specs.Queries.{is_kind, is_version_of};
+ghost use Rattle.history_model.specs.Queries.{is_kind, is_version_of, subject_of};
 
-use rf2_values::{Kind, Row};
+use rf2_values::{Body, Kind, Row, Sctid};
 
 /// The concept that a relationship has as its type where it says "is a".
 pub const IS_A: u64 = 116_680_003;
@@ -20,4 +20,17 @@ pub fn is_version_of(row: &Row, kind: Kind, id: u128) -> bool
     ensures { result ≡ is_version_of kind id row.now }
 {
     is_kind(row, kind) && row.id == id
+}
+
+/// What the row is about: the column of its kind that says so, which a concept has not.
+pub fn subject_of(row: &Row) -> Option<Sctid>
+    ensures { result ≡ subject_of row.now }
+{
+    match &row.body {
+        Body::Concept(_) => None,
+        Body::Description(description) => Some(description.concept),
+        Body::Relationship(relationship) => Some(relationship.source),
+        Body::Association(association) => Some(association.referenced),
+        Body::Concrete(concrete) => Some(concrete.source),
+    }
 }

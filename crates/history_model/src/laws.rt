@@ -6,6 +6,11 @@ ghost use Rattle.history_model.specs.Laws.{EachReleaseHasAReceipt, NewRowsAreUnk
 ghost use Rattle.history_model.specs.Laws.{MergeLeavesListed, ReleaseIsOneList};
 ghost use Rattle.history_model.specs.Laws.{AnswersAscend, ChildrenAreAll, OneRowOfAComponent, ReplacementsAreAll, WhatIsShownAscends};
 ghost use Rattle.history_model.specs.Laws.{PageAndTheRest, PagesAreAll, PagesEnd, ShortPageIsLast};
+ghost use Rattle.history_model.specs.Laws.{AboutAscends, AboutIsAll, AboutStays, EachIsAboutOne};
+ghost use Rattle.history_model.specs.Laws.{SearchAndTheRest, SearchAscends, SearchFromTheFirst, SearchStays};
+ghost use Rattle.history_model.specs.Laws.{SearchesAreAll, SearchesAreTerms, SearchesEnd, ShortSearchIsLast};
+ghost use Rattle.history_model.specs.Laws.{BothReceiptsCountTheSame, EachImportHasAReceipt, ImportReceiptStays};
+ghost use Rattle.history_model.specs.Laws.{OneReceiptForAnImport, ReceiptsCountTheRows, ReceiptsCountWhatIsShown};
 
 /// A history is a chain of row sets, each within the next.
 pub fn each_history_is_a_chain()
@@ -117,4 +122,95 @@ pub fn pages_are_all()
 /// Such pages come to an end.
 pub fn pages_end()
     ensures { PagesEnd }
+{}
+
+/// What is about a component are the active rows of which it is the subject.
+pub fn about_is_all()
+    ensures { AboutIsAll }
+{}
+
+/// Each active row but a concept's is about one component.
+pub fn each_is_about_one()
+    ensures { EachIsAboutOne }
+{}
+
+/// What is about a component ascends by id.
+pub fn about_ascends()
+    ensures { AboutAscends }
+{}
+
+/// What a search finds ascends by id.
+pub fn search_ascends()
+    ensures { SearchAscends }
+{}
+
+/// From the first id on a search is the terms.
+pub fn search_from_the_first()
+    ensures { SearchFromTheFirst }
+{}
+
+/// What is found is a search of any limit, and then all from behind its last row.
+pub fn search_and_the_rest()
+    ensures { SearchAndTheRest }
+{}
+
+/// Nothing stands behind a search that found fewer rows than its limit.
+pub fn short_search_is_last()
+    ensures { ShortSearchIsLast }
+{}
+
+/// Searches of any limit, each from behind the last
+/// row of the one before, find all there is to find.
+pub fn searches_are_all()
+    ensures { SearchesAreAll }
+{}
+
+/// From the first id on these are the terms without a limit.
+pub fn searches_are_terms()
+    ensures { SearchesAreTerms }
+{}
+
+/// Such searches come to an end.
+pub fn searches_end()
+    ensures { SearchesEnd }
+{}
+
+/// What is about a component at a pin is unchanged by later imports.
+pub fn about_stays()
+    ensures { AboutStays }
+{}
+
+/// What a search finds at a pin is unchanged by later imports.
+pub fn search_stays()
+    ensures { SearchStays }
+{}
+
+/// The receipt of an import is unchanged by later imports.
+pub fn import_receipt_stays()
+    ensures { ImportReceiptStays }
+{}
+
+/// There is a receipt for each import.
+pub fn each_import_has_a_receipt()
+    ensures { EachImportHasAReceipt }
+{}
+
+/// No import has two receipts.
+pub fn one_receipt_for_an_import()
+    ensures { OneReceiptForAnImport }
+{}
+
+/// The receipt of a release and that of its import count the same rows.
+pub fn both_receipts_count_the_same()
+    ensures { BothReceiptsCountTheSame }
+{}
+
+/// The receipts of the imports that a pin shows count the rows that it shows.
+pub fn receipts_count_what_is_shown()
+    ensures { ReceiptsCountWhatIsShown }
+{}
+
+/// The receipts of all imports count all rows.
+pub fn receipts_count_the_rows()
+    ensures { ReceiptsCountTheRows }
 {}

@@ -3,14 +3,14 @@
 #![tactic(auto)]
 
 mod component;
+mod ghost_rows;
 pub mod laws;
 pub mod listing;
 pub mod plain;
 mod receipt;
-mod shown;
 mod stamped;
 
-pub use component::IS_A;
-pub use receipt::Receipt;
-pub use shown::Shown;
+pub use component::{IS_A, subject_of};
+pub use ghost_rows::GhostRows;
+pub use receipt::{ImportReceipt, Receipt};
 pub use stamped::StampedRow;

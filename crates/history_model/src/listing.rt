@@ -4,7 +4,7 @@ ghost use Rattle.std.specs.Prelude.{◌≡◌, reverse, find};
 ghost use Rattle.std.specs.Option.{option_copied};
 ghost use Rattle.history_model.specs.InOrder.{IsAscending};
 ghost use Rattle.history_model.specs.History.{stamped_cmp, rows_at};
-ghost use Rattle.history_model.specs.Queries.{lookup};
+ghost use Rattle.history_model.specs.Queries.{get};
 ghost use Rattle.history_model.specs.Searches.{is_shown_version};
 
 use crate::component::is_version_of;
@@ -35,15 +35,9 @@ fn last_shown_version(
 
 /// The component's row at the date, of the rows that the pin shows.
 /// It goes over the rows from the last to the first.
-pub fn lookup(
-    rows: &[StampedRow],
-    kind: Kind,
-    id: u128,
-    time: EffectiveTime,
-    pin: u32,
-) -> Option<&Row>
+pub fn get(rows: &[StampedRow], kind: Kind, id: u128, time: EffectiveTime, pin: u32) -> Option<&Row>
     ensures { IsAscending stamped_cmp rows.now
-        → option_copied result ≡ lookup kind id time (rows_at pin rows.now) }
+        → option_copied result ≡ get kind id time (rows_at pin rows.now) }
 {
     match last_shown_version(rows, kind, id, time, pin) {
         Some(last) => Some(&last.row),

@@ -15,25 +15,25 @@ use Rattle.blocks.specs.Outside.{SameOutside}
 use Rattle.history_model.specs.declared.stamped.StampedRow.{StampedRow}
 use Rattle.history_model.specs.Lists.{union}
 use Rattle.directory.specs.declared.entry.Entry.{Entry}
-use Rattle.directory.specs.Listings.{Listing, IsEntry}
+use Rattle.directory.specs.Listings.{DirectoryValue, IsEntry}
 use Rattle.directory.specs.Places.{AreBeside, extent_of, extents_of}
 use Rattle.directory.specs.Fit.{fit}
 use Rattle.directory.proofs.Fitting.{fit_is_apart}
-use Rattle.merge.specs.declared.Merging.{Merging}
+use Rattle.merge.specs.declared.MergeProgress.{MergeProgress}
 use Rattle.merge.specs.Merged.{rows_left}
 use Rattle.segment.specs.Records.{segment_of}
 use Rattle.segment.proofs.SegmentLaws.{pieces_join}
 use Rattle.store_image.proofs.Beside.{blocks_cover, one_ends}
 use Rattle.store_image.proofs.Unlisted.{begins_elsewhere}
-use Rattle.history_store.specs.declared.ongoing.Ongoing.{Ongoing}
-use Rattle.history_store.specs.Shelf.{reserved_by, shelf_of}
+use Rattle.history_store.specs.declared.merge_in_progress.MergeInProgress.{MergeInProgress}
+use Rattle.history_store.specs.Catalog.{reserved_by, catalog_of}
 use Rattle.history_store.specs.Merging.{GoesOn}
 use Rattle.history_store.specs.Reading.{MomentsStay}
-use Rattle.history_store.specs.Ongoing.{IsMergeOf, IsMergingOf, IsWritten, HasMerge, merge_of}
+use Rattle.history_store.specs.MergeInProgress.{IsMergeOf, IsMergingOf, IsWritten, HasMerge, merge_of}
 use Rattle.history_store.specs.Prepared.{IsPlacedAt}
 use Rattle.history_store.proofs.Alike.{alike_bytes}
 
-module _ (honest : Type 0) (d : Listing) (lists : List (List StampedRow)) (i j : ℕ) (entry : Entry) (places : Merging) (rows : List StampedRow) (written : ℕ) (is : IsMergeOf honest d lists i j entry places rows written) where
+module _ (honest : Type 0) (d : DirectoryValue) (lists : List (List StampedRow)) (i j : ℕ) (entry : Entry) (places : MergeProgress) (rows : List StampedRow) (written : ℕ) (is : IsMergeOf honest d lists i j entry places rows written) where
   -- what is written fits
   pub written_fits : length (segment_of rows) ≤ entry.bytes
   written_fits =
@@ -58,14 +58,14 @@ outside_entry entry other i is is_other beside ge lt = elim (one_ends (extent_of
 ]
 
 -- while a directory is published
-written_published : (honest : Type 0) (d : Listing) (lists : List (List StampedRow)) (merge : Option Ongoing) (slot : Slot) (old new : List ℕ) → IsMergingOf honest d lists merge → SameOutside (slot_range slot ∷ []) old new → IsWritten merge old → IsWritten merge new
+written_published : (honest : Type 0) (d : DirectoryValue) (lists : List (List StampedRow)) (merge : Option MergeInProgress) (slot : Slot) (old new : List ℕ) → IsMergingOf honest d lists merge → SameOutside (slot_range slot ∷ []) old new → IsWritten merge old → IsWritten merge new
 written_published honest d lists None slot old new is same written = tt
 written_published honest d lists (Some m) slot old new is same written =
     begins_elsewhere (extent_of m.entry) (slot_range slot ∷ []) (segment_of m.shown) old new same
     (λ i ge lt. All-cons (IsOutside i) (slot_range slot) [] (outside_slot m.entry slot i is.0.is_entry ge) (All-nil (IsOutside i))) written
 
 -- while a segment is added beside it
-written_added : (honest : Type 0) (d : Listing) (lists : List (List StampedRow)) (merge : Option Ongoing) (other : Entry) (slot : Slot) (old new : List ℕ) → IsMergingOf honest d lists merge → IsEntry other → ((m : Ongoing) → merge ≡ Some m → AreBeside (extent_of m.entry) (extent_of other))
+written_added : (honest : Type 0) (d : DirectoryValue) (lists : List (List StampedRow)) (merge : Option MergeInProgress) (other : Entry) (slot : Slot) (old new : List ℕ) → IsMergingOf honest d lists merge → IsEntry other → ((m : MergeInProgress) → merge ≡ Some m → AreBeside (extent_of m.entry) (extent_of other))
     → SameOutside (byte_range (extent_of other) ∷ slot_range slot ∷ []) old new → IsWritten merge old → IsWritten merge new
 written_added honest d lists None other slot old new is is_other beside same written = tt
 written_added honest d lists (Some m) other slot old new is is_other beside same written =
@@ -76,7 +76,7 @@ written_added honest d lists (Some m) other slot old new is is_other beside same
 
 -- ---- it goes on beside the next directory
 
-pub merging_on : (before after : Type 0) (d e : Listing) (lists : List (List StampedRow)) (merge : Option Ongoing) → (after → before) → e.entries ≡ d.entries → IsMergingOf before d lists merge → IsMergingOf after e lists merge
+pub merging_on : (before after : Type 0) (d e : DirectoryValue) (lists : List (List StampedRow)) (merge : Option MergeInProgress) → (after → before) → e.entries ≡ d.entries → IsMergingOf before d lists merge → IsMergingOf after e lists merge
 merging_on before after d e lists None back same is = tt
 merging_on before after d e lists (Some m) back same (is, kept) = (
   record {
@@ -99,12 +99,12 @@ merging_on before after d e lists (Some m) back same (is, kept) = (
 )
 
 -- a new segment shares no block with the extent that the merge reserves
-beside_reserved : (d : Listing) (merge : Option Ongoing) (rows : List StampedRow) (other : Entry) → IsPlacedAt d (merge_of merge) rows other → (m : Ongoing) → merge ≡ Some m → AreBeside (extent_of m.entry) (extent_of other)
+beside_reserved : (d : DirectoryValue) (merge : Option MergeInProgress) (rows : List StampedRow) (other : Entry) → IsPlacedAt d (merge_of merge) rows other → (m : MergeInProgress) → merge ≡ Some m → AreBeside (extent_of m.entry) (extent_of other)
 beside_reserved d merge rows other placed m same block in_reserved in_other =
     let bytes : other.bytes ≡ length (segment_of rows) = ap (λ (x : Entry). x.bytes) placed.entry_is in
     let place : fit (block_count (extent_of other)) d.entries (reserved_by (merge_of merge)) ≡ Some other.first = ap (λ n. fit (div_ceil n 4096) d.entries (reserved_by (merge_of merge))) bytes ∙ placed.place in
     let all = (fit_is_apart (extent_of other) d.entries (reserved_by (merge_of merge)) place).0 in
-    let P : Option Ongoing → Type 0 = λ o. AllByRecursion (AreBeside (extent_of other)) (extents_of d.entries ++ option_to_list (reserved_by (merge_of o))) in
+    let P : Option MergeInProgress → Type 0 = λ o. AllByRecursion (AreBeside (extent_of other)) (extents_of d.entries ++ option_to_list (reserved_by (merge_of o))) in
     last_extent (AreBeside (extent_of other)) (extents_of d.entries) (extent_of m.entry) (subst P same all) block in_other in_reserved
   where
     last_extent : (P : Extent → Type 0) (extents : List Extent) (extent : Extent) → AllByRecursion P (extents ++ extent ∷ []) → P extent
@@ -120,7 +120,7 @@ all_pushed : (P : Extent → Type 0) (entries : List Entry) (other : Entry) → 
 all_pushed P [] other all is = (is, tt)
 all_pushed P (e ∷ es) other all is = (all.0, all_pushed P es other all.1 is)
 
-merging_added : (before after : Type 0) (d e : Listing) (lists : List (List StampedRow)) (more : List StampedRow) (merge : Option Ongoing) (other : Entry) → (after → before) → e.entries ≡ d.entries ++ other ∷ [] → ((m : Ongoing) → merge ≡ Some m → AreBeside (extent_of m.entry) (extent_of other))
+merging_added : (before after : Type 0) (d e : DirectoryValue) (lists : List (List StampedRow)) (more : List StampedRow) (merge : Option MergeInProgress) (other : Entry) → (after → before) → e.entries ≡ d.entries ++ other ∷ [] → ((m : MergeInProgress) → merge ≡ Some m → AreBeside (extent_of m.entry) (extent_of other))
     → IsMergingOf before d lists merge → IsMergingOf after e (lists ++ more ∷ []) merge
 merging_added before after d e lists more None other back same beside is = tt
 merging_added before after d e lists more (Some m) other back same beside (is, kept) = (
@@ -146,14 +146,14 @@ merging_added before after d e lists more (Some m) other back same beside (is, k
 -- ---- what a store holds of it
 
 -- after reads
-pub merge_read : (was is : Type 0) (old new : Moments) (d : Listing) (lists : List (List StampedRow)) (merge : Option Ongoing) (needs : Bool) → HasMerge was old.state.now d lists merge needs → MomentsStay was is old new → HasMerge is new.state.now d lists merge needs
+pub merge_read : (was is : Type 0) (old new : Moments) (d : DirectoryValue) (lists : List (List StampedRow)) (merge : Option MergeInProgress) (needs : Bool) → HasMerge was old.state.now d lists merge needs → MomentsStay was is old new → HasMerge is new.state.now d lists merge needs
 merge_read was is old new d lists merge needs held stays = record {
   merging = merging_on was is d d lists merge stays.0.1 refl held.merging;
   written = λ up still. let before = stays.0.1 up in subst (λ (m : Moments). IsWritten merge m.state.now) (sym (stays.1 before)) (held.written before still);
 }
 
 -- after the publication of the same entries
-pub merge_repeated : (before after : Type 0) (old new : List ℕ) (slot : Slot) (d e : Listing) (lists : List (List StampedRow)) (merge : Option Ongoing) (needs : Bool) → HasMerge before old d lists merge needs → (after → before)
+pub merge_repeated : (before after : Type 0) (old new : List ℕ) (slot : Slot) (d e : DirectoryValue) (lists : List (List StampedRow)) (merge : Option MergeInProgress) (needs : Bool) → HasMerge before old d lists merge needs → (after → before)
     → e.entries ≡ d.entries → (before → SameOutside (slot_range slot ∷ []) old new) → HasMerge after new e lists merge needs
 merge_repeated before after old new slot d e lists merge needs held back same elsewhere = record {
   merging = merging_on before after d e lists merge back same held.merging;
@@ -161,7 +161,7 @@ merge_repeated before after old new slot d e lists merge needs held back same el
 }
 
 -- after a segment was added beside it
-pub merge_added : (before after : Type 0) (old new : List ℕ) (slot : Slot) (d e : Listing) (entry : Entry) (lists nlists : List (List StampedRow)) (more : List StampedRow) (merge : Option Ongoing) (needs : Bool) → HasMerge before old d lists merge needs → (after → before)
+pub merge_added : (before after : Type 0) (old new : List ℕ) (slot : Slot) (d e : DirectoryValue) (entry : Entry) (lists nlists : List (List StampedRow)) (more : List StampedRow) (merge : Option MergeInProgress) (needs : Bool) → HasMerge before old d lists merge needs → (after → before)
     → e.entries ≡ d.entries ++ entry ∷ [] → IsEntry entry → IsPlacedAt d (merge_of merge) more entry → (before → SameOutside (byte_range (extent_of entry) ∷ slot_range slot ∷ []) old new) → nlists ≡ lists ++ more ∷ [] → HasMerge after new e nlists merge needs
 merge_added before after old new slot d e entry lists nlists more merge needs held back entries is_entry placed elsewhere lists_are =
     let beside = beside_reserved d merge more entry placed in
@@ -171,13 +171,13 @@ merge_added before after old new slot d e entry lists nlists more merge needs he
     }
 
 -- no merge goes on
-pub no_merge : (honest : Type 0) (now : List ℕ) (d : Listing) (lists : List (List StampedRow)) (merge : Option Ongoing) (needs : Bool) → merge ≡ None → HasMerge honest now d lists merge needs
-no_merge honest now d lists merge needs none = subst (λ (o : Option Ongoing). HasMerge honest now d lists o needs) (sym none) (record { merging = tt; written = λ up still. tt })
+pub no_merge : (honest : Type 0) (now : List ℕ) (d : DirectoryValue) (lists : List (List StampedRow)) (merge : Option MergeInProgress) (needs : Bool) → merge ≡ None → HasMerge honest now d lists merge needs
+no_merge honest now d lists merge needs none = subst (λ (o : Option MergeInProgress). HasMerge honest now d lists o needs) (sym none) (record { merging = tt; written = λ up still. tt })
 
-pub goes_on : (d : Listing) (merge : Option Ongoing) → is_some merge ≡ true → GoesOn (shelf_of d (merge_of merge))
+pub goes_on : (d : DirectoryValue) (merge : Option MergeInProgress) → is_some merge ≡ true → GoesOn (catalog_of d (merge_of merge))
 goes_on d None some = absurd (cc)
 goes_on d (Some m) some = (_, refl)
 
-pub goes_not_on : (merge : Option Ongoing) → is_some merge ≡ false → merge ≡ None
+pub goes_not_on : (merge : Option MergeInProgress) → is_some merge ≡ false → merge ≡ None
 goes_not_on None none = refl
 goes_not_on (Some m) none = absurd (cc)

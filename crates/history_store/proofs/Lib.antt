@@ -29,3 +29,4 @@ pub mod StepWrites
 mod ImportCounts
 mod KeptBlocks
 pub mod LatestTimes
+mod BroughtRows

@@ -5,13 +5,13 @@ use Rattle.std.proofs.Common.{◌≡◌, ℕ, zero, suc, ◌<◌, ◌≤◌, Boo
 use Rattle.std.proofs.lemmas.List.{take_all}
 use Rattle.std.proofs.lemmas.Slice.Zip.{AllZip-long}
 use Rattle.history_model.specs.declared.stamped.StampedRow.{StampedRow}
-use Rattle.segment.specs.declared.place.Posted.{Posted}
+use Rattle.segment.specs.declared.place.RowPlace.{RowPlace}
 use Rattle.segment.specs.Records.{IsStamped}
 use Rattle.segment.specs.Standing.{StandsAt}
 use Rattle.segment.proofs.Posting.{says}
 use Rattle.merge.specs.declared.Taken.{Taken}
 use Rattle.merge.specs.Merged.{StandsTaken}
-use Rattle.history_store.specs.Ongoing.{IsLike}
+use Rattle.history_store.specs.MergeInProgress.{IsLike}
 use Rattle.history_store.specs.Stepping.{StandsIn, IsReadAt}
 
 pub likes_trans : (xs ys zs : List StampedRow) → AllZip IsLike xs ys → AllZip IsLike ys zs → AllZip IsLike xs zs
@@ -40,7 +40,7 @@ from_one (s ∷ rows) all = (all.0.from_one, from_one rows all.1)
 
 read_is_like : (a b : List StampedRow) (t : Taken) (r s : StampedRow) → IsReadAt t r → StandsTaken a b t s → IsLike r s
 read_is_like a b t r s read stands =
-    let told = says 0 stands.rows (s, t.posted) stands.there in
+    let told = says 0 stands.rows (s, t.place) stands.there in
     record { key = read.is.0 ∙ told.key_is; import = read.is.1 ∙ told.import_is; bytes = read.bytes ∙ told.bytes_are }
 
 pub read_are_like : (a b : List StampedRow) (taken : List Taken) (rows want : List StampedRow) → AllZip IsReadAt taken rows → AllZip (StandsTaken a b) taken want → AllZip IsLike rows want
@@ -58,7 +58,7 @@ read_are_stamped (t ∷ taken) [] read = absurd read
 read_are_stamped (t ∷ taken) (r ∷ rows) read = (read.0.stamped, read_are_stamped taken rows read.1)
 
 -- the two lists are two of several
-stands_at : (lists : List (List StampedRow)) (i j : ℕ) (a b : List StampedRow) (p : Posted) (s : StampedRow) → slice_get lists i ≡ Some a → slice_get lists j ≡ Some b
+stands_at : (lists : List (List StampedRow)) (i j : ℕ) (a b : List StampedRow) (p : RowPlace) (s : StampedRow) → slice_get lists i ≡ Some a → slice_get lists j ≡ Some b
     → (second : Bool) → StandsAt (a ∷ b ∷ []) (if second then 1 else 0) p s → StandsAt lists (if second then j else i) p s
 stands_at lists i j a b p s is_a is_b false w = record { rows = w.rows; list_is = is_a ∙ w.list_is; there = w.there }
 stands_at lists i j a b p s is_a is_b true w = record { rows = w.rows; list_is = is_b ∙ w.list_is; there = w.there }
@@ -67,7 +67,7 @@ pub all_stand_in : (lists : List (List StampedRow)) (i j : ℕ) (a b : List Stam
 all_stand_in lists i j a b [] [] is_a is_b stand = tt
 all_stand_in lists i j a b [] (s ∷ want) is_a is_b stand = absurd stand
 all_stand_in lists i j a b (t ∷ taken) [] is_a is_b stand = absurd stand
-all_stand_in lists i j a b (t ∷ taken) (s ∷ want) is_a is_b stand = (stands_at lists i j a b t.posted s is_a is_b t.second stand.0, all_stand_in lists i j a b taken want is_a is_b stand.1)
+all_stand_in lists i j a b (t ∷ taken) (s ∷ want) is_a is_b stand = (stands_at lists i j a b t.place s is_a is_b t.second stand.0, all_stand_in lists i j a b taken want is_a is_b stand.1)
 
 -- ---- lists that are gone over together
 

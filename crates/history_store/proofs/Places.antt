@@ -1,14 +1,17 @@
 -- Rows, their places, and lists of them.
-use Rattle.std.proofs.Common.{◌≡◌, ℕ, zero, suc, ◌+◌, ◌≤◌, List, [], ◌∷◌, ◌++◌, length, take, map, refl, ap, ◌∙◌, arith, length-append, append-nil}
+use Rattle.std.proofs.Common.{◌≡◌, ℕ, zero, suc, ◌+◌, ◌≤◌, List, [], ◌∷◌, ◌++◌, length, take, map, slice_get, Some, inl, inr, refl, sym, ap, subst, ◌∙◌, arith, length-append, append-nil}
 use Rattle.std.specs.List.{AllByRecursion}
-use Rattle.std.proofs.lemmas.List.{map-append}
+use Rattle.std.proofs.lemmas.List.{map-append, append_assoc}
 use Rattle.history_model.specs.declared.stamped.StampedRow.{StampedRow}
-use Rattle.history_model.specs.InOrder.{IsAscending}
+use Rattle.history_model.specs.InOrder.{Has, IsAscending, joined}
 use Rattle.history_model.specs.History.{stamped_cmp}
+use Rattle.history_model.proofs.InOrder.{Has-append_left, Has-append_right, Has-append_cases}
+use Rattle.history_model.proofs.Filtered.{Has-map, Has-map_from}
+use Rattle.segment.proofs.Posting.{Says, placed, row_there, says}
 use Rattle.segment.specs.Records.{record_of, segment_of}
 use Rattle.segment.proofs.SegmentLaws.{pieces_join}
-use Rattle.segment.specs.Standing.{record_len, posted, with_places, places_of}
-use Rattle.segment.specs.declared.place.Posted.{Posted}
+use Rattle.segment.specs.Standing.{record_len, row_place, with_places, places_of}
+use Rattle.segment.specs.declared.place.RowPlace.{RowPlace}
 use Rattle.as_of_index.specs.Places.{place_cmp, ShareNoKey, EachApart, ArePlaces}
 use Rattle.as_of_index.proofs.Storing.{places_of_lists}
 
@@ -20,12 +23,12 @@ all_before : {X : Type 0} (P : X → Type 0) (xs ys : List X) → AllByRecursion
 all_before P [] ys all = tt
 all_before P (x ∷ xs) ys all = (all.0, all_before P xs ys all.1)
 
-apart_before : (xs ys : List (List Posted)) → EachApart (xs ++ ys) → EachApart xs
+apart_before : (xs ys : List (List RowPlace)) → EachApart (xs ++ ys) → EachApart xs
 apart_before [] ys apart = tt
 apart_before (x ∷ xs) ys apart = (all_before (λ others. ShareNoKey x others) xs ys apart.0, apart_before xs ys apart.1)
 
 -- of lists of places the first are such
-pub places_before : (xs ys : List (List Posted)) → ArePlaces (xs ++ ys) → ArePlaces xs
+pub places_before : (xs ys : List (List RowPlace)) → ArePlaces (xs ++ ys) → ArePlaces xs
 places_before xs ys are = record { ascending = all_before (λ places. IsAscending place_cmp places) xs ys are.ascending; apart = apart_before xs ys are.apart }
 
 last_all : {X : Type 0} (P : X → Type 0) (xs : List X) (x : X) → AllByRecursion P (xs ++ x ∷ []) → P x
@@ -33,34 +36,34 @@ last_all P [] x all = all.0
 last_all P (y ∷ xs) x all = last_all P xs x all.1
 
 -- and each of them is in order
-pub last_ascends : (xs : List (List Posted)) (x : List Posted) → ArePlaces (xs ++ x ∷ []) → IsAscending place_cmp x
+pub last_ascends : (xs : List (List RowPlace)) (x : List RowPlace) → ArePlaces (xs ++ x ∷ []) → IsAscending place_cmp x
 last_ascends xs x are = last_all (λ places. IsAscending place_cmp places) xs x are.ascending
 
 -- ---- the places of one row more
 
-pub posted_bytes : (s : StampedRow) (at : ℕ) → (posted s at).bytes ≡ length (record_of s)
-unfolding posted
+pub posted_bytes : (s : StampedRow) (at : ℕ) → (row_place s at).bytes ≡ length (record_of s)
+unfolding row_place
 posted_bytes s at = refl
 
 -- its record stands behind those of the others
-pub with_places_push : (at : ℕ) (rows : List StampedRow) (s : StampedRow) → with_places at (rows ++ s ∷ []) ≡ with_places at rows ++ (s, posted s (at + length (segment_of rows))) ∷ []
+pub with_places_push : (at : ℕ) (rows : List StampedRow) (s : StampedRow) → with_places at (rows ++ s ∷ []) ≡ with_places at rows ++ (s, row_place s (at + length (segment_of rows))) ∷ []
 unfolding segment_of
-with_places_push at [] s = let none : at ≡ at + length (segment_of []) = omega arith in ap (λ n. (s, posted s n) ∷ []) none
+with_places_push at [] s = let none : at ≡ at + length (segment_of []) = omega arith in ap (λ n. (s, row_place s n) ∷ []) none
 with_places_push at (r ∷ rows) s =
     let both = length-append (record_of r) (segment_of rows) in
     let same : at + record_len r + length (segment_of rows) ≡ at + length (segment_of (r ∷ rows)) = omega (arith, both) in
-    ap (λ l. (r, posted r at) ∷ l) (with_places_push (at + record_len r) rows s ∙ ap (λ n. with_places (at + record_len r) rows ++ (s, posted s n) ∷ []) same)
+    ap (λ l. (r, row_place r at) ∷ l) (with_places_push (at + record_len r) rows s ∙ ap (λ n. with_places (at + record_len r) rows ++ (s, row_place s n) ∷ []) same)
 
-pub places_push : (rows : List StampedRow) (s : StampedRow) (at : ℕ) → at ≡ length (segment_of rows) → places_of (rows ++ s ∷ []) ≡ places_of rows ++ posted s at ∷ []
+pub places_push : (rows : List StampedRow) (s : StampedRow) (at : ℕ) → at ≡ length (segment_of rows) → places_of (rows ++ s ∷ []) ≡ places_of rows ++ row_place s at ∷ []
 places_push rows s at here =
-    ap (map (λ (x : StampedRow × Posted). x.1)) (with_places_push 0 rows s)
-    ∙ map-append (λ (x : StampedRow × Posted). x.1) (with_places 0 rows) ((s, posted s (0 + length (segment_of rows))) ∷ [])
-    ∙ ap (λ n. places_of rows ++ posted s n ∷ []) (let same : 0 + length (segment_of rows) ≡ at = omega (arith, here) in same)
+    ap (map (λ (x : StampedRow × RowPlace). x.1)) (with_places_push 0 rows s)
+    ∙ map-append (λ (x : StampedRow × RowPlace). x.1) (with_places 0 rows) ((s, row_place s (0 + length (segment_of rows))) ∷ [])
+    ∙ ap (λ n. places_of rows ++ row_place s n ∷ []) (let same : 0 + length (segment_of rows) ≡ at = omega (arith, here) in same)
 
-pub taken_push : (rows : List StampedRow) (s : StampedRow) (at : ℕ) → at ≡ length (segment_of rows) → with_places 0 (rows ++ s ∷ []) ≡ with_places 0 rows ++ (s, posted s at) ∷ []
+pub taken_push : (rows : List StampedRow) (s : StampedRow) (at : ℕ) → at ≡ length (segment_of rows) → with_places 0 (rows ++ s ∷ []) ≡ with_places 0 rows ++ (s, row_place s at) ∷ []
 taken_push rows s at here =
     let same : 0 + length (segment_of rows) ≡ at = omega (arith, here) in
-    with_places_push 0 rows s ∙ ap (λ n. with_places 0 rows ++ (s, posted s n) ∷ []) same
+    with_places_push 0 rows s ∙ ap (λ n. with_places 0 rows ++ (s, row_place s n) ∷ []) same
 
 -- the first of some rows have no more bytes than all of them
 pub segment_within : (n : ℕ) (rows : List StampedRow) → length (segment_of (take n rows)) ≤ length (segment_of rows)
@@ -88,3 +91,32 @@ segment_begins rows done left split =
 pub middle_all : {X : Type 0} (P : X → Type 0) (xs : List X) (x : X) (ys : List X) → AllByRecursion P (xs ++ x ∷ ys) → P x
 middle_all P [] x ys all = all.0
 middle_all P (y ∷ xs) x ys all = middle_all P xs x ys all.1
+
+-- ---- rows of lists, and their places
+
+-- with one list more
+pub joined_more : {X : Type 0} (xss : List (List X)) (i : ℕ) (xs : List X) → slice_get xss i ≡ Some xs → joined (take (i + 1) xss) ≡ joined (take i xss) ++ xs
+joined_more {X = X} xss i xs e = let on : i + 1 ≡ suc i = omega arith in ap (λ n. joined (take n xss)) on ∙ next xss i e where
+  next : (xss : List (List X)) (i : ℕ) → slice_get xss i ≡ Some xs → joined (take (suc i) xss) ≡ joined (take i xss) ++ xs
+  next [] i e = absurd (cc)
+  next (ys ∷ xss) zero e = let same : ys ≡ xs = cc in append-nil ys ∙ same
+  next (ys ∷ xss) (suc i) e = ap (λ t. ys ++ t) (next xss i e) ∙ sym (append_assoc ys (joined (take i xss)) xs)
+
+pub place_of_row : (lists : List (List StampedRow)) (s : StampedRow) → Has (joined lists) s → (p : RowPlace) × Has (joined (map places_of lists)) p × Says p s
+place_of_row [] s h = absurd h
+place_of_row (rows ∷ lists) s h = elim (Has-append_cases rows (joined lists) s h) [
+  | inl l ↦
+      let w = placed 0 rows s l in
+      let there = Has-map_from (λ (x : StampedRow × RowPlace). x.1) (with_places 0 rows) (s, w.0) w.1 in
+      (w.0, Has-append_left (places_of rows) (joined (map places_of lists)) w.0 there, says 0 rows (s, w.0) w.1)
+  | inr r ↦ let w = place_of_row lists s r in (w.0, Has-append_right (places_of rows) (joined (map places_of lists)) w.0 w.1, w.2)
+]
+
+pub row_of_place : (lists : List (List StampedRow)) (p : RowPlace) → Has (joined (map places_of lists)) p → (s : StampedRow) × Has (joined lists) s × Says p s
+row_of_place [] p h = absurd h
+row_of_place (rows ∷ lists) p h = elim (Has-append_cases (places_of rows) (joined (map places_of lists)) p h) [
+  | inl l ↦
+      let w = Has-map (λ (x : StampedRow × RowPlace). x.1) (with_places 0 rows) p l in
+      (w.0.0, Has-append_left rows (joined lists) w.0.0 (row_there 0 rows w.0 w.1), subst (λ (q : RowPlace). Says q w.0.0) w.2 (says 0 rows w.0 w.1))
+  | inr r ↦ let w = row_of_place lists p r in (w.0, Has-append_right rows (joined lists) w.0 w.1, w.2)
+]

@@ -12,7 +12,7 @@ use Rattle.history_store.specs.declared.refusal.Refusal.{Refusal}
 use Rattle.history_store.specs.declared.refusal.Refusal.TheVariants as refusals
 use Rattle.history_store.specs.Reading.{MomentsStay}
 use Rattle.history_store.specs.Refusals.{of_read}
-use Rattle.history_store.specs.Stored.{Stored, IsAcknowledged}
+use Rattle.history_store.specs.StoreValue.{StoreValue, IsAcknowledged}
 use Rattle.history_store.specs.Answers.{Counts, IsRefused, IsReadingOf}
 use Rattle.history_store.specs.Queries.{IsQuery}
 use Rattle.history_store.proofs.Refusing.{read_undamaged}
@@ -50,18 +50,18 @@ counted_answer (Err readfault.OutOfMemory) before after counts = counts
 counted_answer (Err readfault.DiskFault) before after counts = counts
 counted_answer (Err readfault.Damaged) before after counts = counts
 
-refused_beside : {D : Type 0} (e : Refusal) (old new : Stored D) (disk : D) (cache : LruCache ℕ (List ℕ)) → IsRefused e (record old { disk = disk; cache = cache }) new → IsRefused e old new
-refused_beside e old new disk cache r = record { history = r.history; shelf = r.shelf; closed = r.closed; still = r.still }
+refused_beside : {D : Type 0} (e : Refusal) (old new : StoreValue D) (disk : D) (cache : LruCache ℕ (List ℕ)) → IsRefused e (record old { disk = disk; cache = cache }) new → IsRefused e old new
+refused_beside e old new disk cache r = record { history = r.history; catalog = r.catalog; closed = r.closed; still = r.still }
 
 -- whatever device and whatever cache the store has, the answer is the same
-read_beside : {T D : Type 0} (read : Result T ReadFault) (old new : Stored D) (disk : D) (cache : LruCache ℕ (List ℕ)) → IsReadingOf (answer_of read) (record old { disk = disk; cache = cache }) new → IsReadingOf (answer_of read) old new
-read_beside (Ok x) old new disk cache r = record { history = r.history; shelf = r.shelf; open_before = r.open_before; open_still = r.open_still }
+read_beside : {T D : Type 0} (read : Result T ReadFault) (old new : StoreValue D) (disk : D) (cache : LruCache ℕ (List ℕ)) → IsReadingOf (answer_of read) (record old { disk = disk; cache = cache }) new → IsReadingOf (answer_of read) old new
+read_beside (Ok x) old new disk cache r = record { history = r.history; catalog = r.catalog; open_before = r.open_before; open_still = r.open_still }
 read_beside (Err readfault.OutOfMemory) old new disk cache r = (r.0, refused_beside _ old new disk cache r.1)
 read_beside (Err readfault.DiskFault) old new disk cache r = (r.0, refused_beside _ old new disk cache r.1)
 read_beside (Err readfault.Damaged) old new disk cache r = (r.0, refused_beside _ old new disk cache r.1)
 
 -- the rows were read, and what was read is answered
-pub answered_query : {T D : Type 0} (honest : D → Type 0) (moments : D → Moments) (failures : D → ℕ) (old new : Stored D) (disk : D) (cache : LruCache ℕ (List ℕ)) (read : Result T ReadFault) (result : Result T Refusal)
+pub answered_query : {T D : Type 0} (honest : D → Type 0) (moments : D → Moments) (failures : D → ℕ) (old new : StoreValue D) (disk : D) (cache : LruCache ℕ (List ℕ)) (read : Result T ReadFault) (result : Result T Refusal)
     → old.needs_reopen ≡ false → LooksUpSome old.cache cache → new.cache ≡ cache → MomentsStay (honest old.disk) (honest disk) (moments old.disk) (moments disk) → CountsBy CountsDiskFault read (failures old.disk) (failures disk)
     → (honest old.disk → IfErr read (λ e. e ≢ readfault.Damaged))
     → IsAnswerOf read result → IsReadingOf result (record old { disk = disk; cache = cache }) new → new.disk ≡ disk → (honest disk → new.needs_reopen ≡ false → IsAcknowledged moments new)
@@ -79,10 +79,10 @@ answered_query honest moments failures old new disk cache read result still look
 }
 
 -- a store that has to be opened again isn't touched
-pub closed_query : {T D : Type 0} (honest : D → Type 0) (moments : D → Moments) (failures : D → ℕ) (s : Stored D) → s.needs_reopen ≡ true → IsQuery {T = T} (Err refusals.ReopenNeeded) honest moments failures s s
+pub closed_query : {T D : Type 0} (honest : D → Type 0) (moments : D → Moments) (failures : D → ℕ) (s : StoreValue D) → s.needs_reopen ≡ true → IsQuery {T = T} (Err refusals.ReopenNeeded) honest moments failures s s
 closed_query honest moments failures s needs = record {
   undamaged = λ up same. absurd (cc);
-  read = (needs, record { history = refl; shelf = refl; closed = λ same. absurd (cc); still = λ other. refl });
+  read = (needs, record { history = refl; catalog = refl; closed = λ same. absurd (cc); still = λ other. refl });
   closed = λ closed. refl;
   looked_up = none_looks_up s.cache;
   moments = λ up. refl;

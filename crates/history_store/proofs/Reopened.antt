@@ -1,13 +1,13 @@
 -- What a store is opened as that was left at any moment.
-use Rattle.std.proofs.Common.{◌⊎◌, inl, inr, ℕ, List, Result, Ok, Err, refl}
+use Rattle.std.proofs.Common.{◌⊎◌, inl, inr, ℕ, List, Ok, Err, refl}
 use Rattle.history_model.specs.History.{History}
 use Rattle.directory.specs.declared.entry.Entry.{Entry}
 use Rattle.directory.specs.declared.layout.Layout.{Layout}
 use Rattle.directory.specs.declared.layout.Layout.TheVariants as layouts
 use Rattle.segment.proofs.SegmentLaws.{one_segment}
-use Rattle.store_image.specs.Images.{StandsFor}
+use Rattle.store_image.specs.Images.{Represents}
 use Rattle.store_image.proofs.First.{first_still_stands}
-use Rattle.store_image.proofs.Standing.{stands_for_one}
+use Rattle.store_image.proofs.Standing.{represents_one}
 use Rattle.blocks.proofs.Greatest.{some_gate}
 use Rattle.blocks.specs.Slots.{IsOpen, IsClosed}
 use Rattle.blocks.specs.declared.slots.Slot.TheVariants.{A, B}
@@ -16,10 +16,10 @@ use Rattle.history_store.specs.Laws.{FirstIsOpened, OpenedIsWhatStands, Standing
 
 pub opened_is_what_stands : {D : Type 0} → OpenedIsWhatStands D
 opened_is_what_stands s bytes h layout epoch entries stands is =
-    let one = stands_for_one one_segment bytes s.history h s.shelf.layout layout s.shelf.epoch epoch s.shelf.entries entries is.stands stands in
+    let one = represents_one one_segment bytes s.history h s.catalog.layout layout s.catalog.epoch epoch s.catalog.entries entries is.stands stands in
     (one.0, λ i. record { layout = one.1 i; epoch = one.2 i; entries = one.3 i; merge = is.no_merge i })
 
-gate_open : (bytes : List ℕ) (h : History) (layout : Layout) (epoch : ℕ) (entries : List Entry) → StandsFor bytes h layout epoch entries → IsOpen A bytes ⊎ IsOpen B bytes
+gate_open : (bytes : List ℕ) (h : History) (layout : Layout) (epoch : ℕ) (entries : List Entry) → Represents bytes h layout epoch entries → IsOpen A bytes ⊎ IsOpen B bytes
 gate_open bytes h layout epoch entries stands = some_gate bytes stands.slot epoch stands.stands.slot.0
 
 no_gate : (bytes : List ℕ) → IsOpen A bytes ⊎ IsOpen B bytes → IsClosed A bytes × IsClosed B bytes → ⊥
@@ -34,7 +34,8 @@ standing_is_opened bytes h layout epoch entries stands refusals.NotEmpty why = a
 standing_is_opened bytes h layout epoch entries stands refusals.Full why = absurd why
 standing_is_opened bytes h layout epoch entries stands refusals.TooManySegments why = absurd why
 standing_is_opened bytes h layout epoch entries stands refusals.NotAStore why = absurd (no_gate bytes (gate_open bytes h layout epoch entries stands) why)
-standing_is_opened bytes h layout epoch entries stands refusals.Damaged why = absurd (why.1 (h, (layout, (epoch, entries, stands))))
+standing_is_opened bytes h layout epoch entries stands refusals.Damaged why = absurd why
+standing_is_opened bytes h layout epoch entries stands (refusals.Unreadable damage) why = absurd (why.2 (h, (layout, (epoch, entries, stands))))
 standing_is_opened bytes h layout epoch entries stands refusals.NothingToMerge why = absurd why
 standing_is_opened bytes h layout epoch entries stands refusals.MergeBusy why = absurd why
 standing_is_opened bytes h layout epoch entries stands refusals.NoMerge why = absurd why

@@ -15,18 +15,18 @@ use Rattle.history_model.proofs.Listings.{two_lists, Has-union_cases, IsAscendin
 use Rattle.history_model.proofs.Unions.{length-union}
 use Rattle.import_check.proofs.Searching.{IsAscending-drop}
 use Rattle.directory.specs.declared.entry.Entry.{Entry}
-use Rattle.directory.specs.Listings.{Listing}
+use Rattle.directory.specs.Listings.{DirectoryValue}
 use Rattle.directory.specs.Places.{extent_of}
-use Rattle.merge.specs.declared.Merging.{Merging}
+use Rattle.merge.specs.declared.MergeProgress.{MergeProgress}
 use Rattle.merge.specs.Merged.{IsOf, count_left, rows_left}
 use Rattle.segment.specs.Records.{segment_of}
 use Rattle.store_image.specs.Stands.{Holds, HoldsAll}
 use Rattle.store_image.specs.Says.{AreSegments, IsKept, pieces_of, history_of}
 use Rattle.store_image.specs.Ahead.{BeginsWith}
-use Rattle.history_store.specs.declared.ongoing.Ongoing.{Ongoing}
-use Rattle.history_store.specs.Shelf.{Merge, Shelf, shelf_of}
+use Rattle.history_store.specs.declared.merge_in_progress.MergeInProgress.{MergeInProgress}
+use Rattle.history_store.specs.Catalog.{Merge, Catalog, catalog_of}
 use Rattle.history_store.specs.Reading.{AreThere}
-use Rattle.history_store.specs.Ongoing.{IsMergeOf, merge_of}
+use Rattle.history_store.specs.MergeInProgress.{IsMergeOf, merge_of}
 use Rattle.history_store.specs.Merging.{IsUnfinished}
 use Rattle.history_store.specs.Written.{HasRows, AreNext, WritesNext}
 
@@ -56,7 +56,7 @@ has_drop zero rows s h = h
 has_drop (suc n) [] s h = h
 has_drop (suc n) (x ∷ rows) s h = inr (has_drop n rows s h)
 
-left_count : (m : Merging) (a b : List StampedRow) → IsOf m a b → AreLists (a ∷ b ∷ []) → length (rows_left m a b) ≡ count_left m
+left_count : (m : MergeProgress) (a b : List StampedRow) → IsOf m a b → AreLists (a ∷ b ∷ []) → length (rows_left m a b) ≡ count_left m
 left_count m a b of are =
     let all = length-union (drop m.a_place a) (drop m.b_place b) (IsAscending-drop stamped_cmp m.a_place a are.ascending.0) (IsAscending-drop stamped_cmp m.b_place b are.ascending.1.0)
     (λ s t h k. are.apart.0.0 s t (has_drop m.a_place a s h) (has_drop m.b_place b t k)) in
@@ -68,7 +68,7 @@ left_count m a b of are =
 abbrev pub IsOneWrite : {T E : Type 0} → Result T E → ℕ → List ℕ → Moments → Moments → Type 0
 IsOneWrite result at bytes old new = MatchResult result (λ _. new ≡ followed_by old (after_write old.state at bytes)) (λ _. Fails old (after_write old.state at bytes) new)
 
-module _ (honest : Type 0) (d : Listing) (lists : List (List StampedRow)) (m : Ongoing) (is : IsMergeOf honest d lists m.i m.j m.entry m.places m.shown m.written) (kept : IsKept d lists) (n : ℕ) (up : honest) where
+module _ (honest : Type 0) (d : DirectoryValue) (lists : List (List StampedRow)) (m : MergeInProgress) (is : IsMergeOf honest d lists m.i m.j m.entry m.places m.shown m.written) (kept : IsKept d lists) (n : ℕ) (up : honest) where
   abbrev rest : List StampedRow
   rest = rows_left m.places is.a is.b
 
@@ -87,7 +87,7 @@ module _ (honest : Type 0) (d : Listing) (lists : List (List StampedRow)) (m : O
         | inr q ↦ has_joined lists m.j is.b s is.b_is q
       ])
 
-  are_next : (now : List ℕ) → AreThere d.entries lists now → BeginsWith (extent_of m.entry) (segment_of m.shown) now → AreNext n (shelf_of d (merge_of (Some m))) (record { i = m.i; j = m.j; output = extent_of m.entry; left = count_left m.places }) m.shown (take n rest) now
+  are_next : (now : List ℕ) → AreThere d.entries lists now → BeginsWith (extent_of m.entry) (segment_of m.shown) now → AreNext n (catalog_of d (merge_of (Some m))) (record { i = m.i; j = m.j; output = extent_of m.entry; left = count_left m.places }) m.shown (take n rest) now
   are_next now there behind = record {
     a = is.a;
     b = is.b;
@@ -102,7 +102,7 @@ module _ (honest : Type 0) (d : Listing) (lists : List (List StampedRow)) (m : O
   }
 
   pub writes_next : {T E : Type 0} (result : Result T E) (old mid new : Moments) (bytes : List ℕ) → AreThere d.entries lists old.state.now → BeginsWith (extent_of m.entry) (segment_of m.shown) old.state.now → mid ≡ old → bytes ≡ segment_of (take n (rows_left m.places is.a is.b))
-      → IsOneWrite result (start_of (extent_of m.entry) + m.written) bytes mid new → WritesNext result n (shelf_of d (merge_of (Some m))) (history_of d lists) old new
+      → IsOneWrite result (start_of (extent_of m.entry) + m.written) bytes mid new → WritesNext result n (catalog_of d (merge_of (Some m))) (history_of d lists) old new
   writes_next {T} {E} result old mid new bytes there behind same bytes_are one =
       let P : Moments → Type 0 = λ x. IsOneWrite result (start_of (extent_of m.entry) + m.written) bytes x new in
       let Q : List ℕ → Type 0 = λ l. IsOneWrite result (start_of (extent_of m.entry) + m.written) l old new in
@@ -124,22 +124,22 @@ left_of None = 0
 left_of (Some m) = m.left
 
 -- rows of the merge are left
-pub some_rows : (d : Listing) (merge : Option Ongoing) (m : Ongoing) → Some m ≡ merge → IsUnfinished (shelf_of d (merge_of merge)) → 1 ≤ count_left m.places
+pub some_rows : (d : DirectoryValue) (merge : Option MergeInProgress) (m : MergeInProgress) → Some m ≡ merge → IsUnfinished (catalog_of d (merge_of merge)) → 1 ≤ count_left m.places
 some_rows d merge m value going = let same : count_left m.places ≡ going.0.left = ap left_of (ap merge_of value ∙ going.1) in omega (arith, same, going.2)
 
-pub none_unfinished : (d : Listing) (merge : Option Ongoing) → merge ≡ None → IsUnfinished (shelf_of d (merge_of merge)) → ⊥
+pub none_unfinished : (d : DirectoryValue) (merge : Option MergeInProgress) → merge ≡ None → IsUnfinished (catalog_of d (merge_of merge)) → ⊥
 none_unfinished d merge none going = let e : None ≡ Some going.0 = sym (ap merge_of none) ∙ going.1 in absurd cc
 
-pub wrote_shown : {T E : Type 0} (result : Result T E) (n : ℕ) (d : Listing) (lists lent : List (List StampedRow)) (merge : Option Ongoing) (m : Ongoing) (old new : Moments) → Some m ≡ merge → lent ≡ lists
-    → WritesNext result n (shelf_of d (merge_of (Some m))) (history_of d lent) old new → WritesNext result n (shelf_of d (merge_of merge)) (history_of d lists) old new
+pub wrote_shown : {T E : Type 0} (result : Result T E) (n : ℕ) (d : DirectoryValue) (lists lent : List (List StampedRow)) (merge : Option MergeInProgress) (m : MergeInProgress) (old new : Moments) → Some m ≡ merge → lent ≡ lists
+    → WritesNext result n (catalog_of d (merge_of (Some m))) (history_of d lent) old new → WritesNext result n (catalog_of d (merge_of merge)) (history_of d lists) old new
 wrote_shown {T} {E} result n d lists lent merge m old new value same w =
-    subst (λ (o : Option Ongoing). WritesNext result n (shelf_of d (merge_of o)) (history_of d lists) old new) value
-    (subst (λ (l : List (List StampedRow)). WritesNext result n (shelf_of d (merge_of (Some m))) (history_of d l) old new) same w)
+    subst (λ (o : Option MergeInProgress). WritesNext result n (catalog_of d (merge_of o)) (history_of d lists) old new) value
+    (subst (λ (l : List (List StampedRow)). WritesNext result n (catalog_of d (merge_of (Some m))) (history_of d l) old new) same w)
 
 -- ---- by another name of what is answered
 
-pub wrote_ok : {T U E : Type 0} (x : T) (y : U) (n : ℕ) (shelf : Shelf) (h : History) (old new : Moments) → WritesNext {T = T} {E = E} (Ok x) n shelf h old new → WritesNext {T = U} {E = E} (Ok y) n shelf h old new
-wrote_ok {T} {U} {E} x y n shelf h old new w = record { merge = w.merge; goes_on = w.goes_on; taken = w.taken; rows = w.rows; next = w.next; of_history = w.of_history; write = w.write }
+pub wrote_ok : {T U E : Type 0} (x : T) (y : U) (n : ℕ) (catalog : Catalog) (h : History) (old new : Moments) → WritesNext {T = T} {E = E} (Ok x) n catalog h old new → WritesNext {T = U} {E = E} (Ok y) n catalog h old new
+wrote_ok {T} {U} {E} x y n catalog h old new w = record { merge = w.merge; goes_on = w.goes_on; taken = w.taken; rows = w.rows; next = w.next; of_history = w.of_history; write = w.write }
 
-pub wrote_err : {T U E : Type 0} (e : E) (n : ℕ) (shelf : Shelf) (h : History) (old new : Moments) → WritesNext {T = T} {E = E} (Err e) n shelf h old new → WritesNext {T = U} {E = E} (Err e) n shelf h old new
-wrote_err {T} {U} {E} e n shelf h old new w = record { merge = w.merge; goes_on = w.goes_on; taken = w.taken; rows = w.rows; next = w.next; of_history = w.of_history; write = w.write }
+pub wrote_err : {T U E : Type 0} (e : E) (n : ℕ) (catalog : Catalog) (h : History) (old new : Moments) → WritesNext {T = T} {E = E} (Err e) n catalog h old new → WritesNext {T = U} {E = E} (Err e) n catalog h old new
+wrote_err {T} {U} {E} e n catalog h old new w = record { merge = w.merge; goes_on = w.goes_on; taken = w.taken; rows = w.rows; next = w.next; of_history = w.of_history; write = w.write }

@@ -2,7 +2,7 @@
 use Rattle.std.proofs.Common.{◌≡◌, suc, List, [], ◌∷◌, ◌++◌, length, map, refl, sym, ap, subst, ◌∙◌, append_assoc, append-nil}
 use Rattle.std.specs.List.Sorted.{IsPermutation}
 use Rattle.history_model.specs.declared.stamped.StampedRow.{StampedRow}
-use Rattle.segment.specs.declared.place.Posted.{Posted}
+use Rattle.segment.specs.declared.place.RowPlace.{RowPlace}
 use Rattle.segment.specs.Standing.{with_places}
 use Rattle.as_of_index.specs.Postings.{posted_all}
 use Rattle.term_prefix.specs.Terms.{TermAt}
@@ -13,17 +13,17 @@ use Rattle.associations.specs.Laws.{ArePostingsOf, EachPosted}
 use Rattle.associations.proofs.Posted.{edges_more}
 use Rattle.history_store.specs.Taken.{TermsTaken, EdgesTaken}
 
-pub terms_pushed : (rows : List (StampedRow × Posted)) (x : StampedRow × Posted) → posted_all posted_term (rows ++ x ∷ []) ≡ posted_all posted_term rows ++ posted_term x.0.row x.1
+pub terms_pushed : (rows : List (StampedRow × RowPlace)) (x : StampedRow × RowPlace) → posted_all posted_term (rows ++ x ∷ []) ≡ posted_all posted_term rows ++ posted_term x.0.row x.1
 terms_pushed [] x = append-nil (posted_term x.0.row x.1)
 terms_pushed (y ∷ rows) x = ap (λ l. posted_term y.0.row y.1 ++ l) (terms_pushed rows x) ∙ sym (append_assoc (posted_term y.0.row y.1) (posted_all posted_term rows) (posted_term x.0.row x.1))
 
-pub terms_sealed : (segments : List (List (StampedRow × Posted))) (terms : List (List TermAt)) (rows : List (StampedRow × Posted)) (ts : List TermAt) → TermsTaken segments terms → IsPermutation (posted_all posted_term rows) ts → TermsTaken (segments ++ rows ∷ []) (terms ++ ts ∷ [])
+pub terms_sealed : (segments : List (List (StampedRow × RowPlace))) (terms : List (List TermAt)) (rows : List (StampedRow × RowPlace)) (ts : List TermAt) → TermsTaken segments terms → IsPermutation (posted_all posted_term rows) ts → TermsTaken (segments ++ rows ∷ []) (terms ++ ts ∷ [])
 terms_sealed [] [] rows ts taken is = (is, tt)
 terms_sealed [] (us ∷ terms) rows ts taken is = absurd taken
 terms_sealed (s ∷ segments) [] rows ts taken is = absurd taken
 terms_sealed (s ∷ segments) (us ∷ terms) rows ts taken is = (taken.0, terms_sealed segments terms rows ts taken.1 is)
 
-pub edges_sealed : (segments : List (List (StampedRow × Posted))) (edges : List Edges) (rows : List (StampedRow × Posted)) (e : Edges) → EdgesTaken segments edges → AreSameEdges (posted_edges rows) e → EdgesTaken (segments ++ rows ∷ []) (edges ++ e ∷ [])
+pub edges_sealed : (segments : List (List (StampedRow × RowPlace))) (edges : List Edges) (rows : List (StampedRow × RowPlace)) (e : Edges) → EdgesTaken segments edges → AreSameEdges (posted_edges rows) e → EdgesTaken (segments ++ rows ∷ []) (edges ++ e ∷ [])
 edges_sealed [] [] rows e taken is = (is, tt)
 edges_sealed [] (f ∷ edges) rows e taken is = absurd taken
 edges_sealed (s ∷ segments) [] rows e taken is = absurd taken

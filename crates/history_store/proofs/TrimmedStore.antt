@@ -14,18 +14,18 @@ use Rattle.blocks.specs.Extents.{start_of}
 use Rattle.blocks.proofs.Windows.{window_same}
 use Rattle.history_model.specs.declared.stamped.StampedRow.{StampedRow}
 use Rattle.directory.specs.declared.entry.Entry.{Entry}
-use Rattle.directory.specs.Listings.{Listing, IsListing}
+use Rattle.directory.specs.Listings.{DirectoryValue, IsListing}
 use Rattle.directory.specs.Places.{extent_of, extents_of, taken}
 use Rattle.segment.specs.Records.{segment_of}
-use Rattle.segment.specs.declared.place.Posted.{Posted}
+use Rattle.segment.specs.declared.place.RowPlace.{RowPlace}
 use Rattle.store_image.specs.Shown.{IsOnDisk}
 use Rattle.store_image.specs.Trimmed.{EndBelow}
 use Rattle.store_image.specs.Ahead.{BeginsWith}
 use Rattle.store_image.proofs.Unlisted.{begins_holds}
-use Rattle.history_store.specs.declared.ongoing.Ongoing.{Ongoing}
-use Rattle.history_store.specs.Shelf.{reserved_by}
-use Rattle.history_store.specs.Ongoing.{IsMergingOf, IsWritten, HasMerge, merge_of}
-use Rattle.history_store.specs.Stored.{IsHeld}
+use Rattle.history_store.specs.declared.merge_in_progress.MergeInProgress.{MergeInProgress}
+use Rattle.history_store.specs.Catalog.{reserved_by}
+use Rattle.history_store.specs.MergeInProgress.{IsMergingOf, IsWritten, HasMerge, merge_of}
+use Rattle.history_store.specs.StoreValue.{IsHeld}
 use Rattle.history_store.specs.Merging.{end_of_taken}
 use Rattle.history_store.proofs.GoingOn.{written_fits, merging_on}
 use Rattle.history_store.proofs.EndOf.{end_within, entries_within, end_reserved, ends_below}
@@ -41,7 +41,7 @@ begins_cut extent (byte ∷ bytes) old len first fits begins =
     let short = length-take len old in
     window_same (start_of extent) n (take len old) old (omega (arith, there, short, fits)) there (λ i ge lt. get_or-take len old i 0 (omega (arith, lt, fits))) ∙ begins
 
-written_cut : (honest : Type 0) (d : Listing) (lists : List (List StampedRow)) (merge : Option Ongoing) (entries : List Entry) (len : ℕ) (old new : List ℕ) → IsMergingOf honest d lists merge → 4096 * end_of_taken (extents_of entries ++ option_to_list (reserved_by (merge_of merge))) ≤ len → new ≡ take len old → IsWritten merge old → IsWritten merge new
+written_cut : (honest : Type 0) (d : DirectoryValue) (lists : List (List StampedRow)) (merge : Option MergeInProgress) (entries : List Entry) (len : ℕ) (old new : List ℕ) → IsMergingOf honest d lists merge → 4096 * end_of_taken (extents_of entries ++ option_to_list (reserved_by (merge_of merge))) ≤ len → new ≡ take len old → IsWritten merge old → IsWritten merge new
 written_cut honest d lists None entries len old new is below cut written = tt
 written_cut honest d lists (Some m) entries len old new is below cut written =
     let fits = written_fits honest d lists m.i m.j m.entry m.places m.shown m.written is.0 in
@@ -50,20 +50,20 @@ written_cut honest d lists (Some m) entries len old new is below cut written =
     subst P (sym cut) (begins_cut (extent_of m.entry) (segment_of m.shown) old len is.0.is_entry.first (omega (arith, fits, end, below, blocks_cover m.entry.bytes)) written)
 
 -- nothing that is taken ends above the last block
-pub end_limit : (honest : Type 0) (d : Listing) (lists : List (List StampedRow)) (merge : Option Ongoing) → IsListing d → IsMergingOf honest d lists merge → end_of_taken (extents_of d.entries ++ option_to_list (reserved_by (merge_of merge))) ≤ 4194304
+pub end_limit : (honest : Type 0) (d : DirectoryValue) (lists : List (List StampedRow)) (merge : Option MergeInProgress) → IsListing d → IsMergingOf honest d lists merge → end_of_taken (extents_of d.entries ++ option_to_list (reserved_by (merge_of merge))) ≤ 4194304
 end_limit honest d lists None listing is = end_within (extents_of d.entries ++ []) 4194304 (omega arith) (entries_within d.entries [] listing.entries tt)
 end_limit honest d lists (Some m) listing is = end_within (extents_of d.entries ++ extent_of m.entry ∷ []) 4194304 (omega arith) (entries_within d.entries (extent_of m.entry ∷ []) listing.entries (is.0.is_entry.end_is, tt))
 
 -- the end of all that is taken, as it was computed
-pub end_is : (d : Listing) (merge : Option Ongoing) (entries : List Entry) (reserved : Option Extent) (end : ℕ) → entries ≡ d.entries → reserved ≡ reserved_by (merge_of merge) → end ≡ end_of_taken (taken entries reserved) → end ≡ end_of_taken (taken d.entries (reserved_by (merge_of merge)))
+pub end_is : (d : DirectoryValue) (merge : Option MergeInProgress) (entries : List Entry) (reserved : Option Extent) (end : ℕ) → entries ≡ d.entries → reserved ≡ reserved_by (merge_of merge) → end ≡ end_of_taken (taken entries reserved) → end ≡ end_of_taken (taken d.entries (reserved_by (merge_of merge)))
 end_is d merge entries reserved end same given is = is ∙ ap (λ (l : List Entry). end_of_taken (taken l reserved)) same ∙ ap (λ (o : Option Extent). end_of_taken (taken d.entries o)) given
 
 -- nothing that is listed is cut off
-pub kept_below : (d : Listing) (merge : Option Ongoing) (end : ℕ) → end ≡ end_of_taken (taken d.entries (reserved_by (merge_of merge))) → EndBelow (4096 * end) d.entries
+pub kept_below : (d : DirectoryValue) (merge : Option MergeInProgress) (end : ℕ) → end ≡ end_of_taken (taken d.entries (reserved_by (merge_of merge))) → EndBelow (4096 * end) d.entries
 kept_below d merge end is = ends_below d.entries (option_to_list (reserved_by (merge_of merge))) (4096 * end) (omega (arith, is))
 
 -- what is held of a disk that was cut
-pub trimmed_held : (before after : Type 0) (old new : DiskState) (cache left : LruCache ℕ (List ℕ)) (slot : Slot) (d : Listing) (index : List (List Posted)) (lists : List (List StampedRow)) (needs : Bool) (end : ℕ) → IsHeld before old cache slot d index lists needs → (after → before)
+pub trimmed_held : (before after : Type 0) (old new : DiskState) (cache left : LruCache ℕ (List ℕ)) (slot : Slot) (d : DirectoryValue) (index : List (List RowPlace)) (lists : List (List StampedRow)) (needs : Bool) (end : ℕ) → IsHeld before old cache slot d index lists needs → (after → before)
     → (before → IsOnDisk old slot d lists → IsOnDisk new slot d lists) → (before → new.now ≡ take (4096 * end) old.now) → Forgets (nat_le end) cache left → IsHeld after new left slot d index lists needs
 trimmed_held before after old new cache left slot d index lists needs end held back on cut forgets = record {
   kept = held.kept;
@@ -73,7 +73,7 @@ trimmed_held before after old new cache left slot d index lists needs end held b
 }
 
 -- what is written of a merge stays
-pub trimmed_merge : (before after : Type 0) (old new : List ℕ) (d : Listing) (lists : List (List StampedRow)) (merge : Option Ongoing) (needs : Bool) (end : ℕ) → HasMerge before old d lists merge needs → (after → before)
+pub trimmed_merge : (before after : Type 0) (old new : List ℕ) (d : DirectoryValue) (lists : List (List StampedRow)) (merge : Option MergeInProgress) (needs : Bool) (end : ℕ) → HasMerge before old d lists merge needs → (after → before)
     → end ≡ end_of_taken (taken d.entries (reserved_by (merge_of merge))) → (before → new ≡ take (4096 * end) old) → HasMerge after new d lists merge needs
 trimmed_merge before after old new d lists merge needs end held back is cut = record {
   merging = merging_on before after d d lists merge back refl held.merging;

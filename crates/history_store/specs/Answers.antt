@@ -4,7 +4,7 @@ use Rattle.fault_counts.specs.Counting.{HasRisen}
 use Rattle.disk_model.specs.Disk.{Moments}
 use Rattle.blocks.specs.declared.slots.Slot.TheVariants.{A, B}
 use Rattle.blocks.specs.Slots.{IsOpen, IsClosed}
-use Rattle.rf2_values.specs.Row.{Version}
+use Rattle.rf2_values.specs.Row.{RowValue}
 use Rattle.rf2_values.specs.declared.key.Key.{Key}
 use Rattle.history_model.specs.declared.stamped.StampedRow.{StampedRow}
 use Rattle.history_model.specs.declared.receipt.Receipt.{Receipt}
@@ -17,18 +17,19 @@ use Rattle.directory.specs.Listings.{most_entries}
 use Rattle.import_check.specs.declared.release.Release.{Release}
 use Rattle.import_check.specs.Release.{IsReleaseOf, IsFaultOfRelease, HasContradiction}
 use Rattle.import_check.specs.declared.fault.ImportFault.{ImportFault}
-use Rattle.import_check.specs.Fresh.{IsRead, IsRefusal}
+use Rattle.import_check.specs.NewRows.{IsRead, IsRefusal}
 use Rattle.history_store.specs.Refusals.{refusal_of}
 use Rattle.store_image.specs.Answers.{synced}
-use Rattle.store_image.specs.Images.{StandsFor, StandsAs, IsStore}
+use Rattle.store_image.specs.Damage.{IsDamaged}
+use Rattle.store_image.specs.Images.{Represents, StandsAs, IsStore}
 use Rattle.history_store.specs.declared.refusal.Refusal.{Refusal}
 use Rattle.history_store.specs.declared.refusal.Refusal.TheVariants as refusals
-use Rattle.history_store.specs.Shelf.{Shelf, IsShelfAfter, HasNoEntry, HasNoPlace}
-use Rattle.history_store.specs.Stored.{Stored, last_import, last_epoch}
+use Rattle.history_store.specs.Catalog.{Catalog, IsCatalogAfter, HasNoEntry, HasNoPlace}
+use Rattle.history_store.specs.StoreValue.{StoreValue, last_import, last_epoch}
 use Rattle.history_store.specs.Prepared.{IsNotSpent}
 
 -- where the device is, whatever was answered
-abbrev pub device_of : {D : Type 0} → Result (Stored D) (Refusal × D) → D
+abbrev pub device_of : {D : Type 0} → Result (StoreValue D) (Refusal × D) → D
 device_of (Ok store) = store.disk
 device_of (Err e) = e.1
 
@@ -37,7 +38,7 @@ abbrev pub CountsRefusal : Refusal → ℕ → ℕ → Type 0
 CountsRefusal refusals.DiskFault old new = HasRisen old new
 CountsRefusal _ old new = new ≡ old
 
-abbrev pub CountsOpening : {D : Type 0} → Result (Stored D) (Refusal × D) → ℕ → ℕ → Type 0
+abbrev pub CountsOpening : {D : Type 0} → Result (StoreValue D) (Refusal × D) → ℕ → ℕ → Type 0
 CountsOpening (Ok store) old new = new ≡ old
 CountsOpening (Err e) old new = CountsRefusal e.0 old new
 
@@ -60,34 +61,37 @@ IsMakingCause refusals.NotEmpty = Unit {0}
 IsMakingCause _ = ⊥
 
 -- a new store: nothing is imported, and it has no segment
-pub record IsNew {D : Type 0} (s : Stored D) : Type 0 where
+pub record IsNew {D : Type 0} (s : StoreValue D) : Type 0 where
   pub history : s.history ≡ no_history
-  pub shelf : s.shelf ≡ record { layout = layouts.Two; epoch = 1; entries = []; merge = None }
+  pub catalog : s.catalog ≡ record { layout = layouts.Two; epoch = 1; entries = []; merge = None }
   pub open_still : s.needs_reopen ≡ false
 
 -- every refusal but the failed device leaves the device as it was, and what a stop may leave of it
-abbrev pub HandsBack : {D : Type 0} → (D → Moments) → Result (Stored D) (Refusal × D) → D → Type 0
+abbrev pub HandsBack : {D : Type 0} → (D → Moments) → Result (StoreValue D) (Refusal × D) → D
+    → Type 0
 HandsBack moments (Ok store) disk = Unit {0}
 HandsBack moments (Err e) disk = e.0 ≢ refusals.DiskFault → moments e.1 ≡ moments disk
 
 -- one sync changed the disk and nothing else did; where the device failed, maybe not even that
-abbrev pub SyncsOnce : {D : Type 0} → (D → Moments) → Result (Stored D) (Refusal × D) → D → Type 0
+abbrev pub SyncsOnce : {D : Type 0} → (D → Moments) → Result (StoreValue D) (Refusal × D) → D
+    → Type 0
 SyncsOnce moments (Ok store) disk = moments store.disk ≡ synced (moments disk)
 SyncsOnce moments (Err e) disk = (moments e.1 ≡ synced (moments disk))
     ⊎ ((e.0 ≡ refusals.DiskFault) × (moments e.1 ≡ moments disk))
 
 -- a store is made on an empty disk alone
-abbrev pub IsMakingOf : {D : Type 0} → Result (Stored D) (Refusal × D) → List ℕ → Type 0
+abbrev pub IsMakingOf : {D : Type 0} → Result (StoreValue D) (Refusal × D) → List ℕ → Type 0
 IsMakingOf (Ok store) bytes = (length bytes ≡ 0) × IsNew store
 IsMakingOf (Err e) bytes = IsNotMade e.0 bytes
 
--- Why no store is opened: the bytes are no store where no gate is
--- open, and damaged where one is open and they stand for nothing.
+-- Why no store is opened: the bytes are no store where no gate is open, and
+-- damaged where one is open and they stand for nothing, since a part is damaged.
 abbrev pub IsNotOpened : Refusal → List ℕ → Type 0
 IsNotOpened refusals.OutOfMemory bytes = IsOpen A bytes ⊎ IsOpen B bytes
 IsNotOpened refusals.DiskFault bytes = Unit {0}
 IsNotOpened refusals.NotAStore bytes = IsClosed A bytes × IsClosed B bytes
-IsNotOpened refusals.Damaged bytes = (IsOpen A bytes ⊎ IsOpen B bytes) × ¬ (IsStore bytes)
+IsNotOpened (refusals.Unreadable damage) bytes =
+    (IsOpen A bytes ⊎ IsOpen B bytes) × IsDamaged damage bytes × ¬ (IsStore bytes)
 IsNotOpened _ bytes = ⊥
 
 -- with what an opening is refused, whatever disk it is tried on
@@ -95,105 +99,105 @@ abbrev pub IsOpeningCause : Refusal → Type 0
 IsOpeningCause refusals.OutOfMemory = Unit {0}
 IsOpeningCause refusals.DiskFault = Unit {0}
 IsOpeningCause refusals.NotAStore = Unit {0}
-IsOpeningCause refusals.Damaged = Unit {0}
+IsOpeningCause (refusals.Unreadable damage) = Unit {0}
 IsOpeningCause _ = ⊥
 
 -- the store holds what the bytes stand for
-pub record IsOpened {D : Type 0} (s : Stored D) (bytes : List ℕ) : Type 0 where
-  pub stands : StandsFor bytes s.history s.shelf.layout s.shelf.epoch s.shelf.entries
-  pub no_merge : s.shelf.merge ≡ None
+pub record IsOpened {D : Type 0} (s : StoreValue D) (bytes : List ℕ) : Type 0 where
+  pub stands : Represents bytes s.history s.catalog.layout s.catalog.epoch s.catalog.entries
+  pub no_merge : s.catalog.merge ≡ None
   pub open_still : s.needs_reopen ≡ false
 
 -- an opened store, whatever the disk gave: its rows and counts are a history, and no merge goes on
-pub record IsReady {D : Type 0} (s : Stored D) : Type 0 where
+pub record IsReady {D : Type 0} (s : StoreValue D) : Type 0 where
   pub history : IsHistory s.history
-  pub no_merge : s.shelf.merge ≡ None
+  pub no_merge : s.catalog.merge ≡ None
   pub open_still : s.needs_reopen ≡ false
 
 -- a store is opened exactly where the bytes stand for a history, unless memory or the device fails
-abbrev pub IsOpeningOf : {D : Type 0} → Result (Stored D) (Refusal × D) → List ℕ → Type 0
+abbrev pub IsOpeningOf : {D : Type 0} → Result (StoreValue D) (Refusal × D) → List ℕ → Type 0
 IsOpeningOf (Ok store) bytes = IsOpened store bytes
 IsOpeningOf (Err e) bytes = IsNotOpened e.0 bytes
 
 -- a release that is taken: each file is a release file, the union is consistent,
 -- the history goes on with its rows, and a segment of the new ones is added
-pub record IsTaken (h after : History) (shelf next : Shelf) (release : Release)
+pub record IsTaken (h after : History) (catalog next : Catalog) (release : Release)
     (receipt : Receipt) : Type 0 where
-  pub room : IsNotSpent h.imports shelf.epoch
-  pub rows : List Version
+  pub room : IsNotSpent h.imports catalog.epoch
+  pub rows : List RowValue
   pub is_release : IsReleaseOf release rows
   pub accepted : Accepts h rows
   pub history : after ≡ after_release h rows
   pub receipt_is : ReceiptOf h rows receipt.number receipt.new receipt.repeated
-  pub shelf_is : IsShelfAfter (new_rows h rows) shelf next
+  pub catalog_is : IsCatalogAfter (new_rows h rows) catalog next
 
 -- a release that would be taken, but for its new rows
-pub record IsUnplaced (h : History) (shelf : Shelf) (release : Release)
-    (Lacks : List StampedRow → Shelf → Type 0) : Type 0 where
-  pub room : IsNotSpent h.imports shelf.epoch
-  pub rows : List Version
+pub record WouldBeTakenBut (h : History) (catalog : Catalog) (release : Release)
+    (Lacks : List StampedRow → Catalog → Type 0) : Type 0 where
+  pub room : IsNotSpent h.imports catalog.epoch
+  pub rows : List RowValue
   pub is_release : IsReleaseOf release rows
   pub accepted : Accepts h rows
-  pub lacks : Lacks (new_rows h rows) shelf
+  pub lacks : Lacks (new_rows h rows) catalog
 
 -- a release that would be taken: its new rows have a place, or there are none
-pub record IsWelcome (h : History) (shelf : Shelf) (release : Release) : Type 0 where
-  pub room : IsNotSpent h.imports shelf.epoch
-  pub rows : List Version
+pub record WouldBeTaken (h : History) (catalog : Catalog) (release : Release) : Type 0 where
+  pub room : IsNotSpent h.imports catalog.epoch
+  pub rows : List RowValue
   pub is_release : IsReleaseOf release rows
   pub accepted : Accepts h rows
-  pub next : Shelf
-  pub shelf_is : IsShelfAfter (new_rows h rows) shelf next
+  pub next : Catalog
+  pub catalog_is : IsCatalogAfter (new_rows h rows) catalog next
 
 -- where the device may fail: known rows are read once each file is a
 -- release file, and it is written to only for a release that would be taken
-abbrev pub IsAtDevice : History → Shelf → Release → Type 0
-IsAtDevice h shelf release =
-    (IsNotSpent h.imports shelf.epoch × IsRead release) ⊎ IsWelcome h shelf release
+abbrev pub MayBlameDevice : History → Catalog → Release → Type 0
+MayBlameDevice h catalog release =
+    (IsNotSpent h.imports catalog.epoch × IsRead release) ⊎ WouldBeTaken h catalog release
 
--- why a release isn't taken at a history and a shelf, on an honest device
-abbrev pub IsNotTaken : Refusal → History → Shelf → Release → Type 0
-IsNotTaken refusals.OutOfMemory h shelf release = IsNotSpent h.imports shelf.epoch
-IsNotTaken refusals.DiskFault h shelf release = IsAtDevice h shelf release
-IsNotTaken refusals.CountSpent h shelf release =
-    (h.imports ≡ last_import) ⊎ (shelf.epoch ≡ last_epoch)
-IsNotTaken (refusals.Line file line fault) h shelf release =
-    IsNotSpent h.imports shelf.epoch × IsFaultOfRelease release file line fault
-IsNotTaken (refusals.Contradiction file line) h shelf release = IsNotSpent h.imports shelf.epoch
+-- why a release isn't taken at a history and a catalog, on an honest device
+abbrev pub IsNotTaken : Refusal → History → Catalog → Release → Type 0
+IsNotTaken refusals.OutOfMemory h catalog release = IsNotSpent h.imports catalog.epoch
+IsNotTaken refusals.DiskFault h catalog release = MayBlameDevice h catalog release
+IsNotTaken refusals.CountSpent h catalog release =
+    (h.imports ≡ last_import) ⊎ (catalog.epoch ≡ last_epoch)
+IsNotTaken (refusals.Line file line fault) h catalog release =
+    IsNotSpent h.imports catalog.epoch × IsFaultOfRelease release file line fault
+IsNotTaken (refusals.Contradiction file line) h catalog release = IsNotSpent h.imports catalog.epoch
     × (key : Key) × HasContradiction (full h) release file line key
-IsNotTaken refusals.TooManySegments h shelf release = IsUnplaced h shelf release HasNoEntry
-IsNotTaken refusals.Full h shelf release = IsUnplaced h shelf release HasNoPlace
-IsNotTaken _ h shelf release = ⊥
+IsNotTaken refusals.TooManySegments h catalog release = WouldBeTakenBut h catalog release HasNoEntry
+IsNotTaken refusals.Full h catalog release = WouldBeTakenBut h catalog release HasNoPlace
+IsNotTaken _ h catalog release = ⊥
 
 -- why an import is refused: after a failed call the store has to be opened again first
-abbrev pub IsImportRefusal : {D : Type 0} → Refusal → Stored D → Release → Type 0
+abbrev pub IsImportRefusal : {D : Type 0} → Refusal → StoreValue D → Release → Type 0
 IsImportRefusal refusals.ReopenNeeded s release = s.needs_reopen ≡ true
-IsImportRefusal e s release = (s.needs_reopen ≡ false) × IsNotTaken e s.history s.shelf release
+IsImportRefusal e s release = (s.needs_reopen ≡ false) × IsNotTaken e s.history s.catalog release
 
--- history and shelf stay, and a failure of the device alone closes the store
-pub record IsRefused {D : Type 0} (e : Refusal) (old new : Stored D) : Type 0 where
+-- history and catalog stay, and a failure of the device alone closes the store
+pub record IsRefused {D : Type 0} (e : Refusal) (old new : StoreValue D) : Type 0 where
   pub history : new.history ≡ old.history
-  pub shelf : new.shelf ≡ old.shelf
+  pub catalog : new.catalog ≡ old.catalog
   pub closed : e ≡ refusals.DiskFault → new.needs_reopen ≡ true
   pub still : e ≢ refusals.DiskFault → new.needs_reopen ≡ old.needs_reopen
 
 -- what a stop may leave stays as it is at every refusal but the failed device
-abbrev pub KeepsMoments : {T D : Type 0} → (D → Moments) → Result T Refusal → Stored D → Stored D
-    → Type 0
+abbrev pub KeepsMoments : {T D : Type 0} → (D → Moments) → Result T Refusal → StoreValue D
+    → StoreValue D → Type 0
 KeepsMoments moments (Ok x) old new = Unit {0}
 KeepsMoments moments (Err e) old new = e ≢ refusals.DiskFault → moments new.disk ≡ moments old.disk
 
 -- what an import answers, and the store after it
-abbrev pub IsImportOf : {D : Type 0} → Result Receipt Refusal → Stored D → Stored D → Release
-    → Type 0
+abbrev pub IsImportOf : {D : Type 0} → Result Receipt Refusal → StoreValue D → StoreValue D
+    → Release → Type 0
 IsImportOf (Ok receipt) old new release =
-    IsTaken old.history new.history old.shelf new.shelf release receipt
+    IsTaken old.history new.history old.catalog new.catalog release receipt
     × (old.needs_reopen ≡ false) × (new.needs_reopen ≡ false)
 IsImportOf (Err e) old new release = IsImportRefusal e old release × IsRefused e old new
 
 -- the bytes stand for the history with an accepted release, in version 2
 pub record StandsWith (h : History) (release : Release) (c : List ℕ) : Type 0 where
-  pub rows : List Version
+  pub rows : List RowValue
   pub is_release : IsReleaseOf release rows
   pub accepted : Accepts h rows
   pub stands : StandsAs layouts.Two (after_release h rows) c
@@ -203,82 +207,83 @@ pub record StandsWith (h : History) (release : Release) (c : List ℕ) : Type 0 
 abbrev pub IsBeforeOrAfter : Layout → History → Release → List ℕ → Type 0
 IsBeforeOrAfter layout h release c = StandsAs layout h c ⊎ StandsWith h release c
 
--- the store goes on to this history and shelf, or stays; memory may lack, or the device may fail
-abbrev pub IsStep : {D : Type 0} → Result (Unit {0}) Refusal → Stored D → Stored D → History → Shelf
-    → Type 0
+-- the store goes on to this history and catalog, or stays; memory may lack, or the device may fail
+abbrev pub IsStep : {D : Type 0} → Result (Unit {0}) Refusal → StoreValue D → StoreValue D → History
+    → Catalog → Type 0
 IsStep (Ok done) old new after next =
-    (new.history ≡ after) × (new.shelf ≡ next) × (new.needs_reopen ≡ false)
+    (new.history ≡ after) × (new.catalog ≡ next) × (new.needs_reopen ≡ false)
 IsStep (Err e) old new after next =
     ((e ≡ refusals.OutOfMemory) ⊎ (e ≡ refusals.DiskFault)) × IsRefused e old new
 
 -- why a call that only reads is refused
-abbrev pub IsReadRefusal : {D : Type 0} → Refusal → Stored D → Type 0
+abbrev pub IsReadRefusal : {D : Type 0} → Refusal → StoreValue D → Type 0
 IsReadRefusal refusals.OutOfMemory s = s.needs_reopen ≡ false
 IsReadRefusal refusals.DiskFault s = s.needs_reopen ≡ false
 IsReadRefusal refusals.Damaged s = s.needs_reopen ≡ false
 IsReadRefusal refusals.ReopenNeeded s = s.needs_reopen ≡ true
 IsReadRefusal _ s = ⊥
 
--- history and shelf stay, and the store stays open
-pub record IsStill {D : Type 0} (old new : Stored D) : Type 0 where
+-- history and catalog stay, and the store stays open
+pub record IsStill {D : Type 0} (old new : StoreValue D) : Type 0 where
   pub history : new.history ≡ old.history
-  pub shelf : new.shelf ≡ old.shelf
+  pub catalog : new.catalog ≡ old.catalog
   pub open_before : old.needs_reopen ≡ false
   pub open_still : new.needs_reopen ≡ false
 
 -- a call that only reads leaves the store as it was, but that a failure of the device closes it
-abbrev pub IsReadingOf : {T D : Type 0} → Result T Refusal → Stored D → Stored D → Type 0
+abbrev pub IsReadingOf : {T D : Type 0} → Result T Refusal → StoreValue D → StoreValue D → Type 0
 IsReadingOf (Ok x) old new = IsStill old new
 IsReadingOf (Err e) old new = IsReadRefusal e old × IsRefused e old new
 
 -- why the new rows of a release are not had: a fault of the files
 -- on every disk, a contradiction and no damage on an honest one
-abbrev pub IsNotFresh : Type 0 → Refusal → List Version → Release → Type 0
+abbrev pub IsNotFresh : Type 0 → Refusal → List RowValue → Release → Type 0
 IsNotFresh honest e known release =
     (fault : ImportFault) × (e ≡ refusal_of fault) × IsRefusal honest known release fault
 
 -- Why an import is refused, on every disk: what the counts, the files and the directory say.
 -- Whether a row contradicts the known ones is said on an honest disk alone.
-abbrev pub IsRefusalAtAll : {D : Type 0} → Refusal → Stored D → Release → Type 0
-IsRefusalAtAll refusals.OutOfMemory s release =
-    (s.needs_reopen ≡ false) × IsNotSpent s.history.imports s.shelf.epoch
-IsRefusalAtAll refusals.DiskFault s release =
-    (s.needs_reopen ≡ false) × IsNotSpent s.history.imports s.shelf.epoch × IsRead release
-IsRefusalAtAll refusals.ReopenNeeded s release = s.needs_reopen ≡ true
-IsRefusalAtAll refusals.NotEmpty s release = ⊥
-IsRefusalAtAll refusals.Full s release =
-    (s.needs_reopen ≡ false) × IsNotSpent s.history.imports s.shelf.epoch
-    × IsRead release × (length s.shelf.entries < most_entries s.shelf.layout)
-IsRefusalAtAll refusals.TooManySegments s release =
-    (s.needs_reopen ≡ false) × IsNotSpent s.history.imports s.shelf.epoch
-    × IsRead release × (length s.shelf.entries ≡ most_entries s.shelf.layout)
-IsRefusalAtAll refusals.NotAStore s release = ⊥
-IsRefusalAtAll refusals.Damaged s release =
-    (s.needs_reopen ≡ false) × IsNotSpent s.history.imports s.shelf.epoch × IsRead release
-IsRefusalAtAll refusals.NothingToMerge s release = ⊥
-IsRefusalAtAll refusals.MergeBusy s release = ⊥
-IsRefusalAtAll refusals.NoMerge s release = ⊥
-IsRefusalAtAll refusals.MergeUnfinished s release = ⊥
-IsRefusalAtAll refusals.CountSpent s release = (s.needs_reopen ≡ false)
-    × ((s.history.imports ≡ last_import) ⊎ (s.shelf.epoch ≡ last_epoch))
-IsRefusalAtAll (refusals.Line file line fault) s release = (s.needs_reopen ≡ false)
-    × IsNotSpent s.history.imports s.shelf.epoch × IsFaultOfRelease release file line fault
-IsRefusalAtAll (refusals.Contradiction file line) s release = (s.needs_reopen ≡ false)
-    × IsNotSpent s.history.imports s.shelf.epoch × IsRead release
+abbrev pub IsRefusalOnAnyDisk : {D : Type 0} → Refusal → StoreValue D → Release → Type 0
+IsRefusalOnAnyDisk refusals.OutOfMemory s release =
+    (s.needs_reopen ≡ false) × IsNotSpent s.history.imports s.catalog.epoch
+IsRefusalOnAnyDisk refusals.DiskFault s release =
+    (s.needs_reopen ≡ false) × IsNotSpent s.history.imports s.catalog.epoch × IsRead release
+IsRefusalOnAnyDisk refusals.ReopenNeeded s release = s.needs_reopen ≡ true
+IsRefusalOnAnyDisk refusals.NotEmpty s release = ⊥
+IsRefusalOnAnyDisk refusals.Full s release =
+    (s.needs_reopen ≡ false) × IsNotSpent s.history.imports s.catalog.epoch
+    × IsRead release × (length s.catalog.entries < most_entries s.catalog.layout)
+IsRefusalOnAnyDisk refusals.TooManySegments s release =
+    (s.needs_reopen ≡ false) × IsNotSpent s.history.imports s.catalog.epoch
+    × IsRead release × (length s.catalog.entries ≡ most_entries s.catalog.layout)
+IsRefusalOnAnyDisk refusals.NotAStore s release = ⊥
+IsRefusalOnAnyDisk refusals.Damaged s release =
+    (s.needs_reopen ≡ false) × IsNotSpent s.history.imports s.catalog.epoch × IsRead release
+IsRefusalOnAnyDisk (refusals.Unreadable damage) s release = ⊥
+IsRefusalOnAnyDisk refusals.NothingToMerge s release = ⊥
+IsRefusalOnAnyDisk refusals.MergeBusy s release = ⊥
+IsRefusalOnAnyDisk refusals.NoMerge s release = ⊥
+IsRefusalOnAnyDisk refusals.MergeUnfinished s release = ⊥
+IsRefusalOnAnyDisk refusals.CountSpent s release = (s.needs_reopen ≡ false)
+    × ((s.history.imports ≡ last_import) ⊎ (s.catalog.epoch ≡ last_epoch))
+IsRefusalOnAnyDisk (refusals.Line file line fault) s release = (s.needs_reopen ≡ false)
+    × IsNotSpent s.history.imports s.catalog.epoch × IsFaultOfRelease release file line fault
+IsRefusalOnAnyDisk (refusals.Contradiction file line) s release = (s.needs_reopen ≡ false)
+    × IsNotSpent s.history.imports s.catalog.epoch × IsRead release
 
 -- what an import answers on every disk, and the store after it: with one import more, or as it was;
 -- a failure of the device alone closes it
-abbrev pub IsImportAtAll : {D : Type 0} → Result Receipt Refusal → Stored D → Stored D → Release
-    → Type 0
-IsImportAtAll (Ok receipt) old new release = (new.history.imports ≡ old.history.imports + 1)
+abbrev pub IsImportOnAnyDisk : {D : Type 0} → Result Receipt Refusal → StoreValue D → StoreValue D
+    → Release → Type 0
+IsImportOnAnyDisk (Ok receipt) old new release = (new.history.imports ≡ old.history.imports + 1)
     × (receipt.number ≡ new.history.imports) × (old.needs_reopen ≡ false)
-    × (new.needs_reopen ≡ false) × (new.shelf.layout ≡ layouts.Two)
-IsImportAtAll (Err e) old new release = IsRefusalAtAll e old release × IsRefused e old new
+    × (new.needs_reopen ≡ false) × (new.catalog.layout ≡ layouts.Two)
+IsImportOnAnyDisk (Err e) old new release = IsRefusalOnAnyDisk e old release × IsRefused e old new
 
 -- what a taken import adds, on every disk: as many rows as the receipt calls new,
 -- and one segment of so many, or none where no row is new
-pub record IsCounted {D : Type 0} (old new : Stored D) (receipt : Receipt) : Type 0 where
+pub record IsCounted {D : Type 0} (old new : StoreValue D) (receipt : Receipt) : Type 0 where
   pub rows : length new.history.rows ≡ length old.history.rows + receipt.new
-  pub without_new : receipt.new ≡ 0 → new.shelf.entries ≡ old.shelf.entries
+  pub without_new : receipt.new ≡ 0 → new.catalog.entries ≡ old.catalog.entries
   pub with_new : 1 ≤ receipt.new → (entry : Entry)
-      × (new.shelf.entries ≡ old.shelf.entries ++ entry ∷ []) × (entry.rows ≡ receipt.new)
+      × (new.catalog.entries ≡ old.catalog.entries ++ entry ∷ []) × (entry.rows ≡ receipt.new)

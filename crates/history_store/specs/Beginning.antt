@@ -3,13 +3,13 @@ use Rattle.std.specs.Prelude.{◌≡◌, ◌+◌, ◌^◌, ◌<◌, ◌≤◌, L
 use Rattle.std.specs.Int.{div_ceil}
 use Rattle.std.specs.List.{AllByRecursion}
 use Rattle.directory.specs.declared.entry.Entry.{Entry}
-use Rattle.directory.specs.Listings.{Listing}
+use Rattle.directory.specs.Listings.{DirectoryValue}
 use Rattle.directory.specs.Fit.{fit}
 use Rattle.merge.specs.Merged.{IsNew}
 use Rattle.associations.specs.Edges.{no_edges}
 use Rattle.history_store.specs.declared.refusal.Refusal.{Refusal}
 use Rattle.history_store.specs.declared.refusal.Refusal.TheVariants as refusals
-use Rattle.history_store.specs.declared.ongoing.Ongoing.{Ongoing}
+use Rattle.history_store.specs.declared.merge_in_progress.MergeInProgress.{MergeInProgress}
 use Rattle.history_store.specs.Merging.{AreFewest, HasNoOutput}
 
 -- no segment has more rows than bytes
@@ -17,7 +17,7 @@ abbrev pub AreLong : List Entry → Type 0
 AreLong entries = AllByRecursion (λ (e : Entry). e.rows ≤ e.bytes) entries
 
 -- a merge of the two segments of fewest rows, of which nothing is taken
-pub record IsFresh (d : Listing) (m : Ongoing) : Type 0 where
+pub record IsNewMerge (d : DirectoryValue) (m : MergeInProgress) : Type 0 where
   pub a : Entry
   pub b : Entry
   pub fewest : AreFewest d.entries m.i m.j

@@ -1,14 +1,13 @@
 pub mod Reading
-pub mod Shelf
-pub mod Ongoing
+pub mod Catalog
+pub mod MergeInProgress
 pub mod Merging
 pub mod Beginning
 pub mod Publishing
-pub mod Stored
+pub mod StoreValue
 pub mod Prepared
 pub mod Answers
 pub mod Queries
-pub mod Latest
 pub mod Written
 pub mod Calls
 pub mod MergeAnswers
@@ -16,6 +15,7 @@ pub mod Refusals
 pub mod Laws
 pub mod Taken
 pub mod Stepping
+pub mod Private
 pub use Rattle.store_image.specs.Images
 pub use Rattle.history_model.specs.History
 pub use Rattle.directory.specs.Fit

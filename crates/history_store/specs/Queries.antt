@@ -4,16 +4,16 @@ use Rattle.disk_model.specs.Disk.{Moments}
 use Rattle.blocks.specs.Cache.{LooksUpSome}
 use Rattle.history_store.specs.declared.refusal.Refusal.{Refusal}
 use Rattle.history_store.specs.declared.refusal.Refusal.TheVariants as refusals
-use Rattle.history_store.specs.Stored.{Stored, IsAcknowledged}
+use Rattle.history_store.specs.StoreValue.{StoreValue, IsAcknowledged}
 use Rattle.history_store.specs.Answers.{Counts, IsReadingOf}
 
--- Whatever is answered, history and shelf stay, and a failed device alone closes the store. A store
--- that has to be opened again leaves everything as it is. Of the cache nothing is used but that
--- blocks are looked up. On an honest disk nothing is damaged, what a stop may leave stays, and as
--- long as no call has failed it stands for what the store holds.
+-- Whatever is answered, history and catalog stay, and a failed device alone closes the store. A
+-- store that has to be opened again leaves everything as it is. Of the cache nothing is used but
+-- that blocks are looked up. On an honest disk nothing is damaged, what a stop may leave stays, and
+-- as long as no call has failed it stands for what the store holds.
 pub record IsQuery {T D : Type 0} (result : Result T Refusal) (is_honest : D → Type 0)
     (moments_of : D → Moments) (failures_of : D → ℕ)
-    (old new : Stored D) : Type 0 where
+    (old new : StoreValue D) : Type 0 where
   pub undamaged : is_honest old.disk → IfErr result (λ e. e ≢ refusals.Damaged)
   pub read : IsReadingOf result old new
   pub closed : old.needs_reopen ≡ true → new ≡ old

@@ -6,8 +6,8 @@ use Rattle.disk_model.specs.Disk.{DiskState}
 use Rattle.lru.specs.LruCache.{LruCache}
 use Rattle.blocks.specs.declared.slots.Slot.{Slot}
 use Rattle.history_model.specs.declared.stamped.StampedRow.{StampedRow}
-use Rattle.directory.specs.Listings.{Listing}
-use Rattle.segment.specs.declared.place.Posted.{Posted}
+use Rattle.directory.specs.Listings.{DirectoryValue}
+use Rattle.segment.specs.declared.place.RowPlace.{RowPlace}
 use Rattle.segment.specs.Records.{IsStamped, segment_of}
 use Rattle.segment.specs.Standing.{StandsAt}
 use Rattle.merge.specs.declared.Taken.{Taken}
@@ -15,31 +15,32 @@ use Rattle.merge.specs.Merged.{IsOf, count_left, rows_left}
 use Rattle.associations.specs.Edges.{count_of, first_edges}
 use Rattle.history_store.specs.declared.refusal.Refusal.{Refusal}
 use Rattle.history_store.specs.declared.refusal.Refusal.TheVariants as refusals
-use Rattle.history_store.specs.declared.ongoing.Ongoing.{Ongoing}
+use Rattle.history_store.specs.declared.merge_in_progress.MergeInProgress.{MergeInProgress}
 use Rattle.history_store.specs.declared.stepping.Part.{Part}
 use Rattle.history_store.specs.declared.stepping.Lengths.{Lengths}
 use Rattle.history_store.specs.Reading.{IsOfPlace}
-use Rattle.history_store.specs.Stored.{IsHeld}
-use Rattle.history_store.specs.Ongoing.{IsLike, AreTaken, HasMerge}
+use Rattle.history_store.specs.StoreValue.{IsHeld}
+use Rattle.history_store.specs.MergeInProgress.{IsLike, AreTaken, HasMerge}
 
 -- the row stands at the place, in the one or the other of two lists
 abbrev pub StandsIn : List (List StampedRow) → ℕ → ℕ → Taken → StampedRow → Type 0
-StandsIn lists i j t s = StandsAt lists (if t.second then j else i) t.posted s
+StandsIn lists i j t s = StandsAt lists (if t.second then j else i) t.place s
 
 -- the row is as its place says
 abbrev pub IsReadAt : Taken → StampedRow → Type 0
-IsReadAt t s = IsOfPlace s t.posted
+IsReadAt t s = IsOfPlace s t.place
 
 -- a store that is open, in which this merge goes on
-pub record IsReady (honest : Type 0) (state : DiskState) (cache : LruCache ℕ (List ℕ)) (d : Listing)
-    (index : List (List Posted)) (lists : List (List StampedRow)) (m : Ongoing) : Type 0 where
+pub record IsReady (honest : Type 0) (state : DiskState) (cache : LruCache ℕ (List ℕ))
+    (d : DirectoryValue) (index : List (List RowPlace)) (lists : List (List StampedRow))
+    (m : MergeInProgress) : Type 0 where
   pub slot : Slot
   pub held : IsHeld honest state cache slot d index lists false
   pub merge : HasMerge honest state.now d lists (Some m) false
 
 -- The next rows of two lists, up to n, and their records. On every disk they
 -- are alike in key, number and length; on an honest one they are the rows.
-pub record IsPart (honest : Type 0) (a b : List StampedRow) (m : Ongoing) (n : ℕ)
+pub record IsPart (honest : Type 0) (a b : List StampedRow) (m : MergeInProgress) (n : ℕ)
     (p : Part) : Type 0 where
   pub lengths : IsOf p.places a b
   pub left : count_left p.places ≡ count_left m.places - n
@@ -58,14 +59,14 @@ abbrev pub IsUnwritten : Refusal → Type 0
 IsUnwritten e = (e ≡ refusals.OutOfMemory) ⊎ (e ≡ refusals.DiskFault)
 
 -- how much is kept of the rows that were taken
-pub record AreLengths (m : Ongoing) (l : Lengths) : Type 0 where
+pub record AreLengths (m : MergeInProgress) (l : Lengths) : Type 0 where
   pub listed : l.listed ≡ length m.listed.items
   pub shown : l.shown ≡ length m.shown
   pub terms : l.terms ≡ length m.terms
   pub edges : l.edges ≡ count_of m.edges
 
 -- a merge in which more may be listed and posted, behind what was
-pub record IsLonger (m next : Ongoing) : Type 0 where
+pub record IsLonger (m next : MergeInProgress) : Type 0 where
   pub i : next.i ≡ m.i
   pub j : next.j ≡ m.j
   pub entry : next.entry ≡ m.entry
@@ -77,7 +78,7 @@ pub record IsLonger (m next : Ongoing) : Type 0 where
   pub edges : first_edges (count_of m.edges) next.edges ≡ m.edges
 
 -- a merge that differs in the room that it has alone
-pub record IsSame (m next : Ongoing) : Type 0 where
+pub record IsSame (m next : MergeInProgress) : Type 0 where
   pub i : next.i ≡ m.i
   pub j : next.j ≡ m.j
   pub entry : next.entry ≡ m.entry
@@ -89,11 +90,11 @@ pub record IsSame (m next : Ongoing) : Type 0 where
   pub edges : next.edges ≡ m.edges
 
 -- the rows and their places, with what is posted of them, are those of a merge
-abbrev pub Keeps : Ongoing → Type 0
+abbrev pub Keeps : MergeInProgress → Type 0
 Keeps m = AreTaken m.shown m.listed.items m.terms m.edges
 
 -- the merge with these rows more
-pub record IsGrown (m next : Ongoing) (p : Part) : Type 0 where
+pub record IsGrown (m next : MergeInProgress) (p : Part) : Type 0 where
   pub i : next.i ≡ m.i
   pub j : next.j ≡ m.j
   pub entry : next.entry ≡ m.entry
@@ -103,7 +104,7 @@ pub record IsGrown (m next : Ongoing) (p : Part) : Type 0 where
   pub keeps : Keeps next
 
 -- what is written of a merge lies within its output, and its rows can be posted
-pub record HasRoom (m : Ongoing) (p : Part) : Type 0 where
+pub record HasRoom (m : MergeInProgress) (p : Part) : Type 0 where
   pub keeps : Keeps m
   pub written : m.written ≡ length (segment_of m.shown)
   pub bytes : p.bytes.items ≡ segment_of p.rows.items
@@ -120,7 +121,7 @@ UnlessFault (Err refusals.DiskFault) P = Unit {0}
 UnlessFault _ P = P
 
 -- what a step makes of a merge
-abbrev pub IsStepOf : Result (Unit {0}) Refusal → Ongoing → Ongoing → ℕ → Type 0
+abbrev pub IsStepOf : Result (Unit {0}) Refusal → MergeInProgress → MergeInProgress → ℕ → Type 0
 IsStepOf (Ok done) m next n = (next.i ≡ m.i) × (next.j ≡ m.j) × (next.entry ≡ m.entry)
     × (count_left next.places ≡ count_left m.places - n)
 IsStepOf (Err e) m next n = IsUnread e × (1 ≤ n) × (1 ≤ count_left m.places) × IsSame m next

@@ -2,21 +2,21 @@
 use Rattle.std.specs.Prelude.{List, [], ◌∷◌}
 use Rattle.std.specs.List.Sorted.{IsPermutation}
 use Rattle.history_model.specs.declared.stamped.StampedRow.{StampedRow}
-use Rattle.segment.specs.declared.place.Posted.{Posted}
+use Rattle.segment.specs.declared.place.RowPlace.{RowPlace}
 use Rattle.as_of_index.specs.Postings.{posted_all}
 use Rattle.term_prefix.specs.Terms.{TermAt}
 use Rattle.term_prefix.specs.Pushed.{posted_term}
 use Rattle.associations.specs.Edges.{Edges, AreSameEdges, posted_edges}
 
 -- each list is what is posted of the rows of a segment, in any order
-abbrev pub TermsTaken : List (List (StampedRow × Posted)) → List (List TermAt) → Type 0
+abbrev pub TermsTaken : List (List (StampedRow × RowPlace)) → List (List TermAt) → Type 0
 TermsTaken [] [] = Unit {0}
 TermsTaken [] (ts ∷ terms) = ⊥
 TermsTaken (rows ∷ segments) [] = ⊥
 TermsTaken (rows ∷ segments) (ts ∷ terms) =
     IsPermutation (posted_all posted_term rows) ts × TermsTaken segments terms
 
-abbrev pub EdgesTaken : List (List (StampedRow × Posted)) → List Edges → Type 0
+abbrev pub EdgesTaken : List (List (StampedRow × RowPlace)) → List Edges → Type 0
 EdgesTaken [] [] = Unit {0}
 EdgesTaken [] (e ∷ edges) = ⊥
 EdgesTaken (rows ∷ segments) [] = ⊥

@@ -12,15 +12,15 @@ use Rattle.directory.specs.Places.{extent_of, extents_of}
 use Rattle.segment.specs.Records.{segment_of}
 use Rattle.store_image.specs.Says.{IsSegmentOf}
 use Rattle.store_image.specs.Ahead.{BeginsWith}
-use Rattle.history_store.specs.Shelf.{Merge, Shelf, reserved_by}
+use Rattle.history_store.specs.Catalog.{Merge, Catalog, reserved_by}
 
--- the bytes of the segments that a shelf lists behind those of another
-abbrev pub added_ranges : Shelf → Shelf → List (ℕ × ℕ)
+-- the bytes of the segments that a catalog lists behind those of another
+abbrev pub added_ranges : Catalog → Catalog → List (ℕ × ℕ)
 added_ranges old new = map byte_range (extents_of (drop (length old.entries) new.entries))
 
 -- the bytes that the merge that goes on has reserved
-abbrev pub reserved_ranges : Shelf → List (ℕ × ℕ)
-reserved_ranges shelf = map byte_range (option_to_list (reserved_by shelf.merge))
+abbrev pub reserved_ranges : Catalog → List (ℕ × ℕ)
+reserved_ranges catalog = map byte_range (option_to_list (reserved_by catalog.merge))
 
 -- the segment at a place of the directory is of these rows: a read gives their records there
 pub record HasRows (entries : List Entry) (place : ℕ) (rows : List StampedRow) (now : List ℕ)
@@ -33,12 +33,12 @@ pub record HasRows (entries : List Entry) (place : ℕ) (rows : List StampedRow)
 -- The rows that a merge takes next, up to n. Those that were taken before, these and
 -- those that are left after them are the rows of its two segments, in key order.
 -- The records of those that were taken before are what is written of the output.
-pub record AreNext (n : ℕ) (shelf : Shelf) (merge : Merge) (taken rows : List StampedRow)
+pub record AreNext (n : ℕ) (catalog : Catalog) (merge : Merge) (taken rows : List StampedRow)
     (now : List ℕ) : Type 0 where
   pub a : List StampedRow
   pub b : List StampedRow
-  pub first : HasRows shelf.entries merge.i a now
-  pub second : HasRows shelf.entries merge.j b now
+  pub first : HasRows catalog.entries merge.i a now
+  pub second : HasRows catalog.entries merge.j b now
   pub behind : BeginsWith merge.output (segment_of taken) now
   pub left : List StampedRow
   pub all : taken ++ rows ++ left ≡ union a b
@@ -53,13 +53,13 @@ after_part merge taken rows state =
 
 -- One write puts the records of the next rows, which are rows of the history, behind those of
 -- the rows that were taken before. After an error this write failed, or none was made.
-pub record WritesNext {T E : Type 0} (result : Result T E) (n : ℕ) (shelf : Shelf) (h : History)
+pub record WritesNext {T E : Type 0} (result : Result T E) (n : ℕ) (catalog : Catalog) (h : History)
     (old new : Moments) : Type 0 where
   pub merge : Merge
-  pub goes_on : shelf.merge ≡ Some merge
+  pub goes_on : catalog.merge ≡ Some merge
   pub taken : List StampedRow
   pub rows : List StampedRow
-  pub next : AreNext n shelf merge taken rows old.state.now
+  pub next : AreNext n catalog merge taken rows old.state.now
   pub of_history : (s : StampedRow) → Has rows s → Has h.rows s
   pub write : MatchResult result
       (λ _. new ≡ followed_by old (after_part merge taken rows old.state))

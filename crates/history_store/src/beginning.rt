@@ -3,14 +3,14 @@
 ghost use Rattle.std.specs.Prelude.{◌≡◌, ◌<◌, ◌≤◌, length, IfOk, IfErr, IfSome, IsNone, IsSome, nat_lt};
 ghost use Rattle.directory.specs.Listings.{IsListing};
 ghost use Rattle.history_store.specs.Merging.{AreFewest, rows_at_place};
-ghost use Rattle.history_store.specs.Beginning.{AreLong, IsFresh, IsUnbegun};
+ghost use Rattle.history_store.specs.Beginning.{AreLong, IsNewMerge, IsUnbegun};
 
-use crate::ongoing::Ongoing;
+use crate::merge_in_progress::MergeInProgress;
 use crate::refusal::Refusal;
 use blocks::Extent;
 use directory::{Directory, Entry, first_fit};
-use history_model::Shown;
-use merge::Merging;
+use history_model::GhostRows;
+use merge::MergeProgress;
 use std::alloc::Global;
 
 /// Whether the segment at the one place has fewer rows than the one at the other.
@@ -53,9 +53,9 @@ fn fewest(entries: &[Entry]) -> Option<(usize, usize)>
 }
 
 /// A merge of the two segments of fewest rows, of which nothing is taken yet. It takes no memory.
-pub(crate) fn begin(alloc: Global, directory: &Directory) -> Result<Ongoing, Refusal>
+pub(crate) fn begin(alloc: Global, directory: &Directory) -> Result<MergeInProgress, Refusal>
     requires { AreLong directory.now.entries }
-    ensures begun { IfOk result (IsFresh directory.now) }
+    ensures begun { IfOk result (IsNewMerge directory.now) }
     ensures refused { IfErr result (λ e. IsUnbegun e directory.now.entries) }
     ensures listing { IsListing directory.now }
 {
@@ -70,7 +70,7 @@ pub(crate) fn begin(alloc: Global, directory: &Directory) -> Result<Ongoing, Ref
     };
     let wanted = Extent { first: 0, bytes };
     let first = first_fit(wanted.blocks(), entries, None)?;
-    Ok(Ongoing {
+    Ok(MergeInProgress {
         i,
         j,
         entry: Entry {
@@ -78,9 +78,9 @@ pub(crate) fn begin(alloc: Global, directory: &Directory) -> Result<Ongoing, Ref
             bytes,
             rows: a.rows + b.rows,
         },
-        places: Merging::new(a.rows as usize, b.rows as usize),
+        places: MergeProgress::new(a.rows as usize, b.rows as usize),
         listed: Vec::new(alloc),
-        shown: Shown::new(alloc),
+        shown: GhostRows::new(alloc),
         terms: term_prefix::Postings::new(alloc),
         edges: associations::Postings::new(alloc),
         written: 0,

@@ -2,13 +2,16 @@
 
 ghost use Rattle.std.specs.Prelude.{◌≡◌};
 ghost use Rattle.history_model.specs.InOrder.{joined};
-ghost use Rattle.history_store.specs.Latest.{IsLatest, place_time, later};
+ghost use Rattle.history_store.specs.Private.{IsLatest, place_time, later};
 
-use as_of_index::{Index, Posted};
+use as_of_index::{Index, RowPlace};
 use rf2_rows::EffectiveTime;
 
 /// The later of two days, of which either may be missing.
-fn later(first: Option<EffectiveTime>, second: Option<EffectiveTime>) -> Option<EffectiveTime>
+pub(crate) fn later(
+    first: Option<EffectiveTime>,
+    second: Option<EffectiveTime>,
+) -> Option<EffectiveTime>
     ensures { result ≡ later first second }
 {
     let Some(day) = first else {
@@ -21,7 +24,7 @@ fn later(first: Option<EffectiveTime>, second: Option<EffectiveTime>) -> Option<
 }
 
 /// The greatest time of these places.
-fn latest_of(places: &[Posted]) -> Option<EffectiveTime>
+fn latest_of(places: &[RowPlace]) -> Option<EffectiveTime>
     ensures { IsLatest place_time result places.now }
 {
     let mut latest = None;

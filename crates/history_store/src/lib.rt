@@ -6,16 +6,18 @@
 #![tactic(auto)]
 
 mod beginning;
+mod brought;
 mod counting;
 mod known;
 mod latest;
 pub mod laws;
 mod merge_calls;
-mod ongoing;
+mod merge_in_progress;
 mod placing;
 mod posting;
 mod preparing;
 mod publishing;
+mod queries;
 mod reading;
 mod refusal;
 mod starting;
@@ -23,6 +25,7 @@ mod stepping;
 mod store;
 mod taken_blocks;
 
-pub use history_model::Receipt;
+pub use history_model::{ImportReceipt, Receipt};
 pub use refusal::Refusal;
 pub use store::Store;
+pub use store_image::Damage;

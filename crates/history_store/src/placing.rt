@@ -5,12 +5,12 @@ ghost use Rattle.std.specs.List.{AllByRecursion};
 ghost use Rattle.history_model.specs.declared.stamped.StampedRow.{StampedRow};
 ghost use Rattle.history_model.specs.InOrder.{IsAscending};
 ghost use Rattle.history_model.specs.History.{stamped_cmp};
-ghost use Rattle.segment.specs.declared.place.Posted.{Posted};
+ghost use Rattle.segment.specs.declared.place.RowPlace.{RowPlace};
 ghost use Rattle.segment.specs.Records.{record_of, segment_of, IsStamped, IsSegment};
 ghost use Rattle.segment.specs.Standing.{with_places, places_of};
 
-use history_model::{Shown, StampedRow};
-use segment::{Posted, encode};
+use history_model::{GhostRows, StampedRow};
+use segment::{RowPlace, encode};
 use shrinking_list::ShrinkingList;
 use std::alloc::{AllocError, Global};
 use std::slice;
@@ -20,8 +20,8 @@ use store_image::RowSink;
 #[derive(Drop)]
 pub(crate) struct Placed {
     pub(crate) bytes: Vec<u8>,
-    pub(crate) places: Vec<Posted>,
-    pub(crate) shown: Shown,
+    pub(crate) places: Vec<RowPlace>,
+    pub(crate) shown: GhostRows,
 }
 
 /// Adds the record of a row.
@@ -49,17 +49,17 @@ pub(crate) fn place_all<S: RowSink>(
     ensures placed { IfOk result (λ placed. (placed.places.items ≡ places_of rows.items)
         × (placed.shown ≡ rows.items)) }
     ensures segment { IfOk result (λ placed. IsSegment rows.items placed.bytes.items) }
-    ensures taken { (segments : List (List (StampedRow × Posted)))
+    ensures taken { (segments : List (List (StampedRow × RowPlace)))
         → S.has_taken sink.old segments []
         → OnOk result (S.has_taken sink.new segments (with_places 0 rows.items)) }
 {
     let mut bytes = Vec::with_capacity(alloc, len as usize)?;
     let mut places = Vec::with_capacity(alloc, rows.len())?;
-    let mut shown = Shown::new(alloc);
+    let mut shown = GhostRows::new(alloc);
     for row in ShrinkingList::new(rows) {
         let end = bytes.len();
         let at = end as u32;
-        let place = Posted::new(&row, at);
+        let place = RowPlace::new(&row, at);
         add_record(alloc, &mut bytes, &row)?;
         let same = place;
         sink.take(&row, same)?;

@@ -7,7 +7,7 @@ ghost use Rattle.associations.specs.Edges.{no_edges};
 
 use associations::Links;
 use history_model::StampedRow;
-use segment::Posted;
+use segment::RowPlace;
 use std::alloc::{AllocError, Global};
 use std::mem;
 use store_image::RowSink;
@@ -51,7 +51,7 @@ impl RowSink for Posting {
         × (s.edges ≡ posted_edges rows) × TermsTaken segments s.sealed_terms.items
         × EdgesTaken segments s.sealed_edges.items };
 
-    fn take(&mut self, row: &StampedRow, at: Posted) -> Result<(), AllocError> {
+    fn take(&mut self, row: &StampedRow, at: RowPlace) -> Result<(), AllocError> {
         let same = at;
         self.terms.push(row, at)?;
         self.edges.push(row, same)?;

@@ -14,7 +14,7 @@ ghost use Rattle.history_store.specs.declared.refusal.Refusal.TheVariants as ref
 
 use crate::posting::{Posting, links_of, terms_of};
 use crate::refusal::Refusal;
-use as_of_index::{Index, Listed, Posted};
+use as_of_index::{Index, PlaceList, RowPlace};
 use associations::Links;
 use blocks::{BlockCache, Slot};
 use directory::Directory;
@@ -47,14 +47,14 @@ pub(crate) struct Started {
 }
 
 /// An index of these places.
-fn index_of(alloc: Global, places: Vec<Vec<Posted>>) -> Result<Index, AllocError>
+fn index_of(alloc: Global, places: Vec<Vec<RowPlace>>) -> Result<Index, AllocError>
     requires few { length places.items ≤ max_lists }
     requires places { ArePlaces (map vec_items places.items) }
     ensures { IfOk result (λ index. index ≡ map vec_items places.items) }
 {
     let mut index = Index::new(alloc)?;
     for list in places {
-        index.add(Listed::new(list));
+        index.add(PlaceList::new(list));
     }
     Ok(index)
 }
@@ -62,7 +62,7 @@ fn index_of(alloc: Global, places: Vec<Vec<Posted>>) -> Result<Index, AllocError
 /// An index of these places, these postings, and a cache that keeps no block.
 pub(crate) fn room_for(
     alloc: Global,
-    places: Vec<Vec<Posted>>,
+    places: Vec<Vec<RowPlace>>,
     terms: Vec<term_prefix::Sealed>,
     edges: Vec<associations::Sealed>,
 ) -> Result<Room, AllocError>

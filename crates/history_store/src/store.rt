@@ -1,30 +1,30 @@
 //! The store: its calls.
 
-ghost use Rattle.std.specs.Prelude.{◌≡◌, ◌⊎◌, ◌↔◌, ◌+◌, ◌≤◌, ◌∷◌, ℕ, List, length};
-ghost use Rattle.std.specs.Prelude.{IfOk, IfErr, OnOk, MatchResult, Ok, Err, true, false};
+ghost use Rattle.std.specs.Prelude.{◌≡◌, ◌⊎◌, ◌↔◌, ◌+◌, ◌≤◌, ◌∷◌, length};
+ghost use Rattle.std.specs.Prelude.{IfOk, IfErr, OnOk, true, false};
 ghost use Rattle.disk_model.specs.Disk.{EachImage, IsImage, LeavesOnly};
 
-use crate::counting::row_count;
-use crate::known::fresh_rows;
+use crate::counting::{blocks_in_use, row_count};
+use crate::known::find_new_rows;
 use crate::latest::latest_time;
-use crate::ongoing::Ongoing;
+use crate::merge_in_progress::MergeInProgress;
 use crate::posting::Posting;
-use crate::preparing::{Prepared, is_spent, prepare, repeated};
+use crate::preparing::{Prepared, is_spent, prepare, with_next_import};
 use crate::reading::DiskRows;
 use crate::refusal::Refusal;
 use crate::starting::{Room, Started, room_for, start};
 use as_of_index::{Index, ReadFault};
-use associations::{Links, children, replacements};
+use associations::Links;
 use blocks::{BlockCache, Slot};
 use directory::Directory;
 use disk_model::Disk;
-use history_model::{Receipt, Shown};
-use import_check::{Fresh, ImportFault, Release};
-use rf2_rows::{EffectiveTime, Kind, Row, Sctid};
+use history_model::{GhostRows, Receipt};
+use import_check::{ImportFault, NewRows, Release};
+use rf2_rows::EffectiveTime;
 use std::alloc::Global;
 use std::marker::Model;
-use store_image::{Loaded, add_segment, load, publish_listing};
-use term_prefix::{Terms, find};
+use store_image::{Loaded, add_segment, load, publish_directory};
+use term_prefix::Terms;
 
 /// The release history of a terminology, on a disk.
 #[derive(Drop)]
@@ -40,26 +40,26 @@ pub struct Store<D: Disk> {
     pub(crate) terms: Terms,
     pub(crate) links: Links,
     /// The rows of each segment, which only clauses read.
-    pub(crate) shown: Vec<Shown>,
+    pub(crate) shown: Vec<GhostRows>,
     /// The merge that goes on.
-    pub(crate) merge: Option<Ongoing>,
+    pub(crate) merge: Option<MergeInProgress>,
     pub(crate) needs_reopen: bool,
 }
 
 impl<D: Disk> Model for Store<D> {
     ghost use Rattle.history_model.specs.Lists.{listed};
-    ghost use Rattle.history_store.specs.Shelf.{shelf_of};
-    ghost use Rattle.history_store.specs.Stored.{Stored, IsHeld};
-    ghost use Rattle.history_store.specs.Ongoing.{merge_of, HasMerge};
+    ghost use Rattle.history_store.specs.Catalog.{catalog_of};
+    ghost use Rattle.history_store.specs.StoreValue.{StoreValue, IsHeld};
+    ghost use Rattle.history_store.specs.MergeInProgress.{merge_of, HasMerge};
     ghost use Rattle.term_prefix.specs.Pushed.{ArePosted};
     ghost use Rattle.associations.specs.Laws.{EachPosted};
 
-    ghost Value = { Stored D };
+    ghost Value = { StoreValue D };
 
     ghost view = { λ s. record {
       disk = s.disk;
       history = record { imports = s.directory.imports; rows = listed s.shown.items };
-      shelf = shelf_of s.directory (merge_of s.merge);
+      catalog = catalog_of s.directory (merge_of s.merge);
       needs_reopen = s.needs_reopen;
       cache = s.cache;
     } };
@@ -72,15 +72,15 @@ impl<D: Disk> Model for Store<D> {
 }
 
 impl<D: Disk> Store<D> {
-    ghost use Rattle.history_model.specs.History.{rows_at, full};
-    ghost use Rattle.history_model.specs.Queries.{lookup, versions, page, terms, children, replacements};
+    ghost use Rattle.history_model.specs.History.{full};
+    ghost use Rattle.history_model.specs.Brought.{IsLatestDay};
     ghost use Rattle.directory.specs.declared.layout.Layout.TheVariants as layouts;
-    ghost use Rattle.directory.specs.Listings.{Listing, number_of};
-    ghost use Rattle.import_check.specs.Fresh.{IsAcceptedAs, IsRead};
-    ghost use Rattle.import_check.specs.Fresh.{IsApart};
-    ghost use Rattle.store_image.specs.Images.{StandsFor, StandsAs};
-    ghost use Rattle.history_store.specs.Shelf.{shelf_of};
-    ghost use Rattle.history_store.specs.Stored.{Stored, IsAcknowledged, with_rows, no_blocks};
+    ghost use Rattle.directory.specs.Listings.{number_of};
+    ghost use Rattle.import_check.specs.NewRows.{IsAcceptedAs, IsRead};
+    ghost use Rattle.import_check.specs.NewRows.{IsApart};
+    ghost use Rattle.store_image.specs.Images.{Represents, StandsAs};
+    ghost use Rattle.history_store.specs.Catalog.{catalog_of, blocks_in_use};
+    ghost use Rattle.history_store.specs.StoreValue.{IsAcknowledged, with_rows, no_blocks};
     ghost use Rattle.history_store.specs.Prepared.{IsNotSpent, IsPreparedFor};
     ghost use Rattle.blocks.specs.Calls.{MakesCalls};
     ghost use Rattle.blocks.specs.Outside.{SameOutside, StemsWithin};
@@ -91,17 +91,10 @@ impl<D: Disk> Store<D> {
     ghost use Rattle.history_store.specs.Calls.{MakesImportCalls};
     ghost use Rattle.history_store.specs.Answers.{Counts, IsStep, device_of, CountsOpening};
     ghost use Rattle.history_store.specs.Answers.{IsNew, IsReady, IsMakingOf, IsMakingCause, IsOpeningOf, IsOpeningCause, SyncsOnce, HandsBack};
-    ghost use Rattle.history_store.specs.Answers.{IsReadingOf, IsStill, IsRefused};
-    ghost use Rattle.history_store.specs.Answers.{IsCounted, IsNotFresh, IsImportOf, IsImportAtAll};
+    ghost use Rattle.history_store.specs.Answers.{IsStill, IsRefused};
+    ghost use Rattle.history_store.specs.Answers.{IsCounted, IsNotFresh, IsImportOf, IsImportOnAnyDisk};
     ghost use Rattle.history_store.specs.Answers.{IsBeforeOrAfter, KeepsMoments};
-    ghost use Rattle.history_store.specs.Refusals.{of_read};
-    ghost use Rattle.history_store.specs.Queries.{IsQuery};
-    ghost use Rattle.history_store.specs.Reading.{row_cost};
-    ghost use Rattle.std.specs.List.{sum_by};
-    ghost use Rattle.std.specs.Option.{option_to_list};
     ghost use Rattle.blocks.specs.Cache.{LooksUpSome};
-    ghost use Rattle.history_store.specs.Latest.{IsLatest, row_time};
-    ghost use Rattle.history_store.specs.declared.refusal.Refusal.TheVariants as refusals;
 
     /// Makes a store on an empty disk. The length of the disk is looked
     /// at first, then all memory is taken, then the disk is written.
@@ -186,7 +179,7 @@ impl<D: Disk> Store<D> {
         ensures failures { CountsOpening result (D.failures disk) (D.failures (device_of result)) }
         // On every disk it reads the slots, and each byte of the listed segments once.
         ensures bytes_read { IfOk result (λ s. D.bytes_read s.disk
-            ≤ D.bytes_read disk + slots_read + bytes_listed s.shelf.entries) }
+            ≤ D.bytes_read disk + slots_read + bytes_listed s.catalog.entries) }
     {
         let mut disk = disk;
         let mut posting = Posting::new(alloc);
@@ -229,62 +222,8 @@ impl<D: Disk> Store<D> {
         }
     }
 
-    /// What was read of the rows, as the store answers it. Where
-    /// the device failed, the store has to be opened again.
-    fn answered<T>(&mut self, read: Result<T, ReadFault>) -> Result<T, Refusal>
-        requires still { self.old.needs_reopen ≡ false }
-        ensures same { MatchResult read (λ found. result ≡ Ok found)
-            (λ fault. result ≡ Err (of_read fault)) }
-        ensures left { IsReadingOf result self.old self.new }
-        ensures disk { self.new.disk ≡ self.old.disk }
-        ensures cache { self.new.cache ≡ self.old.cache }
-        ensures acknowledged { D.is_honest self.old.disk → self.new.needs_reopen ≡ false
-            → IsAcknowledged D.moments self.new }
-    {
-        match read {
-            Ok(found) => Ok(found),
-            Err(fault) => {
-                if matches!(fault, ReadFault::DiskFault) {
-                    self.needs_reopen = true;
-                }
-                Err(Refusal::from(fault))
-            }
-        }
-    }
-
-    /// The component's row at the date, as the first `pin` imports show it.
-    pub fn lookup(
-        &mut self,
-        kind: Kind,
-        id: u128,
-        time: EffectiveTime,
-        pin: u32,
-    ) -> Result<Option<Row>, Refusal>
-        requires { pin ≤ self.old.history.imports }
-        ensures found { D.is_honest self.old.disk
-            → IfOk result (λ row. row ≡ lookup kind id time (rows_at pin self.old.history.rows)) }
-        ensures query { IsQuery result D.is_honest D.moments D.failures self.old self.new }
-        // Whatever is on the disk, no more is read than the row that is answered takes,
-        // and nothing where none is answered.
-        ensures bytes_read { IfOk result (λ row. D.bytes_read self.new.disk
-            ≤ D.bytes_read self.old.disk + sum_by row_cost (option_to_list row)) }
-    {
-        if self.needs_reopen {
-            return Err(Refusal::ReopenNeeded);
-        }
-        let mut reader = DiskRows {
-            disk: &mut self.disk,
-            cache: &mut self.cache,
-            entries: self.directory.entries(),
-            shown: self.shown.as_slice(),
-            damages: 0,
-        };
-        let read = self.index.pick(&mut reader, kind, id, time, pin);
-        self.answered(read)
-    }
-
     /// The rows of a release that aren't known.
-    fn fresh_rows(&mut self, release: &Release) -> Result<Fresh, Refusal>
+    fn find_new_rows(&mut self, release: &Release) -> Result<NewRows, Refusal>
         requires still { self.old.needs_reopen ≡ false }
         ensures accepted { D.is_honest self.old.disk
             → IfOk result (IsAcceptedAs (full self.old.history) release.now) }
@@ -309,7 +248,7 @@ impl<D: Disk> Store<D> {
             shown: self.shown.as_slice(),
             damages: 0,
         };
-        match fresh_rows(self.alloc, release, &self.index, &mut reader, pin) {
+        match find_new_rows(self.alloc, release, &self.index, &mut reader, pin) {
             Ok(fresh) => Ok(fresh),
             Err(fault) => {
                 if matches!(fault, ImportFault::Known(ReadFault::DiskFault)) {
@@ -321,33 +260,33 @@ impl<D: Disk> Store<D> {
     }
 
     /// Publishes the next directory, which lists the same segments.
-    fn repeat(&mut self, next: Directory) -> Result<(), Refusal>
+    fn publish_without_segment(&mut self, next: Directory) -> Result<(), Refusal>
         requires still { self.old.needs_reopen ≡ false }
-        requires room { IsNotSpent self.old.history.imports self.old.shelf.epoch }
+        requires room { IsNotSpent self.old.history.imports self.old.catalog.epoch }
         requires next { next ≡ record {
           layout = layouts.Two;
-          epoch = self.old.shelf.epoch + 1;
+          epoch = self.old.catalog.epoch + 1;
           imports =
               self.old.history.imports + 1;
-          entries = self.old.shelf.entries;
+          entries = self.old.catalog.entries;
         } }
         ensures step { IsStep result self.old self.new
             (record { imports = self.old.history.imports + 1; rows = self.old.history.rows })
             (record {
               layout = layouts.Two;
-              epoch = self.old.shelf.epoch + 1;
-              entries = self.old.shelf.entries;
+              epoch = self.old.catalog.epoch + 1;
+              entries = self.old.catalog.entries;
               merge =
-                  self.old.shelf.merge;
+                  self.old.catalog.merge;
             }) }
         ensures any_moment { D.is_honest self.old.disk
             → LeavesOnly (D.moments self.old.disk) (D.moments self.new.disk)
-            (λ c. StandsAs self.old.shelf.layout self.old.history c ⊎ StandsAs layouts.Two
+            (λ c. StandsAs self.old.catalog.layout self.old.history c ⊎ StandsAs layouts.Two
             (record { imports = self.old.history.imports + 1; rows = self.old.history.rows }) c) }
         ensures refused { D.is_honest self.old.disk
             → KeepsMoments D.moments result self.old self.new }
         ensures elsewhere { D.is_honest self.old.disk → OnOk result
-            (SameOutside (slots_range ∷ added_ranges self.old.shelf self.new.shelf)
+            (SameOutside (slots_range ∷ added_ranges self.old.catalog self.new.catalog)
             (D.moments self.old.disk).state.now (D.moments self.new.disk).state.now) }
         ensures acknowledged { D.is_honest self.old.disk → self.new.needs_reopen ≡ false
             → IsAcknowledged D.moments self.new }
@@ -357,7 +296,7 @@ impl<D: Disk> Store<D> {
         ensures capacity { self.new.cache.cap ≡ self.old.cache.cap }
         ensures failures { Counts result (D.failures self.old.disk) (D.failures self.new.disk) }
     {
-        match publish_listing(&mut self.disk, self.slot, &next) {
+        match publish_directory(&mut self.disk, self.slot, &next) {
             Ok(slot) => {
                 self.cache.forget(slot.extent());
                 self.slot = slot;
@@ -372,20 +311,20 @@ impl<D: Disk> Store<D> {
     }
 
     /// Writes a segment, and publishes the directory that lists it.
-    fn extend(&mut self, prepared: Prepared) -> Result<(), Refusal>
+    fn publish_with_segment(&mut self, prepared: Prepared) -> Result<(), Refusal>
         requires still { self.old.needs_reopen ≡ false }
         requires prepared { IsPreparedFor self.old prepared }
         ensures step { IsStep result self.old self.new
             (with_rows self.old.history prepared.shown)
-            (shelf_of prepared.directory self.old.shelf.merge) }
+            (catalog_of prepared.directory self.old.catalog.merge) }
         ensures any_moment { D.is_honest self.old.disk
             → LeavesOnly (D.moments self.old.disk) (D.moments self.new.disk)
-            (λ c. StandsAs self.old.shelf.layout self.old.history c ⊎ StandsAs layouts.Two
+            (λ c. StandsAs self.old.catalog.layout self.old.history c ⊎ StandsAs layouts.Two
             (with_rows self.old.history prepared.shown) c) }
         ensures refused { D.is_honest self.old.disk
             → KeepsMoments D.moments result self.old self.new }
         ensures elsewhere { D.is_honest self.old.disk → OnOk result
-            (SameOutside (slots_range ∷ added_ranges self.old.shelf self.new.shelf)
+            (SameOutside (slots_range ∷ added_ranges self.old.catalog self.new.catalog)
             (D.moments self.old.disk).state.now (D.moments self.new.disk).state.now) }
         ensures acknowledged { D.is_honest self.old.disk → self.new.needs_reopen ≡ false
             → IsAcknowledged D.moments self.new }
@@ -431,13 +370,13 @@ impl<D: Disk> Store<D> {
         ensures answer { D.is_honest self.old.disk
             → IsImportOf result self.old self.new release.now }
         // What holds on every disk.
-        ensures kept { IsImportAtAll result self.old self.new release.now }
+        ensures kept { IsImportOnAnyDisk result self.old self.new release.now }
         ensures counted { IfOk result (IsCounted self.old self.new) }
         // A stop at any moment leaves the history from before, in the version
         // from before, or that with the release, in version 2.
         ensures any_moment { D.is_honest self.old.disk → self.old.needs_reopen ≡ false
             → LeavesOnly (D.moments self.old.disk) (D.moments self.new.disk)
-            (IsBeforeOrAfter self.old.shelf.layout self.old.history release.now) }
+            (IsBeforeOrAfter self.old.catalog.layout self.old.history release.now) }
         // After Ok each stop leaves the new one.
         ensures acknowledged { D.is_honest self.old.disk → self.new.needs_reopen ≡ false
             → IsAcknowledged D.moments self.new }
@@ -447,7 +386,7 @@ impl<D: Disk> Store<D> {
             → KeepsMoments D.moments result self.old self.new }
         // After Ok a read gives the same outside the slots and the segment that was added.
         ensures elsewhere { D.is_honest self.old.disk → OnOk result
-            (SameOutside (slots_range ∷ added_ranges self.old.shelf self.new.shelf)
+            (SameOutside (slots_range ∷ added_ranges self.old.catalog self.new.catalog)
             (D.moments self.old.disk).state.now (D.moments self.new.disk).state.now) }
         // A store that has to be opened again leaves everything as it is.
         ensures closed { self.old.needs_reopen ≡ true → self.new ≡ self.old }
@@ -466,180 +405,20 @@ impl<D: Disk> Store<D> {
         if is_spent(&self.directory) {
             return Err(Refusal::CountSpent);
         }
-        let fresh = self.fresh_rows(release)?;
+        let fresh = self.find_new_rows(release)?;
         let receipt = Receipt {
             number: self.directory.imports() + 1,
             new: fresh.rows.len() as u64,
             repeated: fresh.repeated,
         };
         if fresh.rows.is_empty() {
-            let next = repeated(self.alloc, &self.directory)?;
-            self.repeat(next)?;
+            let next = with_next_import(self.alloc, &self.directory)?;
+            self.publish_without_segment(next)?;
         } else {
             let prepared = prepare(self.alloc, &self.directory, &self.merge, fresh.rows)?;
-            self.extend(prepared)?;
+            self.publish_with_segment(prepared)?;
         }
         Ok(receipt)
-    }
-
-    /// All versions of the component that the first `pin` imports brought, ascending by time.
-    pub fn history(&mut self, kind: Kind, id: u128, pin: u32) -> Result<Vec<Row>, Refusal>
-        requires { pin ≤ self.old.history.imports }
-        ensures found { D.is_honest self.old.disk
-            → IfOk result (λ rows. rows.items ≡ versions kind id
-            (rows_at pin self.old.history.rows)) }
-        ensures query { IsQuery result D.is_honest D.moments D.failures self.old self.new }
-        // Whatever is on the disk, no more is read than the rows that are answered take.
-        ensures bytes_read { IfOk result (λ rows. D.bytes_read self.new.disk
-            ≤ D.bytes_read self.old.disk + sum_by row_cost rows.items) }
-    {
-        if self.needs_reopen {
-            return Err(Refusal::ReopenNeeded);
-        }
-        let mut reader = DiskRows {
-            disk: &mut self.disk,
-            cache: &mut self.cache,
-            entries: self.directory.entries(),
-            shown: self.shown.as_slice(),
-            damages: 0,
-        };
-        let read = self.index.history(&mut reader, kind, id, pin);
-        self.answered(read)
-    }
-
-    /// The first rows of a kind at the date, at most
-    /// `limit`, ascending by id from above `after` on.
-    pub fn page(
-        &mut self,
-        kind: Kind,
-        time: EffectiveTime,
-        pin: u32,
-        after: Option<u128>,
-        limit: u32,
-    ) -> Result<Vec<Row>, Refusal>
-        requires { pin ≤ self.old.history.imports }
-        ensures found { D.is_honest self.old.disk
-            → IfOk result (λ rows. rows.items ≡ page kind time after limit
-            (rows_at pin self.old.history.rows)) }
-        ensures query { IsQuery result D.is_honest D.moments D.failures self.old self.new }
-        // Whatever is on the disk, no more is read than the rows that are answered take.
-        ensures bytes_read { IfOk result (λ rows. D.bytes_read self.new.disk
-            ≤ D.bytes_read self.old.disk + sum_by row_cost rows.items) }
-    {
-        if self.needs_reopen {
-            return Err(Refusal::ReopenNeeded);
-        }
-        let mut reader = DiskRows {
-            disk: &mut self.disk,
-            cache: &mut self.cache,
-            entries: self.directory.entries(),
-            shown: self.shown.as_slice(),
-            damages: 0,
-        };
-        let read = self.index.page(&mut reader, kind, time, pin, after, limit);
-        self.answered(read)
-    }
-
-    /// Active descriptions whose term begins with the prefix,
-    /// whatever the case, ascending by id, at most `limit`.
-    pub fn terms(
-        &mut self,
-        prefix: &str,
-        time: EffectiveTime,
-        pin: u32,
-        limit: u32,
-    ) -> Result<Vec<Row>, Refusal>
-        requires { pin ≤ self.old.history.imports }
-        ensures found { D.is_honest self.old.disk
-            → IfOk result (λ rows. rows.items ≡ terms prefix.now time limit
-            (rows_at pin self.old.history.rows)) }
-        ensures query { IsQuery result D.is_honest D.moments D.failures self.old self.new }
-        // Whatever is on the disk, no more is read than the rows that are answered take.
-        ensures bytes_read { IfOk result (λ rows. D.bytes_read self.new.disk
-            ≤ D.bytes_read self.old.disk + sum_by row_cost rows.items) }
-    {
-        if self.needs_reopen {
-            return Err(Refusal::ReopenNeeded);
-        }
-        let mut reader = DiskRows {
-            disk: &mut self.disk,
-            cache: &mut self.cache,
-            entries: self.directory.entries(),
-            shown: self.shown.as_slice(),
-            damages: 0,
-        };
-        let read = find(
-            self.alloc,
-            &self.terms,
-            &self.index,
-            &mut reader,
-            prefix,
-            time,
-            pin,
-            limit,
-        );
-        self.answered(read)
-    }
-
-    /// The sources of the active relationships of the type "is a" to a concept, ascending.
-    /// Nothing is read.
-    pub fn children(
-        &mut self,
-        id: Sctid,
-        time: EffectiveTime,
-        pin: u32,
-    ) -> Result<Vec<u64>, Refusal>
-        requires { pin ≤ self.old.history.imports }
-        ensures found { IfOk result (λ ids. (self.old.needs_reopen ≡ false)
-            × (ids.items ≡ children id time (rows_at pin self.old.history.rows))) }
-        ensures refused { IfErr result (λ e. ((e ≡ refusals.ReopenNeeded)
-            × (self.old.needs_reopen ≡ true)) ⊎ ((e ≡ refusals.OutOfMemory)
-            × (self.old.needs_reopen ≡ false))) }
-        ensures unchanged { self.new ≡ self.old }
-    {
-        if self.needs_reopen {
-            return Err(Refusal::ReopenNeeded);
-        }
-        let found = children(self.alloc, &self.links, &self.index, id, time, pin)?;
-        Ok(found)
-    }
-
-    /// The active associations of a component, one step, ascending by refset, target and member.
-    pub fn replacements(
-        &mut self,
-        id: Sctid,
-        time: EffectiveTime,
-        pin: u32,
-    ) -> Result<Vec<Row>, Refusal>
-        requires { pin ≤ self.old.history.imports }
-        ensures found { D.is_honest self.old.disk
-            → IfOk result (λ rows. rows.items ≡ replacements id time
-            (rows_at pin self.old.history.rows)) }
-        ensures query { IsQuery result D.is_honest D.moments D.failures self.old self.new }
-        // Whatever is on the disk, no more is read than the rows that are answered take.
-        ensures bytes_read { IfOk result (λ rows. D.bytes_read self.new.disk
-            ≤ D.bytes_read self.old.disk + sum_by row_cost rows.items) }
-    {
-        if self.needs_reopen {
-            return Err(Refusal::ReopenNeeded);
-        }
-        let mut reader = DiskRows {
-            disk: &mut self.disk,
-            cache: &mut self.cache,
-            entries: self.directory.entries(),
-            shown: self.shown.as_slice(),
-            damages: 0,
-        };
-        let read = replacements(
-            self.alloc,
-            &self.links,
-            &self.index,
-            &mut reader,
-            id,
-            time,
-            pin,
-        );
-        self.answered(read)
     }
 
     /// How many releases were imported.
@@ -652,16 +431,24 @@ impl<D: Disk> Store<D> {
     /// The version of the layout on the disk: 1 for a store that was made
     /// with version 1 and has published nothing since, and else 2.
     pub fn version(&self) -> u32
-        ensures { result ≡ number_of self.now.shelf.layout }
+        ensures { result ≡ number_of self.now.catalog.layout }
     {
         self.directory.version()
     }
 
     /// How many segments the directory lists.
     pub fn segments(&self) -> u32
-        ensures { result ≡ length self.now.shelf.entries }
+        ensures { result ≡ length self.now.catalog.entries }
     {
         self.directory.entries().len() as u32
+    }
+
+    /// How many blocks of the disk the store needs: those of the slots, which hold the directory,
+    /// and those of the segments that it lists. A merge that goes on isn't counted.
+    pub fn blocks_in_use(&self) -> u64
+        ensures { result ≡ blocks_in_use self.now.catalog.entries }
+    {
+        blocks_in_use(self.directory.entries())
     }
 
     /// How many rows the store holds.
@@ -674,7 +461,7 @@ impl<D: Disk> Store<D> {
     /// The greatest effective time of a row, of any kind; none where there is no row.
     /// It goes over all places in memory, and reads nothing.
     pub fn latest_time(&self) -> Option<EffectiveTime>
-        ensures { IsLatest row_time result self.now.history.rows }
+        ensures { IsLatestDay result self.now.history.rows }
     {
         latest_time(&self.index)
     }
@@ -692,7 +479,8 @@ impl<D: Disk> Store<D> {
         // Whatever a stop leaves of it stands for what the store held.
         ensures stands { D.is_honest result → self.needs_reopen ≡ false
             → EachImage (D.moments result).state
-            (λ c. StandsFor c self.history self.shelf.layout self.shelf.epoch self.shelf.entries) }
+            (λ c. Represents c self.history self.catalog.layout self.catalog.epoch
+            self.catalog.entries) }
     {
         self.disk
     }

@@ -2,16 +2,16 @@
 
 ghost use Rattle.std.specs.Prelude.{◌≡◌, ◌^◌, ◌<◌};
 ghost use Rattle.directory.specs.Places.{taken};
-ghost use Rattle.history_store.specs.Ongoing.{merge_of};
-ghost use Rattle.history_store.specs.Shelf.{reserved_by};
+ghost use Rattle.history_store.specs.MergeInProgress.{merge_of};
+ghost use Rattle.history_store.specs.Catalog.{reserved_by};
 ghost use Rattle.history_store.specs.Merging.{end_of_taken};
 
-use crate::ongoing::Ongoing;
+use crate::merge_in_progress::MergeInProgress;
 use blocks::Extent;
 use directory::Entry;
 
 /// The extent that a merge reserves.
-pub(crate) fn reserved(merge: &Option<Ongoing>) -> Option<Extent>
+pub(crate) fn reserved(merge: &Option<MergeInProgress>) -> Option<Extent>
     ensures { result ≡ reserved_by (merge_of merge.now) }
 {
     match merge {

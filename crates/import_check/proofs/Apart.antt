@@ -2,12 +2,12 @@
 use Rattle.std.proofs.Common.{◌≡◌, ◌⊎◌, false, List, [], ◌∷◌, ◌++◌, length, refl, sym, ap, subst, inl, inr, ◌∙◌}
 use Rattle.std.specs.Prelude.{ℕ, ◌-◌, Option, Some, None, IsSomeAnd, MatchOption, Result, Ok, Err, IfOk, IsOkAnd}
 use Rattle.import_check.specs.declared.sweep.Contradiction.{Contradiction}
-use Rattle.import_check.specs.declared.fresh.Fresh.{Fresh}
+use Rattle.import_check.specs.declared.found.NewRows.{NewRows}
 use Rattle.import_check.specs.declared.fault.ImportFault.{ImportFault}
 use Rattle.import_check.specs.declared.fault.ImportFault.TheVariants as importfault
 use Rattle.std.specs.Ordering.{is_gt}
 use Rattle.std.specs.declared.cmp.Ordering.TheVariants.{Less}
-use Rattle.rf2_values.specs.Row.{Version}
+use Rattle.rf2_values.specs.Row.{RowValue}
 use Rattle.rf2_values.specs.Key.{key_of, key_cmp}
 use Rattle.history_model.specs.InOrder.{Has}
 use Rattle.history_model.specs.History.{row_cmp}
@@ -17,16 +17,16 @@ use Rattle.import_check.specs.declared.release.PlacedLine.{PlacedLine}
 use Rattle.import_check.specs.declared.sweep.Sweep.{Sweep}
 use Rattle.import_check.specs.Known.{IsUnknown}
 use Rattle.import_check.specs.Sweep.{rank_cmp, IsRising, standing_row, standing_of, IsOwn, IsOutcome}
-use Rattle.import_check.specs.Fresh.{IsApart}
+use Rattle.import_check.specs.NewRows.{IsApart}
 use Rattle.import_check.proofs.Sweeping.{rank_split, ascending-push, last_pushed}
 
-pub own_none : (known : List Version) (rest : List PlacedLine) (s : Sweep) → s.fresh.items ≡ [] → IsOwn known rest s
+pub own_none : (known : List RowValue) (rest : List PlacedLine) (s : Sweep) → s.fresh.items ≡ [] → IsOwn known rest s
 own_none known rest s none = record {
   apart = subst (λ rows. IsApart known rows) (sym none) (record { ascending = tt; unknown = λ row h. absurd h });
   below = λ row h line there. absurd (subst (λ rows. Has rows row) none h);
 }
 
-pub own_same : (known : List Version) (line : PlacedLine) (rest : List PlacedLine) (old new : Sweep) → new.known_row ≡ old.known_row → new.fresh.items ≡ old.fresh.items → IsOwn known (line ∷ rest) old → IsOwn known rest new
+pub own_same : (known : List RowValue) (line : PlacedLine) (rest : List PlacedLine) (old new : Sweep) → new.known_row ≡ old.known_row → new.fresh.items ≡ old.fresh.items → IsOwn known (line ∷ rest) old → IsOwn known rest new
 own_same known line rest old new row rows own =
     let standing : standing_of new ≡ standing_of old = (λ i. standing_row (row i) (rows i)) in
     record {
@@ -34,8 +34,8 @@ own_same known line rest old new row rows own =
       below = λ r h l there. elim (own.below r (subst (λ x. Has x r) rows h) l (inr there)) [ inl less ↦ inl less | inr tie ↦ inr (tie.0, standing ∙ tie.1) ];
     }
 
-module _ (known : List Version) (line : PlacedLine) (rest : List PlacedLine) (old new : Sweep) (rising : IsRising rank_cmp (line ∷ rest)) (own : IsOwn known (line ∷ rest) old) (other : IsSomeAnd (standing_of old) (λ row. key_of row ≡ key_of line.row) → ⊥) where
-  below_line : (row : Version) → Has old.fresh.items row → row_cmp row line.row ≡ Less
+module _ (known : List RowValue) (line : PlacedLine) (rest : List PlacedLine) (old new : Sweep) (rising : IsRising rank_cmp (line ∷ rest)) (own : IsOwn known (line ∷ rest) old) (other : IsSomeAnd (standing_of old) (λ row. key_of row ≡ key_of line.row) → ⊥) where
+  below_line : (row : RowValue) → Has old.fresh.items row → row_cmp row line.row ≡ Less
   below_line row h = elim (own.below row h line (inl refl)) [
     | inl less ↦ less
     | inr tie ↦ absurd (other (subst (λ o. IsSomeAnd o (λ r. key_of r ≡ key_of line.row)) (sym tie.1) tie.0))
@@ -44,7 +44,7 @@ module _ (known : List Version) (line : PlacedLine) (rest : List PlacedLine) (ol
   from_line : (l : PlacedLine) → Has rest l → (row_cmp line.row l.row ≡ Less) ⊎ (key_of line.row ≡ key_of l.row)
   from_line l there = elim (rank_split line l (Has-all (λ m. is_gt (rank_cmp line m) ≡ false) rest l rising.0 there)) [ inl less ↦ inl less | inr tie ↦ inr tie.0 ]
 
-  below_later : (row : Version) → Has old.fresh.items row → (l : PlacedLine) → Has rest l → row_cmp row l.row ≡ Less
+  below_later : (row : RowValue) → Has old.fresh.items row → (l : PlacedLine) → Has rest l → row_cmp row l.row ≡ Less
   below_later row h l there = elim (from_line l there) [
     | inl less ↦ rows_total.trans row line.row l.row (below_line row h) less
     | inr tie ↦ subst (λ k. key_cmp (key_of row) k ≡ Less) tie (below_line row h)
@@ -64,24 +64,24 @@ module _ (known : List Version) (line : PlacedLine) (rest : List PlacedLine) (ol
           ascending = ascending-push row_cmp old.fresh.items line.row own.apart.ascending below_line;
           unknown = λ r h. elim (Has-append_cases old.fresh.items (line.row ∷ []) r h) [
             | inl before ↦ own.apart.unknown r before
-            | inr t ↦ elim t [ inl e ↦ subst (λ (v : Version). IsUnknown known (key_of v)) e unknown | inr n ↦ absurd n ]
+            | inr t ↦ elim t [ inl e ↦ subst (λ (v : RowValue). IsUnknown known (key_of v)) e unknown | inr n ↦ absurd n ]
           ];
         });
         below = λ r h l there. elim (Has-append_cases old.fresh.items (line.row ∷ []) r (subst (λ x. Has x r) rows h)) [
           | inl before ↦ inl (below_later r before l there)
           | inr t ↦ elim t [
             | inl e ↦ elim (from_line l there) [
-              | inl less ↦ inl (subst (λ (v : Version). row_cmp v l.row ≡ Less) e less)
-              | inr tie ↦ inr (subst (λ (v : Version). key_of v ≡ key_of l.row) e tie, standing ∙ ap Some e)
+              | inl less ↦ inl (subst (λ (v : RowValue). row_cmp v l.row ≡ Less) e less)
+              | inr tie ↦ inr (subst (λ (v : RowValue). key_of v ≡ key_of l.row) e tie, standing ∙ ap Some e)
             ]
             | inr n ↦ absurd n
           ]
         ];
       }
 
-pub outcome_apart : (known : List Version) (s : Sweep) (count : ℕ) (r : Result Fresh ImportFault) → IsApart known s.fresh.items → IsOutcome s count r → IfOk r (λ fresh. IsApart known fresh.rows.items)
+pub outcome_apart : (known : List RowValue) (s : Sweep) (count : ℕ) (r : Result NewRows ImportFault) → IsApart known s.fresh.items → IsOutcome s count r → IfOk r (λ fresh. IsApart known fresh.rows.items)
 outcome_apart known s count r apart outcome = by s.first r outcome where
-  by : (first : Option Contradiction) (r : Result Fresh ImportFault)
+  by : (first : Option Contradiction) (r : Result NewRows ImportFault)
       → MatchOption first (IsOkAnd r (λ f. (f.rows.items ≡ s.fresh.items) × (f.repeated ≡ count - length s.fresh.items))) (λ c. r ≡ Err (importfault.Contradiction c.file c.line c.key))
       → IfOk r (λ fresh. IsApart known fresh.rows.items)
   by None (Ok f) ok = subst (λ rows. IsApart known rows) (sym ok.0) apart

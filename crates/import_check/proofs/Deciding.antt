@@ -9,7 +9,7 @@ use Rattle.std.specs.declared.cmp.Ordering.TheVariants.{Less, Equal, Greater}
 use Rattle.rf2_values.specs.declared.key.Key.{Key}
 use Rattle.rf2_values.specs.declared.row.Body.{Body}
 use Rattle.rf2_values.specs.declared.row.Body.TheVariants as body
-use Rattle.rf2_values.specs.Row.{Version, version}
+use Rattle.rf2_values.specs.Row.{RowValue, version}
 use Rattle.rf2_values.specs.Key.{key_of, key_cmp, keys_total}
 use Rattle.rf2_rows.specs.declared.fault.LineFault.{LineFault}
 use Rattle.rf2_rows.specs.File.{IsFaultOfFile}
@@ -70,18 +70,18 @@ unfolding to_flag of_flag
 flag_back true = refl
 flag_back false = refl
 
-of_row : Version → List (List ℕ)
+of_row : RowValue → List (List ℕ)
 of_row v = (v.id ∷ v.time ∷ v.module_id ∷ []) ∷ of_flag v.active ∷ of_body v.body
 
-to_row : List (List ℕ) → Version
+to_row : List (List ℕ) → RowValue
 to_row ((id ∷ time ∷ module_id ∷ []) ∷ flag ∷ rest) = version id time (to_flag flag) module_id (to_body rest)
 to_row _ = version 0 0 false 0 (body.Concept (record { definition_status = 0 }))
 
-row_back : (v : Version) → to_row (of_row v) ≡ v
+row_back : (v : RowValue) → to_row (of_row v) ≡ v
 unfolding to_row of_row
 row_back v = let flag = flag_back v.active in let rest = body_back v.body in λ i. version v.id v.time (flag i) v.module_id (rest i)
 
-same_row : (a b : Version) → (a ≡ b) ⊎ (a ≡ b → ⊥)
+same_row : (a b : RowValue) → (a ≡ b) ⊎ (a ≡ b → ⊥)
 same_row a b = elim (decided _ (slice_eq-Decides bytes_eq-Decides (of_row a) (of_row b) _ refl)) [
   | inl e ↦ inl (sym (row_back a) ∙ ap to_row e ∙ row_back b)
   | inr n ↦ inr (λ e. n (ap of_row e))
@@ -99,10 +99,10 @@ same_or_other_key k l = by (key_cmp k l) refl where
 
 -- ---- one line more is consistent or contradicts
 
-abbrev AgreesWithAll : List Version → Version → Type 0
-AgreesWithAll rows row = (other : Version) → Has rows other → key_of other ≡ key_of row → other ≡ row
+abbrev AgreesWithAll : List RowValue → RowValue → Type 0
+AgreesWithAll rows row = (other : RowValue) → Has rows other → key_of other ≡ key_of row → other ≡ row
 
-agrees_or_not : (rows : List Version) (row : Version) → AgreesWithAll rows row ⊎ ((other : Version) × Has rows other × (key_of other ≡ key_of row) × (other ≢ row))
+agrees_or_not : (rows : List RowValue) (row : RowValue) → AgreesWithAll rows row ⊎ ((other : RowValue) × Has rows other × (key_of other ≡ key_of row) × (other ≢ row))
 agrees_or_not [] row = inl (λ o h e. absurd h)
 agrees_or_not (x ∷ xs) row = elim (agrees_or_not xs row) [
   | inr o ↦ inr (o.0, inr o.1, o.2, o.3)
@@ -115,7 +115,7 @@ agrees_or_not (x ∷ xs) row = elim (agrees_or_not xs row) [
   ]
 ]
 
-consistent_more : (rows : List Version) (row : Version) → IsConsistent rows → AgreesWithAll rows row → IsConsistent (rows ++ row ∷ [])
+consistent_more : (rows : List RowValue) (row : RowValue) → IsConsistent rows → AgreesWithAll rows row → IsConsistent (rows ++ row ∷ [])
 consistent_more rows row c agrees a b ha hb e = elim (Has-append_cases rows (row ∷ []) a ha) [
   | inl l ↦ elim (Has-append_cases rows (row ∷ []) b hb) [
     | inl m ↦ c a b l m e
@@ -130,10 +130,10 @@ consistent_more rows row c agrees a b ha hb e = elim (Has-append_cases rows (row
   ]
 ]
 
-abbrev pub ContradictsIn : List Version → List PlacedLine → Type 0
+abbrev pub ContradictsIn : List RowValue → List PlacedLine → Type 0
 ContradictsIn known lines = (file : ℕ) × (line : ℕ) × (key : Key) × IsFirstContradiction known lines file line key
 
-pub consistent_or_not : (known : List Version) (done rest : List PlacedLine) → IsConsistent (known ++ rows_of done) → IsConsistent (known ++ rows_of (done ++ rest)) ⊎ ContradictsIn known (done ++ rest)
+pub consistent_or_not : (known : List RowValue) (done rest : List PlacedLine) → IsConsistent (known ++ rows_of done) → IsConsistent (known ++ rows_of (done ++ rest)) ⊎ ContradictsIn known (done ++ rest)
 consistent_or_not known done [] c = inl (subst (λ ls. IsConsistent (known ++ rows_of ls)) (sym (append-nil done)) c)
 consistent_or_not known done (l ∷ rest) c = elim (agrees_or_not (known ++ rows_of done) l.row) [
   | inr o ↦ inr (
@@ -165,7 +165,7 @@ consistent_or_not known done (l ∷ rest) c = elim (agrees_or_not (known ++ rows
 
 record FirstFaulty (files : List ReleaseFile) : Type 0 where
   before : List ReleaseFile
-  lists : List (List Version)
+  lists : List (List RowValue)
   spelled : SpellFiles before lists
   faulty : ReleaseFile
   after : List ReleaseFile
@@ -174,7 +174,7 @@ record FirstFaulty (files : List ReleaseFile) : Type 0 where
   fault : LineFault
   fault_is : IsFaultOfFile faulty.kind faulty.bytes.items line fault
 
-read_or_not : FileOrFault → (files : List ReleaseFile) → ((lists : List (List Version)) × SpellFiles files lists) ⊎ FirstFaulty files
+read_or_not : FileOrFault → (files : List ReleaseFile) → ((lists : List (List RowValue)) × SpellFiles files lists) ⊎ FirstFaulty files
 read_or_not law [] = inl ([], tt)
 read_or_not law (f ∷ fs) = elim (law f.kind f.bytes.items) [
   | inr bad ↦ inr (record { before = []; lists = []; spelled = tt; faulty = f; after = fs; files_are = refl; line = bad.0; fault = bad.1; fault_is = bad.2 })

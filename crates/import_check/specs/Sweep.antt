@@ -6,20 +6,20 @@ use Rattle.std.specs.List.{AllByRecursion}
 use Rattle.std.specs.Ordering.{nat_cmp, ordering_then, is_gt}
 use Rattle.std.specs.declared.cmp.Ordering.{Ordering}
 use Rattle.std.specs.declared.cmp.Ordering.TheVariants.{Less}
-use Rattle.rf2_values.specs.Row.{Version}
+use Rattle.rf2_values.specs.Row.{RowValue}
 use Rattle.rf2_values.specs.Key.{key_of}
 use Rattle.history_model.specs.InOrder.{Has, IsAscending}
 use Rattle.history_model.specs.History.{row_cmp}
 use Rattle.import_check.specs.declared.release.PlacedLine.{PlacedLine}
 use Rattle.import_check.specs.declared.sweep.Contradiction.{Contradiction}
 use Rattle.import_check.specs.declared.sweep.Sweep.{Sweep}
-use Rattle.import_check.specs.declared.fresh.Fresh.{Fresh}
+use Rattle.import_check.specs.declared.found.NewRows.{NewRows}
 use Rattle.import_check.specs.declared.fault.ImportFault.{ImportFault}
 use Rattle.import_check.specs.declared.fault.ImportFault.TheVariants as importfault
 use Rattle.fault_counts.specs.declared.fault.ReadFault.TheVariants as readfault
 use Rattle.import_check.specs.Release.{IsFirstContradiction}
 use Rattle.import_check.specs.Known.{IsUnknown}
-use Rattle.import_check.specs.Fresh.{IsApart}
+use Rattle.import_check.specs.NewRows.{IsApart}
 
 -- a line stands by another or before it
 abbrev pub StandsBy : ℕ → ℕ → ℕ → ℕ → Type 0
@@ -46,22 +46,23 @@ pub record IsEarliest (lines : List PlacedLine) (first : PlacedLine) : Type 0 wh
       → StandsBy first.file first.line line.file line.line
 
 -- the row of the earliest line with a key that no known row has
-pub record IsNewRow (known : List Version) (lines : List PlacedLine) (row : Version) : Type 0 where
+pub record IsNewRow (known : List RowValue) (lines : List PlacedLine) (row : RowValue)
+    : Type 0 where
   pub unknown : IsUnknown known (key_of row)
   pub line : PlacedLine
   pub earliest : IsEarliest lines line
   pub row_is : line.row ≡ row
 
 -- the row that lines with its key have to agree with
-abbrev pub Stands : List Version → List PlacedLine → Version → Type 0
+abbrev pub Stands : List RowValue → List PlacedLine → RowValue → Type 0
 Stands known lines row = Has known row ⊎ IsNewRow known lines row
 
 -- a line whose row isn't the one that stands
-pub record IsContradiction (known : List Version) (lines : List PlacedLine)
+pub record IsContradiction (known : List RowValue) (lines : List PlacedLine)
     (c : Contradiction) : Type 0 where
   pub line : PlacedLine
   pub there : Has lines line
-  pub standing : Version
+  pub standing : RowValue
   pub stands : Stands known lines standing
   pub same_key : key_of standing ≡ key_of line.row
   pub differs : standing ≢ line.row
@@ -74,49 +75,49 @@ abbrev pub IsBlamed : Option Contradiction → PlacedLine → Type 0
 IsBlamed first line = MatchOption first ⊥ (λ c. StandsBy c.file c.line line.file line.line)
 
 -- the line's row is the one that stands, or a contradiction is found no later
-pub record IsJudged (known : List Version) (lines : List PlacedLine) (first : Option Contradiction)
+pub record IsJudged (known : List RowValue) (lines : List PlacedLine) (first : Option Contradiction)
     (line : PlacedLine) : Type 0 where
-  pub standing : Version
+  pub standing : RowValue
   pub stands : Stands known lines standing
   pub same_key : key_of standing ≡ key_of line.row
   pub verdict : (standing ≡ line.row) ⊎ IsBlamed first line
 
 -- the row that stands for the key of the last line: the
 -- one that is known, or else the last of the new rows
-abbrev pub standing_row : Option Version → List Version → Option Version
+abbrev pub standing_row : Option RowValue → List RowValue → Option RowValue
 standing_row None fresh = slice_get fresh (length fresh - 1)
 standing_row (Some row) fresh = Some row
 
 -- the row stands, and its key is that of a line and the greatest so far
-pub record IsLast (known : List Version) (lines done : List PlacedLine)
-    (row : Version) : Type 0 where
+pub record IsLast (known : List RowValue) (lines done : List PlacedLine)
+    (row : RowValue) : Type 0 where
   pub stands : Stands known lines row
   pub greatest : (line : PlacedLine) → Has done line → is_gt (row_cmp line.row row) ≡ false
   pub at : (line : PlacedLine) × Has done line × (key_of line.row ≡ key_of row)
 
 -- of all these lines, so many have been taken and so many judged
-pub record Swept (known : List Version) (lines judged done : List PlacedLine)
-    (known_row : Option Version) (fresh : List Version)
+pub record Swept (known : List RowValue) (lines judged done : List PlacedLine)
+    (known_row : Option RowValue) (fresh : List RowValue)
     (first : Option Contradiction) : Type 0 where
   pub standing : MatchOption (standing_row known_row fresh) (done ≡ []) (IsLast known lines done)
   pub each_judged : (line : PlacedLine) → Has judged line → IsJudged known lines first line
   pub contradiction : IfSome first (IsContradiction known lines)
-  pub fresh_new : (row : Version) → Has fresh row → IsNewRow known lines row
-  pub fresh_done : (row : Version) → Has fresh row
+  pub fresh_new : (row : RowValue) → Has fresh row → IsNewRow known lines row
+  pub fresh_done : (row : RowValue) → Has fresh row
       → (line : PlacedLine) × Has done line × (line.row ≡ row)
   pub each_kept : (line : PlacedLine) → Has done line
-      → (row : Version) × (key_of row ≡ key_of line.row) × (Has known row ⊎ Has fresh row)
+      → (row : RowValue) × (key_of row ≡ key_of line.row) × (Has known row ⊎ Has fresh row)
   pub ascending : IsAscending row_cmp fresh
 
-abbrev pub standing_of : Sweep → Option Version
+abbrev pub standing_of : Sweep → Option RowValue
 standing_of s = standing_row s.known_row s.fresh.items
 
 -- all lines so far are judged
-abbrev pub IsSwept : List Version → List PlacedLine → List PlacedLine → Sweep → Type 0
+abbrev pub IsSwept : List RowValue → List PlacedLine → List PlacedLine → Sweep → Type 0
 IsSwept known lines done s = Swept known lines done done s.known_row s.fresh.items s.first
 
 -- one line more is taken
-abbrev pub TakesLine : List Version → PlacedLine → Sweep → Sweep → Type 0
+abbrev pub TakesLine : List RowValue → PlacedLine → Sweep → Sweep → Type 0
 TakesLine known line old new =
     (lines done rest : List PlacedLine) → lines ≡ done ++ line ∷ rest → IsRising rank_cmp lines
     → IsSwept known lines done old → IsSwept known lines (done ++ line ∷ []) new
@@ -133,7 +134,7 @@ abbrev pub contradiction_at : PlacedLine → Contradiction
 contradiction_at line = record { file = line.file; line = line.line; key = key_of line.row }
 
 -- where the first contradiction stands after a line: as before if its row is the one that stands
-abbrev pub IsVerdict : Option Version → Option Contradiction → PlacedLine → Option Contradiction
+abbrev pub IsVerdict : Option RowValue → Option Contradiction → PlacedLine → Option Contradiction
     → Type 0
 IsVerdict standing first line now =
     ((standing ≡ Some line.row) × (now ≡ first))
@@ -142,7 +143,7 @@ IsVerdict standing first line now =
     × IsEarlierOf first (contradiction_at line) c)
 
 -- the first contradiction, or without one the new rows and how many lines more there were
-abbrev pub IsOutcome : Sweep → ℕ → Result Fresh ImportFault → Type 0
+abbrev pub IsOutcome : Sweep → ℕ → Result NewRows ImportFault → Type 0
 IsOutcome s count result = MatchOption s.first
     (IsOkAnd result
     (λ fresh. (fresh.rows.items ≡ s.fresh.items)
@@ -151,14 +152,14 @@ IsOutcome s count result = MatchOption s.first
 
 -- the new rows ascend, none of their keys is known, and each
 -- is below all lines to come but those for whose key it stands
-pub record IsOwn (known : List Version) (rest : List PlacedLine) (s : Sweep) : Type 0 where
+pub record IsOwn (known : List RowValue) (rest : List PlacedLine) (s : Sweep) : Type 0 where
   pub apart : IsApart known s.fresh.items
-  pub below : (row : Version) → Has s.fresh.items row → (line : PlacedLine) → Has rest line
+  pub below : (row : RowValue) → Has s.fresh.items row → (line : PlacedLine) → Has rest line
       → (row_cmp row line.row ≡ Less)
       ⊎ ((key_of row ≡ key_of line.row) × (standing_of s ≡ Some row))
 
 -- so it stays when one line more is taken
-abbrev pub KeepsApart : List Version → PlacedLine → Sweep → Sweep → Type 0
+abbrev pub KeepsApart : List RowValue → PlacedLine → Sweep → Sweep → Type 0
 KeepsApart known line old new =
     (rest : List PlacedLine) → IsRising rank_cmp (line ∷ rest) → IsOwn known (line ∷ rest) old
     → IsOwn known rest new
@@ -171,7 +172,7 @@ IsCutShort honest (importfault.Row file line fault) = ⊥
 IsCutShort honest (importfault.Contradiction file line key) = ⊥
 
 -- why lines give no new rows: so, or one is the first that contradicts
-abbrev pub IsRefusalOf : (honest : Type 0) → List Version → List PlacedLine → ImportFault → Type 0
+abbrev pub IsRefusalOf : (honest : Type 0) → List RowValue → List PlacedLine → ImportFault → Type 0
 IsRefusalOf honest known lines importfault.OutOfMemory = ⊤
 IsRefusalOf honest known lines (importfault.Known fault) = honest → fault ≢ readfault.Damaged
 IsRefusalOf honest known lines (importfault.Row file line fault) = ⊥

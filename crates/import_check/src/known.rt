@@ -2,7 +2,7 @@
 
 ghost use Rattle.std.specs.Prelude.{◌≡◌, ◌≢◌, ℕ, List, IfOk, IfErr, MatchResult, None, map};
 ghost use Rattle.fault_counts.specs.declared.fault.ReadFault.TheVariants as readfault;
-ghost use Rattle.rf2_values.specs.Row.{Version};
+ghost use Rattle.rf2_values.specs.Row.{RowValue};
 ghost use Rattle.history_model.specs.InOrder.{IsAscending};
 ghost use Rattle.history_model.specs.History.{IsConsistent, row_cmp, stamped_cmp};
 ghost use Rattle.history_model.proofs.Filtered.{IsAscending-map};
@@ -19,7 +19,7 @@ use std::alloc::Global;
 /// The rows that are known before a release, lent to be looked up. A call leaves them as they are.
 pub trait Known {
     /// The rows that are known.
-    ghost rows: { Self → List Version };
+    ghost rows: { Self → List RowValue };
 
     /// How often it answered `DiskFault`.
     ghost disk_faults: { Self → ℕ };

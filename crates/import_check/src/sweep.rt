@@ -3,17 +3,17 @@
 ghost use Rattle.std.specs.Prelude.{◌≡◌, ◌+◌, ◌≤◌, ◌<◌, ◌⊎◌, ◌++◌, ◌↔◌, [], ◌∷◌, List, length};
 ghost use Rattle.std.specs.Prelude.{IsTrue, Some, IsSomeAnd, OnOk, IfOk, IfErr, MatchResult, option_copied};
 ghost use Rattle.history_model.specs.InOrder.{IsAscending};
-ghost use Rattle.rf2_values.specs.Row.{Version};
+ghost use Rattle.rf2_values.specs.Row.{RowValue};
 ghost use Rattle.rf2_values.specs.Key.{key_of};
 ghost use Rattle.import_check.specs.declared.release.PlacedLine.{PlacedLine};
 ghost use Rattle.fault_counts.specs.Counting.{Counts};
-ghost use Rattle.import_check.specs.Fresh.{IsTaken, IsApart, CountsAnyDiskFault, CountsAnyDamage};
+ghost use Rattle.import_check.specs.NewRows.{IsTaken, IsApart, CountsAnyDiskFault, CountsAnyDamage};
 ghost use Rattle.import_check.specs.Release.{rows_of};
 ghost use Rattle.import_check.specs.Sweep.{StandsBy, IsEarlierOf, IsVerdict, standing_of, IsSwept, TakesLine, IsOutcome};
 ghost use Rattle.import_check.specs.Sweep.{KeepsApart, IsCutShort, IsRefusalOf, IsRising, place_cmp, rank_cmp};
 
 use crate::fault::ImportFault;
-use crate::fresh::Fresh;
+use crate::found::NewRows;
 use crate::known::Known;
 use crate::order::sort;
 use crate::release::PlacedLine;
@@ -73,7 +73,7 @@ fn earlier(first: Option<Contradiction>, found: Contradiction) -> Contradiction
 
 impl Sweep {
     pub(crate) fn new(alloc: Global) -> Sweep
-        ensures swept { (known : List Version) (lines : List PlacedLine)
+        ensures swept { (known : List RowValue) (lines : List PlacedLine)
             → IsSwept known lines [] result }
         ensures empty { result.fresh.items ≡ [] }
     {
@@ -178,7 +178,7 @@ impl Sweep {
     }
 
     /// What is found after so many lines.
-    fn finish(self, count: usize) -> Result<Fresh, ImportFault>
+    fn finish(self, count: usize) -> Result<NewRows, ImportFault>
         requires { length self.fresh.items ≤ count }
         ensures { IsOutcome self count result }
     {
@@ -191,7 +191,7 @@ impl Sweep {
             Some(found) => Err(found.refusal()),
             None => {
                 let repeated = (count - fresh.len()) as u64;
-                Ok(Fresh {
+                Ok(NewRows {
                     rows: fresh,
                     repeated,
                 })
@@ -234,7 +234,7 @@ pub(crate) fn unite<K: Known>(
     alloc: Global,
     mut lines: Vec<PlacedLine>,
     known: &mut K,
-) -> Result<Fresh, ImportFault>
+) -> Result<NewRows, ImportFault>
     requires { IsAscending place_cmp lines.items }
     ensures taken { IfOk result (λ fresh.
         K.is_honest known.old → IsTaken (K.rows known.old) (rows_of lines.items) fresh) }

@@ -2,10 +2,10 @@
 
 ghost use Rattle.std.specs.Prelude.{◌≡◌, IfOk, IfErr};
 ghost use Rattle.fault_counts.specs.Counting.{Counts};
-ghost use Rattle.import_check.specs.Fresh.{IsApart, IsRead, IsAcceptedAs, IsRefusal, CountsAnyDiskFault, CountsAnyDamage};
+ghost use Rattle.import_check.specs.NewRows.{IsApart, IsRead, IsAcceptedAs, IsRefusal, CountsAnyDiskFault, CountsAnyDamage};
 
 use crate::fault::ImportFault;
-use crate::fresh::Fresh;
+use crate::found::NewRows;
 use crate::known::Known;
 use crate::parse::parse;
 use crate::release::Release;
@@ -25,7 +25,7 @@ pub fn new_rows<K: Known>(
     alloc: Global,
     release: &Release,
     known: &mut K,
-) -> Result<Fresh, ImportFault>
+) -> Result<NewRows, ImportFault>
     // What is accepted is a release that is consistent with what is known.
     ensures accepted { IfOk result (λ fresh. IsRead release.now
         × (K.is_honest known.old → IsAcceptedAs (K.rows known.old) release.now fresh)) }

@@ -12,7 +12,7 @@ use Rattle.rf2_values.specs.declared.row.Kind.TheVariants as kinds
 use Rattle.rf2_values.specs.Row.{IsIdOf, SpellsId}
 use Rattle.rf2_values.specs.Member.{IsMemberByte}
 use Rattle.rf2_values.proofs.Decimals.{own}
-use Rattle.line_commands.specs.Commands.{Command, Import, Get, History, Children, Terms, Replaced, Page, Pin, Unpin, Merge, Step, Publish, Abandon, Trim, Status, word_of, letter}
+use Rattle.line_commands.specs.Commands.{Command, Import, Get, History, Children, Terms, Search, Replaced, About, Page, Receipt, Pin, Unpin, Merge, Step, Publish, Abandon, Trim, Status, word_of, letter}
 use Rattle.line_commands.specs.Requests.{with_rest, spaced}
 use Rattle.line_commands.specs.Private.{IsWord, behind}
 
@@ -49,8 +49,11 @@ command_is_word (Get kind id date) = from_test (codes "GET") refl
 command_is_word (History kind id) = from_test (codes "HISTORY") refl
 command_is_word (Children concept date) = from_test (codes "CHILDREN") refl
 command_is_word (Terms date limit prefix) = from_test (codes "TERMS") refl
+command_is_word (Search date after limit prefix) = from_test (codes "SEARCH") refl
 command_is_word (Replaced id date) = from_test (codes "REPLACED") refl
+command_is_word (About kind id date) = from_test (codes "ABOUT") refl
 command_is_word (Page kind date after limit) = from_test (codes "PAGE") refl
+command_is_word (Receipt number) = from_test (codes "RECEIPT") refl
 command_is_word (Pin number) = from_test (codes "PIN") refl
 command_is_word Unpin = from_test (codes "UNPIN") refl
 command_is_word Merge = from_test (codes "MERGE") refl

@@ -10,10 +10,10 @@ use Rattle.rf2_values.specs.Member.{SpellsMember}
 use Rattle.rf2_values.specs.Time.{IsTime}
 use Rattle.rf2_values.specs.Row.{IsIdOf, SpellsId, IsConcept, IsComponent}
 use Rattle.line_commands.specs.declared.command.Command.{Command as RustCommand}
-use Rattle.line_commands.specs.Commands.{Command, Get, History, Children, Terms, Replaced, Page, most_rows, letter, SpellsAfter}
+use Rattle.line_commands.specs.Commands.{Command, Get, History, Children, Terms, Search, Replaced, About, Page, most_rows, letter, IsSubjectOf, SpellsAfter}
 use Rattle.line_commands.specs.Private.{IsWord, behind, IsSpelled, IsReadAs}
 use Rattle.line_commands.proofs.FirstWords.{decimal_word, letter_word, id_word, no_space, peel, one_letter}
-use Rattle.line_commands.proofs.Readings.{time_below, after_word}
+use Rattle.line_commands.proofs.Readings.{time_below, after_word, subject_below}
 
 pub none_read : (word : List ℕ) (rest : Option (List ℕ)) (r : Option RustCommand) → r ≡ None → ((command : Command) → IsSpelled word rest command → ⊥) → IsReadAs word rest r
 none_read word rest None e h = h
@@ -75,6 +75,49 @@ record TermsForm (text : List ℕ) : Type 0 where
 terms_form : (text : List ℕ) (command : Command) → IsSpelled (codes "TERMS") (Some text) command → TermsForm text
 terms_form text (Terms date limit prefix) s = record { date = date; limit = limit; prefix = prefix; is_time = s.spelled.0; low = s.spelled.1; high = s.spelled.2; some = s.spelled.3; utf8 = s.spelled.4; whole = told _ _ text _ s.rest_is s.spelled.5 refl }
 terms_form text c s = absurd (false≢true (ap (bytes_eq (codes "TERMS")) s.word_is))
+
+record SearchForm (text : List ℕ) : Type 0 where
+  date : ℕ
+  after : Option ℕ
+  limit : ℕ
+  prefix : List ℕ
+  after_text : List ℕ
+  spells : SpellsAfter kinds.Description after after_text
+  is_time : IsTime date
+  low : 1 ≤ limit
+  high : limit ≤ most_rows
+  some : 1 ≤ length prefix
+  utf8 : IsUtf8 prefix
+  whole : text ≡ decimal date ++ 32 ∷ (after_text ++ 32 ∷ (decimal limit ++ 32 ∷ prefix))
+
+search_form : (text : List ℕ) (command : Command) → IsSpelled (codes "SEARCH") (Some text) command → SearchForm text
+search_form text (Search date after limit prefix) s = record {
+  date = date;
+  after = after;
+  limit = limit;
+  prefix = prefix;
+  after_text = s.spelled.0;
+  spells = s.spelled.1;
+  is_time = s.spelled.2;
+  low = s.spelled.3;
+  high = s.spelled.4;
+  some = s.spelled.5;
+  utf8 = s.spelled.6;
+  whole = told _ _ text _ s.rest_is s.spelled.7 refl;
+}
+search_form text c s = absurd (false≢true (ap (bytes_eq (codes "SEARCH")) s.word_is))
+
+record AboutForm (text : List ℕ) : Type 0 where
+  kind : Kind
+  id : ℕ
+  date : ℕ
+  is_subject : IsSubjectOf kind id
+  is_time : IsTime date
+  whole : text ≡ letter kind ++ 32 ∷ (decimal id ++ 32 ∷ decimal date)
+
+about_form : (text : List ℕ) (command : Command) → IsSpelled (codes "ABOUT") (Some text) command → AboutForm text
+about_form text (About k id date) s = record { kind = k; id = id; date = date; is_subject = s.spelled.0; is_time = s.spelled.1; whole = told _ _ text _ s.rest_is s.spelled.2 refl }
+about_form text c s = absurd (false≢true (ap (bytes_eq (codes "ABOUT")) s.word_is))
 
 record ReplacedForm (text : List ℕ) : Type 0 where
   id : ℕ
@@ -151,6 +194,42 @@ module _ (text a b x : List ℕ) (is_word : IsWord a) (other_word : IsWord b) (c
       let same : f.prefix ≡ x = sym (terms_apart f).1 in
       none (subst (λ (t : List ℕ). 1 ≤ length t) same f.some) (subst IsUtf8 same f.utf8)
 
+  about_apart : (f : AboutForm text) → (a ≡ letter f.kind) × (b ≡ decimal f.id) × (x ≡ decimal f.date)
+  about_apart f =
+      let p = peel a (letter f.kind) _ _ is_word (letter_word f.kind) (sym cut ∙ f.whole) in
+      let q = peel b (decimal f.id) _ _ other_word (decimal_word f.id (subject_below f.kind f.id f.is_subject)) p.1 in
+      (p.0, q.0, q.1)
+
+  pub about_no_kind : ((k : Kind) → a ≢ letter k) → IsSpelled (codes "ABOUT") (Some text) command → ⊥
+  about_no_kind none s = let f = about_form text command s in none f.kind (about_apart f).0
+
+  pub about_no_id : (k : Kind) → a ≡ letter k → ((n : ℕ) → IsSubjectOf k n → b ≢ decimal n) → IsSpelled (codes "ABOUT") (Some text) command → ⊥
+  about_no_id k e none s =
+      let f = about_form text command s in
+      let p = about_apart f in
+      let same : f.kind ≡ k = one_letter f.kind k (sym p.0 ∙ e) in
+      none f.id (subst (λ (z : Kind). IsSubjectOf z f.id) same f.is_subject) p.1
+
+  pub about_no_time : ((t : ℕ) → IsTime t → x ≢ decimal t) → IsSpelled (codes "ABOUT") (Some text) command → ⊥
+  about_no_time none s = let f = about_form text command s in none f.date f.is_time (about_apart f).2
+
+  search_begun : (f : SearchForm text) → (a ≡ decimal f.date) × (b ≡ f.after_text) × (x ≡ decimal f.limit ++ 32 ∷ f.prefix)
+  search_begun f =
+      let p = peel a (decimal f.date) _ _ is_word (decimal_word f.date (time_below f.date f.is_time)) (sym cut ∙ f.whole) in
+      let q = peel b f.after_text _ _ other_word (after_word kinds.Description f.after f.after_text f.spells) p.1 in
+      (p.0, q.0, q.1)
+
+  pub search_uncut_rest : IsWord x → IsSpelled (codes "SEARCH") (Some text) command → ⊥
+  search_uncut_rest free s = let f = search_form text command s in no_space x (decimal f.limit) f.prefix free (search_begun f).2
+
+  pub search_no_time : ((t : ℕ) → IsTime t → a ≢ decimal t) → IsSpelled (codes "SEARCH") (Some text) command → ⊥
+  search_no_time none s = let f = search_form text command s in none f.date f.is_time (search_begun f).0
+
+  pub search_no_after : ((o : Option ℕ) → SpellsAfter kinds.Description o b → ⊥) → IsSpelled (codes "SEARCH") (Some text) command → ⊥
+  search_no_after none s =
+      let f = search_form text command s in
+      none f.after (subst (λ (z : List ℕ). SpellsAfter kinds.Description f.after z) (sym (search_begun f).1) f.spells)
+
   pub page_uncut_rest : IsWord x → IsSpelled (codes "PAGE") (Some text) command → ⊥
   page_uncut_rest free s =
       let f = page_form text command s in
@@ -168,6 +247,20 @@ module _ (text a b x : List ℕ) (is_word : IsWord a) (other_word : IsWord b) (c
       none f.date f.is_time (peel b (decimal f.date) _ _ other_word (decimal_word f.date (time_below f.date f.is_time)) p.1).0
 
   module _ (u y : List ℕ) (third_word : IsWord u) (rest : x ≡ u ++ 32 ∷ y) where
+    search_ended : (f : SearchForm text) → (u ≡ decimal f.limit) × (y ≡ f.prefix)
+    search_ended f =
+        let high = f.high in
+        peel u (decimal f.limit) _ _ third_word (decimal_word f.limit (omega arith)) (sym rest ∙ (search_begun f).2)
+
+    pub search_no_limit : ((n : ℕ) → 1 ≤ n → n ≤ most_rows → u ≢ decimal n) → IsSpelled (codes "SEARCH") (Some text) command → ⊥
+    search_no_limit none s = let f = search_form text command s in none f.limit f.low f.high (search_ended f).0
+
+    pub search_no_prefix : (1 ≤ length y → IsUtf8 y → ⊥) → IsSpelled (codes "SEARCH") (Some text) command → ⊥
+    search_no_prefix none s =
+        let f = search_form text command s in
+        let same : f.prefix ≡ y = sym (search_ended f).1 in
+        none (subst (λ (t : List ℕ). 1 ≤ length t) same f.some) (subst IsUtf8 same f.utf8)
+
     page_apart : (f : PageForm text) → (a ≡ letter f.kind) × (u ≡ f.after_text) × (y ≡ decimal f.limit)
     page_apart f =
         let p = peel a (letter f.kind) _ _ is_word (letter_word f.kind) (sym cut ∙ f.whole) in
@@ -192,6 +285,12 @@ terms_uncut text none command s =
     let f = terms_form text command s in
     let high = f.high in
     none (decimal f.date) (decimal f.limit) f.prefix (decimal_word f.date (time_below f.date f.is_time)) (decimal_word f.limit (omega arith)) f.whole
+
+pub search_uncut : (text : List ℕ) → ((a b x : List ℕ) → IsWord a → IsWord b → text ≢ a ++ 32 ∷ (b ++ 32 ∷ x)) → (command : Command) → IsSpelled (codes "SEARCH") (Some text) command → ⊥
+search_uncut text none command s = let f = search_form text command s in none (decimal f.date) f.after_text _ (decimal_word f.date (time_below f.date f.is_time)) (after_word kinds.Description f.after f.after_text f.spells) f.whole
+
+pub about_uncut : (text : List ℕ) → ((a b x : List ℕ) → IsWord a → IsWord b → text ≢ a ++ 32 ∷ (b ++ 32 ∷ x)) → (command : Command) → IsSpelled (codes "ABOUT") (Some text) command → ⊥
+about_uncut text none command s = let f = about_form text command s in none (letter f.kind) (decimal f.id) (decimal f.date) (letter_word f.kind) (decimal_word f.id (subject_below f.kind f.id f.is_subject)) f.whole
 
 pub page_uncut : (text : List ℕ) → ((a b x : List ℕ) → IsWord a → IsWord b → text ≢ a ++ 32 ∷ (b ++ 32 ∷ x)) → (command : Command) → IsSpelled (codes "PAGE") (Some text) command → ⊥
 page_uncut text none command s = let f = page_form text command s in none (letter f.kind) (decimal f.date) _ (letter_word f.kind) (decimal_word f.date (time_below f.date f.is_time)) f.whole
@@ -251,6 +350,34 @@ get_found text a b x k id date e f is spells time last = record {
   arguments = letter k ∷ b ∷ decimal date ∷ [];
   spelled = (b, is, spells, time, refl);
   rest_is = ap (λ (t : List ℕ). Some (t ++ 32 ∷ (b ++ 32 ∷ decimal date))) (sym f) ∙ ap (λ (t : List ℕ). Some (a ++ 32 ∷ (b ++ 32 ∷ t))) (sym last) ∙ ap (λ (t : List ℕ). Some t) (sym e);
+}
+
+pub about_found : (text a b x : List ℕ) (k : Kind) (id date : ℕ) → text ≡ a ++ 32 ∷ (b ++ 32 ∷ x) → a ≡ letter k → IsSubjectOf k id → b ≡ decimal id → IsTime date → x ≡ decimal date → IsSpelled (codes "ABOUT") (Some text) (About k id date)
+about_found text a b x k id date e f is second time last = record {
+  word_is = refl;
+  arguments = letter k ∷ decimal id ∷ decimal date ∷ [];
+  spelled = (is, time, refl);
+  rest_is = ap (λ (t : List ℕ). Some (t ++ 32 ∷ (decimal id ++ 32 ∷ decimal date))) (sym f) ∙ ap (λ (t : List ℕ). Some (a ++ 32 ∷ (t ++ 32 ∷ decimal date))) (sym second) ∙ ap (λ (t : List ℕ). Some (a ++ 32 ∷ (b ++ 32 ∷ t))) (sym last) ∙ ap (λ (t : List ℕ). Some t) (sym e);
+}
+
+pub terms_found : (text a b x prefix : List ℕ) (date limit : ℕ) → text ≡ a ++ 32 ∷ (b ++ 32 ∷ x) → IsTime date → a ≡ decimal date → 1 ≤ limit → limit ≤ most_rows → b ≡ decimal limit → 1 ≤ length prefix → IsUtf8 prefix → prefix ≡ x
+    → IsSpelled (codes "TERMS") (Some text) (Terms date limit prefix)
+terms_found text a b x prefix date limit e time day low high most some utf8 last = record {
+  word_is = refl;
+  arguments = decimal date ∷ decimal limit ∷ prefix ∷ [];
+  spelled = (time, low, high, some, utf8, refl);
+  rest_is = ap (λ (t : List ℕ). Some (t ++ 32 ∷ (decimal limit ++ 32 ∷ prefix))) (sym day) ∙ ap (λ (t : List ℕ). Some (a ++ 32 ∷ (t ++ 32 ∷ prefix))) (sym most)
+      ∙ ap (λ (t : List ℕ). Some (a ++ 32 ∷ (b ++ 32 ∷ t))) last ∙ ap (λ (t : List ℕ). Some t) (sym e);
+}
+
+pub search_found : (text a b x u y prefix : List ℕ) (date : ℕ) (after : Option ℕ) (limit : ℕ) → text ≡ a ++ 32 ∷ (b ++ 32 ∷ x) → x ≡ u ++ 32 ∷ y → IsTime date → a ≡ decimal date → SpellsAfter kinds.Description after b → 1 ≤ limit → limit ≤ most_rows → u ≡ decimal limit
+    → 1 ≤ length prefix → IsUtf8 prefix → prefix ≡ y → IsSpelled (codes "SEARCH") (Some text) (Search date after limit prefix)
+search_found text a b x u y prefix date after limit e g time day spells low high most some utf8 last = record {
+  word_is = refl;
+  arguments = decimal date ∷ b ∷ decimal limit ∷ prefix ∷ [];
+  spelled = (b, spells, time, low, high, some, utf8, refl);
+  rest_is = ap (λ (t : List ℕ). Some (t ++ 32 ∷ (b ++ 32 ∷ (decimal limit ++ 32 ∷ prefix)))) (sym day) ∙ ap (λ (t : List ℕ). Some (a ++ 32 ∷ (b ++ 32 ∷ (t ++ 32 ∷ prefix)))) (sym most) ∙ ap (λ (t : List ℕ). Some (a ++ 32 ∷ (b ++ 32 ∷ (u ++ 32 ∷ t)))) last
+      ∙ ap (λ (t : List ℕ). Some (a ++ 32 ∷ (b ++ 32 ∷ t))) (sym g) ∙ ap (λ (t : List ℕ). Some t) (sym e);
 }
 
 pub page_found : (text a b x u y : List ℕ) (k : Kind) (date : ℕ) (after : Option ℕ) (limit : ℕ) → text ≡ a ++ 32 ∷ (b ++ 32 ∷ x) → x ≡ u ++ 32 ∷ y → a ≡ letter k → IsTime date → b ≡ decimal date → SpellsAfter k after u → 1 ≤ limit → limit ≤ most_rows → y ≡ decimal limit

@@ -11,7 +11,7 @@ use Rattle.rf2_values.specs.declared.row.Kind.TheVariants as kinds
 use Rattle.rf2_values.specs.Time.{IsTime}
 use Rattle.rf2_values.specs.Row.{IsIdOf, SpellsId, IsConcept, IsComponent}
 use Rattle.line_commands.specs.declared.unread.Unread.TheVariants as unread
-use Rattle.line_commands.specs.Commands.{Command, Import, Get, History, Children, Terms, Replaced, Page, Pin, Unpin, Merge, Step, Publish, Abandon, Trim, Status, word_of, letter, SpellsArguments, SpellsAfter}
+use Rattle.line_commands.specs.Commands.{Command, Import, Get, History, Children, Terms, Search, Replaced, About, Page, Receipt, Pin, Unpin, Merge, Step, Publish, Abandon, Trim, Status, word_of, letter, IsSubjectOf, SpellsArguments, SpellsAfter}
 use Rattle.line_commands.specs.Requests.{with_rest, sessions, Asks, HasSession, HasCommand}
 use Rattle.line_commands.specs.Private.{IsWord, behind}
 use Rattle.line_commands.specs.Laws.{OneReading, AskedIsRead, OneRefusal}
@@ -67,6 +67,20 @@ same_ids_of : (k l : Kind) (m n : ℕ) (t u : List ℕ) → k ≡ l → t ≡ u 
 same_ids_of k l m n t u kind text hm hn sm sn =
     same_ids k m n t hm (subst (λ (x : Kind). IsIdOf x n) (sym kind) hn) sm (subst (λ (x : Kind). SpellsId x n t) (sym kind) (subst (λ (x : List ℕ). SpellsId l n x) (sym text) sn))
 
+-- an identifier or none is spelled in one way
+same_after : (k l : Kind) (a b : Option ℕ) (t u : List ℕ) → k ≡ l → t ≡ u → SpellsAfter k a t → SpellsAfter l b u → a ≡ b
+same_after k l None None t u kind text s t' = refl
+same_after k l None (Some id) t u kind text s h = absurd (not_dash l id u (sym text ∙ s) h.0 h.1)
+same_after k l (Some id) None t u kind text s h = absurd (not_dash k id t (text ∙ h) s.0 s.1)
+same_after k l (Some id) (Some jd) t u kind text s h = ap (λ (x : ℕ). Some x) (same_ids_of k l id jd t u kind text s.0 h.0 s.1 h.1)
+
+pub subject_below : (kind : Kind) (id : ℕ) → IsSubjectOf kind id → id < 2 ^ 64
+subject_below kinds.Concept id h = absurd h
+subject_below kinds.Description id h = let high = h.sctid.high in omega arith
+subject_below kinds.Relationship id h = let high = h.sctid.high in omega arith
+subject_below kinds.Association id h = let high = h.sctid.high in omega arith
+subject_below kinds.Concrete id h = let high = h.sctid.high in omega arith
+
 -- ---- one command
 
 pub after_word : (k : Kind) (after : Option ℕ) (t : List ℕ) → SpellsAfter k after t → IsWord t
@@ -109,6 +123,17 @@ one_command (Terms date limit prefix) (Terms day most other) xs ys w s t same =
     let days = same_times date day s.0 t.0 first.0 in
     let limits = same_numbers limit most (omega arith) (omega arith) second.0 in
     ap (λ (x : ℕ). Terms x limit prefix) days ∙ ap (λ (x : ℕ). Terms day x prefix) limits ∙ ap (λ (x : List ℕ). Terms day most x) second.1
+one_command (Search date after limit prefix) (Search day since most other) xs ys w s t same =
+    let whole = same_Some _ _ (rest_same xs ys _ _ s.7 t.7 same) in
+    let first = peel (decimal date) (decimal day) _ _ (decimal_word date (time_below date s.2)) (decimal_word day (time_below day t.2)) whole in
+    let second = peel s.0 t.0 _ _ (after_word kinds.Description after s.0 s.1) (after_word kinds.Description since t.0 t.1) first.1 in
+    let low = s.4 in
+    let high = t.4 in
+    let third = peel (decimal limit) (decimal most) _ _ (decimal_word limit (omega arith)) (decimal_word most (omega arith)) second.1 in
+    let days = same_times date day s.2 t.2 first.0 in
+    let afters = same_after kinds.Description kinds.Description after since s.0 t.0 refl second.0 s.1 t.1 in
+    let limits = same_numbers limit most (omega arith) (omega arith) third.0 in
+    ap (λ (x : ℕ). Search x after limit prefix) days ∙ ap (λ (x : Option ℕ). Search day x limit prefix) afters ∙ ap (λ (x : ℕ). Search day since x prefix) limits ∙ ap (λ (x : List ℕ). Search day since most x) third.1
 one_command (Replaced id date) (Replaced jd day) xs ys w s t same =
     let whole = same_Some _ _ (rest_same xs ys _ _ s.2 t.2 same) in
     let low = s.0.sctid.high in
@@ -117,6 +142,14 @@ one_command (Replaced id date) (Replaced jd day) xs ys w s t same =
     let ids = same_components id jd s.0 t.0 first.0 in
     let days = same_times date day s.1 t.1 first.1 in
     ap (λ (x : ℕ). Replaced x date) ids ∙ ap (λ (x : ℕ). Replaced jd x) days
+one_command (About k id date) (About l jd day) xs ys w s t same =
+    let whole = same_Some _ _ (rest_same xs ys _ _ s.2 t.2 same) in
+    let first = peel (letter k) (letter l) _ _ (letter_word k) (letter_word l) whole in
+    let second = peel (decimal id) (decimal jd) _ _ (decimal_word id (subject_below k id s.0)) (decimal_word jd (subject_below l jd t.0)) first.1 in
+    let kind = one_letter k l first.0 in
+    let ids = same_numbers id jd (subject_below k id s.0) (subject_below l jd t.0) second.0 in
+    let days = same_times date day s.1 t.1 second.1 in
+    ap (λ (x : Kind). About x id date) kind ∙ ap (λ (x : ℕ). About l x date) ids ∙ ap (λ (x : ℕ). About l jd x) days
 one_command (Page k date after limit) (Page l day since most) xs ys w s t same =
     let whole = same_Some _ _ (rest_same xs ys _ _ s.5 t.5 same) in
     let first = peel (letter k) (letter l) _ _ (letter_word k) (letter_word l) whole in
@@ -129,12 +162,10 @@ one_command (Page k date after limit) (Page l day since most) xs ys w s t same =
     let limits = same_numbers limit most (omega arith) (omega arith) third.1 in
     let afters = same_after k l after since s.0 t.0 kind third.0 s.1 t.1 in
     ap (λ (x : Kind). Page x date after limit) kind ∙ ap (λ (x : ℕ). Page l x after limit) days ∙ ap (λ (x : Option ℕ). Page l day x limit) afters ∙ ap (λ (x : ℕ). Page l day since x) limits
-  where
-    same_after : (k l : Kind) (a b : Option ℕ) (t u : List ℕ) → k ≡ l → t ≡ u → SpellsAfter k a t → SpellsAfter l b u → a ≡ b
-    same_after k l None None t u kind text s t' = refl
-    same_after k l None (Some id) t u kind text s h = absurd (not_dash l id u (sym text ∙ s) h.0 h.1)
-    same_after k l (Some id) None t u kind text s h = absurd (not_dash k id t (text ∙ h) s.0 s.1)
-    same_after k l (Some id) (Some jd) t u kind text s h = ap (λ (x : ℕ). Some x) (same_ids_of k l id jd t u kind text s.0 h.0 s.1 h.1)
+one_command (Receipt m) (Receipt n) xs ys w s t same =
+    let low = s.1 in
+    let high = t.1 in
+    ap (λ (x : ℕ). Receipt x) (same_numbers m n (omega arith) (omega arith) (same_Some _ _ (rest_same xs ys _ _ s.2 t.2 same)))
 one_command (Pin None) (Pin None) xs ys w s t same = refl
 one_command (Pin None) (Pin (Some n)) xs ys w s t same = let e = rest_same xs ys _ _ s t.1 same in absurd cc
 one_command (Pin (Some n)) (Pin None) xs ys w s t same = let e = rest_same xs ys _ _ s.1 t same in absurd cc

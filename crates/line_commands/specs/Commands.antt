@@ -13,8 +13,11 @@ pub data Command : Type 0 where
   History : (kind : Kind) (id : ℕ) → Command
   Children : (concept date : ℕ) → Command
   Terms : (date limit : ℕ) (prefix : List ℕ) → Command
+  Search : (date : ℕ) (after : Option ℕ) (limit : ℕ) (prefix : List ℕ) → Command
   Replaced : (id date : ℕ) → Command
+  About : (kind : Kind) (id date : ℕ) → Command
   Page : (kind : Kind) (date : ℕ) (after : Option ℕ) (limit : ℕ) → Command
+  Receipt : (number : ℕ) → Command
   Pin : (number : Option ℕ) → Command
   Unpin : Command
   Merge : Command
@@ -31,8 +34,11 @@ word_of (Get kind id date) = codes "GET"
 word_of (History kind id) = codes "HISTORY"
 word_of (Children concept date) = codes "CHILDREN"
 word_of (Terms date limit prefix) = codes "TERMS"
+word_of (Search date after limit prefix) = codes "SEARCH"
 word_of (Replaced id date) = codes "REPLACED"
+word_of (About kind id date) = codes "ABOUT"
 word_of (Page kind date after limit) = codes "PAGE"
+word_of (Receipt number) = codes "RECEIPT"
 word_of (Pin number) = codes "PIN"
 word_of Unpin = codes "UNPIN"
 word_of Merge = codes "MERGE"
@@ -54,12 +60,21 @@ letter kinds.Relationship = codes "R"
 letter kinds.Association = codes "A"
 letter kinds.Concrete = codes "V"
 
+-- what a row of the kind can be about: any component where it
+-- is an association, and else a concept; a concept is about nothing
+abbrev pub IsSubjectOf : Kind → ℕ → Type 0
+IsSubjectOf kinds.Concept id = ⊥
+IsSubjectOf kinds.Description id = IsConcept id
+IsSubjectOf kinds.Relationship id = IsConcept id
+IsSubjectOf kinds.Association id = IsComponent id
+IsSubjectOf kinds.Concrete id = IsConcept id
+
 -- an identifier of the kind, or `-` for none
 abbrev pub SpellsAfter : Kind → Option ℕ → List ℕ → Type 0
 SpellsAfter kind None text = text ≡ codes "-"
 SpellsAfter kind (Some id) text = IsIdOf kind id × SpellsId kind id text
 
--- How the arguments of a command are spelled. The last one of TERMS may hold spaces.
+-- How the arguments of a command are spelled. The last one of TERMS and SEARCH may hold spaces.
 abbrev pub SpellsArguments : Command → List (List ℕ) → Type 0
 SpellsArguments (Import name) texts = IsName name × (texts ≡ name ∷ [])
 SpellsArguments (Get kind id date) texts =
@@ -72,11 +87,19 @@ SpellsArguments (Children concept date) texts =
 SpellsArguments (Terms date limit prefix) texts =
     IsTime date × (1 ≤ limit) × (limit ≤ most_rows) × (1 ≤ length prefix) × IsUtf8 prefix
     × (texts ≡ decimal date ∷ decimal limit ∷ prefix ∷ [])
+SpellsArguments (Search date after limit prefix) texts =
+    (text : List ℕ) × SpellsAfter kinds.Description after text × IsTime date × (1 ≤ limit)
+    × (limit ≤ most_rows) × (1 ≤ length prefix) × IsUtf8 prefix
+    × (texts ≡ decimal date ∷ text ∷ decimal limit ∷ prefix ∷ [])
 SpellsArguments (Replaced id date) texts =
     IsComponent id × IsTime date × (texts ≡ decimal id ∷ decimal date ∷ [])
+SpellsArguments (About kind id date) texts =
+    IsSubjectOf kind id × IsTime date × (texts ≡ letter kind ∷ decimal id ∷ decimal date ∷ [])
 SpellsArguments (Page kind date after limit) texts =
     (text : List ℕ) × SpellsAfter kind after text × IsTime date × (1 ≤ limit) × (limit ≤ most_rows)
     × (texts ≡ letter kind ∷ decimal date ∷ text ∷ decimal limit ∷ [])
+SpellsArguments (Receipt number) texts =
+    (1 ≤ number) × (number < 2 ^ 32) × (texts ≡ decimal number ∷ [])
 SpellsArguments (Pin None) texts = texts ≡ []
 SpellsArguments (Pin (Some number)) texts = (number < 2 ^ 32) × (texts ≡ decimal number ∷ [])
 SpellsArguments (Step rows) texts = (1 ≤ rows) × (rows ≤ 100000) × (texts ≡ decimal rows ∷ [])

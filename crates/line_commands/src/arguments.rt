@@ -4,11 +4,13 @@
 ghost use Rattle.std.specs.Prelude.{Some, None, codes, option_map};
 ghost use Rattle.line_commands.specs.Private.{IsReadAs, text_of_word};
 
-use crate::columns::{after, component, date, identifier, import_number, kind, limit, sctid_of};
+use crate::columns::{
+    after, component, date, identifier, import_number, kind, limit, prefix, sctid_of, subject,
+};
 use crate::command::Command;
 use crate::names::is_name;
 use crate::words::{Word, cut, cut_twice};
-use rf2_values::Class;
+use rf2_values::{Class, Kind};
 
 /// The most rows that one answer may be asked for.
 const MOST_ROWS: u32 = 1000;
@@ -56,20 +58,32 @@ fn children(text: &[u8]) -> Option<Command<'_>>
 fn terms(text: &[u8]) -> Option<Command<'_>>
     ensures { IsReadAs (codes "TERMS") (Some text.now) result }
 {
-    let (time, most, prefix) = cut_twice(text)?;
+    let (time, most, rest) = cut_twice(text)?;
     let time = date(time)?;
     let limit = limit(most, MOST_ROWS)?;
-    if prefix.is_empty() {
-        return None;
-    }
-    match str::from_utf8(prefix) {
-        Ok(prefix) => Some(Command::Terms {
-            time,
-            limit,
-            prefix,
-        }),
-        Err(_) => None,
-    }
+    let prefix = prefix(rest)?;
+    Some(Command::Terms {
+        time,
+        limit,
+        prefix,
+    })
+}
+
+fn search(text: &[u8]) -> Option<Command<'_>>
+    ensures { IsReadAs (codes "SEARCH") (Some text.now) result }
+{
+    let (time, from, rest) = cut_twice(text)?;
+    let (most, rest) = cut(rest)?;
+    let time = date(time)?;
+    let after = after(Kind::Description, from)?;
+    let limit = limit(most, MOST_ROWS)?;
+    let prefix = prefix(rest)?;
+    Some(Command::Search {
+        time,
+        after,
+        limit,
+        prefix,
+    })
 }
 
 fn replaced(text: &[u8]) -> Option<Command<'_>>
@@ -79,6 +93,16 @@ fn replaced(text: &[u8]) -> Option<Command<'_>>
     let id = component(id)?;
     let time = date(time)?;
     Some(Command::Replaced { id, time })
+}
+
+fn about(text: &[u8]) -> Option<Command<'_>>
+    ensures { IsReadAs (codes "ABOUT") (Some text.now) result }
+{
+    let (letter, id, time) = cut_twice(text)?;
+    let kind = kind(letter)?;
+    let id = subject(kind, id)?;
+    let time = date(time)?;
+    Some(Command::About { kind, id, time })
 }
 
 fn page(text: &[u8]) -> Option<Command<'_>>
@@ -96,6 +120,15 @@ fn page(text: &[u8]) -> Option<Command<'_>>
         after,
         limit,
     })
+}
+
+fn receipt(text: &[u8]) -> Option<Command<'_>>
+    ensures { IsReadAs (codes "RECEIPT") (Some text.now) result }
+{
+    match limit(text, u32::MAX) {
+        Some(number) => Some(Command::Receipt { number }),
+        None => None,
+    }
 }
 
 fn pin(text: &[u8]) -> Option<Command<'_>>
@@ -144,8 +177,11 @@ fn with_arguments(word: Word, text: &[u8]) -> Option<Command<'_>>
         Word::History => history(text),
         Word::Children => children(text),
         Word::Terms => terms(text),
+        Word::Search => search(text),
         Word::Replaced => replaced(text),
+        Word::About => about(text),
         Word::Page => page(text),
+        Word::Receipt => receipt(text),
         Word::Pin => pin(text),
         Word::Step => step(text),
         _ => None,

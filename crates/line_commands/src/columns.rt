@@ -1,11 +1,12 @@
 //! Single arguments: each function gives the one value
 //! that a text spells, or none where it spells none.
 
-ghost use Rattle.std.specs.Prelude.{◌≡◌, ◌≢◌, ◌≤◌, ◌<◌, ◌^◌, ℕ, Option, MatchOption, decimal};
+ghost use Rattle.std.specs.Prelude.{◌≡◌, ◌≢◌, ◌≤◌, ◌<◌, ◌^◌, ℕ, Option, MatchOption, decimal, length};
+ghost use Rattle.std.specs.Str.{IsUtf8};
 ghost use Rattle.rf2_values.specs.Time.{IsTime};
 ghost use Rattle.rf2_values.specs.Member.{SpellsMember};
 ghost use Rattle.rf2_values.specs.Row.{IsOfClass, IsComponent, IsIdOf, SpellsId};
-ghost use Rattle.line_commands.specs.Commands.{letter, SpellsAfter};
+ghost use Rattle.line_commands.specs.Commands.{letter, IsSubjectOf, SpellsAfter};
 ghost use Rattle.line_commands.specs.Requests.{sessions};
 
 use crate::command::SESSIONS;
@@ -111,6 +112,32 @@ pub fn identifier(kind: Kind, text: &[u8]) -> Option<u128>
             Some(u128::from(sctid_of(text, Class::Relationship)?.value()))
         }
         Kind::Association => member(text),
+    }
+}
+
+/// The identifier of what a row of a kind can be about.
+pub fn subject(kind: Kind, text: &[u8]) -> Option<Sctid>
+    ensures { MatchOption result ((n : ℕ) → IsSubjectOf kind n → text.now ≢ decimal n)
+        (λ n. IsSubjectOf kind n × (text.now ≡ decimal n)) }
+{
+    match kind {
+        Kind::Concept => None,
+        Kind::Description | Kind::Relationship | Kind::Concrete => sctid_of(text, Class::Concept),
+        Kind::Association => component(text),
+    }
+}
+
+/// What a term may begin with: a text in UTF-8 that isn't empty.
+pub fn prefix(text: &[u8]) -> Option<&str>
+    ensures { MatchOption result (1 ≤ length text.now → IsUtf8 text.now → ⊥)
+        (λ p. (1 ≤ length p.now) × IsUtf8 p.now × (p.now ≡ text.now)) }
+{
+    if text.is_empty() {
+        return None;
+    }
+    match str::from_utf8(text) {
+        Ok(prefix) => Some(prefix),
+        Err(_) => None,
     }
 }
 

@@ -8,8 +8,8 @@ use Rattle.line_commands.specs.declared.unread.Unread.TheVariants as unread
 use Rattle.line_commands.specs.Requests.{IsUnread}
 use Rattle.line_server.specs.declared.refusal.LineRefusal.{LineRefusal}
 use Rattle.line_server.specs.Sources.{Releases}
-use Rattle.line_server.specs.Said.{Answer}
-use Rattle.line_server.specs.Replies.{Desk, Replies}
+use Rattle.line_server.specs.ReplyValue.{Answer}
+use Rattle.line_server.specs.Replies.{Server, Replies}
 use Rattle.line_server.specs.Turns.{Turn, GoesBy, IsTurn, IsAskedFor}
 
 unread_alike : (x y : List ℕ) (reason : Unread) → 4096 < length x → 4096 < length y → IsUnread x reason → IsUnread y reason
@@ -29,7 +29,7 @@ some_asked_for : (releases : Releases) (x y : List ℕ) (failed : Option Release
 some_asked_for releases x y None long h = tt
 some_asked_for releases x y (Some release) long h = absurd (none_asked_for releases x release long h)
 
-module _ {D : Type 0} (outcome : Result Answer LineRefusal) (taken : List Release) (failed : Option Release) (old new : Desk D) where
+module _ {D : Type 0} (outcome : Result Answer LineRefusal) (taken : List Release) (failed : Option Release) (old new : Server D) where
   abbrev pub turn_of : List ℕ → Turn
   turn_of line = record { line = line; outcome = outcome; releases = taken; failed = failed }
 

@@ -2,7 +2,7 @@
 use Rattle.std.proofs.Common.{◌≡◌, ℕ, ◌+◌, Bool, true, false, arith, length, List, [], ◌∷◌, ◌++◌, map, refl, sym, ap, subst, ◌∙◌, Result, Ok, Err}
 use Rattle.std.proofs.lemmas.Bool.{false≢true}
 use Rattle.rf2_values.specs.declared.row.Kind.{Kind}
-use Rattle.rf2_values.specs.Row.{Version}
+use Rattle.rf2_values.specs.Row.{RowValue}
 use Rattle.rf2_values.specs.declared.key.Key.{Key}
 use Rattle.rf2_rows.specs.declared.fault.LineFault.{LineFault}
 use Rattle.rf2_rows.specs.File.{IsReleaseFile, IsFaultOfFile}
@@ -14,9 +14,9 @@ use Rattle.import_check.specs.declared.release.Release.{Release}
 use Rattle.import_check.specs.Release.{SpellFiles, IsReleaseOf, IsFaultOfRelease, HasContradiction}
 use Rattle.history_store.specs.declared.refusal.Refusal.{Refusal}
 use Rattle.history_store.specs.declared.refusal.Refusal.TheVariants as store
-use Rattle.history_store.specs.Shelf.{Shelf}
-use Rattle.history_store.specs.Stored.{Stored}
-use Rattle.history_store.specs.Answers.{IsTaken, IsUnplaced, IsImportOf}
+use Rattle.history_store.specs.Catalog.{Catalog}
+use Rattle.history_store.specs.StoreValue.{StoreValue}
+use Rattle.history_store.specs.Answers.{IsTaken, WouldBeTakenBut, IsImportOf}
 use Rattle.line_server.specs.Sources.{files_of}
 use Rattle.line_server.specs.Laws.{IsSureImport}
 
@@ -53,7 +53,7 @@ not_none x xs e = absurd (false≢true (ap is_nil e))
 not_some : {A : Type 0} (x : ReleaseFile) (xs : List ReleaseFile) → [] ≡ all_bytes (x ∷ xs) → A
 not_some x xs e = not_none x xs (sym e)
 
-spell_alike : (xs ys : List ReleaseFile) (lists : List (List Version)) → all_bytes xs ≡ all_bytes ys → SpellFiles xs lists → SpellFiles ys lists
+spell_alike : (xs ys : List ReleaseFile) (lists : List (List RowValue)) → all_bytes xs ≡ all_bytes ys → SpellFiles xs lists → SpellFiles ys lists
 spell_alike [] [] lists e h = h
 spell_alike [] (y ∷ ys) lists e h = not_some y ys e
 spell_alike (x ∷ xs) [] lists e h = not_none x xs e
@@ -89,10 +89,10 @@ cut_alike (x ∷ before) after faulty (y ∷ ys) e =
     }
 
 module _ (release other : Release) (same : files_of release ≡ files_of other) where
-  release_alike : {rows : List Version} → IsReleaseOf release rows → IsReleaseOf other rows
+  release_alike : {rows : List RowValue} → IsReleaseOf release rows → IsReleaseOf other rows
   release_alike r = record { lists = r.lists; spelled = spell_alike release.files.items other.files.items r.lists same r.spelled; rows_are = r.rows_are }
 
-  contradiction_alike : {known : List Version} {file line : ℕ} {key : Key} → HasContradiction known release file line key → HasContradiction known other file line key
+  contradiction_alike : {known : List RowValue} {file line : ℕ} {key : Key} → HasContradiction known release file line key → HasContradiction known other file line key
   contradiction_alike c = record { lists = c.lists; spelled = spell_alike release.files.items other.files.items c.lists same c.spelled; first = c.first }
 
   fault_alike : {file line : ℕ} {fault : LineFault} → IsFaultOfRelease release file line fault → IsFaultOfRelease other file line fault
@@ -109,13 +109,13 @@ module _ (release other : Release) (same : files_of release ≡ files_of other) 
         fault_is = subst (λ (b : FileBytes). IsFaultOfFile b.0 b.1 line fault) c.middle_is f.fault_is;
       }
 
-  taken_alike : {h after : History} {shelf next : Shelf} {receipt : Receipt} → IsTaken h after shelf next release receipt → IsTaken h after shelf next other receipt
-  taken_alike t = record { room = t.room; rows = t.rows; is_release = release_alike t.is_release; accepted = t.accepted; history = t.history; receipt_is = t.receipt_is; shelf_is = t.shelf_is }
+  taken_alike : {h after : History} {catalog next : Catalog} {receipt : Receipt} → IsTaken h after catalog next release receipt → IsTaken h after catalog next other receipt
+  taken_alike t = record { room = t.room; rows = t.rows; is_release = release_alike t.is_release; accepted = t.accepted; history = t.history; receipt_is = t.receipt_is; catalog_is = t.catalog_is }
 
-  unplaced_alike : {h : History} {shelf : Shelf} {Lacks : List StampedRow → Shelf → Type 0} → IsUnplaced h shelf release Lacks → IsUnplaced h shelf other Lacks
+  unplaced_alike : {h : History} {catalog : Catalog} {Lacks : List StampedRow → Catalog → Type 0} → WouldBeTakenBut h catalog release Lacks → WouldBeTakenBut h catalog other Lacks
   unplaced_alike u = record { room = u.room; rows = u.rows; is_release = release_alike u.is_release; accepted = u.accepted; lacks = u.lacks }
 
-  pub import_alike : {D : Type 0} (result : Result Receipt Refusal) (old new : Stored D) → IsSureImport result → IsImportOf result old new release → IsImportOf result old new other
+  pub import_alike : {D : Type 0} (result : Result Receipt Refusal) (old new : StoreValue D) → IsSureImport result → IsImportOf result old new release → IsImportOf result old new other
   import_alike (Ok receipt) old new sure i = (taken_alike i.0, i.1, i.2)
   import_alike (Err store.ReopenNeeded) old new sure i = i
   import_alike (Err store.CountSpent) old new sure i = i

@@ -10,11 +10,11 @@ use Rattle.history_model.specs.History.{History, after_release}
 use Rattle.import_check.specs.declared.release.Release.{Release}
 use Rattle.history_store.specs.declared.refusal.Refusal.{Refusal}
 use Rattle.history_store.specs.declared.refusal.Refusal.TheVariants as store
-use Rattle.history_store.specs.Stored.{Stored, IsAcknowledged}
+use Rattle.history_store.specs.StoreValue.{StoreValue, IsAcknowledged}
 use Rattle.history_store.specs.Answers.{IsOpeningOf, StandsWith}
 use Rattle.line_server.specs.Sources.{Releases}
-use Rattle.line_server.specs.Replies.{Desk, desk}
-use Rattle.line_server.specs.Imports.{TakesAll, StandsAfter, StandsForSome, StandsForAll, StandsWithFailed}
+use Rattle.line_server.specs.Replies.{Server, server}
+use Rattle.line_server.specs.Imports.{TakesAll, StandsAfter, RepresentsSome, RepresentsAll, StandsWithFailed}
 use Rattle.line_server.specs.Turns.{Turn, IsTurn, Run, imported, failed_in}
 use Rattle.line_server.specs.Life.{StopLeaves, Stage, IsStage, IsReopened, IsLife, MayRemain, AreKept, IsSubsequence, acknowledged}
 use Rattle.line_server.specs.Laws.{EachLifeKeepsItsImports, KeptAreAcknowledged, EachLifeIsOpened}
@@ -55,7 +55,7 @@ module _ (stage : Stage) (h : History) (bytes : List ℕ) where
   none_remains s = ([], inl refl, subst (λ (l : List Release). StandsAfter h l bytes) (sym (append-nil (imported stage.answered))) s)
 
   -- the device failed before
-  failed_remains : (failed : Option Release) → failed_in stage.answered ≡ failed → StandsForAll h (imported stage.answered) failed bytes → Remains stage h bytes
+  failed_remains : (failed : Option Release) → failed_in stage.answered ≡ failed → RepresentsAll h (imported stage.answered) failed bytes → Remains stage h bytes
   failed_remains failed is (inl s) = none_remains s
   failed_remains None is (inr w) = absurd w
   failed_remains (Some release) is (inr w) = (release ∷ [], inr (release, refl, inl is), one_more h w.0 (imported stage.answered) release bytes w.1 w.2)
@@ -75,19 +75,19 @@ module _ (stage : Stage) (h : History) (bytes : List ℕ) where
     cut_front front s (inr one) =
         (front, inr (one.0, one.1, inr (inr one.2)), (s.0, takes_more h g s.0 (imported stage.answered) front takes s.1, s.2))
 
-    cut_remains : ((release : Release) → failed_in stage.cut_off ≡ Some release → imported stage.cut_off ≡ []) → StandsForSome g (imported stage.cut_off) (failed_in stage.cut_off) bytes → Remains stage h bytes
+    cut_remains : ((release : Release) → failed_in stage.cut_off ≡ Some release → imported stage.cut_off ≡ []) → RepresentsSome g (imported stage.cut_off) (failed_in stage.cut_off) bytes → Remains stage h bytes
     cut_remains none (inl f) = cut_front f.0 f.2 (short_front f.0 f.1.0 (imported stage.cut_off) f.1.1 few)
     cut_remains none (inr w) = cut_failed (failed_in stage.cut_off) refl none w
 
 module _ {D : Type 0} (has : Releases) (honest : D → Type 0) (moments : D → Moments) (failures : D → ℕ) where
   -- one line imports one release at most
-  one_at_most : (turns : List Turn) (old new : Desk D) → length turns ≤ 1 → Run ⊥ has honest moments failures old turns new → length (imported turns) ≤ 1
+  one_at_most : (turns : List Turn) (old new : Server D) → length turns ≤ 1 → Run ⊥ has honest moments failures old turns new → length (imported turns) ≤ 1
   one_at_most [] old new few run = omega arith
   one_at_most (turn ∷ []) old new few run = let one = run.1.one in let n = ap length (append-nil turn.releases) in omega (arith, one, n)
   one_at_most (turn ∷ other ∷ more) old new few run = absurd (omega (arith, few))
 
   -- and none where the device fails
-  none_at_failure : (turns : List Turn) (old new : Desk D) → length turns ≤ 1 → honest old.store.disk → Run ⊥ has honest moments failures old turns new → (release : Release) → failed_in turns ≡ Some release → imported turns ≡ []
+  none_at_failure : (turns : List Turn) (old new : Server D) → length turns ≤ 1 → honest old.store.disk → Run ⊥ has honest moments failures old turns new → (release : Release) → failed_in turns ≡ Some release → imported turns ≡ []
   none_at_failure [] old new few up run release failed = refl
   none_at_failure (turn ∷ []) old new few up run release failed =
       append-nil turn.releases ∙ failed_took_none honest moments failures has old run.0 turn up run.1 release (sym (else_none_right turn.failed) ∙ failed) where
@@ -95,7 +95,7 @@ module _ {D : Type 0} (has : Releases) (honest : D → Type 0) (moments : D → 
         else_none_right f = else_none f
   none_at_failure (turn ∷ other ∷ more) old new few up run release failed = absurd (omega (arith, few))
 
-  module _ (first : Desk D) (stage : Stage) (bytes : List ℕ) (up : honest first.store.disk) (ack : IsAcknowledged moments first.store) (s : IsStage has honest moments failures first stage bytes) where
+  module _ (first : Server D) (stage : Stage) (bytes : List ℕ) (up : honest first.store.disk) (ack : IsAcknowledged moments first.store) (s : IsStage has honest moments failures first stage bytes) where
     -- the store is open when the stop comes, or it isn't
     by_state : (needs : Bool) → s.mid.store.needs_reopen ≡ needs → Remains stage first.store.history bytes
     by_state false is =
@@ -105,22 +105,22 @@ module _ {D : Type 0} (has : Releases) (honest : D → Type 0) (moments : D → 
         cut_remains stage first.store.history bytes s.mid.store.history (before.history up)
         (one_at_most stage.cut_off s.mid s.end s.one s.cut_off)
         (none_at_failure stage.cut_off s.mid s.end s.one up_now s.cut_off)
-        (left_has (moments s.mid.store.disk) (moments s.end.store.disk) (StandsForSome s.mid.store.history (imported stage.cut_off) (failed_in stage.cut_off)) bytes
+        (left_has (moments s.mid.store.disk) (moments s.end.store.disk) (RepresentsSome s.mid.store.history (imported stage.cut_off) (failed_in stage.cut_off)) bytes
         (after.any_moment up_now (before.acknowledged up ack is)) s.left)
     by_state true is =
         let before = run_imported honest moments failures ⊥ has first s.mid stage.answered s.answered in
         let after = run_imported honest moments failures ⊥ has s.mid s.end stage.cut_off s.cut_off in
-        let P = StandsForAll first.store.history (imported stage.answered) (failed_in stage.answered) in
+        let P = RepresentsAll first.store.history (imported stage.answered) (failed_in stage.answered) in
         let m = moments s.mid.store.disk in
         failed_remains stage first.store.history bytes (failed_in stage.answered) refl
         (left_has m m P bytes (started m P (before.afterwards up ack))
-        (subst (λ (d : Stored D). StopLeaves m (moments d.disk) bytes) (after.closed is).0 s.left))
+        (subst (λ (d : StoreValue D). StopLeaves m (moments d.disk) bytes) (after.closed is).0 s.left))
 
     pub stage_remains : Remains stage first.store.history bytes
     stage_remains = by_state s.mid.store.needs_reopen refl
 
     -- what is opened of it
-    pub stage_opens : (result : Result (Stored D) (Refusal × D)) → IsOpeningOf result bytes
+    pub stage_opens : (result : Result (StoreValue D) (Refusal × D)) → IsOpeningOf result bytes
         → MatchResult result (λ n. (other : List Release) × MayRemain stage other × TakesAll first.store.history (imported stage.answered ++ other) n.history)
         (λ e. (e.0 ≡ store.OutOfMemory) ⊎ (e.0 ≡ store.DiskFault))
     stage_opens result is =
@@ -131,7 +131,7 @@ module _ {D : Type 0} (has : Releases) (honest : D → Type 0) (moments : D → 
   -- ---- openings
 
   -- whatever openings were cut off or refused before, the store is opened of the bytes
-  pub reopened : (openings : List (D × D)) (bytes : List ℕ) (s : Stored D) → IsReopened honest moments bytes openings s → IsOpeningOf (Ok s) bytes × honest s.disk × IsAcknowledged moments s
+  pub reopened : (openings : List (D × D)) (bytes : List ℕ) (s : StoreValue D) → IsReopened honest moments bytes openings s → IsOpeningOf (Ok s) bytes × honest s.disk × IsAcknowledged moments s
   reopened [] bytes s r = (subst (λ (b : List ℕ). IsOpeningOf (Ok s) b) r.1.read r.1.exact, r.1.honesty, r.1.acknowledged)
   reopened (opening ∷ more) bytes s r =
       let same : r.0 ≡ bytes = r.1.stop r.0 (left_has (moments opening.0) (moments opening.1) (IsImage (moments opening.0).state) r.0 r.1.any_moment r.1.is_left) in
@@ -139,25 +139,25 @@ module _ {D : Type 0} (has : Releases) (honest : D → Type 0) (moments : D → 
 
   -- ---- lives
 
-  pub record HasLived (first : Stored D) (life : List Stage) (last : Stored D) : Type 0 where
+  pub record HasLived (first : StoreValue D) (life : List Stage) (last : StoreValue D) : Type 0 where
     pub honesty : honest last.disk
     pub acknowledged : IsAcknowledged moments last
     pub releases : List Release
     pub kept : AreKept life releases
     pub takes : TakesAll first.history releases last.history
 
-  pub lived : (life : List Stage) (first last : Stored D) → honest first.disk → IsAcknowledged moments first → IsLife has honest moments failures first life last → HasLived first life last
+  pub lived : (life : List Stage) (first last : StoreValue D) → honest first.disk → IsAcknowledged moments first → IsLife has honest moments failures first life last → HasLived first life last
   lived [] first last up ack same = record {
-    honesty = subst (λ (s : Stored D). honest s.disk) (sym same) up;
-    acknowledged = subst (λ (s : Stored D). IsAcknowledged moments s) (sym same) ack;
+    honesty = subst (λ (s : StoreValue D). honest s.disk) (sym same) up;
+    acknowledged = subst (λ (s : StoreValue D). IsAcknowledged moments s) (sym same) ack;
     releases = [];
     kept = refl;
-    takes = ap (λ (s : Stored D). s.history) same;
+    takes = ap (λ (s : StoreValue D). s.history) same;
   }
   lived (stage ∷ stages) first last up ack l =
       let next = l.3 in
       let opened = reopened l.2 l.1 next l.5 in
-      let r = stage_opens (desk l.0 first) stage l.1 up ack l.4 (Ok next) opened.0 in
+      let r = stage_opens (server l.0 first) stage l.1 up ack l.4 (Ok next) opened.0 in
       let more = lived stages next last opened.1 opened.2 l.6 in
       let xs = imported stage.answered in
       record {
@@ -216,11 +216,11 @@ kept_are_acknowledged (stage ∷ life) releases kept =
 
 -- ---- what is told of a source is told of none
 
-pub turn_of_none : {D : Type 0} (source : Type 0) (has : Releases) (honest : D → Type 0) (moments : D → Moments) (failures : D → ℕ) (old : Desk D) (turn : Turn) (new : Desk D) → IsTurn source has honest moments failures old turn new → IsTurn ⊥ has honest moments failures old turn new
+pub turn_of_none : {D : Type 0} (source : Type 0) (has : Releases) (honest : D → Type 0) (moments : D → Moments) (failures : D → ℕ) (old : Server D) (turn : Turn) (new : Server D) → IsTurn source has honest moments failures old turn new → IsTurn ⊥ has honest moments failures old turn new
 turn_of_none source has honest moments failures old turn new t =
     record { releases = t.releases; goes = t.goes; own = λ none. absurd none; imports = t.imports; one = t.one; counts = t.counts; disk = t.disk }
 
-pub run_of_none : {D : Type 0} (source : Type 0) (has : Releases) (honest : D → Type 0) (moments : D → Moments) (failures : D → ℕ) (turns : List Turn) (old new : Desk D) → Run source has honest moments failures old turns new → Run ⊥ has honest moments failures old turns new
+pub run_of_none : {D : Type 0} (source : Type 0) (has : Releases) (honest : D → Type 0) (moments : D → Moments) (failures : D → ℕ) (turns : List Turn) (old new : Server D) → Run source has honest moments failures old turns new → Run ⊥ has honest moments failures old turns new
 run_of_none source has honest moments failures [] old new run = run
 run_of_none source has honest moments failures (turn ∷ turns) old new run =
     (run.0, turn_of_none source has honest moments failures old turn run.0 run.1, run_of_none source has honest moments failures turns run.0 new run.2)
@@ -229,13 +229,13 @@ module _ (D : Type 0) (honest : D → Type 0) (moments : D → Moments) (failure
   pub each_life_keeps : EachLifeKeepsItsImports D honest moments failures
   each_life_keeps has first last life pins turns now up ack lives run =
       let l = lived has honest moments failures life first last up ack lives in
-      let after = run_imported honest moments failures ⊥ has (desk pins last) now turns run in
+      let after = run_imported honest moments failures ⊥ has (server pins last) now turns run in
       (l.releases, l.kept, takes_more first.history last.history now.store.history l.releases (imported turns) l.takes (after.history l.honesty))
 
   pub each_life_opens : EachLifeIsOpened D honest moments failures
   each_life_opens has first last life pins stage bytes result up ack lives stops is =
       let l = lived has honest moments failures life first last up ack lives in
-      let r = stage_remains has honest moments failures (desk pins last) stage bytes l.honesty l.acknowledged stops in
+      let r = stage_remains has honest moments failures (server pins last) stage bytes l.honesty l.acknowledged stops in
       let tail = imported stage.answered ++ r.0 in
       opened_as r.2.0 bytes (λ (k : History). (releases : List Release) × AreKept (life ++ stage ∷ []) releases × TakesAll first.history releases k) r.2.2
       (l.releases ++ tail, kept_more life stage l.releases r.0 l.kept r.1, takes_more first.history last.history r.2.0 l.releases tail l.takes r.2.1)

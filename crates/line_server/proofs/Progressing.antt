@@ -1,6 +1,6 @@
 -- How far serving has come.
 use Rattle.std.proofs.lemmas.Bool.{false≢true}
-use Rattle.std.proofs.Common.{◌≡◌, ℕ, Bool, ◌==◌, false, eqb, cond, ◌*◌, ◌<◌, ◌≤◌, ◌+◌, ◌-◌, ◌^◌, List, [], ◌∷◌, ◌++◌, length, length-append, append-nil, append_assoc, take, drop, get_or, take-append-drop, min, Option, Some, None, IfSome, refl, sym, ap, subst, ◌∙◌, arith, Result, Ok, Err}
+use Rattle.std.proofs.Common.{◌≡◌, ℕ, Bool, ◌==◌, false, eqb, cond, ◌*◌, ◌<◌, ◌≤◌, ◌+◌, ◌-◌, ◌^◌, List, [], ◌∷◌, ◌++◌, length, length-append, append-nil, append_assoc, take, drop, get_or, take-append-drop, min, All, Option, Some, None, IfSome, refl, sym, ap, subst, ◌∙◌, arith, Result, Ok, Err}
 use Rattle.std.specs.Io.KnownBytes.{Appends, Consumes, IsAtEnd}
 use Rattle.std.proofs.KnownBytes.{Appends-nil, Appends-trans, Consumes-nil, Consumes-trans}
 use Rattle.std.proofs.lemmas.List.{length-take, map-append, take_more, take_all, get_or_at, take_at}
@@ -11,18 +11,19 @@ use Rattle.bstr.specs.Text.{no_cr}
 use Rattle.disk_model.specs.Disk.{Moments}
 use Rattle.import_check.specs.declared.release.Release.{Release}
 use Rattle.rf2_rows.specs.File.{lines_in}
-use Rattle.history_store.specs.Stored.{Stored}
+use Rattle.history_store.specs.StoreValue.{StoreValue}
 use Rattle.line_server.specs.declared.refusal.LineRefusal.{LineRefusal}
 use Rattle.line_server.specs.declared.serving.ServeFault.{ServeFault}
 use Rattle.line_server.specs.declared.serving.ServeFault.TheVariants as faults
 use Rattle.line_server.specs.Sources.{Releases}
-use Rattle.line_server.specs.Said.{Answer, said, bytes_of}
+use Rattle.line_server.specs.ReplyValue.{Answer, reply_value, bytes_of}
 use Rattle.line_server.specs.Pins.{unpinned}
-use Rattle.line_server.specs.Replies.{Desk, desk}
+use Rattle.line_server.specs.Replies.{Server, server}
 use Rattle.line_server.specs.Imports.{IsFront}
 use Rattle.line_server.specs.Turns.{Turn, Run, IsTurn, lines_asked, replies}
 use Rattle.line_server.specs.Streams.{ends_in, AppendsSome}
-use Rattle.line_server.specs.Serving.{IsServed, AreLines, IsRead, IsWritten, IsCount}
+use Rattle.line_server.specs.Reads.{Reading, Gave, Failed, came_of, all_of, IsPiece, Makes}
+use Rattle.line_server.specs.Serving.{IsServedIn, AreLines, IsRead, IsWritten, IsCount, AreReads}
 use Rattle.line_server.specs.Steps.{kept, room}
 use Rattle.line_server.specs.Feeding.{IsUnended, AreCut, IsFed}
 use Rattle.line_server.proofs.Alike.{turn_of, turn_alike, turn_now}
@@ -58,11 +59,41 @@ none_ends [] free = refl
 none_ends (x ∷ xs) free =
     sum_by-cons (λ y. cond (eqb y 10) 1 0) x xs ∙ ap (λ (b : Bool). cond b 1 0 + ends_in xs) (All-head (λ b. eqb b 10 ≡ false) x xs free) ∙ none_more (ends_in xs) ∙ none_ends xs (All-tail (λ b. eqb b 10 ≡ false) x xs free)
 
+-- ---- the reads so far
+
+pub makes_none : (a : Option (List Reading)) → Makes a a []
+makes_none None = tt
+makes_none (Some xs) = sym (append-nil xs)
+
+pub makes_more : (a b c : Option (List Reading)) (xs ys : List Reading) → Makes a b xs → Makes b c ys → Makes a c (xs ++ ys)
+makes_more None b c xs ys p q = tt
+makes_more (Some x) None c xs ys p q = absurd p
+makes_more (Some x) (Some y) None xs ys p q = absurd q
+makes_more (Some x) (Some y) (Some z) xs ys p q = q ∙ ap (λ (l : List Reading). l ++ ys) p ∙ append_assoc x xs ys
+
+-- a read gave the end
+pub makes_end : (a b c : Option (List Reading)) (reads : List Reading) (n : ℕ) (buf : List ℕ) → Makes a b reads → Makes b c (Gave (take n buf) ∷ []) → n ≡ 0 → Makes a c (reads ++ Gave [] ∷ [])
+makes_end a b c reads n buf p q none = makes_more a b c reads (Gave [] ∷ []) p (subst (λ (k : ℕ). Makes b c (Gave (take k buf) ∷ [])) none q)
+
+pub came_more : (reads : List Reading) (last : Reading) (seen : List ℕ) → seen ≡ all_of reads → seen ++ came_of last ≡ all_of (reads ++ last ∷ [])
+came_more reads last seen e =
+    ap (λ (l : List ℕ). l ++ came_of last) e ∙ ap (λ (l : List ℕ). all_of reads ++ l) (sym (append-nil (came_of last))) ∙ sym (flat_map-append came_of reads (last ∷ []))
+
+came_none : (reads : List Reading) (last : Reading) (seen : List ℕ) → came_of last ≡ [] → seen ≡ all_of reads → seen ≡ all_of (reads ++ last ∷ [])
+came_none reads last seen none e = sym (ap (λ (l : List ℕ). seen ++ l) none ∙ append-nil seen) ∙ came_more reads last seen e
+
+one_more : (reads : List Reading) (last : Reading) (most : ℕ) → length reads < most → length (reads ++ last ∷ []) ≤ most
+one_more reads last most lt = omega (arith, lt, length-append reads (last ∷ []))
+
+-- a piece was read
+pub is_piece : (n : ℕ) (buf : List ℕ) → 1 ≤ n → n ≤ length buf → length buf ≡ 4096 → IsPiece (Gave (take n buf))
+is_piece n buf some within long = (omega (arith, some, within, length-take n buf), omega (arith, long, length-take n buf))
+
 -- ---- the turns so far
 
 module _ {D : Type 0} (honest_source : Type 0) (has : Releases) (honest : D → Type 0) (moments : D → Moments) (failures : D → ℕ) where
   -- the bytes that came, and what became of them
-  pub record Progress (old new : Option (List ℕ)) (before now : Desk D) (seen buffer : List ℕ) (served : ℕ) : Type 0 where
+  pub record Progress (old new : Option (List ℕ)) (before now : Server D) (seen buffer : List ℕ) (served : ℕ) : Type 0 where
     pub turns : List Turn
     pub part : List ℕ
     pub cut : AreCut seen (lines_asked turns) part
@@ -73,22 +104,22 @@ module _ {D : Type 0} (honest_source : Type 0) (has : Releases) (honest : D → 
     pub count : served ≡ min (length turns) (2 ^ 64 - 1)
 
   -- one line more
-  run_more : (old mid new : Desk D) (turns : List Turn) (turn : Turn) → Run honest_source has honest moments failures old turns mid → IsTurn honest_source has honest moments failures mid turn new
+  run_more : (old mid new : Server D) (turns : List Turn) (turn : Turn) → Run honest_source has honest moments failures old turns mid → IsTurn honest_source has honest moments failures mid turn new
       → Run honest_source has honest moments failures old (turns ++ turn ∷ []) new
-  run_more old mid new [] turn e t = (new, subst (λ (s : Desk D). IsTurn honest_source has honest moments failures s turn new) e t, refl)
+  run_more old mid new [] turn e t = (new, subst (λ (s : Server D). IsTurn honest_source has honest moments failures s turn new) e t, refl)
   run_more old mid new (first ∷ turns) turn r t = (r.0, r.1, run_more r.0 mid new turns turn r.2 t)
 
   asked_more : (turns : List Turn) (turn : Turn) → lines_asked turns ++ turn.line ∷ [] ≡ lines_asked (turns ++ turn ∷ [])
   asked_more turns turn = sym (map-append (λ turn. turn.line) turns (turn ∷ []))
 
-  replies_more : (turns : List Turn) (turn : Turn) → replies turns ++ bytes_of (said turn.outcome) ≡ replies (turns ++ turn ∷ [])
+  replies_more : (turns : List Turn) (turn : Turn) → replies turns ++ bytes_of (reply_value turn.outcome) ≡ replies (turns ++ turn ∷ [])
   replies_more turns turn =
-      sym (flat_map-append (λ (t : Turn). bytes_of (said t.outcome)) turns (turn ∷ []) ∙ ap (λ (l : List ℕ). replies turns ++ l) (append-nil (bytes_of (said turn.outcome))))
+      sym (flat_map-append (λ (t : Turn). bytes_of (reply_value t.outcome)) turns (turn ∷ []) ∙ ap (λ (l : List ℕ). replies turns ++ l) (append-nil (bytes_of (reply_value turn.outcome))))
 
   count_more : (turns : List Turn) (turn : Turn) (served : ℕ) → served ≡ min (length turns) (2 ^ 64 - 1) → min (served + 1) (2 ^ 64 - 1) ≡ min (length (turns ++ turn ∷ [])) (2 ^ 64 - 1)
   count_more turns turn served e = omega (arith, e, length-append turns (turn ∷ []))
 
-  pub starts : (old : Option (List ℕ)) (before : Desk D) → Progress old old before before [] [] 0
+  pub starts : (old : Option (List ℕ)) (before : Server D) → Progress old old before before [] [] 0
   unfolding room
   starts old before = record {
     turns = [];
@@ -102,7 +133,7 @@ module _ {D : Type 0} (honest_source : Type 0) (has : Releases) (honest : D → 
   }
 
   -- a part of a line alone has come
-  pub begins : (old : Option (List ℕ)) (before : Desk D) (part buffer : List ℕ) → IsUnended part → buffer ≡ kept part → Progress old old before before part buffer 0
+  pub begins : (old : Option (List ℕ)) (before : Server D) (part buffer : List ℕ) → IsUnended part → buffer ≡ kept part → Progress old old before before part buffer 0
   begins old before part buffer free is = record {
     turns = [];
     part = part;
@@ -114,7 +145,7 @@ module _ {D : Type 0} (honest_source : Type 0) (has : Releases) (honest : D → 
     count = refl;
   }
 
-  pub byte_more : (old new : Option (List ℕ)) (before now : Desk D) (seen buffer : List ℕ) (served b : ℕ) → Progress old new before now seen buffer served → eqb b 10 ≡ false
+  pub byte_more : (old new : Option (List ℕ)) (before now : Server D) (seen buffer : List ℕ) (served b : ℕ) → Progress old new before now seen buffer served → eqb b 10 ≡ false
       → Progress old new before now (seen ++ b ∷ []) (kept (buffer ++ b ∷ [])) served
   byte_more old new before now seen buffer served b h other = record {
     turns = h.turns;
@@ -145,7 +176,7 @@ module _ {D : Type 0} (honest_source : Type 0) (has : Releases) (honest : D → 
 
   -- ---- a line's end, and what comes of it
 
-  module _ (outcome : Result Answer LineRefusal) (taken : List Release) (failed : Option Release) (now after : Desk D) where
+  module _ (outcome : Result Answer LineRefusal) (taken : List Release) (failed : Option Release) (now after : Server D) where
     abbrev pub turn : List ℕ → Turn
     turn line = turn_of outcome taken failed now after line
 
@@ -161,8 +192,8 @@ module _ {D : Type 0} (honest_source : Type 0) (has : Releases) (honest : D → 
     gives_unended part buffer e g =
         kept_unended Gives (λ x y long other. turn_alike outcome taken failed now after honest_source has honest moments failures x y long other) part (subst Gives e g)
 
-    pub line_more : (old mid new : Option (List ℕ)) (before : Desk D) (seen buffer : List ℕ) (served : ℕ) → Progress old mid before now seen buffer served
-        → Gives (no_cr buffer) → Appends mid new (bytes_of (said outcome))
+    pub line_more : (old mid new : Option (List ℕ)) (before : Server D) (seen buffer : List ℕ) (served : ℕ) → Progress old mid before now seen buffer served
+        → Gives (no_cr buffer) → Appends mid new (bytes_of (reply_value outcome))
         → Progress old new before after (seen ++ 10 ∷ []) [] (min (served + 1) (2 ^ 64 - 1))
     unfolding room
     line_more old mid new before seen buffer served h g w =
@@ -174,13 +205,13 @@ module _ {D : Type 0} (honest_source : Type 0) (has : Releases) (honest : D → 
           ends = length-append h.turns (t ∷ []) ∙ ap (λ (n : ℕ). n + 1) h.ends ∙ sym (ends_feed seen);
           buffer_is = refl;
           run = run_more before now after h.turns t h.run (gives_ended h.part buffer h.buffer_is g);
-          written = subst (λ (bs : List ℕ). Appends old new bs) (replies_more h.turns t) (Appends-trans old mid new (replies h.turns) (bytes_of (said outcome)) h.written w);
+          written = subst (λ (bs : List ℕ). Appends old new bs) (replies_more h.turns t) (Appends-trans old mid new (replies h.turns) (bytes_of (reply_value outcome)) h.written w);
           count = count_more h.turns t served h.count;
         }
 
   -- ---- pieces
 
-  module _ (old mid : Option (List ℕ)) (before now : Desk D) (part piece : List ℕ) (free : IsUnended part) where
+  module _ (old mid : Option (List ℕ)) (before now : Server D) (part piece : List ℕ) (free : IsUnended part) where
     -- as many lines ended as ended behind the part
     ends_behind : (taken : List ℕ) (n : ℕ) → n ≡ ends_in (part ++ taken) → n ≡ ends_in taken
     ends_behind taken n e = let b = ends_both part taken in let z = none_ends part free in omega (arith, e, b, z)
@@ -203,9 +234,9 @@ module _ {D : Type 0} (honest_source : Type 0) (has : Releases) (honest : D → 
     }
 
     -- the reply to a line wasn't written whole
-    pub not_replied : {E : Type 0} (fault : E) (new : Option (List ℕ)) (after : Desk D) (taken more buffer later : List ℕ) (answered : ℕ) (outcome : Result Answer LineRefusal) (releases : List Release) (failed : Option Release)
+    pub not_replied : {E : Type 0} (fault : E) (new : Option (List ℕ)) (after : Server D) (taken more buffer later : List ℕ) (answered : ℕ) (outcome : Result Answer LineRefusal) (releases : List Release) (failed : Option Release)
         → Progress old mid before now (part ++ taken) buffer answered → piece ≡ (taken ++ 10 ∷ []) ++ more
-        → Gives outcome releases failed now after (no_cr buffer) → AppendsSome mid new (bytes_of (said outcome))
+        → Gives outcome releases failed now after (no_cr buffer) → AppendsSome mid new (bytes_of (reply_value outcome))
         → IsFed (Err fault) honest_source has honest moments failures part piece later before after old new
     not_replied fault new after taken more buffer later answered outcome releases failed h is g w =
         let t = turn outcome releases failed now after (no_cr h.part) in
@@ -229,12 +260,12 @@ module _ {D : Type 0} (honest_source : Type 0) (has : Releases) (honest : D → 
 
   -- what holds for the source as it is now holds for the source as it was
   module _ (source : Type 0) (now : Releases) (same : honest_source → source × (now ≡ has)) where
-    run_now : (turns : List Turn) (old new : Desk D) → Run source now honest moments failures old turns new → Run honest_source has honest moments failures old turns new
+    run_now : (turns : List Turn) (old new : Server D) → Run source now honest moments failures old turns new → Run honest_source has honest moments failures old turns new
     run_now [] old new run = run
     run_now (turn ∷ turns) old new run =
         (run.0, turn_now turn.outcome turn.releases turn.failed old run.0 honest_source has honest moments failures source now turn.line same run.1, run_now turns run.0 new run.2)
 
-    pub fed_now : {E : Type 0} (result : Result ℕ E) (part piece buffer : List ℕ) (before after : Desk D) (old new : Option (List ℕ)) → IsFed result source now honest moments failures part piece buffer before after old new
+    pub fed_now : {E : Type 0} (result : Result ℕ E) (part piece buffer : List ℕ) (before after : Server D) (old new : Option (List ℕ)) → IsFed result source now honest moments failures part piece buffer before after old new
         → IsFed result honest_source has honest moments failures part piece buffer before after old new
     fed_now result part piece buffer before after old new f = record {
       turns = f.turns;
@@ -252,20 +283,20 @@ module _ {D : Type 0} (honest_source : Type 0) (has : Releases) (honest : D → 
     }
 
   -- several lines more
-  run_both : (old mid new : Desk D) (turns more : List Turn) → Run honest_source has honest moments failures old turns mid → Run honest_source has honest moments failures mid more new
+  run_both : (old mid new : Server D) (turns more : List Turn) → Run honest_source has honest moments failures old turns mid → Run honest_source has honest moments failures mid more new
       → Run honest_source has honest moments failures old (turns ++ more) new
-  run_both old mid new [] more e r = subst (λ (s : Desk D). Run honest_source has honest moments failures s more new) e r
+  run_both old mid new [] more e r = subst (λ (s : Server D). Run honest_source has honest moments failures s more new) e r
   run_both old mid new (turn ∷ turns) more r s = (r.0, r.1, run_both r.0 mid new turns more r.2 s)
 
   asked_both : (turns more : List Turn) → lines_asked turns ++ lines_asked more ≡ lines_asked (turns ++ more)
   asked_both turns more = sym (map-append (λ turn. turn.line) turns more)
 
   replies_both : (turns more : List Turn) → replies turns ++ replies more ≡ replies (turns ++ more)
-  replies_both turns more = sym (flat_map-append (λ (t : Turn). bytes_of (said t.outcome)) turns more)
+  replies_both turns more = sym (flat_map-append (λ (t : Turn). bytes_of (reply_value t.outcome)) turns more)
 
-  module _ (old mid : Option (List ℕ)) (before now : Desk D) (seen buffer : List ℕ) (served : ℕ) (h : Progress old mid before now seen buffer served) where
+  module _ (old mid : Option (List ℕ)) (before now : Server D) (seen buffer : List ℕ) (served : ℕ) (h : Progress old mid before now seen buffer served) where
     -- a piece was fed
-    pub piece_more : {E : Type 0} (new : Option (List ℕ)) (after : Desk D) (piece later : List ℕ) (n : ℕ) → IsFed {E = E} (Ok n) honest_source has honest moments failures h.part piece later now after mid new
+    pub piece_more : {E : Type 0} (new : Option (List ℕ)) (after : Server D) (piece later : List ℕ) (n : ℕ) → IsFed {E = E} (Ok n) honest_source has honest moments failures h.part piece later now after mid new
         → Progress old new before after (seen ++ piece) later (min (served + n) (2 ^ 64 - 1))
     piece_more new after piece later n f = record {
       turns = h.turns ++ f.turns;
@@ -281,90 +312,107 @@ module _ {D : Type 0} (honest_source : Type 0) (has : Releases) (honest : D → 
 
   -- ---- the ways out
 
-  module _ (most : ℕ) (input rest old : Option (List ℕ)) (before : Stored D) where
-    abbrev start : Desk D
-    start = desk unpinned before
+  module _ (most : ℕ) (input rest old : Option (List ℕ)) (begun made : Option (List Reading)) (before : StoreValue D) where
+    abbrev start : Server D
+    start = server unpinned before
 
-    abbrev Out : Result ℕ ServeFault → Option (List ℕ) → Stored D → Type 0
-    Out result new after = IsServed result most honest_source has honest moments failures input rest old new before after
+    abbrev Out : Result ℕ ServeFault → Option (List ℕ) → StoreValue D → Type 0
+    Out result new after = IsServedIn result most honest_source has honest moments failures input rest old new before after begun made
 
-    out : (result : Result ℕ ServeFault) (new : Option (List ℕ)) (pins : List (Option ℕ)) (after : Stored D) (turns : List Turn)
-        → Run honest_source has honest moments failures start turns (desk pins after) → IfSome input (AreLines result (lines_asked turns))
+    out : (result : Result ℕ ServeFault) (new : Option (List ℕ)) (pins : List (Option ℕ)) (after : StoreValue D) (turns : List Turn)
+        → Run honest_source has honest moments failures start turns (server pins after) → IfSome input (AreLines result (lines_asked turns))
         → (came : List ℕ) → Consumes input rest came → length came ≤ most * 4096 → IsRead result most came rest (length turns) → IsWritten result old new turns → IsCount result (length turns)
+        → (reads : List Reading) → Makes begun made reads → length reads ≤ most → came ≡ all_of reads → AreReads result most reads (length turns)
         → Out result new after
-    out result new pins after turns run lines came consumed few read written count = record {
-      turns = turns;
-      pins = pins;
-      run = run;
-      lines = lines;
-      read = (came, consumed, read, few);
-      written = written;
-      count = count;
-      imports = run_imported honest moments failures honest_source has start (desk pins after) turns run;
+    out result new pins after turns run lines came consumed few read written count reads makes within all are = record {
+      served = record {
+        turns = turns;
+        pins = pins;
+        run = run;
+        lines = lines;
+        read = (came, consumed, read, few);
+        written = written;
+        count = count;
+        imports = run_imported honest moments failures honest_source has start (server pins after) turns run;
+      };
+      reads = reads;
+      made = makes;
+      few = within;
+      bytes = all;
+      rightly = are;
     }
 
-    module _ (mid : Option (List ℕ)) (pins : List (Option ℕ)) (now : Stored D) (seen buffer : List ℕ) (served : ℕ) (h : Progress old mid start (desk pins now) seen buffer served) (c : Consumes input rest seen) (few : length seen ≤ most * 4096) where
+    module _ (mid : Option (List ℕ)) (pins : List (Option ℕ)) (now : StoreValue D) (seen buffer : List ℕ) (served : ℕ) (h : Progress old mid start (server pins now) seen buffer served) (c : Consumes input rest seen) (few : length seen ≤ most * 4096)
+        (pieces : List Reading) (each : All IsPiece pieces) (all : seen ≡ all_of pieces) where
       fronts : (fault : ServeFault) → IfSome input (AreLines (Err fault) (lines_asked h.turns))
       fronts fault = first_lines input rest seen h.part (lines_asked h.turns) fault c (λ more. cut_front seen (lines_asked h.turns) h.part more h.cut)
 
       -- a read failed
-      pub unread : Out (Err faults.Read) mid now
-      unread = out (Err faults.Read) mid pins now h.turns h.run (fronts faults.Read) seen c few h.ends h.written tt
+      pub unread : Makes begun made (pieces ++ Failed ∷ []) → length pieces < most → Out (Err faults.Read) mid now
+      unread makes lt = out (Err faults.Read) mid pins now h.turns h.run (fronts faults.Read) seen c few h.ends h.written tt
+          (pieces ++ Failed ∷ []) makes (one_more pieces Failed most lt) (came_none pieces Failed seen refl all) (pieces, each, refl)
 
       -- there were too many reads
-      pub stopped : most ≤ length seen → Out (Err faults.Reads) mid now
-      stopped le = out (Err faults.Reads) mid pins now h.turns h.run (fronts faults.Reads) seen c few (h.ends, le) h.written tt
+      pub stopped : most ≤ length seen → Makes begun made pieces → length pieces ≡ most → Out (Err faults.Reads) mid now
+      stopped le makes number = out (Err faults.Reads) mid pins now h.turns h.run (fronts faults.Reads) seen c few (h.ends, le) h.written tt
+          pieces makes (omega (arith, number)) all (each, number)
 
-      module _ (end : IsAtEnd rest) where
+      module _ (end : IsAtEnd rest) (makes : Makes begun made (pieces ++ Gave [] ∷ [])) (lt : length pieces < most) where
         -- the input ended after a line's end
         pub ended : length buffer ≡ 0 → Out (Ok served) mid now
         ended none =
             let empty : h.part ≡ [] = kept_none h.part (ap length (sym h.buffer_is) ∙ none) in
             out (Ok served) mid pins now h.turns h.run (all_lines input rest seen (lines_asked h.turns) served c end (cut_end seen (lines_asked h.turns) h.part h.cut empty)) seen c few end h.written h.count
+            (pieces ++ Gave [] ∷ []) makes (one_more pieces (Gave []) most lt) (came_none pieces (Gave []) seen refl all) (pieces, each, refl)
 
         -- it ended within a line, which was answered so
-        module _ (outcome : Result Answer LineRefusal) (taken : List Release) (failed : Option Release) (new : Option (List ℕ)) (later : List (Option ℕ)) (after : Stored D) (some : 0 < length buffer)
-            (g : Gives outcome taken failed (desk pins now) (desk later after) buffer) where
+        module _ (outcome : Result Answer LineRefusal) (taken : List Release) (failed : Option Release) (new : Option (List ℕ)) (later : List (Option ℕ)) (after : StoreValue D) (some : 0 < length buffer)
+            (g : Gives outcome taken failed (server pins now) (server later after) buffer) where
           abbrev last : Turn
-          last = turn outcome taken failed (desk pins now) (desk later after) h.part
+          last = turn outcome taken failed (server pins now) (server later after) h.part
 
-          last_run : Run honest_source has honest moments failures start (h.turns ++ last ∷ []) (desk later after)
-          last_run = run_more start (desk pins now) (desk later after) h.turns last h.run (gives_unended outcome taken failed (desk pins now) (desk later after) h.part buffer h.buffer_is g)
+          last_run : Run honest_source has honest moments failures start (h.turns ++ last ∷ []) (server later after)
+          last_run = run_more start (server pins now) (server later after) h.turns last h.run (gives_unended outcome taken failed (server pins now) (server later after) h.part buffer h.buffer_is g)
 
           last_lines : IfSome input (AreLines (Ok 0) (lines_asked (h.turns ++ last ∷ [])))
           last_lines =
               let left : 0 < length h.part = kept_some h.part (subst (λ (l : List ℕ). 0 < length l) h.buffer_is some) in
               all_lines input rest seen (lines_asked (h.turns ++ last ∷ [])) 0 c end (sym (asked_more h.turns last) ∙ cut_rest seen (lines_asked h.turns) h.part h.cut left)
 
-          pub ended_within : Appends mid new (bytes_of (said outcome)) → Out (Ok (min (served + 1) (2 ^ 64 - 1))) new after
+          pub ended_within : Appends mid new (bytes_of (reply_value outcome)) → Out (Ok (min (served + 1) (2 ^ 64 - 1))) new after
           ended_within w =
               out (Ok (min (served + 1) (2 ^ 64 - 1))) new later after (h.turns ++ last ∷ []) last_run last_lines seen c few end
-              (subst (λ (bs : List ℕ). Appends old new bs) (replies_more h.turns last) (Appends-trans old mid new (replies h.turns) (bytes_of (said outcome)) h.written w))
+              (subst (λ (bs : List ℕ). Appends old new bs) (replies_more h.turns last) (Appends-trans old mid new (replies h.turns) (bytes_of (reply_value outcome)) h.written w))
               (count_more h.turns last served h.count)
+              (pieces ++ Gave [] ∷ []) makes (one_more pieces (Gave []) most lt) (came_none pieces (Gave []) seen refl all) (pieces, each, refl)
 
-          pub unwritten_within : AppendsSome mid new (bytes_of (said outcome)) → Out (Err faults.Write) new after
+          pub unwritten_within : AppendsSome mid new (bytes_of (reply_value outcome)) → Out (Err faults.Write) new after
           unwritten_within w =
+              let later_than : ends_in (all_of pieces) < length (h.turns ++ last ∷ []) = omega (arith, h.ends, ap ends_in all, length-append h.turns (last ∷ [])) in
               out (Err faults.Write) new later after (h.turns ++ last ∷ []) last_run (all_are_first input (lines_asked (h.turns ++ last ∷ [])) faults.Write last_lines) seen c few
               (record { before = seen; piece = []; whole = sym (append-nil seen); short = omega arith; later = omega (arith, h.ends, length-append h.turns (last ∷ [])) })
               (h.turns, last, mid, refl, h.written, w)
               tt
+              (pieces ++ Gave [] ∷ []) makes (one_more pieces (Gave []) most lt) (came_none pieces (Gave []) seen refl all) (pieces, [], each, omega arith, refl, later_than)
 
     -- the reply to a line of a piece wasn't written whole
-    pub unwritten : {E : Type 0} (fault : E) (mid new : Option (List ℕ)) (pins later : List (Option ℕ)) (now after : Stored D) (seen buffer piece left : List ℕ) (served : ℕ) (h : Progress old mid start (desk pins now) seen buffer served)
-        → IsFed (Err fault) honest_source has honest moments failures h.part piece left (desk pins now) (desk later after) mid new
-        → Consumes input rest (seen ++ piece) → length (seen ++ piece) ≤ most * 4096 → length piece ≤ 4096 → Out (Err faults.Write) new after
-    unwritten fault mid new pins later now after seen buffer piece left served h f c few short =
+    pub unwritten : {E : Type 0} (fault : E) (mid new : Option (List ℕ)) (pins later : List (Option ℕ)) (now after : StoreValue D) (seen buffer piece left : List ℕ) (served : ℕ) (h : Progress old mid start (server pins now) seen buffer served)
+        → IsFed (Err fault) honest_source has honest moments failures h.part piece left (server pins now) (server later after) mid new
+        → Consumes input rest (seen ++ piece) → length (seen ++ piece) ≤ most * 4096 → length piece ≤ 4096
+        → (pieces : List Reading) → All IsPiece pieces → seen ≡ all_of pieces → Makes begun made (pieces ++ Gave piece ∷ []) → length pieces < most → Out (Err faults.Write) new after
+    unwritten fault mid new pins later now after seen buffer piece left served h f c few short pieces each all makes lt =
         let turns = h.turns ++ f.turns in
         let cut = subst (λ (ls : List (List ℕ)). AreCut (seen ++ f.taken) ls f.rest) (asked_both h.turns f.turns)
         (cut_more seen f.taken h.part f.rest (lines_asked h.turns) (lines_asked f.turns) h.cut f.lines) in
         let whole : seen ++ piece ≡ (seen ++ f.taken) ++ f.front.0 = ap (λ (l : List ℕ). seen ++ l) f.front.1 ∙ sym (append_assoc seen f.taken f.front.0) in
         let w = f.replied in
+        let more : ends_in seen < length turns = omega (arith, h.ends, length-append h.turns f.turns, ap (λ (ts : List Turn). length ts) w.3, length-append w.0 (w.1 ∷ [])) in
         out (Err faults.Write) new later after turns
-        (run_both start (desk pins now) (desk later after) h.turns f.turns h.run f.run)
+        (run_both start (server pins now) (server later after) h.turns f.turns h.run f.run)
         (first_lines input rest (seen ++ piece) f.rest (lines_asked turns) faults.Write c
         (λ others. subst (λ (l : List ℕ). IsFront (lines_asked turns) (lines_in l)) (sym (ap (λ (l : List ℕ). l ++ others) whole ∙ append_assoc (seen ++ f.taken) f.front.0 others)) (cut_front (seen ++ f.taken) (lines_asked turns) f.rest (f.front.0 ++ others) cut)))
         (seen ++ piece) c few
-        (record { before = seen; piece = piece; whole = refl; short = short; later = omega (arith, h.ends, length-append h.turns f.turns, ap (λ (ts : List Turn). length ts) w.3, length-append w.0 (w.1 ∷ [])) }) (
+        (record { before = seen; piece = piece; whole = refl; short = short; later = more }) (
           h.turns ++ w.0,
           w.1,
           w.2,
@@ -373,12 +421,15 @@ module _ {D : Type 0} (honest_source : Type 0) (has : Releases) (honest : D → 
           w.5,
         )
         tt
+        (pieces ++ Gave piece ∷ []) makes (one_more pieces (Gave piece) most lt) (came_more pieces (Gave piece) seen all)
+        (pieces, piece, each, short, refl, subst (λ (l : List ℕ). ends_in l < length turns) all more)
 
   -- no memory for the buffer
-  pub not_started : (most : ℕ) (input old : Option (List ℕ)) (before : Stored D) → IsServed (Err faults.OutOfMemory) most honest_source has honest moments failures input input old old before before
-  not_started most input old before =
-      out most input input old before (Err faults.OutOfMemory) old unpinned before [] refl (first_lines input input [] [] [] faults.OutOfMemory (Consumes-nil input) (λ more. (lines_in more, refl)))
+  pub not_started : (most : ℕ) (input old : Option (List ℕ)) (begun : Option (List Reading)) (before : StoreValue D) → IsServedIn (Err faults.OutOfMemory) most honest_source has honest moments failures input input old old before before begun begun
+  not_started most input old begun before =
+      out most input input old begun begun before (Err faults.OutOfMemory) old unpinned before [] refl (first_lines input input [] [] [] faults.OutOfMemory (Consumes-nil input) (λ more. (lines_in more, refl)))
       [] (Consumes-nil input) (omega arith) (refl, refl) (Appends-nil old) tt
+      [] (makes_none begun) (omega arith) refl refl
 
 -- ---- pieces
 

@@ -7,7 +7,7 @@ use Rattle.std.proofs.Math.Seq.{take-add}
 use Rattle.std.proofs.lemmas.List.{take_all, length-drop}
 use Rattle.std.specs.Io.KnownBytes.{Appends}
 use Rattle.std.proofs.KnownBytes.{Appends-trans}
-use Rattle.line_server.specs.Said.{Said, bytes_of}
+use Rattle.line_server.specs.ReplyValue.{ReplyValue, bytes_of}
 use Rattle.line_server.specs.Streams.{AppendsSome, IsPut}
 
 -- the slice from n on
@@ -42,8 +42,8 @@ put_failed (Ok x) a b xs body last is some e = absurd (false≢true is)
 put_failed (Err x) a b xs body last is some e = some_of_front a b body last (subst (λ (l : List ℕ). AppendsSome a b l) e some)
 
 -- what was written of a reply, by another name of it
-pub put_alike : {T E : Type 0} (r : Result T E) (a b : Option (List ℕ)) (reply other : Said) → reply ≡ other → IsPut r a b (bytes_of reply) → IsPut r a b (bytes_of other)
-put_alike r a b reply other e put = subst (λ (s : Said). IsPut r a b (bytes_of s)) e put
+pub put_alike : {T E : Type 0} (r : Result T E) (a b : Option (List ℕ)) (reply other : ReplyValue) → reply ≡ other → IsPut r a b (bytes_of reply) → IsPut r a b (bytes_of other)
+put_alike r a b reply other e put = subst (λ (s : ReplyValue). IsPut r a b (bytes_of s)) e put
 
 pub put_both : {T E : Type 0} (r : Result T E) (a b c : Option (List ℕ)) (xs ys body last : List ℕ) → Appends a b xs → IsPut r b c ys → xs ≡ body → ys ≡ last → IsPut r a c (body ++ last)
 put_both r a b c xs ys body last h put e f = both_put r a b c body last (subst (λ (l : List ℕ). Appends a b l) e h) (subst (λ (l : List ℕ). IsPut r b c l) f put)

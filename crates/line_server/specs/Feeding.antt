@@ -4,8 +4,8 @@ use Rattle.std.specs.Io.KnownBytes.{Appends}
 use Rattle.disk_model.specs.Disk.{Moments}
 use Rattle.rf2_rows.specs.File.{lines_in}
 use Rattle.line_server.specs.Sources.{Releases}
-use Rattle.line_server.specs.Said.{said, bytes_of}
-use Rattle.line_server.specs.Replies.{Desk}
+use Rattle.line_server.specs.ReplyValue.{reply_value, bytes_of}
+use Rattle.line_server.specs.Replies.{Server}
 use Rattle.line_server.specs.Imports.{IsFront, Imports}
 use Rattle.line_server.specs.Turns.{Turn, Run, lines_asked, replies, imported, failed_in}
 use Rattle.line_server.specs.Streams.{ends_in, AppendsSome}
@@ -30,14 +30,14 @@ abbrev pub AreReplied : {T E : Type 0} → Result T E → Option (List ℕ) → 
 AreReplied (Ok x) old new turns = Appends old new (replies turns)
 AreReplied (Err e) old new turns =
     (done : List Turn) × (last : Turn) × (mid : Option (List ℕ)) × (turns ≡ done ++ last ∷ [])
-    × Appends old mid (replies done) × AppendsSome mid new (bytes_of (said last.outcome))
+    × Appends old mid (replies done) × AppendsSome mid new (bytes_of (reply_value last.outcome))
 
 -- A piece of the input came behind a part of a line. Each line that ended in the piece was
 -- answered, in order, and its reply was written; what has come of the next line is kept. After a
 -- fault of the writer that is so of the piece up to the line whose reply wasn't written.
 pub record IsFed {D E : Type 0} (result : Result ℕ E) (honest_source : Type 0) (has : Releases)
     (honest : D → Type 0) (moments : D → Moments) (failures : D → ℕ) (part piece buffer : List ℕ)
-    (before after : Desk D) (old new : Option (List ℕ)) : Type 0 where
+    (before after : Server D) (old new : Option (List ℕ)) : Type 0 where
   pub turns : List Turn
   pub run : Run honest_source has honest moments failures before turns after
   -- how far the piece was taken, and what has come of the next line there

@@ -1,18 +1,18 @@
 -- What a stop may leave while lines are answered.
 use Rattle.std.specs.Prelude.{◌≡◌, ◌↔◌, ◌⊎◌, true, false, ℕ, List, [], ◌∷◌, ◌++◌, Option, Some, None}
 use Rattle.disk_model.specs.Disk.{Moments, EachImage, LeavesOnly}
-use Rattle.rf2_values.specs.Row.{Version}
+use Rattle.rf2_values.specs.Row.{RowValue}
 use Rattle.history_model.specs.History.{History, Accepts, after_release}
 use Rattle.import_check.specs.declared.release.Release.{Release}
 use Rattle.import_check.specs.Release.{IsReleaseOf}
-use Rattle.store_image.specs.Images.{StandsForHistory}
-use Rattle.history_store.specs.Stored.{Stored, IsAcknowledged}
+use Rattle.store_image.specs.Images.{RepresentsHistory}
+use Rattle.history_store.specs.StoreValue.{StoreValue, IsAcknowledged}
 use Rattle.history_store.specs.Answers.{StandsWith}
 
 -- the releases are accepted one after the other, and this is the history after them
 abbrev pub TakesAll : History → List Release → History → Type 0
 TakesAll h [] after = after ≡ h
-TakesAll h (release ∷ releases) after = (rows : List Version) × IsReleaseOf release rows
+TakesAll h (release ∷ releases) after = (rows : List RowValue) × IsReleaseOf release rows
     × Accepts h rows × TakesAll (after_release h rows) releases after
 
 -- a front part of a list
@@ -21,11 +21,11 @@ IsFront {X} front whole = (rest : List X) × (whole ≡ front ++ rest)
 
 -- the bytes stand for the history with these releases
 abbrev pub StandsAfter : History → List Release → List ℕ → Type 0
-StandsAfter h releases c = (after : History) × TakesAll h releases after × StandsForHistory after c
+StandsAfter h releases c = (after : History) × TakesAll h releases after × RepresentsHistory after c
 
 -- for the history with the first so many of them
-abbrev pub StandsForFront : History → List Release → List ℕ → Type 0
-StandsForFront h releases c =
+abbrev pub RepresentsFront : History → List Release → List ℕ → Type 0
+RepresentsFront h releases c =
     (front : List Release) × IsFront front releases × StandsAfter h front c
 
 -- for the history with all of them and one more, in whose import the device failed
@@ -34,17 +34,17 @@ StandsWithFailed h releases None c = ⊥
 StandsWithFailed h releases (Some release) c =
     (after : History) × TakesAll h releases after × StandsWith after release c
 
-abbrev pub StandsForSome : History → List Release → Option Release → List ℕ → Type 0
-StandsForSome h releases failed c =
-    StandsForFront h releases c ⊎ StandsWithFailed h releases failed c
+abbrev pub RepresentsSome : History → List Release → Option Release → List ℕ → Type 0
+RepresentsSome h releases failed c =
+    RepresentsFront h releases c ⊎ StandsWithFailed h releases failed c
 
-abbrev pub StandsForAll : History → List Release → Option Release → List ℕ → Type 0
-StandsForAll h releases failed c = StandsAfter h releases c ⊎ StandsWithFailed h releases failed c
+abbrev pub RepresentsAll : History → List Release → Option Release → List ℕ → Type 0
+RepresentsAll h releases failed c = StandsAfter h releases c ⊎ StandsWithFailed h releases failed c
 
 -- One call on a store, or several, imported these releases one after the other;
 -- and in the import of one more, if there is one, the device failed.
-pub record Imports {D : Type 0} (honest : D → Type 0) (moments : D → Moments) (old new : Stored D)
-    (releases : List Release) (failed : Option Release) : Type 0 where
+pub record Imports {D : Type 0} (honest : D → Type 0) (moments : D → Moments)
+    (old new : StoreValue D) (releases : List Release) (failed : Option Release) : Type 0 where
   pub history : honest old.disk → TakesAll old.history releases new.history
   pub none_failed : new.needs_reopen ≡ false → failed ≡ None
   -- a store that has to be opened again stays as it is, and so does its disk
@@ -53,9 +53,10 @@ pub record Imports {D : Type 0} (honest : D → Type 0) (moments : D → Moments
   -- a stop at any moment leaves the history from before with the
   -- first so many of them, or with all and the one that failed
   pub any_moment : honest old.disk → IsAcknowledged moments old
-      → LeavesOnly (moments old.disk) (moments new.disk) (StandsForSome old.history releases failed)
+      → LeavesOnly (moments old.disk) (moments new.disk)
+      (RepresentsSome old.history releases failed)
   -- a stop afterwards leaves all of them, and perhaps the one that failed
   pub afterwards : honest old.disk → IsAcknowledged moments old
-      → EachImage (moments new.disk).state (StandsForAll old.history releases failed)
+      → EachImage (moments new.disk).state (RepresentsAll old.history releases failed)
   pub acknowledged : honest old.disk → IsAcknowledged moments old → new.needs_reopen ≡ false
       → IsAcknowledged moments new

@@ -3,21 +3,22 @@ use Rattle.std.specs.Prelude.{◌≡◌, ◌⊎◌, ℕ, ◌++◌, false, ◌+�
 use Rattle.std.specs.List.{AllByRecursion}
 use Rattle.disk_model.specs.Disk.{Moments, EachImage, LeavesOnly}
 use Rattle.history_model.specs.History.{History, rows_at}
+use Rattle.history_model.specs.Brought.{brought_by, ImportReceiptOf}
 use Rattle.history_model.specs.declared.receipt.Receipt.{Receipt}
 use Rattle.import_check.specs.declared.release.Release.{Release}
 use Rattle.history_store.specs.declared.refusal.Refusal.{Refusal}
 use Rattle.history_store.specs.declared.refusal.Refusal.TheVariants as store
-use Rattle.history_store.specs.Stored.{Stored, IsAcknowledged}
+use Rattle.history_store.specs.StoreValue.{StoreValue, IsAcknowledged}
 use Rattle.history_store.specs.Answers.{IsImportOf, IsOpeningOf}
-use Rattle.line_commands.specs.Commands.{Command, Import}
+use Rattle.line_commands.specs.Commands.{Command, Import, Receipt as AskReceipt}
 use Rattle.line_commands.specs.Requests.{Asks}
 use Rattle.line_server.specs.declared.refusal.LineRefusal.{LineRefusal}
 use Rattle.line_server.specs.declared.refusal.LineRefusal.TheVariants as refusals
 use Rattle.line_server.specs.Pins.{pin_of}
 use Rattle.line_server.specs.Sources.{Releases}
-use Rattle.line_server.specs.Said.{Answer}
-use Rattle.line_server.specs.Replies.{Desk, Replies, Same, found, shown, desk}
-use Rattle.line_server.specs.Imports.{Imports, IsFront, TakesAll, StandsForSome, StandsForAll}
+use Rattle.line_server.specs.ReplyValue.{Answer, Done}
+use Rattle.line_server.specs.Replies.{Server, Replies, Same, found, shown, imports_seen, receipt_of, server}
+use Rattle.line_server.specs.Imports.{Imports, IsFront, TakesAll, RepresentsSome, RepresentsAll}
 use Rattle.line_server.specs.Turns.{Turn, IsTurn, Run, imported, failed_in, or_else}
 use Rattle.line_server.specs.Pinning.{IsPinnedTo, LeavesPin, StaysPinned}
 use Rattle.line_server.specs.Life.{Stage, IsStage, IsLife, AreKept, IsSubsequence, acknowledged}
@@ -35,7 +36,7 @@ AgreeUpTo pin h g = rows_at pin h.rows ≡ rows_at pin g.rows
 -- A query of a session is answered alike in two states in which the session
 -- looks at one number of imports, and the histories agree up to it.
 abbrev pub PinnedIsUndisturbed : (D : Type 0) → (D → Type 0) → Type 0
-PinnedIsUndisturbed D honest = (releases others : Releases) (a b after next : Desk D)
+PinnedIsUndisturbed D honest = (releases others : Releases) (a b after next : Server D)
     (line : List ℕ) (session pin : ℕ) (command : Command) (query : Answer)
     (one two : Result Answer LineRefusal)
     → honest a.store.disk → honest b.store.disk → a.store.needs_reopen ≡ false
@@ -48,16 +49,31 @@ PinnedIsUndisturbed D honest = (releases others : Releases) (a b after next : De
     → Replies (honest b.store.disk) others line two b next
     → IsSure one → IsSure two → one ≡ two
 
+-- the import brought the same rows
+abbrev pub BroughtAlike : ℕ → History → History → Type 0
+BroughtAlike number h g = brought_by number h.rows ≡ brought_by number g.rows
+
+-- A RECEIPT of a session is answered alike in two states in which the session
+-- looks at one number of imports, and the import brought the same rows.
+abbrev pub PinnedReceiptIsUndisturbed : (D : Type 0) → (D → Type 0) → Type 0
+PinnedReceiptIsUndisturbed D honest = (releases others : Releases) (a b after next : Server D)
+    (line : List ℕ) (session pin number : ℕ) (one two : Result Answer LineRefusal)
+    → a.store.needs_reopen ≡ b.store.needs_reopen → Asks line session (AskReceipt number)
+    → imports_seen a session ≡ pin → imports_seen b session ≡ pin
+    → BroughtAlike number a.store.history b.store.history
+    → Replies (honest a.store.disk) releases line one a after
+    → Replies (honest b.store.disk) others line two b next → one ≡ two
+
 -- what turns import, their run imports
 abbrev pub TurnsImport : (D : Type 0) → (D → Type 0) → (D → Moments) → (D → ℕ) → Type 0
-TurnsImport D honest moments failures = (has : Releases) (old new : Desk D) (turns : List Turn)
+TurnsImport D honest moments failures = (has : Releases) (old new : Server D) (turns : List Turn)
     → Run ⊥ has honest moments failures old turns new
     → Imports honest moments old.store new.store (imported turns) (failed_in turns)
 
 -- what is imported one after the other
 abbrev pub ImportsCompose : (D : Type 0) → (D → Type 0) → (D → Moments) → Type 0
 ImportsCompose D honest moments =
-    (a b c : Stored D) (releases others : List Release) (failed more : Option Release)
+    (a b c : StoreValue D) (releases others : List Release) (failed more : Option Release)
     → Imports honest moments a b releases failed → Imports honest moments b c others more
     → Imports honest moments a c (releases ++ others) (or_else failed more)
 
@@ -68,17 +84,17 @@ IsSureImport _ = Unit {0}
 
 -- a release is answered alike by stores that are alike, and leaves them alike
 abbrev pub OneImport : Type 0 → Type 0
-OneImport D = (release : Release) (result also : Result Receipt Refusal) (a b after next : Stored D)
-    → b.history ≡ a.history → b.shelf ≡ a.shelf → b.needs_reopen ≡ a.needs_reopen
-    → IsImportOf result a after release → IsImportOf also b next release → IsSureImport result
-    → IsSureImport also
-    → (result ≡ also) × (next.history ≡ after.history) × (next.shelf ≡ after.shelf)
+OneImport D = (release : Release) (result also : Result Receipt Refusal)
+    (a b after next : StoreValue D) → b.history ≡ a.history → b.catalog ≡ a.catalog
+    → b.needs_reopen ≡ a.needs_reopen → IsImportOf result a after release
+    → IsImportOf also b next release → IsSureImport result → IsSureImport also
+    → (result ≡ also) × (next.history ≡ after.history) × (next.catalog ≡ after.catalog)
     × (next.needs_reopen ≡ after.needs_reopen)
 
 -- A line has one reply at states that are alike, and leaves states that are alike.
 abbrev pub OneReply : (D : Type 0) → (D → Type 0) → Type 0
 OneReply D honest = (releases : Releases) (line : List ℕ) (one two : Result Answer LineRefusal)
-    (a b after next : Desk D)
+    (a b after next : Server D)
     → honest a.store.disk → honest b.store.disk → Same a b
     → Replies (honest a.store.disk) releases line one a after
     → Replies (honest b.store.disk) releases line two b next → IsSure one → IsSure two
@@ -90,14 +106,14 @@ OneReply D honest = (releases : Releases) (line : List ℕ) (one two : Result An
 -- device failed.
 abbrev pub AcknowledgedImportsStay : (D : Type 0) → (D → Type 0) → (D → Moments) → (D → ℕ) → Type 0
 AcknowledgedImportsStay D honest moments failures =
-    (has : Releases) (old mid new : Desk D) (turns : List Turn) (turn : Turn)
+    (has : Releases) (old mid new : Server D) (turns : List Turn) (turn : Turn)
     → honest old.store.disk → IsAcknowledged moments old.store → mid.store.needs_reopen ≡ false
     → Run ⊥ has honest moments failures old turns mid
     → IsTurn ⊥ has honest moments failures mid turn new
     → (after : History) × TakesAll old.store.history (imported turns) after
     × LeavesOnly (moments mid.store.disk) (moments new.store.disk)
-    (StandsForSome after turn.releases turn.failed)
-    × EachImage (moments new.store.disk).state (StandsForAll after turn.releases turn.failed)
+    (RepresentsSome after turn.releases turn.failed)
+    × EachImage (moments new.store.disk).state (RepresentsAll after turn.releases turn.failed)
 
 -- the history after the first so many of the releases, or
 -- after all and the one in whose import the device failed
@@ -109,7 +125,7 @@ TakesSome h releases failed after =
 -- a store is opened of the bytes with such a history, unless memory runs out or the device fails
 abbrev pub OpensWith : (D : Type 0) → History → List Release → Option Release → List ℕ → Type 0
 OpensWith D h releases failed bytes =
-    (result : Result (Stored D) (Refusal × D)) → IsOpeningOf result bytes
+    (result : Result (StoreValue D) (Refusal × D)) → IsOpeningOf result bytes
     → MatchResult result (λ s. TakesSome h releases failed s.history)
     (λ e. (e.0 ≡ store.OutOfMemory) ⊎ (e.0 ≡ store.DiskFault))
 
@@ -117,7 +133,7 @@ OpensWith D h releases failed bytes =
 abbrev pub AcknowledgedImportsAreOpened : (D : Type 0) → (D → Type 0) → (D → Moments) → (D → ℕ)
     → Type 0
 AcknowledgedImportsAreOpened D honest moments failures =
-    (has : Releases) (old mid new : Desk D) (turns : List Turn) (turn : Turn)
+    (has : Releases) (old mid new : Server D) (turns : List Turn) (turn : Turn)
     → honest old.store.disk → IsAcknowledged moments old.store → mid.store.needs_reopen ≡ false
     → Run ⊥ has honest moments failures old turns mid
     → IsTurn ⊥ has honest moments failures mid turn new
@@ -128,7 +144,7 @@ AcknowledgedImportsAreOpened D honest moments failures =
 -- an import that was answered OK is the one that its turn imported
 abbrev pub OkIsImported : (D : Type 0) → (D → Type 0) → (D → Moments) → (D → ℕ) → Type 0
 OkIsImported D honest moments failures =
-    (has : Releases) (old new : Desk D) (turn : Turn) (session : ℕ) (name : List ℕ)
+    (has : Releases) (old new : Server D) (turn : Turn) (session : ℕ) (name : List ℕ)
     (answer : Answer)
     → honest old.store.disk → Asks turn.line session (Import name) → turn.outcome ≡ Ok answer
     → IsTurn ⊥ has honest moments failures old turn new
@@ -137,14 +153,14 @@ OkIsImported D honest moments failures =
 -- a line that was refused imported nothing
 abbrev pub RefusedIsNotImported : (D : Type 0) → (D → Type 0) → (D → Moments) → (D → ℕ) → Type 0
 RefusedIsNotImported D honest moments failures =
-    (has : Releases) (old new : Desk D) (turn : Turn) (refusal : LineRefusal)
+    (has : Releases) (old new : Server D) (turn : Turn) (refusal : LineRefusal)
     → honest old.store.disk → turn.outcome ≡ Err refusal
     → IsTurn ⊥ has honest moments failures old turn new → turn.releases ≡ []
 
 -- and what a turn imported, its line asked for, and it was answered OK
 abbrev pub ImportedIsOk : (D : Type 0) → (D → Type 0) → (D → Moments) → (D → ℕ) → Type 0
 ImportedIsOk D honest moments failures =
-    (has : Releases) (old new : Desk D) (turn : Turn) (release : Release)
+    (has : Releases) (old new : Server D) (turn : Turn) (release : Release)
     → honest old.store.disk → turn.releases ≡ release ∷ []
     → IsTurn ⊥ has honest moments failures old turn new
     → (session : ℕ) × (name : List ℕ) × (answer : Answer) × Asks turn.line session (Import name)
@@ -154,7 +170,7 @@ ImportedIsOk D honest moments failures =
 abbrev pub RunNeedsNoSource : {D : Type 0} → Type 0 → Releases → (D → Type 0) → (D → Moments)
     → (D → ℕ) → Type 0
 RunNeedsNoSource {D} honest_source has honest moments failures =
-    (old new : Desk D) (turns : List Turn)
+    (old new : Server D) (turns : List Turn)
     → Run honest_source has honest moments failures old turns new
     → Run ⊥ has honest moments failures old turns new
 
@@ -164,11 +180,11 @@ RunNeedsNoSource {D} honest_source has honest moments failures =
 -- the stop cut off.
 abbrev pub EachLifeKeepsItsImports : (D : Type 0) → (D → Type 0) → (D → Moments) → (D → ℕ) → Type 0
 EachLifeKeepsItsImports D honest moments failures =
-    (has : Releases) (first last : Stored D) (life : List Stage) (pins : List (Option ℕ))
-    (turns : List Turn) (now : Desk D)
+    (has : Releases) (first last : StoreValue D) (life : List Stage) (pins : List (Option ℕ))
+    (turns : List Turn) (now : Server D)
     → honest first.disk → IsAcknowledged moments first
     → IsLife has honest moments failures first life last
-    → Run ⊥ has honest moments failures (desk pins last) turns now
+    → Run ⊥ has honest moments failures (server pins last) turns now
     → (releases : List Release) × AreKept life releases
     × TakesAll first.history (releases ++ imported turns) now.store.history
 
@@ -183,11 +199,11 @@ KeptAreAcknowledged = (life : List Stage) (releases : List Release) → AreKept 
 -- unless the opening runs out of memory or the device fails.
 abbrev pub EachLifeIsOpened : (D : Type 0) → (D → Type 0) → (D → Moments) → (D → ℕ) → Type 0
 EachLifeIsOpened D honest moments failures =
-    (has : Releases) (first last : Stored D) (life : List Stage) (pins : List (Option ℕ))
-    (stage : Stage) (bytes : List ℕ) (result : Result (Stored D) (Refusal × D))
+    (has : Releases) (first last : StoreValue D) (life : List Stage) (pins : List (Option ℕ))
+    (stage : Stage) (bytes : List ℕ) (result : Result (StoreValue D) (Refusal × D))
     → honest first.disk → IsAcknowledged moments first
     → IsLife has honest moments failures first life last
-    → IsStage has honest moments failures (desk pins last) stage bytes
+    → IsStage has honest moments failures (server pins last) stage bytes
     → IsOpeningOf result bytes
     → MatchResult result
     (λ s. (releases : List Release) × AreKept (life ++ stage ∷ []) releases
@@ -195,32 +211,44 @@ EachLifeIsOpened D honest moments failures =
     (λ e. (e.0 ≡ store.OutOfMemory) ⊎ (e.0 ≡ store.DiskFault))
 
 -- A session stays pinned while lines are answered none of which pins it or
--- unpins it, and the history stays as it was up to the pin.
+-- unpins it, and the history stays as it was up to the pin:
+-- the rows that the pin shows, and which of these each import brought.
 abbrev pub RunKeepsPin : (D : Type 0) → (D → Type 0) → (D → Moments) → (D → ℕ) → Type 0
 RunKeepsPin D honest moments failures =
-    (has : Releases) (old new : Desk D) (turns : List Turn) (session pin : ℕ)
+    (has : Releases) (old new : Server D) (turns : List Turn) (session pin : ℕ)
     → honest old.store.disk → IsAcknowledged moments old.store → IsPinnedTo old session pin
     → Run ⊥ has honest moments failures old turns new → AllByRecursion (LeavesPin session) turns
     → (slice_index_or new.pins session None ≡ Some pin)
     × AgreeUpTo pin new.store.history old.store.history
+    × ((number : ℕ) → number ≤ pin → BroughtAlike number new.store.history old.store.history)
 
 -- As long as it stays pinned, each query of it is
 -- answered by what stood at the pin in the beginning.
 abbrev pub PinnedSeesItsImports : (D : Type 0) → (D → Type 0) → (D → Moments) → (D → ℕ) → Type 0
 PinnedSeesItsImports D honest moments failures =
-    (has : Releases) (session pin : ℕ) (start : Desk D) (turns : List Turn) (turn : Turn)
+    (has : Releases) (session pin : ℕ) (start : Server D) (turns : List Turn) (turn : Turn)
     (command : Command) (query : Answer)
     → StaysPinned has honest moments failures session pin start turns turn
     → Asks turn.line session command
     → found command (rows_at pin start.store.history.rows) ≡ Some query
     → IsSure turn.outcome → turn.outcome ≡ Ok query
 
+-- and a RECEIPT of it by what was so of the import then, if the pin shows that import
+abbrev pub PinnedSeesItsReceipts : (D : Type 0) → (D → Type 0) → (D → Moments) → (D → ℕ) → Type 0
+PinnedSeesItsReceipts D honest moments failures =
+    (has : Releases) (session pin number brought : ℕ) (latest : Option ℕ)
+    (start : Server D) (turns : List Turn) (turn : Turn)
+    → StaysPinned has honest moments failures session pin start turns turn
+    → Asks turn.line session (AskReceipt number) → number ≤ pin
+    → ImportReceiptOf start.store.history number brought latest
+    → turn.outcome ≡ Ok (Done (receipt_of number brought latest))
+
 -- So in any two runs from histories that agree up to the pin
 -- it is answered alike, whatever the other sessions do.
 abbrev pub PinnedRunsAreUndisturbed : (D : Type 0) → (D → Type 0) → (D → Moments) → (D → ℕ)
     → Type 0
 PinnedRunsAreUndisturbed D honest moments failures =
-    (has others : Releases) (session pin : ℕ) (a b : Desk D) (before also : List Turn)
+    (has others : Releases) (session pin : ℕ) (a b : Server D) (before also : List Turn)
     (one two : Turn) (command : Command) (query : Answer)
     → StaysPinned has honest moments failures session pin a before one
     → StaysPinned others honest moments failures session pin b also two
@@ -228,3 +256,15 @@ PinnedRunsAreUndisturbed D honest moments failures =
     → one.line ≡ two.line → Asks one.line session command
     → found command (rows_at pin a.store.history.rows) ≡ Some query
     → IsSure one.outcome → IsSure two.outcome → one.outcome ≡ two.outcome
+
+-- and so are its RECEIPTs, where the import brought the same rows
+abbrev pub PinnedReceiptsAreUndisturbed : (D : Type 0) → (D → Type 0) → (D → Moments) → (D → ℕ)
+    → Type 0
+PinnedReceiptsAreUndisturbed D honest moments failures =
+    (has others : Releases) (session pin number : ℕ) (a b : Server D) (before also : List Turn)
+    (one two : Turn)
+    → StaysPinned has honest moments failures session pin a before one
+    → StaysPinned others honest moments failures session pin b also two
+    → BroughtAlike number a.store.history b.store.history
+    → one.line ≡ two.line → Asks one.line session (AskReceipt number)
+    → one.outcome ≡ two.outcome

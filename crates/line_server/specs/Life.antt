@@ -3,10 +3,10 @@ use Rattle.std.specs.Prelude.{◌≡◌, ◌⊎◌, ℕ, ◌≤◌, List, [], �
 use Rattle.std.specs.List.{Contains, flat_map}
 use Rattle.disk_model.specs.Disk.{DiskState, IsImage, EachImage, Moments, LeavesOnly}
 use Rattle.import_check.specs.declared.release.Release.{Release}
-use Rattle.history_store.specs.Stored.{Stored, IsAcknowledged}
+use Rattle.history_store.specs.StoreValue.{StoreValue, IsAcknowledged}
 use Rattle.history_store.specs.Answers.{IsOpeningOf}
 use Rattle.line_server.specs.Sources.{Releases}
-use Rattle.line_server.specs.Replies.{Desk, desk}
+use Rattle.line_server.specs.Replies.{Server, server}
 use Rattle.line_server.specs.Turns.{Turn, Run, imported, failed_in}
 
 -- ---- stops
@@ -30,9 +30,9 @@ pub record Stage : Type 0 where
 -- a store answers the lines of a stage, and the stop leaves these bytes: it came
 -- after the lines that were answered, and before the end of the one that it cut off
 pub record IsStage {D : Type 0} (has : Releases) (honest : D → Type 0) (moments : D → Moments)
-    (failures : D → ℕ) (first : Desk D) (stage : Stage) (bytes : List ℕ) : Type 0 where
-  pub mid : Desk D
-  pub end : Desk D
+    (failures : D → ℕ) (first : Server D) (stage : Stage) (bytes : List ℕ) : Type 0 where
+  pub mid : Server D
+  pub end : Server D
   pub answered : Run ⊥ has honest moments failures first stage.answered mid
   pub cut_off : Run ⊥ has honest moments failures mid stage.cut_off end
   pub one : length stage.cut_off ≤ 1
@@ -42,7 +42,7 @@ pub record IsStage {D : Type 0} (has : Releases) (honest : D → Type 0) (moment
 
 -- the store was opened from an honest device, of which a read gave these bytes
 pub record IsOpenedFrom {D : Type 0} (honest : D → Type 0) (moments : D → Moments) (bytes : List ℕ)
-    (device : D) (s : Stored D) : Type 0 where
+    (device : D) (s : StoreValue D) : Type 0 where
   pub is_honest : honest device
   pub read : (moments device).state.now ≡ bytes
   pub exact : IsOpeningOf (Ok s) (moments device).state.now
@@ -63,7 +63,7 @@ pub record OpeningLeaves {D : Type 0} (honest : D → Type 0) (moments : D → M
 -- A store was opened from the bytes, perhaps after openings that were refused or that
 -- a stop ended. Of each of those the device is named as it was before and after.
 abbrev pub IsReopened : {D : Type 0} → (D → Type 0) → (D → Moments) → List ℕ → List (D × D)
-    → Stored D → Type 0
+    → StoreValue D → Type 0
 IsReopened {D} honest moments bytes [] s =
     (device : D) × IsOpenedFrom honest moments bytes device s
 IsReopened {D} honest moments bytes (opening ∷ more) s =
@@ -74,12 +74,12 @@ IsReopened {D} honest moments bytes (opening ∷ more) s =
 
 -- The stages of a store's life, one after the other: each ends in a stop, and the store is
 -- opened again from the bytes that the stop left. Each may begin with any pins.
-abbrev pub IsLife : {D : Type 0} → Releases → (D → Type 0) → (D → Moments) → (D → ℕ) → Stored D
-    → List Stage → Stored D → Type 0
+abbrev pub IsLife : {D : Type 0} → Releases → (D → Type 0) → (D → Moments) → (D → ℕ) → StoreValue D
+    → List Stage → StoreValue D → Type 0
 IsLife {D} has honest moments failures first [] last = last ≡ first
 IsLife {D} has honest moments failures first (stage ∷ stages) last =
-    (pins : List (Option ℕ)) × (bytes : List ℕ) × (openings : List (D × D)) × (next : Stored D)
-    × IsStage has honest moments failures (desk pins first) stage bytes
+    (pins : List (Option ℕ)) × (bytes : List ℕ) × (openings : List (D × D)) × (next : StoreValue D)
+    × IsStage has honest moments failures (server pins first) stage bytes
     × IsReopened honest moments bytes openings next
     × IsLife has honest moments failures next stages last
 

@@ -1,61 +1,68 @@
 -- When a line is answered so, and what comes after.
 use Rattle.std.specs.Prelude.{◌≡◌, ◌≢◌, ℕ, ◌≤◌, ◌<◌, ◌⊎◌, true, false, List, [], ◌∷◌, length, codes, decimal, slice_set, option_map, Option, Some, None, Result, Ok, Err}
-use Rattle.rf2_values.specs.Row.{Version}
+use Rattle.rf2_values.specs.Row.{RowValue}
 use Rattle.history_model.specs.declared.receipt.Receipt.{Receipt}
 use Rattle.history_model.specs.History.{rows_at}
-use Rattle.history_model.specs.Queries.{lookup, versions, page, terms, children, replacements}
+use Rattle.history_model.specs.Brought.{ImportReceiptOf}
+use Rattle.history_model.specs.Queries.{get, versions, page, terms, search_terms, children, replacements, about}
 use Rattle.import_check.specs.declared.release.Release.{Release}
 use Rattle.history_store.specs.declared.refusal.Refusal.{Refusal}
 use Rattle.history_store.specs.declared.refusal.Refusal.TheVariants as store
-use Rattle.history_store.specs.Shelf.{Merge as ShelfMerge}
-use Rattle.history_store.specs.Stored.{Stored}
-use Rattle.history_store.specs.Answers.{IsImportOf, IsImportAtAll, IsReadRefusal, IsRefused}
+use Rattle.history_store.specs.Catalog.{Merge as CatalogMerge}
+use Rattle.history_store.specs.StoreValue.{StoreValue}
+use Rattle.history_store.specs.Answers.{IsImportOf, IsImportOnAnyDisk, IsReadRefusal, IsRefused}
 use Rattle.history_store.specs.MergeAnswers.{IsBeginningOf, IsSteppingOf, IsPublishingOf, IsAbandoningOf, IsTrimmingOf}
 use Rattle.line_commands.specs.declared.unread.Unread.{Unread}
-use Rattle.line_commands.specs.Commands.{Command, Import, Get, History, Children, Terms, Replaced, Page, Pin, Unpin, Merge, Step, Publish, Abandon, Trim, Status}
+use Rattle.line_commands.specs.Commands.{Command, Import, Get, History, Children, Terms, Search, Replaced, About, Page, Receipt as AskReceipt, Pin, Unpin, Merge, Step, Publish, Abandon, Trim, Status}
 use Rattle.line_commands.specs.Requests.{Asks, IsUnread}
 use Rattle.line_server.specs.declared.refusal.LineRefusal.{LineRefusal}
 use Rattle.line_server.specs.declared.refusal.LineRefusal.TheVariants as refusals
 use Rattle.line_server.specs.Pins.{pin_of}
 use Rattle.line_server.specs.Sources.{Releases, files_of}
-use Rattle.line_server.specs.Said.{Answer, Rows, Ids, Done}
+use Rattle.line_server.specs.ReplyValue.{Answer, Rows, Ids, Done}
 
 -- what a reply rests on: what sessions are pinned to, and the store
-pub record Desk (D : Type 0) : Type 0 where
+pub record Server (D : Type 0) : Type 0 where
   pub pins : List (Option ℕ)
-  pub store : Stored D
+  pub store : StoreValue D
 
-abbrev pub desk : {D : Type 0} → List (Option ℕ) → Stored D → Desk D
-desk pins store = record { pins = pins; store = store }
+abbrev pub server : {D : Type 0} → List (Option ℕ) → StoreValue D → Server D
+server pins store = record { pins = pins; store = store }
 
 -- the store is as before, but perhaps for its device
-pub record SameStore {D : Type 0} (old new : Stored D) : Type 0 where
+pub record SameStore {D : Type 0} (old new : StoreValue D) : Type 0 where
   pub history : new.history ≡ old.history
-  pub shelf : new.shelf ≡ old.shelf
+  pub catalog : new.catalog ≡ old.catalog
   pub needs_reopen : new.needs_reopen ≡ old.needs_reopen
 
-pub record Same {D : Type 0} (old new : Desk D) : Type 0 where
+pub record Same {D : Type 0} (old new : Server D) : Type 0 where
   pub pins : new.pins ≡ old.pins
   pub store : SameStore old.store new.store
 
 -- ---- what is answered
 
--- the rows that a session sees
-abbrev pub shown : {D : Type 0} → Desk D → ℕ → List Version
-shown desk session =
-    rows_at (pin_of desk.pins session desk.store.history.imports) desk.store.history.rows
+-- how many imports a session sees
+abbrev pub imports_seen : {D : Type 0} → Server D → ℕ → ℕ
+imports_seen server session = pin_of server.pins session server.store.history.imports
 
-abbrev pub found_row : Option Version → List Version
+-- the rows that a session sees
+abbrev pub shown : {D : Type 0} → Server D → ℕ → List RowValue
+shown server session = rows_at (imports_seen server session) server.store.history.rows
+
+abbrev pub found_row : Option RowValue → List RowValue
 found_row None = []
 found_row (Some row) = row ∷ []
 
--- what a query finds in the rows that are shown; the other commands are no queries
-abbrev pub found : Command → List Version → Option Answer
-found (Get kind id date) rows = Some (Rows (found_row (lookup kind id date rows)))
+-- what a query finds in the rows that are shown; the other commands ask for none of them
+abbrev pub found : Command → List RowValue → Option Answer
+found (Get kind id date) rows = Some (Rows (found_row (get kind id date rows)))
 found (History kind id) rows = Some (Rows (versions kind id rows))
 found (Children concept date) rows = Some (Ids (children concept date rows))
 found (Terms date limit prefix) rows = Some (Rows (terms prefix date limit rows))
+found (Search date after limit prefix) rows =
+    Some (Rows (search_terms prefix date after limit rows))
 found (Replaced id date) rows = Some (Rows (replacements id date rows))
+found (About kind id date) rows = Some (Rows (about kind id date rows))
 found (Page kind date after limit) rows = Some (Rows (page kind date after limit rows))
 found _ rows = None
 
@@ -63,21 +70,21 @@ found _ rows = None
 -- Identifiers are found without the disk.
 abbrev pub IsFinding : Type 0 → Option Answer → Answer → Type 0
 IsFinding honest (Some (Rows rows)) answer =
-    (given : List Version) × (answer ≡ Rows given) × (honest → given ≡ rows)
+    (given : List RowValue) × (answer ≡ Rows given) × (honest → given ≡ rows)
 IsFinding honest (Some (Ids ids)) answer = answer ≡ Ids ids
 IsFinding honest _ answer = ⊥
 
 -- a session is pinned, or unpinned; the store and its disk are as before
-abbrev pub IsPinned : {D : Type 0} → Desk D → Desk D → ℕ → Option ℕ → Type 0
-IsPinned old new session pin = new ≡ desk (slice_set old.pins session pin) old.store
+abbrev pub IsPinned : {D : Type 0} → Server D → Server D → ℕ → Option ℕ → Type 0
+IsPinned old new session pin = new ≡ server (slice_set old.pins session pin) old.store
 
 -- An import answered this, for the release under the name: on every
 -- disk as far as files and counts go, and on an honest disk altogether.
 pub record IsImported {D : Type 0} (honest : Type 0) (releases : Releases) (name : List ℕ)
-    (result : Result Receipt Refusal) (old new : Desk D) : Type 0 where
+    (result : Result Receipt Refusal) (old new : Server D) : Type 0 where
   pub release : Release
   pub has : releases name ≡ Some (files_of release)
-  pub at_all : IsImportAtAll result old.store new.store release
+  pub at_all : IsImportOnAnyDisk result old.store new.store release
   pub imported : honest → IsImportOf result old.store new.store release
   pub pins : new.pins ≡ old.pins
 
@@ -86,16 +93,33 @@ number_or_none None = codes "-"
 number_or_none (Some n) = decimal n
 
 -- how many rows are left to the merge that goes on
-abbrev pub left_of : Option ShelfMerge → List ℕ
+abbrev pub left_of : Option CatalogMerge → List ℕ
 left_of merge = number_or_none (option_map (λ m. m.left) merge)
 
 -- the number of imports, of rows and of segments, and what is left to a merge
-abbrev pub status_of : {D : Type 0} → Stored D → List (List ℕ)
+abbrev pub status_of : {D : Type 0} → StoreValue D → List (List ℕ)
 status_of s = decimal s.history.imports ∷ decimal (length s.history.rows)
-    ∷ decimal (length s.shelf.entries) ∷ left_of s.shelf.merge ∷ []
+    ∷ decimal (length s.catalog.entries) ∷ left_of s.catalog.merge ∷ []
+
+-- what is said of an import: its number, how many rows it brought,
+-- and their greatest effective time, if it brought any
+abbrev pub receipt_of : ℕ → ℕ → Option ℕ → List (List ℕ)
+receipt_of number brought latest =
+    decimal number ∷ decimal brought ∷ number_or_none latest ∷ []
+
+-- An import that the session sees brought so many rows; nothing changes.
+pub record IsReceived {D : Type 0} (session number : ℕ) (answer : Answer) (old new : Server D)
+    : Type 0 where
+  pub open_still : old.store.needs_reopen ≡ false
+  pub seen : number ≤ imports_seen old session
+  pub brought : ℕ
+  pub latest : Option ℕ
+  pub receipt : ImportReceiptOf old.store.history number brought latest
+  pub answer_is : answer ≡ Done (receipt_of number brought latest)
+  pub unchanged : new ≡ old
 
 -- when a command is answered, and what comes after
-abbrev pub IsAnswer : {D : Type 0} → Type 0 → Releases → ℕ → Command → Answer → Desk D → Desk D
+abbrev pub IsAnswer : {D : Type 0} → Type 0 → Releases → ℕ → Command → Answer → Server D → Server D
     → Type 0
 IsAnswer honest releases session (Import name) answer old new =
     (receipt : Receipt) × IsImported honest releases name (Ok receipt) old new
@@ -124,6 +148,8 @@ IsAnswer honest releases session Trim answer old new =
     × (answer ≡ Done [])
 IsAnswer honest releases session Status answer old new =
     (old.store.needs_reopen ≡ false) × (new ≡ old) × (answer ≡ Done (status_of old.store))
+IsAnswer honest releases session (AskReceipt number) answer old new =
+    IsReceived session number answer old new
 IsAnswer honest releases session command answer old new =
     (old.store.needs_reopen ≡ false) × Same old new
     × IsFinding honest (found command (shown old session)) answer
@@ -131,18 +157,18 @@ IsAnswer honest releases session command answer old new =
 -- ---- what is refused
 
 -- the store has to be opened again
-abbrev pub IsClosed : {D : Type 0} → Refusal → Desk D → Desk D → Type 0
+abbrev pub IsClosed : {D : Type 0} → Refusal → Server D → Server D → Type 0
 IsClosed refusal old new =
     (refusal ≡ store.ReopenNeeded) × (old.store.needs_reopen ≡ true) × (new ≡ old)
 
 -- memory ran out
-abbrev pub IsLacking : {D : Type 0} → Refusal → Desk D → Desk D → Type 0
+abbrev pub IsLacking : {D : Type 0} → Refusal → Server D → Server D → Type 0
 IsLacking refusal old new =
     (refusal ≡ store.OutOfMemory) × (old.store.needs_reopen ≡ false) × Same old new
 
 -- A query is refused as a call is that reads. On an honest disk nothing is damaged.
 pub record IsUnfound {D : Type 0} (honest : Type 0) (refusal : Refusal)
-    (old new : Desk D) : Type 0 where
+    (old new : Server D) : Type 0 where
   pub cause : IsReadRefusal refusal old.store
   pub refused : IsRefused refusal old.store new.store
   pub undamaged : honest → refusal ≢ store.Damaged
@@ -150,53 +176,63 @@ pub record IsUnfound {D : Type 0} (honest : Type 0) (refusal : Refusal)
 
 -- When a command is refused as the store refuses. Of an import the source is asked first,
 -- and memory may lack there too. On an honest disk no step of a merge finds damage.
-abbrev pub IsStoreRefusal : {D : Type 0} → Type 0 → Releases → Command → Refusal → Desk D → Desk D
-    → Type 0
-IsStoreRefusal honest releases (Import name) store.OutOfMemory old new = Same old new
-IsStoreRefusal honest releases (Import name) refusal old new =
+abbrev pub IsStoreRefusal : {D : Type 0} → Type 0 → Releases → ℕ → Command → Refusal → Server D
+    → Server D → Type 0
+IsStoreRefusal honest releases session (Import name) store.OutOfMemory old new = Same old new
+IsStoreRefusal honest releases session (Import name) refusal old new =
     IsImported honest releases name (Err refusal) old new
-IsStoreRefusal honest releases (Pin number) refusal old new = ⊥
-IsStoreRefusal honest releases Unpin refusal old new = ⊥
-IsStoreRefusal honest releases Merge refusal old new =
+IsStoreRefusal honest releases session (Pin number) refusal old new = ⊥
+IsStoreRefusal honest releases session Unpin refusal old new = ⊥
+IsStoreRefusal honest releases session Merge refusal old new =
     IsBeginningOf (Err refusal) old.store new.store × (new.pins ≡ old.pins)
-IsStoreRefusal honest releases (Step rows) refusal old new =
+IsStoreRefusal honest releases session (Step rows) refusal old new =
     IsSteppingOf (Err refusal) old.store new.store rows × (honest → refusal ≢ store.Damaged)
     × (new.pins ≡ old.pins)
-IsStoreRefusal honest releases Publish refusal old new =
+IsStoreRefusal honest releases session Publish refusal old new =
     IsPublishingOf (Err refusal) old.store new.store × (new.pins ≡ old.pins)
-IsStoreRefusal honest releases Abandon refusal old new =
+IsStoreRefusal honest releases session Abandon refusal old new =
     IsAbandoningOf (Err refusal) old.store new.store × (new.pins ≡ old.pins)
-IsStoreRefusal honest releases Trim refusal old new =
+IsStoreRefusal honest releases session Trim refusal old new =
     IsTrimmingOf (Err refusal) old.store new.store × (new.pins ≡ old.pins)
-IsStoreRefusal honest releases Status refusal old new = IsClosed refusal old new
-IsStoreRefusal honest releases (Children concept date) refusal old new =
+IsStoreRefusal honest releases session Status refusal old new = IsClosed refusal old new
+IsStoreRefusal honest releases session (AskReceipt number) refusal old new =
+    (number ≤ imports_seen old session) × IsClosed refusal old new
+IsStoreRefusal honest releases session (Children concept date) refusal old new =
     IsClosed refusal old new ⊎ IsLacking refusal old new
-IsStoreRefusal honest releases command refusal old new = IsUnfound honest refusal old new
+IsStoreRefusal honest releases session command refusal old new = IsUnfound honest refusal old new
+
+-- No import has the number: the store has fewer than are to be pinned,
+-- or the session sees fewer than the one whose receipt is asked.
+abbrev pub IsOutOfRange : {D : Type 0} → ℕ → Command → Server D → Type 0
+IsOutOfRange session command old =
+    (number : ℕ)
+    × (((command ≡ Pin (Some number)) × (old.store.history.imports < number))
+    ⊎ ((command ≡ AskReceipt number) × (imports_seen old session < number)))
 
 -- when a command is refused, and what comes after
-abbrev pub IsRefusal : {D : Type 0} → Type 0 → Releases → Command → LineRefusal → Desk D → Desk D
-    → Type 0
-IsRefusal honest releases command (refusals.Unread reason) old new = ⊥
-IsRefusal honest releases command refusals.PinRange old new = (number : ℕ)
-    × (command ≡ Pin (Some number)) × (old.store.history.imports < number) × (new ≡ old)
-IsRefusal honest releases command refusals.NoFolder old new =
+abbrev pub IsRefusal : {D : Type 0} → Type 0 → Releases → ℕ → Command → LineRefusal → Server D
+    → Server D → Type 0
+IsRefusal honest releases session command (refusals.Unread reason) old new = ⊥
+IsRefusal honest releases session command refusals.PinRange old new =
+    IsOutOfRange session command old × (new ≡ old)
+IsRefusal honest releases session command refusals.NoFolder old new =
     (name : List ℕ) × (command ≡ Import name) × (releases name ≡ None) × (new ≡ old)
-IsRefusal honest releases command (refusals.Store refusal) old new =
-    IsStoreRefusal honest releases command refusal old new
+IsRefusal honest releases session command (refusals.Store refusal) old new =
+    IsStoreRefusal honest releases session command refusal old new
 
 -- The command comes out so. `ERR 1` and `ERR 2` show that memory lacked or the device failed;
 -- where neither is said, there is one outcome on an honest disk.
 abbrev pub IsOutcome : {D : Type 0} → Type 0 → Releases → ℕ → Command → Result Answer LineRefusal
-    → Desk D → Desk D → Type 0
+    → Server D → Server D → Type 0
 IsOutcome honest releases session command (Ok answer) old new =
     IsAnswer honest releases session command answer old new
 IsOutcome honest releases session command (Err refusal) old new =
-    IsRefusal honest releases command refusal old new
+    IsRefusal honest releases session command refusal old new
 
 -- A line that asks something is answered as its command comes out. Of any
 -- other the first reason is said why it asks nothing, and nothing changes.
-abbrev pub Replies : {D : Type 0} → Type 0 → Releases → List ℕ → Result Answer LineRefusal → Desk D
-    → Desk D → Type 0
+abbrev pub Replies : {D : Type 0} → Type 0 → Releases → List ℕ → Result Answer LineRefusal
+    → Server D → Server D → Type 0
 Replies honest releases text outcome old new =
     ((session : ℕ) × (command : Command) × Asks text session command
     × IsOutcome honest releases session command outcome old new)

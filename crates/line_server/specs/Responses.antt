@@ -3,15 +3,19 @@ use Rattle.std.specs.Prelude.{◌≡◌, ℕ, ◌≤◌, List, length, Option, S
 use Rattle.std.specs.List.{AllByRecursion}
 use Rattle.disk_model.specs.Disk.{Moments}
 use Rattle.import_check.specs.declared.release.Release.{Release}
-use Rattle.history_store.specs.Stored.{Stored}
-use Rattle.line_commands.specs.Commands.{Command, Import}
+use Rattle.history_store.specs.StoreValue.{StoreValue}
+use Rattle.line_commands.specs.Commands.{Command, Import, SpellsArguments}
 use Rattle.line_server.specs.declared.refusal.LineRefusal.{LineRefusal}
 use Rattle.line_server.specs.Pins.{pin_of}
 use Rattle.line_server.specs.Sources.{Releases, files_of}
-use Rattle.line_server.specs.Said.{Answer, Said, said}
-use Rattle.line_server.specs.Replies.{Desk, IsOutcome, desk}
+use Rattle.line_server.specs.ReplyValue.{Answer, ReplyValue, reply_value}
+use Rattle.line_server.specs.Replies.{Server, IsOutcome, server}
 use Rattle.line_server.specs.Imports.{Imports}
 use Rattle.line_server.specs.Turns.{CountsOutcome, LeavesDisk}
+
+-- some line asks the command
+abbrev pub CanBeAsked : Command → Type 0
+CanBeAsked command = (arguments : List (List ℕ)) × SpellsArguments command arguments
 
 -- the release is the one that the command asks to import
 abbrev pub IsNamed : Releases → Command → Release → Type 0
@@ -21,21 +25,21 @@ IsNamed releases command release =
 -- the command comes out so, as these releases have it
 pub record ComesOut {D : Type 0} (honest : Type 0) (releases : Releases) (session : ℕ)
     (command : Command) (outcome : Result Answer LineRefusal) (taken : List Release)
-    (failed : Option Release) (old new : Desk D) : Type 0 where
+    (failed : Option Release) (old new : Server D) : Type 0 where
   pub outcome_is : IsOutcome honest releases session command outcome old new
   pub imported : AllByRecursion (IsNamed releases command) taken
   pub failed_is : IfSome failed (IsNamed releases command)
 
 -- the reply, or the refusal, says what came out
-abbrev pub IsToldBy : Result Said LineRefusal → Result Answer LineRefusal → Type 0
-IsToldBy (Ok reply) outcome = reply ≡ said outcome
+abbrev pub IsToldBy : Result ReplyValue LineRefusal → Result Answer LineRefusal → Type 0
+IsToldBy (Ok reply) outcome = reply ≡ reply_value outcome
 IsToldBy (Err refusal) outcome = outcome ≡ Err refusal
 
 -- A command was carried out: as some source's releases have
 -- it, and where the source is honest, as its own have it.
-pub record IsResponse {D : Type 0} (result : Result Said LineRefusal) (honest_source : Type 0)
+pub record IsResponse {D : Type 0} (result : Result ReplyValue LineRefusal) (honest_source : Type 0)
     (has : Releases) (honest : D → Type 0) (moments : D → Moments) (failures : D → ℕ) (session : ℕ)
-    (command : Command) (old new : Desk D) : Type 0 where
+    (command : Command) (old new : Server D) : Type 0 where
   pub outcome : Result Answer LineRefusal
   pub taken : List Release
   pub failed : Option Release
@@ -51,18 +55,18 @@ pub record IsResponse {D : Type 0} (result : Result Said LineRefusal) (honest_so
   pub grows : old.store.history.imports ≤ new.store.history.imports
 
 -- whatever the source has, and whoever asks
-abbrev pub IsCarriedOut : {D : Type 0} → Result Said LineRefusal → (D → Type 0) → (D → Moments)
-    → (D → ℕ) → Command → Stored D → Stored D → Type 0
+abbrev pub IsCarriedOut : {D : Type 0} → Result ReplyValue LineRefusal → (D → Type 0)
+    → (D → Moments) → (D → ℕ) → Command → StoreValue D → StoreValue D → Type 0
 IsCarriedOut result honest moments failures command old new =
     (has : Releases) (session : ℕ) (pins : List (Option ℕ))
-    → IsResponse result (Unit {0}) has honest moments failures session command (desk pins old)
-    (desk pins new)
+    → IsResponse result (Unit {0}) has honest moments failures session command (server pins old)
+    (server pins new)
 
 -- to a session that looks at so many imports
-abbrev pub IsQueried : {D : Type 0} → Result Said LineRefusal → (D → Type 0) → (D → Moments)
-    → (D → ℕ) → Command → ℕ → Stored D → Stored D → Type 0
+abbrev pub IsQueried : {D : Type 0} → Result ReplyValue LineRefusal → (D → Type 0) → (D → Moments)
+    → (D → ℕ) → Command → ℕ → StoreValue D → StoreValue D → Type 0
 IsQueried result honest moments failures command pin old new =
     (has : Releases) (session : ℕ) (pins : List (Option ℕ))
     → pin_of pins session old.history.imports ≡ pin
-    → IsResponse result (Unit {0}) has honest moments failures session command (desk pins old)
-    (desk pins new)
+    → IsResponse result (Unit {0}) has honest moments failures session command (server pins old)
+    (server pins new)

@@ -1,18 +1,19 @@
 -- What serving lines does.
-use Rattle.std.specs.Prelude.{◌≡◌, ◌^◌, ◌*◌, ◌-◌, ◌<◌, ◌≤◌, ℕ, List, [], ◌∷◌, ◌++◌, length, min, Option, IfSome, Result, Ok, Err}
+use Rattle.std.specs.Prelude.{◌≡◌, ◌^◌, ◌*◌, ◌-◌, ◌<◌, ◌≤◌, ℕ, List, [], ◌∷◌, ◌++◌, length, min, All, Option, IfSome, Result, Ok, Err}
 use Rattle.std.specs.Io.KnownBytes.{Appends, Consumes, IsAtEnd}
 use Rattle.disk_model.specs.Disk.{Moments}
 use Rattle.rf2_rows.specs.File.{lines_in}
-use Rattle.history_store.specs.Stored.{Stored}
+use Rattle.history_store.specs.StoreValue.{StoreValue}
 use Rattle.line_server.specs.declared.serving.ServeFault.{ServeFault}
 use Rattle.line_server.specs.declared.serving.ServeFault.TheVariants as faults
 use Rattle.line_server.specs.Sources.{Releases}
-use Rattle.line_server.specs.Said.{said, bytes_of}
+use Rattle.line_server.specs.ReplyValue.{reply_value, bytes_of}
 use Rattle.line_server.specs.Pins.{unpinned}
-use Rattle.line_server.specs.Replies.{desk}
+use Rattle.line_server.specs.Replies.{server}
 use Rattle.line_server.specs.Imports.{IsFront, Imports}
 use Rattle.line_server.specs.Turns.{Turn, Run, lines_asked, replies, imported, failed_in}
 use Rattle.line_server.specs.Streams.{ends_in, AppendsSome}
+use Rattle.line_server.specs.Reads.{Reading, Gave, Failed, all_of, IsPiece, Makes}
 
 -- after Ok the lines of the input, and after a fault the first of them
 abbrev pub AreLines : Result ℕ ServeFault → List (List ℕ) → List ℕ → Type 0
@@ -44,7 +45,7 @@ IsRead (Err faults.Reads) most came rest answered = (answered ≡ ends_in came) 
 abbrev pub IsWritten : Result ℕ ServeFault → Option (List ℕ) → Option (List ℕ) → List Turn → Type 0
 IsWritten (Err faults.Write) old new turns =
     (done : List Turn) × (last : Turn) × (mid : Option (List ℕ)) × (turns ≡ done ++ last ∷ [])
-    × Appends old mid (replies done) × AppendsSome mid new (bytes_of (said last.outcome))
+    × Appends old mid (replies done) × AppendsSome mid new (bytes_of (reply_value last.outcome))
 IsWritten result old new turns = Appends old new (replies turns)
 
 abbrev pub IsCount : Result ℕ ServeFault → ℕ → Type 0
@@ -55,11 +56,11 @@ IsCount (Err fault) answered = Unit {0}
 -- known, they are its lines; where the output is known, their replies were written.
 pub record IsServed {D : Type 0} (result : Result ℕ ServeFault) (most : ℕ) (honest_source : Type 0)
     (has : Releases) (honest : D → Type 0) (moments : D → Moments) (failures : D → ℕ)
-    (input rest old new : Option (List ℕ)) (before after : Stored D) : Type 0 where
+    (input rest old new : Option (List ℕ)) (before after : StoreValue D) : Type 0 where
   pub turns : List Turn
   pub pins : List (Option ℕ)
-  pub run : Run honest_source has honest moments failures (desk unpinned before) turns
-      (desk pins after)
+  pub run : Run honest_source has honest moments failures (server unpinned before) turns
+      (server pins after)
   pub lines : IfSome input (AreLines result (lines_asked turns))
   -- no read is of more than 4,096 bytes
   pub read : (came : List ℕ) × Consumes input rest came
@@ -69,3 +70,41 @@ pub record IsServed {D : Type 0} (result : Result ℕ ServeFault) (most : ℕ) (
   -- a stop at any moment leaves the history from before with
   -- the first so many of the releases that the lines imported
   pub imports : Imports honest moments before after (imported turns) (failed_in turns)
+
+-- pieces of the input were read, and then once more, which gave this
+abbrev pub PiecesThen : Reading → List Reading → Type 0
+PiecesThen last reads =
+    (pieces : List Reading) × All IsPiece pieces × (reads ≡ pieces ++ last ∷ [])
+
+-- Pieces of the input were read, and then once more. Before that last read fewer lines had ended
+-- than were answered: the last line that was answered ended in it, by LF or as the input did.
+abbrev pub AreReadToLine : ℕ → List Reading → Type 0
+AreReadToLine answered reads =
+    (pieces : List Reading) × (last : List ℕ) × All IsPiece pieces × (length last ≤ 4096)
+    × (reads ≡ pieces ++ Gave last ∷ []) × (ends_in (all_of pieces) < answered)
+
+-- The reads that were made. Each but the last gave a piece. After Ok the last one gave the end of
+-- the input, and after a fault of the reader it failed. After a fault of the writer the line whose
+-- reply wasn't written ended in the last read: whatever a writer does, no read is made before the
+-- replies to what came. After too many reads there are as many as are allowed, and each gave a
+-- piece. Without memory there is none.
+abbrev pub AreReads : Result ℕ ServeFault → ℕ → List Reading → ℕ → Type 0
+AreReads (Ok n) most reads answered = PiecesThen (Gave []) reads
+AreReads (Err faults.OutOfMemory) most reads answered = reads ≡ []
+AreReads (Err faults.Read) most reads answered = PiecesThen Failed reads
+AreReads (Err faults.Write) most reads answered = AreReadToLine answered reads
+AreReads (Err faults.Reads) most reads answered = All IsPiece reads × (length reads ≡ most)
+
+-- lines were served, and to that end these reads were made and no others
+pub record IsServedIn {D : Type 0} (result : Result ℕ ServeFault) (most : ℕ)
+    (honest_source : Type 0) (has : Releases) (honest : D → Type 0) (moments : D → Moments)
+    (failures : D → ℕ) (input rest old new : Option (List ℕ)) (before after : StoreValue D)
+    (known known_after : Option (List Reading)) : Type 0 where
+  pub served : IsServed result most honest_source has honest moments failures input rest old new
+      before after
+  pub reads : List Reading
+  pub made : Makes known known_after reads
+  pub few : length reads ≤ most
+  -- they gave the bytes that came of the input
+  pub bytes : served.read.0 ≡ all_of reads
+  pub rightly : AreReads result most reads (length served.turns)

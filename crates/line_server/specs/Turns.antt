@@ -4,7 +4,7 @@ use Rattle.std.specs.List.{flat_map, AllByRecursion}
 use Rattle.disk_model.specs.Disk.{Moments}
 use Rattle.import_check.specs.declared.release.Release.{Release}
 use Rattle.history_store.specs.declared.refusal.Refusal.TheVariants as store
-use Rattle.history_store.specs.Stored.{Stored}
+use Rattle.history_store.specs.StoreValue.{StoreValue}
 use Rattle.history_store.specs.Answers.{CountsRefusal}
 use Rattle.history_store.specs.Merging.{trimmed_len}
 use Rattle.line_commands.specs.Commands.{Command, Import, Step, Publish, Trim}
@@ -12,8 +12,8 @@ use Rattle.line_commands.specs.Requests.{Asks}
 use Rattle.line_server.specs.declared.refusal.LineRefusal.{LineRefusal}
 use Rattle.line_server.specs.declared.refusal.LineRefusal.TheVariants as refusals
 use Rattle.line_server.specs.Sources.{Releases, files_of}
-use Rattle.line_server.specs.Said.{Answer, Said, said, bytes_of}
-use Rattle.line_server.specs.Replies.{Desk, Replies, desk}
+use Rattle.line_server.specs.ReplyValue.{Answer, ReplyValue, reply_value, bytes_of}
+use Rattle.line_server.specs.Replies.{Server, Replies, server}
 use Rattle.line_server.specs.Imports.{Imports}
 
 -- a line, how it is answered, the release that it imported,
@@ -30,8 +30,8 @@ IsAskedFor releases line release = (session : ℕ) × (name : List ℕ) × Asks 
     × (releases name ≡ Some (files_of release))
 
 -- the turn goes as these releases have it
-pub record GoesBy {D : Type 0} (honest : Type 0) (releases : Releases) (old : Desk D) (turn : Turn)
-    (new : Desk D) : Type 0 where
+pub record GoesBy {D : Type 0} (honest : Type 0) (releases : Releases) (old : Server D)
+    (turn : Turn) (new : Server D) : Type 0 where
   pub replies : Replies honest releases turn.line turn.outcome old new
   pub imported : AllByRecursion (IsAskedFor releases turn.line) turn.releases
   pub failed : IfSome turn.failed (IsAskedFor releases turn.line)
@@ -52,7 +52,7 @@ IfRefused (Err refusal) so = so
 -- it gave before, up to the last block that is listed or reserved, and nothing behind that. Every
 -- other command leaves what a stop may leave as it was.
 abbrev pub LeavesDisk : {D : Type 0} → (D → Type 0) → (D → Moments) → Command
-    → Result Answer LineRefusal → Stored D → Stored D → Type 0
+    → Result Answer LineRefusal → StoreValue D → StoreValue D → Type 0
 LeavesDisk honest moments (Import name) outcome old new =
     honest old.disk → IfRefused outcome (moments new.disk ≡ moments old.disk)
 LeavesDisk honest moments (Step rows) outcome old new =
@@ -61,7 +61,7 @@ LeavesDisk honest moments Publish outcome old new =
     honest old.disk → IfRefused outcome (moments new.disk ≡ moments old.disk)
 LeavesDisk honest moments Trim outcome old new =
     honest old.disk
-    → OnOk outcome ((moments new.disk).state.now ≡ take (trimmed_len old.shelf)
+    → OnOk outcome ((moments new.disk).state.now ≡ take (trimmed_len old.catalog)
     (moments old.disk).state.now) × IfRefused outcome (moments new.disk ≡ moments old.disk)
 LeavesDisk honest moments command outcome old new =
     honest old.disk → moments new.disk ≡ moments old.disk
@@ -69,8 +69,8 @@ LeavesDisk honest moments command outcome old new =
 -- One line was answered: as some source's releases have
 -- it, and where the source is honest, as its own have it.
 pub record IsTurn {D : Type 0} (honest_source : Type 0) (has : Releases) (honest : D → Type 0)
-    (moments : D → Moments) (failures : D → ℕ) (old : Desk D) (turn : Turn)
-    (new : Desk D) : Type 0 where
+    (moments : D → Moments) (failures : D → ℕ) (old : Server D) (turn : Turn)
+    (new : Server D) : Type 0 where
   pub releases : Releases
   pub goes : GoesBy (honest old.store.disk) releases old turn new
   pub own : honest_source → GoesBy (honest old.store.disk) has old turn new
@@ -82,30 +82,30 @@ pub record IsTurn {D : Type 0} (honest_source : Type 0) (has : Releases) (honest
 
 -- a line was answered with this reply
 pub record IsAnswered {D : Type 0} (honest_source : Type 0) (has : Releases) (honest : D → Type 0)
-    (moments : D → Moments) (failures : D → ℕ) (line : List ℕ) (reply : Said)
-    (pins : List (Option ℕ)) (store : Stored D) (pins_after : List (Option ℕ))
-    (store_after : Stored D) : Type 0 where
+    (moments : D → Moments) (failures : D → ℕ) (line : List ℕ) (reply : ReplyValue)
+    (pins : List (Option ℕ)) (store : StoreValue D) (pins_after : List (Option ℕ))
+    (store_after : StoreValue D) : Type 0 where
   pub outcome : Result Answer LineRefusal
   pub releases : List Release
   pub failed : Option Release
-  pub reply_is : reply ≡ said outcome
-  pub turn : IsTurn honest_source has honest moments failures (desk pins store)
+  pub reply_is : reply ≡ reply_value outcome
+  pub turn : IsTurn honest_source has honest moments failures (server pins store)
       (record { line = line; outcome = outcome; releases = releases; failed = failed })
-      (desk pins_after store_after)
+      (server pins_after store_after)
 
 -- lines are answered one after the other
-abbrev pub Run : {D : Type 0} → Type 0 → Releases → (D → Type 0) → (D → Moments) → (D → ℕ) → Desk D
-    → List Turn → Desk D → Type 0
+abbrev pub Run : {D : Type 0} → Type 0 → Releases → (D → Type 0) → (D → Moments) → (D → ℕ)
+    → Server D → List Turn → Server D → Type 0
 Run {D} honest_source has honest moments failures old [] new = new ≡ old
 Run {D} honest_source has honest moments failures old (turn ∷ turns) new =
-    (mid : Desk D) × IsTurn honest_source has honest moments failures old turn mid
+    (mid : Server D) × IsTurn honest_source has honest moments failures old turn mid
     × Run honest_source has honest moments failures mid turns new
 
 abbrev pub lines_asked : List Turn → List (List ℕ)
 lines_asked turns = map (λ turn. turn.line) turns
 
 abbrev pub replies : List Turn → List ℕ
-replies turns = flat_map (λ turn. bytes_of (said turn.outcome)) turns
+replies turns = flat_map (λ turn. bytes_of (reply_value turn.outcome)) turns
 
 -- the releases that lines imported, in order
 abbrev pub imported : List Turn → List Release

@@ -2,7 +2,7 @@
 
 ghost use Rattle.std.specs.Prelude.{◌≡◌, ℕ, List};
 ghost use Rattle.line_server.specs.Pins.{AreWithin};
-ghost use Rattle.line_server.specs.Replies.{desk};
+ghost use Rattle.line_server.specs.Replies.{server};
 ghost use Rattle.line_server.specs.Steps.{kept, IsLineServed};
 ghost use Rattle.line_server.specs.Feeding.{IsUnended, IsFed};
 
@@ -56,7 +56,7 @@ pub fn feed<W: Write, S: Source, D: Disk>(
     // Whatever had come of a line, of which the buffer keeps the first bytes.
     ensures fed { (part : List ℕ) → IsUnended part → line.old ≡ kept part → IsFed result
         (S.is_honest source.old) (S.releases source.old) D.is_honest D.moments D.failures
-        part piece.now line.new (desk pins.old store.old) (desk pins.new store.new)
+        part piece.now line.new (server pins.old store.old) (server pins.new store.new)
         (W.contents writer.old) (W.contents writer.new) }
     ensures source { S.is_honest source.old → S.is_honest source.new }
     ensures stays { S.is_honest source.old → S.releases source.new ≡ S.releases source.old }

@@ -1,9 +1,9 @@
 //! Laws of the definitions, each the contract of a function that does nothing.
 
-ghost use Rattle.line_server.specs.Laws.{PinnedIsUndisturbed, TurnsImport, ImportsCompose, OneImport, OneReply};
+ghost use Rattle.line_server.specs.Laws.{PinnedIsUndisturbed, PinnedReceiptIsUndisturbed, TurnsImport, ImportsCompose, OneImport, OneReply};
 ghost use Rattle.line_server.specs.Laws.{AcknowledgedImportsStay, AcknowledgedImportsAreOpened, OkIsImported, RefusedIsNotImported, ImportedIsOk};
 ghost use Rattle.line_server.specs.Laws.{RunNeedsNoSource, EachLifeKeepsItsImports, KeptAreAcknowledged, EachLifeIsOpened};
-ghost use Rattle.line_server.specs.Laws.{RunKeepsPin, PinnedSeesItsImports, PinnedRunsAreUndisturbed};
+ghost use Rattle.line_server.specs.Laws.{RunKeepsPin, PinnedSeesItsImports, PinnedSeesItsReceipts, PinnedRunsAreUndisturbed, PinnedReceiptsAreUndisturbed};
 
 use crate::source::Source;
 use disk_model::Disk;
@@ -11,6 +11,12 @@ use disk_model::Disk;
 /// A query is answered alike where the session looks at the same imports.
 pub fn pinned_is_undisturbed<D: Disk>()
     ensures { PinnedIsUndisturbed D D.is_honest }
+{}
+
+/// A RECEIPT is answered alike where the session looks at
+/// the same imports, and the import brought the same rows.
+pub fn pinned_receipt_is_undisturbed<D: Disk>()
+    ensures { PinnedReceiptIsUndisturbed D D.is_honest }
 {}
 
 /// Each image of each moment of a run of lines stands for the history from
@@ -95,7 +101,17 @@ pub fn pinned_sees_its_imports<D: Disk>()
     ensures { PinnedSeesItsImports D D.is_honest D.moments D.failures }
 {}
 
+/// A RECEIPT of a pinned session says what was so of the import when the session was pinned.
+pub fn pinned_sees_its_receipts<D: Disk>()
+    ensures { PinnedSeesItsReceipts D D.is_honest D.moments D.failures }
+{}
+
 /// A pinned session is answered alike in any two runs, whatever the others do.
 pub fn pinned_runs_are_undisturbed<D: Disk>()
     ensures { PinnedRunsAreUndisturbed D D.is_honest D.moments D.failures }
+{}
+
+/// And so are its RECEIPTs, where the import brought the same rows.
+pub fn pinned_receipts_are_undisturbed<D: Disk>()
+    ensures { PinnedReceiptsAreUndisturbed D D.is_honest D.moments D.failures }
 {}

@@ -5,21 +5,24 @@ ghost use Rattle.line_server.specs.Responses.{IsCarriedOut};
 
 use crate::refusal::LineRefusal;
 use crate::reply::Reply;
-use crate::wording::{done, numbered};
+use crate::wording::{reply_done, reply_number};
 use disk_model::Disk;
 use history_store::Store;
 use std::alloc::Global;
 
 /// Begins a merge, and says how many rows are left to it.
-pub(crate) fn begun<D: Disk>(alloc: Global, store: &mut Store<D>) -> Result<Reply, LineRefusal>
+pub(crate) fn begin_merge<D: Disk>(
+    alloc: Global,
+    store: &mut Store<D>,
+) -> Result<Reply, LineRefusal>
     ensures { IsCarriedOut result D.is_honest D.moments D.failures Merge store.old store.new }
 {
     let left = store.merge_begin()?;
-    Ok(numbered(alloc, left))
+    Ok(reply_number(alloc, left))
 }
 
 /// Merges up to so many rows more, and says how many are left.
-pub(crate) fn stepped<D: Disk>(
+pub(crate) fn step_merge<D: Disk>(
     alloc: Global,
     rows: u32,
     store: &mut Store<D>,
@@ -27,29 +30,35 @@ pub(crate) fn stepped<D: Disk>(
     ensures { IsCarriedOut result D.is_honest D.moments D.failures (Step rows) store.old store.new }
 {
     let left = store.merge_step(rows)?;
-    Ok(numbered(alloc, left))
+    Ok(reply_number(alloc, left))
 }
 
 /// Puts the merged segment in the place of the two.
-pub(crate) fn published<D: Disk>(alloc: Global, store: &mut Store<D>) -> Result<Reply, LineRefusal>
+pub(crate) fn publish_merge<D: Disk>(
+    alloc: Global,
+    store: &mut Store<D>,
+) -> Result<Reply, LineRefusal>
     ensures { IsCarriedOut result D.is_honest D.moments D.failures Publish store.old store.new }
 {
     store.merge_publish()?;
-    Ok(done(alloc))
+    Ok(reply_done(alloc))
 }
 
 /// Gives the merge up.
-pub(crate) fn abandoned<D: Disk>(alloc: Global, store: &mut Store<D>) -> Result<Reply, LineRefusal>
+pub(crate) fn abandon_merge<D: Disk>(
+    alloc: Global,
+    store: &mut Store<D>,
+) -> Result<Reply, LineRefusal>
     ensures { IsCarriedOut result D.is_honest D.moments D.failures Abandon store.old store.new }
 {
     store.merge_abandon()?;
-    Ok(done(alloc))
+    Ok(reply_done(alloc))
 }
 
 /// Cuts off what nothing uses at the end of the disk.
-pub(crate) fn trimmed<D: Disk>(alloc: Global, store: &mut Store<D>) -> Result<Reply, LineRefusal>
+pub(crate) fn trim_store<D: Disk>(alloc: Global, store: &mut Store<D>) -> Result<Reply, LineRefusal>
     ensures { IsCarriedOut result D.is_honest D.moments D.failures Trim store.old store.new }
 {
     let _bytes = store.trim()?;
-    Ok(done(alloc))
+    Ok(reply_done(alloc))
 }

@@ -1,19 +1,19 @@
 //! Queries: what the store finds, as a reply.
 
 ghost use Rattle.std.specs.Prelude.{◌≤◌};
-ghost use Rattle.line_commands.specs.Commands.{Get, History, Children, Terms, Replaced, Page};
+ghost use Rattle.line_commands.specs.Commands.{Get, History, Children, Terms, Search, Replaced, About, Page, Receipt};
 ghost use Rattle.line_server.specs.Responses.{IsQueried};
 
 use crate::refusal::LineRefusal;
 use crate::reply::Reply;
-use crate::wording::{identified, listed};
+use crate::wording::{reply_ids, reply_import, reply_rows};
 use disk_model::Disk;
 use history_store::Store;
 use rf2_rows::{EffectiveTime, Kind, Sctid};
 use std::alloc::Global;
 
 /// What a component said on a date.
-pub(crate) fn looked_up<D: Disk>(
+pub(crate) fn answer_get<D: Disk>(
     alloc: Global,
     kind: Kind,
     id: u128,
@@ -25,12 +25,12 @@ pub(crate) fn looked_up<D: Disk>(
     ensures { IsQueried result D.is_honest D.moments D.failures (Get kind id time) pin store.old
         store.new }
 {
-    let found = store.lookup(kind, id, time, pin)?;
-    Ok(listed(alloc, found.as_slice())?)
+    let found = store.get(kind, id, time, pin)?;
+    Ok(reply_rows(alloc, found.as_slice())?)
 }
 
 /// All versions of a component.
-pub(crate) fn all_versions<D: Disk>(
+pub(crate) fn answer_history<D: Disk>(
     alloc: Global,
     kind: Kind,
     id: u128,
@@ -42,11 +42,11 @@ pub(crate) fn all_versions<D: Disk>(
         store.new }
 {
     let found = store.history(kind, id, pin)?;
-    Ok(listed(alloc, &found)?)
+    Ok(reply_rows(alloc, &found)?)
 }
 
 /// The concepts with an "is a" relationship to a concept on a date.
-pub(crate) fn all_children<D: Disk>(
+pub(crate) fn answer_children<D: Disk>(
     alloc: Global,
     concept: Sctid,
     time: EffectiveTime,
@@ -58,15 +58,15 @@ pub(crate) fn all_children<D: Disk>(
         store.old store.new }
 {
     let found = store.children(concept, time, pin)?;
-    Ok(identified(alloc, &found)?)
+    Ok(reply_ids(alloc, &found)?)
 }
 
 /// The descriptions whose terms begin with a prefix on a date.
-pub(crate) fn terms_found<D: Disk>(
+pub(crate) fn answer_terms<D: Disk>(
     alloc: Global,
+    prefix: &str,
     time: EffectiveTime,
     limit: u32,
-    prefix: &str,
     pin: u32,
     store: &mut Store<D>,
 ) -> Result<Reply, LineRefusal>
@@ -74,12 +74,30 @@ pub(crate) fn terms_found<D: Disk>(
     ensures { IsQueried result D.is_honest D.moments D.failures (Terms time limit prefix.now) pin
         store.old store.new }
 {
-    let found = store.terms(prefix, time, pin, limit)?;
-    Ok(listed(alloc, &found)?)
+    let found = store.terms(prefix, time, limit, pin)?;
+    Ok(reply_rows(alloc, &found)?)
+}
+
+/// The descriptions whose terms begin with a prefix on a date, by identifier.
+pub(crate) fn answer_search<D: Disk>(
+    alloc: Global,
+    prefix: &str,
+    time: EffectiveTime,
+    after: Option<u128>,
+    limit: u32,
+    pin: u32,
+    store: &mut Store<D>,
+) -> Result<Reply, LineRefusal>
+    requires { pin ≤ store.old.history.imports }
+    ensures { IsQueried result D.is_honest D.moments D.failures
+        (Search time after limit prefix.now) pin store.old store.new }
+{
+    let found = store.search(prefix, time, after, limit, pin)?;
+    Ok(reply_rows(alloc, &found)?)
 }
 
 /// The associations that name what replaces a component on a date.
-pub(crate) fn all_replacements<D: Disk>(
+pub(crate) fn answer_replaced<D: Disk>(
     alloc: Global,
     id: Sctid,
     time: EffectiveTime,
@@ -91,11 +109,28 @@ pub(crate) fn all_replacements<D: Disk>(
         store.new }
 {
     let found = store.replacements(id, time, pin)?;
-    Ok(listed(alloc, &found)?)
+    Ok(reply_rows(alloc, &found)?)
+}
+
+/// The rows of a kind that are about a component on a date.
+pub(crate) fn answer_about<D: Disk>(
+    alloc: Global,
+    kind: Kind,
+    id: Sctid,
+    time: EffectiveTime,
+    pin: u32,
+    store: &mut Store<D>,
+) -> Result<Reply, LineRefusal>
+    requires { pin ≤ store.old.history.imports }
+    ensures { IsQueried result D.is_honest D.moments D.failures (About kind id time) pin store.old
+        store.new }
+{
+    let found = store.about(kind, id, time, pin)?;
+    Ok(reply_rows(alloc, &found)?)
 }
 
 /// What the components of a kind said on a date, by identifier.
-pub(crate) fn paged<D: Disk>(
+pub(crate) fn answer_page<D: Disk>(
     alloc: Global,
     kind: Kind,
     time: EffectiveTime,
@@ -108,6 +143,25 @@ pub(crate) fn paged<D: Disk>(
     ensures { IsQueried result D.is_honest D.moments D.failures (Page kind time after limit) pin
         store.old store.new }
 {
-    let found = store.page(kind, time, pin, after, limit)?;
-    Ok(listed(alloc, &found)?)
+    let found = store.page(kind, time, after, limit, pin)?;
+    Ok(reply_rows(alloc, &found)?)
+}
+
+/// What an import brought, unless the session sees fewer imports.
+pub(crate) fn answer_receipt<D: Disk>(
+    alloc: Global,
+    number: u32,
+    pin: u32,
+    store: &Store<D>,
+) -> Result<Reply, LineRefusal>
+    requires first { 1 ≤ number }
+    requires within { pin ≤ store.now.history.imports }
+    ensures { IsQueried result D.is_honest D.moments D.failures (Receipt number) pin store.now
+        store.now }
+{
+    if number > pin {
+        return Err(LineRefusal::PinRange);
+    }
+    let receipt = store.receipt(number)?;
+    Ok(reply_import(alloc, number, receipt))
 }

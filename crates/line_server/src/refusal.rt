@@ -46,7 +46,7 @@ impl From<AllocError> for LineRefusal {
 
 impl LineRefusal {
     ghost use Rattle.std.specs.Prelude.{◌≡◌, ◌≤◌, length};
-    ghost use Rattle.line_server.specs.Said.{number_of, name_of, place_of, place_words};
+    ghost use Rattle.line_server.specs.ReplyValue.{number_of, name_of, place_of, place_words};
 
     /// The number by which the protocol knows the refusal.
     pub fn code(self) -> u8

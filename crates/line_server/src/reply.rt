@@ -1,7 +1,7 @@
 //! What is written for a line.
 
 ghost use Rattle.std.specs.Prelude.{◌≡◌, ◌≤◌, length};
-ghost use Rattle.line_server.specs.Said.{bytes_of};
+ghost use Rattle.line_server.specs.ReplyValue.{bytes_of};
 ghost use Rattle.line_server.specs.Streams.{IsPut};
 
 use crate::outgoing::{WriteFault, put_all};
@@ -18,9 +18,9 @@ pub struct Reply {
 }
 
 impl Model for Reply {
-    ghost use Rattle.line_server.specs.Said.{Said};
+    ghost use Rattle.line_server.specs.ReplyValue.{ReplyValue};
 
-    ghost Value = { Said };
+    ghost Value = { ReplyValue };
 
     ghost view = { λ r. record { body = r.body.items; last = r.last.bytes } };
 }

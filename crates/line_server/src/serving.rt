@@ -2,16 +2,17 @@
 
 ghost use Rattle.std.specs.Prelude.{◌≡◌, IsErrOf};
 ghost use Rattle.line_server.specs.declared.serving.ServeFault.TheVariants.{OutOfMemory};
-ghost use Rattle.line_server.specs.Serving.{IsServed};
+ghost use Rattle.line_server.specs.Serving.{IsServed, IsServedIn};
 
 use crate::buffer::LineBuffer;
 use crate::feeding::{answer_line, feed};
+use crate::pieces::PieceReader;
 use crate::pins::Pins;
 use crate::source::Source;
 use disk_model::Disk;
 use history_store::Store;
 use std::alloc::Global;
-use std::io::{Read, Write};
+use std::io::Write;
 use thiserror::Error;
 
 /// Why not all of the input was served.
@@ -33,8 +34,9 @@ pub enum ServeFault {
 
 /// Answers the lines of the input in order, each before its reply is written, and answers their
 /// number. It makes at most `max_reads` reads, of up to 4,096 bytes each, and keeps up to 4,098
-/// bytes of a line that is coming in. What a read gave is fed (`feed`) before the next read.
-pub fn serve<R: Read, W: Write, S: Source, D: Disk>(
+/// bytes of a line that is coming in. What a read gave is fed (`feed`) before the next read, and
+/// none is made once one gave the end of the input or failed.
+pub fn serve<R: PieceReader, W: Write, S: Source, D: Disk>(
     alloc: Global,
     reader: &mut R,
     writer: &mut W,
@@ -46,6 +48,11 @@ pub fn serve<R: Read, W: Write, S: Source, D: Disk>(
         (S.is_honest source.old) (S.releases source.old) D.is_honest D.moments D.failures
         (R.remaining reader.old) (R.remaining reader.new)
         (W.contents writer.old) (W.contents writer.new) store.old store.new }
+    ensures reads { IsServedIn result max_reads
+        (S.is_honest source.old) (S.releases source.old) D.is_honest D.moments D.failures
+        (R.remaining reader.old) (R.remaining reader.new)
+        (W.contents writer.old) (W.contents writer.new) store.old store.new
+        (R.reads reader.old) (R.reads reader.new) }
     // The buffer is made before anything else is done.
     ensures memory { IsErrOf result OutOfMemory
         → (reader.new ≡ reader.old) × (writer.new ≡ writer.old)

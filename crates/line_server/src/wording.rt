@@ -2,15 +2,15 @@
 
 ghost use Rattle.std.specs.Prelude.{◌≡◌, ◌≤◌, ◌<◌, ◌+◌, ◌++◌, ◌∷◌, [], ℕ, List, Option, Ok, Err, decimal, IfOk, length, codes};
 ghost use Rattle.arrayvec.specs.ArrayString.{array_string_len};
-ghost use Rattle.line_server.specs.Said.{Rows, Ids, Done, said, line};
-ghost use Rattle.line_server.specs.Replies.{number_or_none};
+ghost use Rattle.line_server.specs.ReplyValue.{Rows, Ids, Done, reply_value, line};
+ghost use Rattle.line_server.specs.Replies.{number_or_none, receipt_of};
 
 use crate::refusal::LineRefusal;
 use crate::reply::Reply;
 use arrayvec::ArrayString;
-use history_store::Receipt;
+use history_store::{ImportReceipt, Receipt};
 use itoa::Buffer;
-use rf2_rows::{Row, write_row};
+use rf2_rows::{EffectiveTime, Row, write_row};
 use std::alloc::{AllocError, Global};
 
 /// A last line that begins with this word.
@@ -44,6 +44,18 @@ fn put_number(last: &mut ArrayString<128>, number: u64)
     last.push_str(Buffer::new().format(number));
 }
 
+/// Appends a space and a number, or `-` where there is none.
+fn put_number_or_none(last: &mut ArrayString<128>, number: Option<u64>)
+    requires { array_string_len last.old + 21 ≤ 128 }
+    ensures bytes { last.new.bytes ≡ last.old.bytes ++ 32 ∷ number_or_none number }
+    ensures len { array_string_len last.new ≤ array_string_len last.old + 21 }
+{
+    match number {
+        Some(number) => put_number(last, number),
+        None => put_word(last, "-"),
+    }
+}
+
 /// The reply of these lines, and a last one, which gets its LF.
 fn reply(body: Vec<u8>, text: ArrayString<128>) -> Reply
     requires { array_string_len text < 128 }
@@ -55,24 +67,34 @@ fn reply(body: Vec<u8>, text: ArrayString<128>) -> Reply
 }
 
 /// The reply where all is done and nothing is to be told: `OK`. It takes no memory.
-pub fn done(alloc: Global) -> Reply
-    ensures { result ≡ said (Ok (Done [])) }
+pub fn reply_done(alloc: Global) -> Reply
+    ensures { result ≡ reply_value (Ok (Done [])) }
 {
     reply(Vec::new(alloc), begun_with("OK"))
 }
 
 /// The reply of a number.
-pub(crate) fn numbered(alloc: Global, number: u64) -> Reply
-    ensures { result ≡ said (Ok (Done (decimal number ∷ []))) }
+pub(crate) fn reply_number(alloc: Global, number: u64) -> Reply
+    ensures { result ≡ reply_value (Ok (Done (decimal number ∷ []))) }
 {
     let mut last = begun_with("OK");
     put_number(&mut last, number);
     reply(Vec::new(alloc), last)
 }
 
+/// A date's number, as it is spelled.
+fn number_of_date(date: Option<EffectiveTime>) -> Option<u64>
+    ensures { result ≡ date }
+{
+    match date {
+        Some(date) => Some(u64::from(date.value())),
+        None => None,
+    }
+}
+
 /// The reply to an import.
-pub(crate) fn received(alloc: Global, receipt: Receipt) -> Reply
-    ensures { result ≡ said (Ok (Done (decimal receipt.number ∷ decimal receipt.new ∷ decimal
+pub(crate) fn reply_receipt(alloc: Global, receipt: Receipt) -> Reply
+    ensures { result ≡ reply_value (Ok (Done (decimal receipt.number ∷ decimal receipt.new ∷ decimal
         receipt.repeated ∷ []))) }
 {
     let mut last = begun_with("OK");
@@ -82,31 +104,39 @@ pub(crate) fn received(alloc: Global, receipt: Receipt) -> Reply
     reply(Vec::new(alloc), last)
 }
 
+/// The reply to RECEIPT.
+pub(crate) fn reply_import(alloc: Global, number: u32, receipt: ImportReceipt) -> Reply
+    ensures { result ≡ reply_value (Ok (Done (receipt_of number receipt.new receipt.latest))) }
+{
+    let mut last = begun_with("OK");
+    put_number(&mut last, u64::from(number));
+    put_number(&mut last, receipt.new);
+    put_number_or_none(&mut last, number_of_date(receipt.latest));
+    reply(Vec::new(alloc), last)
+}
+
 /// The reply to STATUS.
-pub(crate) fn counted(
+pub(crate) fn reply_status(
     alloc: Global,
     imports: u32,
     rows: u64,
     segments: u32,
     left: Option<u64>,
 ) -> Reply
-    ensures { result ≡ said (Ok (Done (decimal imports ∷ decimal rows ∷ decimal segments ∷
+    ensures { result ≡ reply_value (Ok (Done (decimal imports ∷ decimal rows ∷ decimal segments ∷
         number_or_none left ∷ []))) }
 {
     let mut last = begun_with("OK");
     put_number(&mut last, u64::from(imports));
     put_number(&mut last, rows);
     put_number(&mut last, u64::from(segments));
-    match left {
-        Some(left) => put_number(&mut last, left),
-        None => put_word(&mut last, "-"),
-    }
+    put_number_or_none(&mut last, left);
     reply(Vec::new(alloc), last)
 }
 
 /// The reply to what is refused: `ERR`, the number, the name and the place. It takes no memory.
-pub fn refused(alloc: Global, refusal: LineRefusal) -> Reply
-    ensures { result ≡ said (Err refusal) }
+pub fn reply_refusal(alloc: Global, refusal: LineRefusal) -> Reply
+    ensures { result ≡ reply_value (Err refusal) }
 {
     let mut last = begun_with("ERR");
     put_number(&mut last, u64::from(refusal.code()));
@@ -132,8 +162,8 @@ fn end(count: usize) -> ArrayString<128>
 }
 
 /// The reply of rows.
-pub(crate) fn listed(alloc: Global, rows: &[Row]) -> Result<Reply, AllocError>
-    ensures { IfOk result (λ reply. reply ≡ said (Ok (Rows rows.now))) }
+pub(crate) fn reply_rows(alloc: Global, rows: &[Row]) -> Result<Reply, AllocError>
+    ensures { IfOk result (λ reply. reply ≡ reply_value (Ok (Rows rows.now))) }
 {
     let mut body = Vec::new(alloc);
     for row in rows {
@@ -145,8 +175,8 @@ pub(crate) fn listed(alloc: Global, rows: &[Row]) -> Result<Reply, AllocError>
 }
 
 /// The reply of identifiers.
-pub(crate) fn identified(alloc: Global, ids: &[u64]) -> Result<Reply, AllocError>
-    ensures { IfOk result (λ reply. reply ≡ said (Ok (Ids ids.now))) }
+pub(crate) fn reply_ids(alloc: Global, ids: &[u64]) -> Result<Reply, AllocError>
+    ensures { IfOk result (λ reply. reply ≡ reply_value (Ok (Ids ids.now))) }
 {
     let mut body = Vec::new(alloc);
     for &id in ids {

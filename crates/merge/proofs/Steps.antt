@@ -13,8 +13,8 @@ use Rattle.history_model.specs.History.{stamped_cmp}
 use Rattle.history_model.specs.Lists.{ShareNoKey, AreLists, union}
 use Rattle.history_model.proofs.InOrder.{Has-append_left, Has-append_right, Has-append_cases, above, below_all, in_order_first}
 use Rattle.history_model.proofs.Keys.{stamped_total, same_key}
-use Rattle.segment.specs.declared.place.Posted.{Posted}
-use Rattle.segment.specs.Standing.{record_len, posted, with_places, places_of}
+use Rattle.segment.specs.declared.place.RowPlace.{RowPlace}
+use Rattle.segment.specs.Standing.{record_len, row_place, with_places, places_of}
 use Rattle.merge.specs.declared.Taken.{Taken}
 use Rattle.merge.specs.Merged.{StandsTaken, taken_of_a, taken_of_b}
 use Rattle.merge.specs.Turns.{of_a, of_b, next_place}
@@ -90,59 +90,59 @@ below x y is = elim (stamped_cmp x y) as (λ r. is_lt r ≡ true → r ≡ Less)
 
 -- ---- the place that comes next
 
-abbrev places_from : ℕ → List StampedRow → List Posted
-places_from at rows = map (λ (x : StampedRow × Posted). x.1) (with_places at rows)
+abbrev places_from : ℕ → List StampedRow → List RowPlace
+places_from at rows = map (λ (x : StampedRow × RowPlace). x.1) (with_places at rows)
 
 -- the first row of what is left of a list, and where it stands
-record IsNextOf (p : Posted) (at : ℕ) (left both : List StampedRow) (joined : List StampedRow → List StampedRow) : Type 0 where
+record IsNextOf (p : RowPlace) (at : ℕ) (left both : List StampedRow) (joined : List StampedRow → List StampedRow) : Type 0 where
   row : StampedRow
   rest : List StampedRow
   left_is : left ≡ row ∷ rest
-  place_is : p ≡ posted row at
+  place_is : p ≡ row_place row at
   first : both ≡ row ∷ joined rest
 
 next_of_a : (xs ys : List StampedRow) (at to : ℕ) (t : Taken) → AreApart xs ys → t.second ≡ false → next_place (places_from at xs) (places_from to ys) ≡ Some t
-    → IsNextOf t.posted at xs (union xs ys) (λ rest. union rest ys)
-unfolding posted
+    → IsNextOf t.place at xs (union xs ys) (λ rest. union rest ys)
+unfolding row_place
 next_of_a [] [] at to t h side e = absurd cc
 next_of_a [] (y ∷ ys) at to t h side e = absurd cc
-next_of_a (x ∷ xs) [] at to t h side e = record { row = x; rest = xs; left_is = refl; place_is = (let same : of_a (posted x at) ≡ t = cc in sym (ap (λ (u : Taken). u.posted) same)); first = union_a x xs [] h tt }
+next_of_a (x ∷ xs) [] at to t h side e = record { row = x; rest = xs; left_is = refl; place_is = (let same : of_a (row_place x at) ≡ t = cc in sym (ap (λ (u : Taken). u.place) same)); first = union_a x xs [] h tt }
 next_of_a (x ∷ xs) (y ∷ ys) at to t h side e =
-    elim (is_lt (stamped_cmp y x)) as (λ b. is_lt (stamped_cmp y x) ≡ b → Some (if b then of_b (posted y to) else of_a (posted x at)) ≡ Some t → IsNextOf t.posted at (x ∷ xs) (union (x ∷ xs) (y ∷ ys)) (λ rest. union rest (y ∷ ys))) [
-      | true ↦ λ is e. absurd (let same : of_b (posted y to) ≡ t = cc in let sides = ap (λ (u : Taken). u.second) same in cc)
+    elim (is_lt (stamped_cmp y x)) as (λ b. is_lt (stamped_cmp y x) ≡ b → Some (if b then of_b (row_place y to) else of_a (row_place x at)) ≡ Some t → IsNextOf t.place at (x ∷ xs) (union (x ∷ xs) (y ∷ ys)) (λ rest. union rest (y ∷ ys))) [
+      | true ↦ λ is e. absurd (let same : of_b (row_place y to) ≡ t = cc in let sides = ap (λ (u : Taken). u.second) same in cc)
       | false ↦ λ is e. record {
         row = x;
         rest = xs;
         left_is = refl;
-        place_is = (let same : of_a (posted x at) ≡ t = cc in sym (ap (λ (u : Taken). u.posted) same));
+        place_is = (let same : of_a (row_place x at) ≡ t = cc in sym (ap (λ (u : Taken). u.place) same));
         first = union_a x xs (y ∷ ys) h (not_above x y (h.apart x y (inl refl) (inl refl)) is);
       }
     ] refl e
 
 next_of_b : (xs ys : List StampedRow) (at to : ℕ) (t : Taken) → AreApart xs ys → t.second ≡ true → next_place (places_from at xs) (places_from to ys) ≡ Some t
-    → IsNextOf t.posted to ys (union xs ys) (λ rest. union xs rest)
-unfolding posted
+    → IsNextOf t.place to ys (union xs ys) (λ rest. union xs rest)
+unfolding row_place
 next_of_b [] [] at to t h side e = absurd cc
 next_of_b (x ∷ xs) [] at to t h side e = absurd cc
-next_of_b [] (y ∷ ys) at to t h side e = record { row = y; rest = ys; left_is = refl; place_is = (let same : of_b (posted y to) ≡ t = cc in sym (ap (λ (u : Taken). u.posted) same)); first = union_b y [] ys h tt }
+next_of_b [] (y ∷ ys) at to t h side e = record { row = y; rest = ys; left_is = refl; place_is = (let same : of_b (row_place y to) ≡ t = cc in sym (ap (λ (u : Taken). u.place) same)); first = union_b y [] ys h tt }
 next_of_b (x ∷ xs) (y ∷ ys) at to t h side e =
-    elim (is_lt (stamped_cmp y x)) as (λ b. is_lt (stamped_cmp y x) ≡ b → Some (if b then of_b (posted y to) else of_a (posted x at)) ≡ Some t → IsNextOf t.posted to (y ∷ ys) (union (x ∷ xs) (y ∷ ys)) (λ rest. union (x ∷ xs) rest)) [
-      | false ↦ λ is e. absurd (let same : of_a (posted x at) ≡ t = cc in let sides = ap (λ (u : Taken). u.second) same in cc)
+    elim (is_lt (stamped_cmp y x)) as (λ b. is_lt (stamped_cmp y x) ≡ b → Some (if b then of_b (row_place y to) else of_a (row_place x at)) ≡ Some t → IsNextOf t.place to (y ∷ ys) (union (x ∷ xs) (y ∷ ys)) (λ rest. union (x ∷ xs) rest)) [
+      | false ↦ λ is e. absurd (let same : of_a (row_place x at) ≡ t = cc in let sides = ap (λ (u : Taken). u.second) same in cc)
       | true ↦ λ is e. record {
         row = y;
         rest = ys;
         left_is = refl;
-        place_is = (let same : of_b (posted y to) ≡ t = cc in sym (ap (λ (u : Taken). u.posted) same));
+        place_is = (let same : of_b (row_place y to) ≡ t = cc in sym (ap (λ (u : Taken). u.place) same));
         first = union_b y (x ∷ xs) ys h (below y x is);
       }
     ] refl e
 
-whole_rest : (i : ℕ) (a : List Posted) → take (length a - i) (drop i a) ≡ drop i a
+whole_rest : (i : ℕ) (a : List RowPlace) → take (length a - i) (drop i a) ≡ drop i a
 whole_rest i a = take_all (length a - i) (drop i a) (omega (arith, length-drop i a))
 
 -- the next of two slices from places on
-pub next_from : (i j : ℕ) (a b : List Posted) (next : Option Taken) → next ≡ next_place (take (length a - i) (drop i a)) (take (length b - j) (drop j b)) → next_place (drop i a) (drop j b) ≡ next
-next_from i j a b next is = sym (is ∙ ap (λ (l : List Posted). next_place l (take (length b - j) (drop j b))) (whole_rest i a) ∙ ap (next_place (drop i a)) (whole_rest j b))
+pub next_from : (i j : ℕ) (a b : List RowPlace) (next : Option Taken) → next ≡ next_place (take (length a - i) (drop i a)) (take (length b - j) (drop j b)) → next_place (drop i a) (drop j b) ≡ next
+next_from i j a b next is = sym (is ∙ ap (λ (l : List RowPlace). next_place l (take (length b - j) (drop j b))) (whole_rest i a) ∙ ap (next_place (drop i a)) (whole_rest j b))
 
 -- ---- and where it stands in the whole list
 
@@ -152,7 +152,7 @@ left_places (suc i) at [] = (at, refl)
 left_places (suc i) at (r ∷ rows) = left_places i (at + record_len r) rows
 
 left_posted : (i to : ℕ) (rows : List StampedRow) → drop i (with_places 0 rows) ≡ with_places to (drop i rows) → drop i (places_of rows) ≡ places_from to (drop i rows)
-left_posted i to rows e = drop-map (λ (x : StampedRow × Posted). x.1) i (with_places 0 rows) ∙ ap (map (λ (x : StampedRow × Posted). x.1)) e
+left_posted i to rows e = drop-map (λ (x : StampedRow × RowPlace). x.1) i (with_places 0 rows) ∙ ap (map (λ (x : StampedRow × RowPlace). x.1)) e
 
 one_less : {X : Type 0} (i : ℕ) (xs : List X) (x : X) (rest : List X) → drop i xs ≡ x ∷ rest → drop (suc i) xs ≡ rest
 one_less zero [] x rest e = absurd cc
@@ -166,9 +166,9 @@ pub record IsTurn (xs ys : List StampedRow) (t : Taken) (left after : List Stamp
   pub stands : StandsTaken xs ys t row
   pub left_is : left ≡ row ∷ after
 
-stood : (xs : List StampedRow) (i to : ℕ) (p : Posted) (row : StampedRow) (rest : List StampedRow) → drop i (with_places 0 xs) ≡ with_places to (drop i xs) → drop i xs ≡ row ∷ rest → p ≡ posted row to → Has (with_places 0 xs) (row, p)
+stood : (xs : List StampedRow) (i to : ℕ) (p : RowPlace) (row : StampedRow) (rest : List StampedRow) → drop i (with_places 0 xs) ≡ with_places to (drop i xs) → drop i xs ≡ row ∷ rest → p ≡ row_place row to → Has (with_places 0 xs) (row, p)
 stood xs i to p row rest from left place =
-    Has-drop i (with_places 0 xs) (row, p) (subst (λ (l : List (StampedRow × Posted)). Has l (row, p)) (sym (from ∙ ap (with_places to) left)) (inl (ap (λ (q : Posted). (row, q)) (sym place))))
+    Has-drop i (with_places 0 xs) (row, p) (subst (λ (l : List (StampedRow × RowPlace)). Has l (row, p)) (sym (from ∙ ap (with_places to) left)) (inl (ap (λ (q : RowPlace). (row, q)) (sym place))))
 
 turn_a : (xs ys : List StampedRow) (i j : ℕ) (t : Taken) → AreLists (xs ∷ ys ∷ []) → t.second ≡ false → next_place (drop i (places_of xs)) (drop j (places_of ys)) ≡ Some t
     → IsTurn xs ys t (union (drop i xs) (drop j ys)) (union (drop (i + 1) xs) (drop j ys))
@@ -176,13 +176,13 @@ turn_a xs ys i j t are side e =
     let of_xs = left_places i 0 xs in
     let of_ys = left_places j 0 ys in
     let next = next_of_a (drop i xs) (drop j ys) of_xs.0 of_ys.0 t (AreApart-drop xs ys i j (are_apart xs ys are)) side
-    (subst (λ (l : List Posted). next_place l (places_from of_ys.0 (drop j ys)) ≡ Some t) (left_posted i of_xs.0 xs of_xs.1) (subst (λ (l : List Posted). next_place (drop i (places_of xs)) l ≡ Some t) (left_posted j of_ys.0 ys of_ys.1) e)) in
+    (subst (λ (l : List RowPlace). next_place l (places_from of_ys.0 (drop j ys)) ≡ Some t) (left_posted i of_xs.0 xs of_xs.1) (subst (λ (l : List RowPlace). next_place (drop i (places_of xs)) l ≡ Some t) (left_posted j of_ys.0 ys of_ys.1) e)) in
     record {
       row = next.row;
       stands = record {
         rows = xs;
         list_is = ap (λ (b : Bool). slice_get (xs ∷ ys ∷ []) (if b then 1 else 0)) side;
-        there = stood xs i of_xs.0 t.posted next.row next.rest of_xs.1 next.left_is next.place_is;
+        there = stood xs i of_xs.0 t.place next.row next.rest of_xs.1 next.left_is next.place_is;
       };
       left_is = next.first ∙ ap (λ (l : List StampedRow). next.row ∷ union l (drop j ys)) (sym (one_less i xs next.row next.rest next.left_is) ∙ ap (λ (k : ℕ). drop k xs) (sym (add-one i)));
     }
@@ -193,81 +193,81 @@ turn_b xs ys i j t are side e =
     let of_xs = left_places i 0 xs in
     let of_ys = left_places j 0 ys in
     let next = next_of_b (drop i xs) (drop j ys) of_xs.0 of_ys.0 t (AreApart-drop xs ys i j (are_apart xs ys are)) side
-    (subst (λ (l : List Posted). next_place l (places_from of_ys.0 (drop j ys)) ≡ Some t) (left_posted i of_xs.0 xs of_xs.1) (subst (λ (l : List Posted). next_place (drop i (places_of xs)) l ≡ Some t) (left_posted j of_ys.0 ys of_ys.1) e)) in
+    (subst (λ (l : List RowPlace). next_place l (places_from of_ys.0 (drop j ys)) ≡ Some t) (left_posted i of_xs.0 xs of_xs.1) (subst (λ (l : List RowPlace). next_place (drop i (places_of xs)) l ≡ Some t) (left_posted j of_ys.0 ys of_ys.1) e)) in
     record {
       row = next.row;
       stands = record {
         rows = ys;
         list_is = ap (λ (b : Bool). slice_get (xs ∷ ys ∷ []) (if b then 1 else 0)) side;
-        there = stood ys j of_ys.0 t.posted next.row next.rest of_ys.1 next.left_is next.place_is;
+        there = stood ys j of_ys.0 t.place next.row next.rest of_ys.1 next.left_is next.place_is;
       };
       left_is = next.first ∙ ap (λ (l : List StampedRow). next.row ∷ union (drop i xs) l) (sym (one_less j ys next.row next.rest next.left_is) ∙ ap (λ (k : ℕ). drop k ys) (sym (add-one j)));
     }
 
 -- ---- the fronts of the lists
 
-head_a : (a b : List Posted) (t : Taken) → t.second ≡ false → next_place a b ≡ Some t → (rest : List Posted) × (a ≡ t.posted ∷ rest)
+head_a : (a b : List RowPlace) (t : Taken) → t.second ≡ false → next_place a b ≡ Some t → (rest : List RowPlace) × (a ≡ t.place ∷ rest)
 head_a [] [] t side e = absurd cc
 head_a [] (q ∷ b) t side e = absurd cc
-head_a (p ∷ a) [] t side e = (a, let same : of_a p ≡ t = cc in ap (λ (u : Taken). u.posted ∷ a) same)
+head_a (p ∷ a) [] t side e = (a, let same : of_a p ≡ t = cc in ap (λ (u : Taken). u.place ∷ a) same)
 head_a (p ∷ a) (q ∷ b) t side e =
-    elim (is_lt (key_cmp q.key p.key)) as (λ v. Some (if v then of_b q else of_a p) ≡ Some t → (rest : List Posted) × ((p ∷ a) ≡ t.posted ∷ rest)) [
+    elim (is_lt (key_cmp q.key p.key)) as (λ v. Some (if v then of_b q else of_a p) ≡ Some t → (rest : List RowPlace) × ((p ∷ a) ≡ t.place ∷ rest)) [
       | true ↦ λ e. absurd (let same : of_b q ≡ t = cc in let sides = ap (λ (u : Taken). u.second) same in cc)
-      | false ↦ λ e. (a, let same : of_a p ≡ t = cc in ap (λ (u : Taken). u.posted ∷ a) same)
+      | false ↦ λ e. (a, let same : of_a p ≡ t = cc in ap (λ (u : Taken). u.place ∷ a) same)
     ] e
 
-head_b : (a b : List Posted) (t : Taken) → t.second ≡ true → next_place a b ≡ Some t → (rest : List Posted) × (b ≡ t.posted ∷ rest)
+head_b : (a b : List RowPlace) (t : Taken) → t.second ≡ true → next_place a b ≡ Some t → (rest : List RowPlace) × (b ≡ t.place ∷ rest)
 head_b [] [] t side e = absurd cc
 head_b (p ∷ a) [] t side e = absurd cc
-head_b [] (q ∷ b) t side e = (b, let same : of_b q ≡ t = cc in ap (λ (u : Taken). u.posted ∷ b) same)
+head_b [] (q ∷ b) t side e = (b, let same : of_b q ≡ t = cc in ap (λ (u : Taken). u.place ∷ b) same)
 head_b (p ∷ a) (q ∷ b) t side e =
-    elim (is_lt (key_cmp q.key p.key)) as (λ v. Some (if v then of_b q else of_a p) ≡ Some t → (rest : List Posted) × ((q ∷ b) ≡ t.posted ∷ rest)) [
+    elim (is_lt (key_cmp q.key p.key)) as (λ v. Some (if v then of_b q else of_a p) ≡ Some t → (rest : List RowPlace) × ((q ∷ b) ≡ t.place ∷ rest)) [
       | false ↦ λ e. absurd (let same : of_a p ≡ t = cc in let sides = ap (λ (u : Taken). u.second) same in cc)
-      | true ↦ λ e. (b, let same : of_b q ≡ t = cc in ap (λ (u : Taken). u.posted ∷ b) same)
+      | true ↦ λ e. (b, let same : of_b q ≡ t = cc in ap (λ (u : Taken). u.place ∷ b) same)
     ] e
 
-within : (i : ℕ) (a : List Posted) (p : Posted) (rest : List Posted) → drop i a ≡ p ∷ rest → i < length a
+within : (i : ℕ) (a : List RowPlace) (p : RowPlace) (rest : List RowPlace) → drop i a ≡ p ∷ rest → i < length a
 within i a p rest e = let l = ap length e in omega (arith, l, length-drop i a)
 
-pub within_a : (a b : List Posted) (i j : ℕ) (t : Taken) → t.second ≡ false → next_place (drop i a) (drop j b) ≡ Some t → i < length a
-within_a a b i j t side e = let h = head_a (drop i a) (drop j b) t side e in within i a t.posted h.0 h.1
+pub within_a : (a b : List RowPlace) (i j : ℕ) (t : Taken) → t.second ≡ false → next_place (drop i a) (drop j b) ≡ Some t → i < length a
+within_a a b i j t side e = let h = head_a (drop i a) (drop j b) t side e in within i a t.place h.0 h.1
 
-pub within_b : (a b : List Posted) (i j : ℕ) (t : Taken) → t.second ≡ true → next_place (drop i a) (drop j b) ≡ Some t → j < length b
-within_b a b i j t side e = let h = head_b (drop i a) (drop j b) t side e in within j b t.posted h.0 h.1
+pub within_b : (a b : List RowPlace) (i j : ℕ) (t : Taken) → t.second ≡ true → next_place (drop i a) (drop j b) ≡ Some t → j < length b
+within_b a b i j t side e = let h = head_b (drop i a) (drop j b) t side e in within j b t.place h.0 h.1
 
-one_on : (i : ℕ) (a : List Posted) (p : Posted) (rest front : List Posted) → drop i a ≡ p ∷ rest → (front ++ p ∷ []) ++ drop (i + 1) a ≡ front ++ drop i a
+one_on : (i : ℕ) (a : List RowPlace) (p : RowPlace) (rest front : List RowPlace) → drop i a ≡ p ∷ rest → (front ++ p ∷ []) ++ drop (i + 1) a ≡ front ++ drop i a
 one_on i a p rest front e =
-    append_assoc front (p ∷ []) (drop (i + 1) a) ∙ ap (λ (l : List Posted). front ++ (p ∷ l)) (ap (λ (k : ℕ). drop k a) (add-one i) ∙ one_less i a p rest e) ∙ ap (λ (l : List Posted). front ++ l) (sym e)
+    append_assoc front (p ∷ []) (drop (i + 1) a) ∙ ap (λ (l : List RowPlace). front ++ (p ∷ l)) (ap (λ (k : ℕ). drop k a) (add-one i) ∙ one_less i a p rest e) ∙ ap (λ (l : List RowPlace). front ++ l) (sym e)
 
 of_a-push : (taken : List Taken) (t : Taken) → taken_of_a (taken ++ t ∷ []) ≡ taken_of_a taken ++ taken_of_a (t ∷ [])
-of_a-push taken t = ap (map (λ (u : Taken). u.posted)) (filter-append (λ (u : Taken). not u.second) taken (t ∷ [])) ∙ map-append (λ (u : Taken). u.posted) (filter (λ (u : Taken). not u.second) taken) (filter (λ (u : Taken). not u.second) (t ∷ []))
+of_a-push taken t = ap (map (λ (u : Taken). u.place)) (filter-append (λ (u : Taken). not u.second) taken (t ∷ [])) ∙ map-append (λ (u : Taken). u.place) (filter (λ (u : Taken). not u.second) taken) (filter (λ (u : Taken). not u.second) (t ∷ []))
 
 of_b-push : (taken : List Taken) (t : Taken) → taken_of_b (taken ++ t ∷ []) ≡ taken_of_b taken ++ taken_of_b (t ∷ [])
-of_b-push taken t = ap (map (λ (u : Taken). u.posted)) (filter-append (λ (u : Taken). u.second) taken (t ∷ [])) ∙ map-append (λ (u : Taken). u.posted) (filter (λ (u : Taken). u.second) taken) (filter (λ (u : Taken). u.second) (t ∷ []))
+of_b-push taken t = ap (map (λ (u : Taken). u.place)) (filter-append (λ (u : Taken). u.second) taken (t ∷ [])) ∙ map-append (λ (u : Taken). u.place) (filter (λ (u : Taken). u.second) taken) (filter (λ (u : Taken). u.second) (t ∷ []))
 
 -- what is taken of the one list leaves the other as it is
 pub a_stays : (taken : List Taken) (t : Taken) → t.second ≡ true → taken_of_a (taken ++ t ∷ []) ≡ taken_of_a taken
-a_stays taken t side = of_a-push taken t ∙ ap (λ (l : List Posted). taken_of_a taken ++ l) none ∙ append-nil (taken_of_a taken) where
+a_stays taken t side = of_a-push taken t ∙ ap (λ (l : List RowPlace). taken_of_a taken ++ l) none ∙ append-nil (taken_of_a taken) where
   none : taken_of_a (t ∷ []) ≡ []
   none = rw side refl
 
 pub b_stays : (taken : List Taken) (t : Taken) → t.second ≡ false → taken_of_b (taken ++ t ∷ []) ≡ taken_of_b taken
-b_stays taken t side = of_b-push taken t ∙ ap (λ (l : List Posted). taken_of_b taken ++ l) none ∙ append-nil (taken_of_b taken) where
+b_stays taken t side = of_b-push taken t ∙ ap (λ (l : List RowPlace). taken_of_b taken ++ l) none ∙ append-nil (taken_of_b taken) where
   none : taken_of_b (t ∷ []) ≡ []
   none = rw side refl
 
-pub a_grows : (a b : List Posted) (i j : ℕ) (taken : List Taken) (t : Taken) → t.second ≡ false → next_place (drop i a) (drop j b) ≡ Some t → taken_of_a (taken ++ t ∷ []) ++ drop (i + 1) a ≡ taken_of_a taken ++ drop i a
+pub a_grows : (a b : List RowPlace) (i j : ℕ) (taken : List Taken) (t : Taken) → t.second ≡ false → next_place (drop i a) (drop j b) ≡ Some t → taken_of_a (taken ++ t ∷ []) ++ drop (i + 1) a ≡ taken_of_a taken ++ drop i a
 a_grows a b i j taken t side e =
     let h = head_a (drop i a) (drop j b) t side e in
-    ap (λ (l : List Posted). l ++ drop (i + 1) a) (of_a-push taken t ∙ ap (λ (l : List Posted). taken_of_a taken ++ l) one) ∙ one_on i a t.posted h.0 (taken_of_a taken) h.1 where
-      one : taken_of_a (t ∷ []) ≡ t.posted ∷ []
+    ap (λ (l : List RowPlace). l ++ drop (i + 1) a) (of_a-push taken t ∙ ap (λ (l : List RowPlace). taken_of_a taken ++ l) one) ∙ one_on i a t.place h.0 (taken_of_a taken) h.1 where
+      one : taken_of_a (t ∷ []) ≡ t.place ∷ []
       one = rw side refl
 
-pub b_grows : (a b : List Posted) (i j : ℕ) (taken : List Taken) (t : Taken) → t.second ≡ true → next_place (drop i a) (drop j b) ≡ Some t → taken_of_b (taken ++ t ∷ []) ++ drop (j + 1) b ≡ taken_of_b taken ++ drop j b
+pub b_grows : (a b : List RowPlace) (i j : ℕ) (taken : List Taken) (t : Taken) → t.second ≡ true → next_place (drop i a) (drop j b) ≡ Some t → taken_of_b (taken ++ t ∷ []) ++ drop (j + 1) b ≡ taken_of_b taken ++ drop j b
 b_grows a b i j taken t side e =
     let h = head_b (drop i a) (drop j b) t side e in
-    ap (λ (l : List Posted). l ++ drop (j + 1) b) (of_b-push taken t ∙ ap (λ (l : List Posted). taken_of_b taken ++ l) one) ∙ one_on j b t.posted h.0 (taken_of_b taken) h.1 where
-      one : taken_of_b (t ∷ []) ≡ t.posted ∷ []
+    ap (λ (l : List RowPlace). l ++ drop (j + 1) b) (of_b-push taken t ∙ ap (λ (l : List RowPlace). taken_of_b taken ++ l) one) ∙ one_on j b t.place h.0 (taken_of_b taken) h.1 where
+      one : taken_of_b (t ∷ []) ≡ t.place ∷ []
       one = rw side refl
 
 -- ---- what was taken so far, and what is left
@@ -303,15 +303,15 @@ taken_push xs ys taken left after t next so_far turn =
       after_is = sym (one_less (length taken) left turn.row next rest) ∙ ap (λ n. drop n left) (sym longer);
     }
 
-over_rows : (xs ys : List StampedRow) (a b : List Posted) (i j : ℕ) (next : Option Taken) → a ≡ places_of xs → b ≡ places_of ys → next_place (drop i a) (drop j b) ≡ next → next_place (drop i (places_of xs)) (drop j (places_of ys)) ≡ next
-over_rows xs ys a b i j next is_a is_b e = sym (ap (λ (l : List Posted). next_place (drop i l) (drop j b)) is_a ∙ ap (λ (l : List Posted). next_place (drop i (places_of xs)) (drop j l)) is_b) ∙ e
+over_rows : (xs ys : List StampedRow) (a b : List RowPlace) (i j : ℕ) (next : Option Taken) → a ≡ places_of xs → b ≡ places_of ys → next_place (drop i a) (drop j b) ≡ next → next_place (drop i (places_of xs)) (drop j (places_of ys)) ≡ next
+over_rows xs ys a b i j next is_a is_b e = sym (ap (λ (l : List RowPlace). next_place (drop i l) (drop j b)) is_a ∙ ap (λ (l : List RowPlace). next_place (drop i (places_of xs)) (drop j l)) is_b) ∙ e
 
-pub taken_a : (xs ys : List StampedRow) (a b : List Posted) (i j : ℕ) (taken : List Taken) (left : List StampedRow) (t : Taken) → AreLists (xs ∷ ys ∷ []) → a ≡ places_of xs → b ≡ places_of ys → t.second ≡ false → next_place (drop i a) (drop j b) ≡ Some t
+pub taken_a : (xs ys : List StampedRow) (a b : List RowPlace) (i j : ℕ) (taken : List Taken) (left : List StampedRow) (t : Taken) → AreLists (xs ∷ ys ∷ []) → a ≡ places_of xs → b ≡ places_of ys → t.second ≡ false → next_place (drop i a) (drop j b) ≡ Some t
     → AreTaken xs ys taken left (union (drop i xs) (drop j ys)) → AreTaken xs ys (taken ++ t ∷ []) left (union (drop (i + 1) xs) (drop j ys))
 taken_a xs ys a b i j taken left t are is_a is_b side e so_far =
     taken_push xs ys taken left (union (drop i xs) (drop j ys)) t (union (drop (i + 1) xs) (drop j ys)) so_far (turn_a xs ys i j t are side (over_rows xs ys a b i j (Some t) is_a is_b e))
 
-pub taken_b : (xs ys : List StampedRow) (a b : List Posted) (i j : ℕ) (taken : List Taken) (left : List StampedRow) (t : Taken) → AreLists (xs ∷ ys ∷ []) → a ≡ places_of xs → b ≡ places_of ys → t.second ≡ true → next_place (drop i a) (drop j b) ≡ Some t
+pub taken_b : (xs ys : List StampedRow) (a b : List RowPlace) (i j : ℕ) (taken : List Taken) (left : List StampedRow) (t : Taken) → AreLists (xs ∷ ys ∷ []) → a ≡ places_of xs → b ≡ places_of ys → t.second ≡ true → next_place (drop i a) (drop j b) ≡ Some t
     → AreTaken xs ys taken left (union (drop i xs) (drop j ys)) → AreTaken xs ys (taken ++ t ∷ []) left (union (drop i xs) (drop (j + 1) ys))
 taken_b xs ys a b i j taken left t are is_a is_b side e so_far =
     taken_push xs ys taken left (union (drop i xs) (drop j ys)) t (union (drop i xs) (drop (j + 1) ys)) so_far (turn_b xs ys i j t are side (over_rows xs ys a b i j (Some t) is_a is_b e))
@@ -327,7 +327,7 @@ all_taken (suc k) (suc n) [] e le = (refl, refl)
 all_taken (suc k) zero (x ∷ xs) e le = absurd (omega arith)
 all_taken (suc k) (suc n) (x ∷ xs) e le = let t = all_taken k n xs e (omega arith) in (ap (λ l. x ∷ l) t.0, t.1)
 
-none_next : (a b : List Posted) → next_place a b ≡ None → (a ≡ []) × (b ≡ [])
+none_next : (a b : List RowPlace) → next_place a b ≡ None → (a ≡ []) × (b ≡ [])
 none_next [] [] e = (refl, refl)
 none_next (p ∷ a) [] e = absurd cc
 none_next [] (q ∷ b) e = absurd cc
@@ -344,7 +344,7 @@ pub taken_so_many : (xs ys : List StampedRow) (taken : List Taken) (left after :
 taken_so_many xs ys taken left after n so_far e = (subst (λ k. AllZip (StandsTaken xs ys) taken (take k left)) e so_far.stand, so_far.after_is ∙ ap (λ k. drop k left) e)
 
 -- no place is left, and so no row
-pub taken_all : (xs ys : List StampedRow) (a b : List Posted) (i j n : ℕ) (taken : List Taken) (left : List StampedRow) → AreTaken xs ys taken left (union (drop i xs) (drop j ys)) → a ≡ places_of xs → b ≡ places_of ys → next_place (drop i a) (drop j b) ≡ None → length taken ≤ n
+pub taken_all : (xs ys : List StampedRow) (a b : List RowPlace) (i j n : ℕ) (taken : List Taken) (left : List StampedRow) → AreTaken xs ys taken left (union (drop i xs) (drop j ys)) → a ≡ places_of xs → b ≡ places_of ys → next_place (drop i a) (drop j b) ≡ None → length taken ≤ n
     → AllZip (StandsTaken xs ys) taken (take n left) × (union (drop i xs) (drop j ys) ≡ drop n left)
 taken_all xs ys a b i j n taken left so_far is_a is_b e le =
     let none = none_next (drop i (places_of xs)) (drop j (places_of ys)) (over_rows xs ys a b i j None is_a is_b e) in

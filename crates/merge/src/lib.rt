@@ -4,7 +4,7 @@
 ghost use Rattle.std.specs.Prelude.{◌≡◌, ◌+◌, ◌-◌, ◌<◌, ◌≤◌, ◌^◌, ◌↔◌, ◌++◌, ◌∷◌, [], List, IsTrue, IfOk, length, take, drop, min};
 ghost use Rattle.merge.specs.Turns.{next_place};
 
-use segment::Posted;
+use segment::RowPlace;
 use std::alloc::{AllocError, Global};
 
 #[cfg(test)]
@@ -14,12 +14,12 @@ mod tests;
 #[derive(Clone, Copy)]
 pub struct Taken {
     pub second: bool,
-    pub posted: Posted,
+    pub place: RowPlace,
 }
 
 /// How far a merge of two lists is: how many places of each are taken, and how many each has.
 #[derive(Clone, Copy)]
-pub struct Merging {
+pub struct MergeProgress {
     a_place: usize,
     b_place: usize,
     a_len: usize,
@@ -29,7 +29,7 @@ pub struct Merging {
     ghost fits: { a_len + b_len < 2 ^ 64 },
 }
 
-impl Merging {
+impl MergeProgress {
     ghost use Rattle.std.specs.List.{AllZip};
     ghost use Rattle.history_model.specs.declared.stamped.StampedRow.{StampedRow};
     ghost use Rattle.history_model.specs.Lists.{AreLists};
@@ -37,11 +37,11 @@ impl Merging {
     ghost use Rattle.merge.specs.Merged.{count_left, rows_left, taken_of_a, taken_of_b, IsNew, IsOf, StandsTaken};
 
     /// The merge of two lists of these lengths, of which nothing is taken yet.
-    pub fn new(a_len: usize, b_len: usize) -> Merging
+    pub fn new(a_len: usize, b_len: usize) -> MergeProgress
         requires { a_len + b_len < 2 ^ 64 }
         ensures { IsNew result a_len b_len }
     {
-        Merging {
+        MergeProgress {
             a_place: 0,
             b_place: 0,
             a_len,
@@ -68,10 +68,10 @@ impl Merging {
     pub fn take(
         self,
         alloc: Global,
-        a: &[Posted],
-        b: &[Posted],
+        a: &[RowPlace],
+        b: &[RowPlace],
         n: u32,
-    ) -> Result<(Vec<Taken>, Merging), AllocError>
+    ) -> Result<(Vec<Taken>, MergeProgress), AllocError>
         requires lengths { IsOf self a.now b.now }
         ensures of_both { IfOk result (λ r. IsOf r.1 a.now b.now) }
         ensures count { IfOk result (λ r. length r.0.items ≡ min n (count_left self)) }
@@ -106,7 +106,7 @@ impl Merging {
                 a_place += 1;
             }
         }
-        let after = Merging {
+        let after = MergeProgress {
             a_place,
             b_place,
             a_len: self.a_len,
@@ -117,23 +117,23 @@ impl Merging {
 }
 
 /// The next place of what is left of two lists, in key order.
-fn next_place(a: &[Posted], b: &[Posted]) -> Option<Taken>
+fn next_place(a: &[RowPlace], b: &[RowPlace]) -> Option<Taken>
     ensures { result ≡ next_place a.now b.now }
 {
     match (a.first(), b.first()) {
         (None, None) => None,
         (Some(p), None) => Some(Taken {
             second: false,
-            posted: *p,
+            place: *p,
         }),
         (None, Some(q)) => Some(Taken {
             second: true,
-            posted: *q,
+            place: *q,
         }),
         (Some(p), Some(q)) => {
             let second = q.key.compare(&p.key).is_lt();
-            let posted = if second { *q } else { *p };
-            Some(Taken { second, posted })
+            let place = if second { *q } else { *p };
+            Some(Taken { second, place })
         }
     }
 }

@@ -1,8 +1,8 @@
 //! Places that are taken in turns.
 
-use crate::{Merging, Taken};
+use crate::{MergeProgress, Taken};
 use rf2_values::{EffectiveTime, Key, Kind};
-use segment::Posted;
+use segment::RowPlace;
 use std::alloc::Global;
 use std::test::Fail;
 
@@ -10,13 +10,13 @@ use std::test::Fail;
 const CONCEPT: u32 = 46;
 
 /// The places of the versions with these ids and days, as they come.
-fn places(alloc: Global, versions: &[(u128, u32)]) -> Result<Vec<Posted>, Fail> {
+fn places(alloc: Global, versions: &[(u128, u32)]) -> Result<Vec<RowPlace>, Fail> {
     let mut list = Vec::new(alloc);
     let mut at: u32 = 0;
     for &(id, day) in versions {
         let time = EffectiveTime::of(day).ok_or("no day")?;
         let kind = Kind::Concept;
-        list.push(Posted {
+        list.push(RowPlace {
             key: Key { id, time, kind },
             import: 1,
             at,
@@ -31,7 +31,7 @@ fn places(alloc: Global, versions: &[(u128, u32)]) -> Result<Vec<Posted>, Fail> 
 fn shown(alloc: Global, taken: &[Taken]) -> Result<Vec<(bool, u128, u32)>, Fail> {
     let mut list = Vec::new(alloc);
     for t in taken {
-        list.push((t.second, t.posted.key.id, t.posted.key.time.value()))?;
+        list.push((t.second, t.place.key.id, t.place.key.time.value()))?;
     }
     Ok(list)
 }
@@ -94,7 +94,7 @@ fn the_first_places_come_in_key_order(rt: HostRuntime) -> Result<(), Fail> {
     ] {
         let a = places(alloc, first)?;
         let b = places(alloc, second)?;
-        let merging = Merging::new(a.len(), b.len());
+        let merging = MergeProgress::new(a.len(), b.len());
         let (taken, after) = merging.take(alloc, &a, &b, n)?;
         assert_eq!(rt; shown(alloc, &taken)?.as_slice(), want);
         assert_eq!(rt; after.left(), left);
@@ -108,7 +108,7 @@ fn what_is_left_is_taken_later(rt: HostRuntime) -> Result<(), Fail> {
     let alloc = rt.alloc();
     let a = places(alloc, &[(1, OLD), (2, NEW), (7, OLD)])?;
     let b = places(alloc, &[(2, OLD), (8, OLD), (9, OLD)])?;
-    let merging = Merging::new(a.len(), b.len());
+    let merging = MergeProgress::new(a.len(), b.len());
     let (first, merging) = merging.take(alloc, &a, &b, 3)?;
     let (rest, merging) = merging.take(alloc, &a, &b, 9)?;
     let want = [(false, 1, OLD), (true, 2, OLD), (false, 2, NEW)];

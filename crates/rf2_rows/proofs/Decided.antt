@@ -24,7 +24,7 @@ use Rattle.rf2_values.specs.Sctid.{IsSctid, check_digits, class_of}
 use Rattle.rf2_values.specs.Time.{IsTime}
 use Rattle.rf2_values.specs.Text.{IsText}
 use Rattle.rf2_values.specs.Member.{IsMemberByte}
-use Rattle.rf2_values.specs.Row.{Version, version, IsVersion, IsOfClass, IsConcept, IsComponent, IsIdOf, IsBody, Spells, SpellsColumns, SpellsId, kind_of, kind_of_body, id_text, later_columns, body_columns, flag, line_limit, line_of}
+use Rattle.rf2_values.specs.Row.{RowValue, version, IsVersion, IsOfClass, IsConcept, IsComponent, IsIdOf, IsBody, Spells, SpellsColumns, SpellsId, kind_of, kind_of_body, id_text, later_columns, body_columns, flag, line_limit, line_of}
 use Rattle.rf2_values.proofs.Decimals.{decimal_is_plain}
 use Rattle.rf2_values.proofs.Lengths.{length-line}
 use Rattle.rf2_rows.specs.declared.fault.LineFault.{LineFault}
@@ -384,7 +384,7 @@ own kind.Concrete ts h =
       consed _ _ _ _ _ a.2 a.3.2 (consed _ _ _ _ _ b.2 refl (consed _ _ _ _ _ c.2 c.3.2 (consed _ _ _ _ _ d.2 d.3.2 (consed _ _ _ _ _ e.2 e.3.2 (consed _ _ _ _ _ f.2 f.3.2 (no_more f.1 f.4)))))),
     )
 
-row_of : (k : Kind) (ts : List (List ℕ)) → AllStand (columns k) ts → length (line_of ts) ≤ line_limit → (v : Version) × (kind_of v ≡ k) × IsVersion v × SpellsColumns v ts
+row_of : (k : Kind) (ts : List (List ℕ)) → AllStand (columns k) ts → length (line_of ts) ≤ line_limit → (v : RowValue) × (kind_of v ≡ k) × IsVersion v × SpellsColumns v ts
 row_of k ts h short =
     let a = first (Identifier k) (Time ∷ Active ∷ ConceptReference ∷ columns_in (own_layout k)) ts h in
     let t = first Time (Active ∷ ConceptReference ∷ columns_in (own_layout k)) a.1 a.4 in
@@ -409,7 +409,7 @@ row_of k ts h short =
 
 -- ---- lines and files
 
-pub each_line : (k : Kind) (text : List ℕ) → ((v : Version) × (kind_of v ≡ k) × Spells v text) ⊎ ((f : LineFault) × IsFaultOf k text f)
+pub each_line : (k : Kind) (text : List ℕ) → ((v : RowValue) × (kind_of v ≡ k) × Spells v text) ⊎ ((f : LineFault) × IsFaultOf k text f)
 each_line k text =
     elim (cases_lt line_limit (length text)) [
       | inl long ↦ inr (fault.LineLength, inl (long, refl))
@@ -442,7 +442,7 @@ first_line k text =
           ]
     ]
 
-each_row : (k : Kind) (lines : List (List ℕ)) → ((rows : List Version) × SpellsEach k rows lines) ⊎ ((n : ℕ) × (f : LineFault) × IsFaultOfRows k lines n f)
+each_row : (k : Kind) (lines : List (List ℕ)) → ((rows : List RowValue) × SpellsEach k rows lines) ⊎ ((n : ℕ) × (f : LineFault) × IsFaultOfRows k lines n f)
 each_row k [] = inl ([], tt)
 each_row k (t ∷ ts) =
     elim (each_line k t) [
@@ -456,7 +456,7 @@ each_row k (t ∷ ts) =
           ]
     ]
 
-from_lines : (k : Kind) (bytes : List ℕ) (lines : List (List ℕ)) → lines_in (without_mark bytes) ≡ lines → ((rows : List Version) × IsReleaseFile k rows bytes) ⊎ ((n : ℕ) × (f : LineFault) × IsFaultOfLines k lines n f)
+from_lines : (k : Kind) (bytes : List ℕ) (lines : List (List ℕ)) → lines_in (without_mark bytes) ≡ lines → ((rows : List RowValue) × IsReleaseFile k rows bytes) ⊎ ((n : ℕ) × (f : LineFault) × IsFaultOfLines k lines n f)
 from_lines k bytes [] cut = inr (1, fault.Header, (refl, refl))
 from_lines k bytes (t ∷ ts) cut =
     elim (first_line k t) [
@@ -468,5 +468,5 @@ from_lines k bytes (t ∷ ts) cut =
           ]
     ]
 
-pub each_file : (k : Kind) (bytes : List ℕ) → ((rows : List Version) × IsReleaseFile k rows bytes) ⊎ ((n : ℕ) × (f : LineFault) × IsFaultOfFile k bytes n f)
+pub each_file : (k : Kind) (bytes : List ℕ) → ((rows : List RowValue) × IsReleaseFile k rows bytes) ⊎ ((n : ℕ) × (f : LineFault) × IsFaultOfFile k bytes n f)
 each_file k bytes = from_lines k bytes (lines_in (without_mark bytes)) refl

@@ -8,7 +8,7 @@ use Rattle.std.specs.Str.{IsUtf8}
 use Rattle.rf2_rows.specs.declared.fault.LineFault.{LineFault}
 use Rattle.rf2_rows.specs.declared.fault.RowFault.{RowFault}
 use Rattle.rf2_rows.specs.declared.fault.RowFault.TheVariants as rowfault
-use Rattle.rf2_values.specs.Row.{Version, version, IsVersion, IsIdOf, IsBody, IsConcept, SpellsId, SpellsColumns, kind_of, kind_of_body, line_limit, line_of, id_text, later_columns, body_columns, flag}
+use Rattle.rf2_values.specs.Row.{RowValue, version, IsVersion, IsIdOf, IsBody, IsConcept, SpellsId, SpellsColumns, kind_of, kind_of_body, line_limit, line_of, id_text, later_columns, body_columns, flag}
 use Rattle.rf2_rows.specs.Line.{Column, MayStand, HasFault, AllStand, FirstFault, columns as columns_of_kind, columns_in, common_layout, own_layout, columns_of, IsFaultOfColumns, IsLineFaultThat}
 use Rattle.rf2_rows.specs.Private.{texts, IsLineReading}
 use Rattle.rf2_values.specs.Time.{IsTime}
@@ -75,7 +75,7 @@ given_map P Q g rowfault.OutOfMemory h = tt
 given_map P Q g (rowfault.Line f) h = g f h
 
 -- what the columns of a line give is what the line gives
-pub line_reading : (kind : Kind) (text : List ℕ) (parts : List (List ℕ)) (r : Result Version RowFault) → length text ≤ line_limit → IsUtf8 text → text ≡ line_of parts → parts ≡ columns_of text
+pub line_reading : (kind : Kind) (text : List ℕ) (parts : List (List ℕ)) (r : Result RowValue RowFault) → length text ≤ line_limit → IsUtf8 text → text ≡ line_of parts → parts ≡ columns_of text
     → MatchResult r (λ v. (kind_of v ≡ kind) × IsVersion v × SpellsColumns v parts) (IsLineFaultThat (IsFaultOfColumns kind parts)) → IsLineReading kind text r
 line_reading kind text parts (Ok v) short utf8 whole cut h = (h.0, record { is_row = h.1; columns = (parts, h.2, whole); short = short })
 line_reading kind text parts (Err rowfault.OutOfMemory) short utf8 whole cut h = tt

@@ -18,7 +18,7 @@ use Rattle.rf2_rows.specs.declared.fault.LineFault.{LineFault}
 use Rattle.rf2_rows.specs.declared.fault.FileFault.{FileFault}
 use Rattle.rf2_rows.specs.declared.fault.FileFault.TheVariants as filefault
 use Rattle.rf2_values.specs.declared.row.Row.{Row}
-use Rattle.rf2_values.specs.Row.{Version, IsBody, Spells, kind_of, body_columns, line_limit, line_of}
+use Rattle.rf2_values.specs.Row.{RowValue, IsBody, Spells, kind_of, body_columns, line_limit, line_of}
 use Rattle.rf2_rows.specs.Line.{header, columns, IsFaultOf}
 use Rattle.rf2_rows.specs.File.{InLines, mark, without_mark, lines_in, SpellsEach, IsReleaseFile, IsFirstLineFault, IsFaultOfLines, IsFaultOfFile, IsFaultThat}
 use Rattle.rf2_rows.proofs.Splits.{IsFree}
@@ -62,7 +62,7 @@ own_last t (body.Relationship r) h = let high = h.5.sctid.high in decimal_plain 
 own_last t (body.Association a) h = let high = h.2.sctid.high in decimal_plain a.target (omega arith)
 own_last t (body.Concrete c) h = let high = h.5.sctid.high in decimal_plain c.modifier (omega arith)
 
-spelled_is_line : (v : Version) (text : List ℕ) → Spells v text → IsPlainLine text
+spelled_is_line : (v : RowValue) (text : List ℕ) → Spells v text → IsPlainLine text
 spelled_is_line v text s =
     let texts = s.columns.0 in
     let stand = columns_stand v texts s.is_row s.columns.1 in
@@ -70,7 +70,7 @@ spelled_is_line v text s =
     let ends = line_ends texts last in
     subst IsPlainLine (sym s.columns.2) (record { some = ends.0; no_lf = line_no_lf texts (all_clean (columns (kind_of v)) texts stand); no_cr = ends.1 })
 
-all_lines : (kind : Kind) (rows : List Version) (texts : List (List ℕ)) → SpellsEach kind rows texts → AllByRecursion IsPlainLine texts
+all_lines : (kind : Kind) (rows : List RowValue) (texts : List (List ℕ)) → SpellsEach kind rows texts → AllByRecursion IsPlainLine texts
 all_lines kind [] [] h = tt
 all_lines kind [] (t ∷ ts) h = absurd h
 all_lines kind (v ∷ vs) [] h = absurd h
@@ -153,7 +153,7 @@ begins t [] bytes (inl e) = ([], e ∙ sym (append-nil t))
 begins t [] bytes (inr h) = (h.0, h.2)
 begins t (u ∷ us) bytes h = (h.0 ++ h.1, h.3)
 
-release_lines : (kind : Kind) (rows : List Version) (bytes : List ℕ) (h : IsReleaseFile kind rows bytes) → lines_in (without_mark bytes) ≡ header kind ∷ h.texts
+release_lines : (kind : Kind) (rows : List RowValue) (bytes : List ℕ) (h : IsReleaseFile kind rows bytes) → lines_in (without_mark bytes) ≡ header kind ∷ h.texts
 release_lines kind rows bytes h =
     let cut : lines_in h.body ≡ header kind ∷ h.texts = lines_are (header kind ∷ h.texts) h.body ((headers kind).is_line, all_lines kind rows h.texts h.spelled) h.in_lines in
     let start = begins (header kind) h.texts h.body h.in_lines in
@@ -165,7 +165,7 @@ release_lines kind rows bytes h =
 
 -- ---- one list of rows
 
-same_rows : (kind : Kind) (rows others : List Version) (texts : List (List ℕ)) → SpellsEach kind rows texts → SpellsEach kind others texts → rows ≡ others
+same_rows : (kind : Kind) (rows others : List RowValue) (texts : List (List ℕ)) → SpellsEach kind rows texts → SpellsEach kind others texts → rows ≡ others
 same_rows kind [] [] [] g h = refl
 same_rows kind [] [] (t ∷ ts) g h = refl
 same_rows kind [] (w ∷ ws) [] g h = absurd h
@@ -175,9 +175,9 @@ same_rows kind (v ∷ vs) [] (t ∷ ts) g h = absurd h
 same_rows kind (v ∷ vs) (w ∷ ws) [] g h = absurd g
 same_rows kind (v ∷ vs) (w ∷ ws) (t ∷ ts) g h =
     let one : v ≡ w = spells_one_row v w t (g.0.0 ∙ sym h.0.0) g.0.1 h.0.1 in
-    ap (λ (x : Version). x ∷ vs) one ∙ ap (λ (x : List Version). w ∷ x) (same_rows kind vs ws ts g.1 h.1)
+    ap (λ (x : RowValue). x ∷ vs) one ∙ ap (λ (x : List RowValue). w ∷ x) (same_rows kind vs ws ts g.1 h.1)
 
-pub spells_one_list : (kind : Kind) (rows others : List Version) (bytes : List ℕ) → IsReleaseFile kind rows bytes → IsReleaseFile kind others bytes → rows ≡ others
+pub spells_one_list : (kind : Kind) (rows others : List RowValue) (bytes : List ℕ) → IsReleaseFile kind rows bytes → IsReleaseFile kind others bytes → rows ≡ others
 spells_one_list kind rows others bytes g h =
     let both : header kind ∷ g.texts ≡ header kind ∷ h.texts = sym (release_lines kind rows bytes g) ∙ release_lines kind others bytes h in
     let texts : g.texts ≡ h.texts = ap (λ (ts : List (List ℕ)). drop 1 ts) both in
@@ -185,7 +185,7 @@ spells_one_list kind rows others bytes g h =
 
 -- ---- no fault
 
-no_fault_among : (kind : Kind) (rows : List Version) (before : List (List ℕ)) (text : List ℕ) (after : List (List ℕ)) (f : LineFault) → SpellsEach kind rows (before ++ text ∷ after) → IsFaultOf kind text f → ⊥
+no_fault_among : (kind : Kind) (rows : List RowValue) (before : List (List ℕ)) (text : List ℕ) (after : List (List ℕ)) (f : LineFault) → SpellsEach kind rows (before ++ text ∷ after) → IsFaultOf kind text f → ⊥
 no_fault_among kind [] [] text after f h fault = h
 no_fault_among kind [] (t ∷ ts) text after f h fault = h
 no_fault_among kind (v ∷ vs) [] text after f h fault = spelled_has_no_fault v text f h.0.1 (subst (λ (k : Kind). IsFaultOf k text f) (sym h.0.0) fault)
@@ -199,7 +199,7 @@ no_first_line_fault kind f (inr other) =
       | inr good ↦ good.1 refl
     ]
 
-pub release_file_has_no_fault : (kind : Kind) (rows : List Version) (bytes : List ℕ) (n : ℕ) (f : LineFault) → IsReleaseFile kind rows bytes → IsFaultOfFile kind bytes n f → ⊥
+pub release_file_has_no_fault : (kind : Kind) (rows : List RowValue) (bytes : List ℕ) (n : ℕ) (f : LineFault) → IsReleaseFile kind rows bytes → IsFaultOfFile kind bytes n f → ⊥
 release_file_has_no_fault kind rows bytes n f h fault =
     let there : IsFaultOfLines kind (header kind ∷ h.texts) n f = subst (λ (ls : List (List ℕ)). IsFaultOfLines kind ls n f) (release_lines kind rows bytes h) fault in
     elim there [
@@ -212,7 +212,7 @@ release_file_has_no_fault kind rows bytes n f h fault =
 -- ---- the one answer
 
 pub only_answer : (kind : Kind) (bytes : List ℕ) (r : Result (Vec Row) FileFault) → IfOk r (λ v. IsReleaseFile kind v.items bytes) → IfErr r (IsFaultThat (IsFaultOfFile kind bytes))
-    → (rows : List Version) → IsReleaseFile kind rows bytes → MatchResult r (λ v. v.items ≡ rows) (λ e. e ≡ filefault.OutOfMemory)
+    → (rows : List RowValue) → IsReleaseFile kind rows bytes → MatchResult r (λ v. v.items ≡ rows) (λ e. e ≡ filefault.OutOfMemory)
 only_answer kind bytes (Ok v) found fault rows h = spells_one_list kind v.items rows bytes found h
 only_answer kind bytes (Err filefault.OutOfMemory) found fault rows h = refl
 only_answer kind bytes (Err (filefault.Row n f)) found fault rows h = absurd (release_file_has_no_fault kind rows bytes n f h fault)

@@ -7,7 +7,7 @@ use Rattle.std.specs.Cmp.Lexicographic.{same_text}
 use Rattle.rf2_values.specs.declared.row.Kind.{Kind}
 use Rattle.rf2_rows.specs.declared.fault.RowFault.{RowFault}
 use Rattle.rf2_rows.specs.declared.fault.RowFault.TheVariants as rowfault
-use Rattle.rf2_values.specs.Row.{Version, Spells, kind_of}
+use Rattle.rf2_values.specs.Row.{RowValue, Spells, kind_of}
 use Rattle.rf2_rows.specs.Line.{header}
 use Rattle.rf2_rows.specs.Private.{IsLineReading}
 use Rattle.rf2_rows.specs.Private.{at_line_of}
@@ -27,10 +27,10 @@ zip_length R (a ∷ rest) [] all = absurd all
 zip_length R (a ∷ rest) (b ∷ bs) all = ap suc (zip_length R rest bs all.1)
 
 -- the lines before spell the rows so far, and those left follow
-abbrev pub SoFar : Kind → List (List ℕ) → List Version → List (List ℕ) → Type 0
+abbrev pub SoFar : Kind → List (List ℕ) → List RowValue → List (List ℕ) → Type 0
 SoFar kind lines rows left = (before : List (List ℕ)) × (before ++ left ≡ lines) × SpellsEach kind rows before
 
-pub one_more : (kind : Kind) (lines : List (List ℕ)) (rows : List Version) (left rest : List (List ℕ)) (line : List ℕ) (v : Version)
+pub one_more : (kind : Kind) (lines : List (List ℕ)) (rows : List RowValue) (left rest : List (List ℕ)) (line : List ℕ) (v : RowValue)
     → SoFar kind lines rows left → left ≡ line ∷ rest → (kind_of v ≡ kind) × Spells v line → SoFar kind lines (rows ++ v ∷ []) rest
 one_more kind lines rows left rest line v h e spelled = (
   h.0 ++ line ∷ [],
@@ -38,7 +38,7 @@ one_more kind lines rows left rest line v h e spelled = (
   zip_push (λ w text. (kind_of w ≡ kind) × Spells w text) rows h.0 v line h.2 spelled,
 )
 
-pub fault_there : (kind : Kind) (lines : List (List ℕ)) (rows : List Version) (left rest : List (List ℕ)) (line : List ℕ) (e : RowFault) (n : ℕ)
+pub fault_there : (kind : Kind) (lines : List (List ℕ)) (rows : List RowValue) (left rest : List (List ℕ)) (line : List ℕ) (e : RowFault) (n : ℕ)
     → SoFar kind lines rows left → left ≡ line ∷ rest → IsLineReading kind line (Err e) → n ≡ length rows + 2 → IsFaultThat (IsFaultOfRows kind lines) (at_line_of n e)
 fault_there kind lines rows left rest line rowfault.OutOfMemory n h is given at = tt
 fault_there kind lines rows left rest line (rowfault.Line f) n h is given at =
@@ -54,7 +54,7 @@ front_of bytes =
       | inr plain ↦ ([], inl refl, sym (cond-false _ _ _ plain))
     ]
 
-pub is_release_file : (kind : Kind) (rows : List Version) (bytes : List ℕ) (first : List ℕ) (others : List (List ℕ))
+pub is_release_file : (kind : Kind) (rows : List RowValue) (bytes : List ℕ) (first : List ℕ) (others : List (List ℕ))
     → lines_in (without_mark bytes) ≡ first ∷ others → first ≡ header kind → SpellsEach kind rows others → IsReleaseFile kind rows bytes
 is_release_file kind rows bytes first others cut head spelled =
     let front = front_of bytes in

@@ -9,7 +9,7 @@ use Rattle.rf2_values.specs.declared.row.Body.{Body}
 use Rattle.rf2_values.specs.declared.row.Body.TheVariants as body
 use Rattle.rf2_rows.specs.declared.fault.LineFault.{LineFault}
 use Rattle.rf2_values.specs.Time.{IsTime}
-use Rattle.rf2_values.specs.Row.{Version, IsVersion, IsBody, IsConcept, IsComponent, IsIdOf, Spells, SpellsColumns, SpellsId, id_text, canonical, later_columns, body_columns, kind_of, kind_of_body, flag, line_of}
+use Rattle.rf2_values.specs.Row.{RowValue, IsVersion, IsBody, IsConcept, IsComponent, IsIdOf, Spells, SpellsColumns, SpellsId, id_text, canonical, later_columns, body_columns, kind_of, kind_of_body, flag, line_of}
 use Rattle.rf2_rows.specs.Line.{Column, Identifier, Time, Active, ConceptReference, ComponentReference, Number, Text, MayStand, HasFault, AllStand, FirstFault, columns, columns_in, own_layout, columns_of, IsFaultOf}
 use Rattle.std.specs.Int.{from_be_bytes, w128}
 use Rattle.rf2_values.proofs.Members.{member_text_spells}
@@ -50,7 +50,7 @@ own_stand (body.Association a) h = ((a.refset, h.0, refl), ((a.referenced, h.1, 
 own_stand (body.Concrete c) h = ((c.source, h.0, refl), (h.1, ((c.group, h.2, refl), ((c.type_id, h.3, refl), ((c.characteristic_type, h.4, refl), ((c.modifier, h.5, refl), tt))))))
 
 -- the columns of a row may stand where they stand
-pub columns_stand : (v : Version) (texts : List (List ℕ)) → IsVersion v → SpellsColumns v texts → AllStand (columns (kind_of v)) texts
+pub columns_stand : (v : RowValue) (texts : List (List ℕ)) → IsVersion v → SpellsColumns v texts → AllStand (columns (kind_of v)) texts
 columns_stand v texts h s =
     subst (λ (ts : List (List ℕ)). AllStand (columns (kind_of v)) ts) (sym s.2)
     ((v.id, h.id, s.1), ((v.time, h.time, refl), ((v.active, refl), ((v.module_id, h.module_id, refl), own_stand v.body h.body))))
@@ -66,7 +66,7 @@ columns_cut : (kind : Kind) (texts : List (List ℕ)) → AllStand (columns kind
 columns_cut kind [] h = absurd h
 columns_cut kind (t ∷ ts) h = let free = all_no_tab (t ∷ ts) (all_clean (columns kind) (t ∷ ts) h) in split-joined 9 t ts free.0 free.1
 
-pub spelled_has_no_fault : (v : Version) (text : List ℕ) (f : LineFault) → Spells v text → IsFaultOf (kind_of v) text f → ⊥
+pub spelled_has_no_fault : (v : RowValue) (text : List ℕ) (f : LineFault) → Spells v text → IsFaultOf (kind_of v) text f → ⊥
 spelled_has_no_fault v text f s (inl long) = let short = s.short in omega arith
 spelled_has_no_fault v text f s (inr (other)) =
     let texts = s.columns.0 in
@@ -179,12 +179,12 @@ same_bodies a b ha hb k e = absurd cc
 time_below : (t : ℕ) → IsTime t → t < 2 ^ 64
 time_below t h = let to = h.year_to in omega arith
 
-same_versions : (v w : Version) → v.id ≡ w.id → v.time ≡ w.time → v.active ≡ w.active → v.module_id ≡ w.module_id → v.body ≡ w.body → v ≡ w
+same_versions : (v w : RowValue) → v.id ≡ w.id → v.time ≡ w.time → v.active ≡ w.active → v.module_id ≡ w.module_id → v.body ≡ w.body → v ≡ w
 same_versions v w id time active modul body =
     let P : ℕ → ℕ → Bool → ℕ → Body → Type 0 = λ i t a m b. v ≡ record { id = i; time = t; active = a; module_id = m; body = b } in
     subst (λ i. P i w.time w.active w.module_id w.body) id (subst (λ t. P v.id t w.active w.module_id w.body) time (subst (λ a. P v.id v.time a w.module_id w.body) active (subst (λ m. P v.id v.time v.active m w.body) modul (subst (λ b. P v.id v.time v.active v.module_id b) body refl))))
 
-pub spells_one_row : (v w : Version) (text : List ℕ) → kind_of v ≡ kind_of w → Spells v text → Spells w text → v ≡ w
+pub spells_one_row : (v w : RowValue) (text : List ℕ) → kind_of v ≡ kind_of w → Spells v text → Spells w text → v ≡ w
 spells_one_row v w text k s t =
     let a = columns_stand v s.columns.0 s.is_row s.columns.1 in
     let b = columns_stand w t.columns.0 t.is_row t.columns.1 in
@@ -205,7 +205,7 @@ spells_one_row v w text k s t =
 
 -- ---- the canonical spelling
 
-pub canonical_spells : (v : Version) → IsVersion v → Spells v (canonical v)
+pub canonical_spells : (v : RowValue) → IsVersion v → Spells v (canonical v)
 canonical_spells v h = record { is_row = h; columns = (id_text (kind_of v) v.id ∷ later_columns v, (id_text (kind_of v) v.id, canonical_id (kind_of v) v.id h.id, refl), refl); short = h.short }
   where
     canonical_id : (k : Kind) (n : ℕ) → IsIdOf k n → SpellsId k n (id_text k n)

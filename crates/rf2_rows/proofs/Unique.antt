@@ -7,7 +7,7 @@ use Rattle.rf2_values.specs.declared.sctid.Class.{Class}
 use Rattle.rf2_values.specs.declared.row.Kind.{Kind}
 use Rattle.rf2_values.specs.declared.row.Kind.TheVariants as kind
 use Rattle.rf2_values.specs.declared.row.Row.{Row}
-use Rattle.rf2_values.specs.Row.{Version, Spells, kind_of}
+use Rattle.rf2_values.specs.Row.{RowValue, Spells, kind_of}
 use Rattle.rf2_rows.specs.declared.fault.LineFault.{LineFault}
 use Rattle.rf2_rows.specs.declared.fault.RowFault.{RowFault}
 use Rattle.rf2_rows.specs.declared.fault.RowFault.TheVariants as rowfault
@@ -86,14 +86,14 @@ one_first_line_fault kind text f g (inr a) (inr b) =
       | inr good ↦ elim b.1 [ inl bad ↦ absurd (bad.0 good.0) | inr also ↦ good.2 ∙ sym also.2 ]
     ]
 
-spelled_then_faulty : (kind : Kind) (v : Version) (text : List ℕ) (f : LineFault) → (kind_of v ≡ kind) × Spells v text → IsFaultOf kind text f → ⊥
+spelled_then_faulty : (kind : Kind) (v : RowValue) (text : List ℕ) (f : LineFault) → (kind_of v ≡ kind) × Spells v text → IsFaultOf kind text f → ⊥
 spelled_then_faulty kind v text f h fault = spelled_has_no_fault v text f h.1 (subst (λ (k : Kind). IsFaultOf k text f) (sym h.0) fault)
 
 heads : {X : Type 0} (x y : X) (xs ys : List X) → x ∷ xs ≡ y ∷ ys → (x ≡ y) × (xs ≡ ys)
 heads x y xs ys e = (cc, cc)
 
 -- lines that are cut at a faulty one, where those before it spell rows, are cut there alone
-one_cut : (kind : Kind) (rows others : List Version) (before until : List (List ℕ)) (t u : List ℕ) (after rest : List (List ℕ)) (f g : LineFault)
+one_cut : (kind : Kind) (rows others : List RowValue) (before until : List (List ℕ)) (t u : List ℕ) (after rest : List (List ℕ)) (f g : LineFault)
     → before ++ t ∷ after ≡ until ++ u ∷ rest → SpellsEach kind rows before → SpellsEach kind others until → IsFaultOf kind t f → IsFaultOf kind u g → (length before ≡ length until) × (f ≡ g)
 one_cut kind rows others [] [] t u after rest f g e a b ft fu =
     let same = (heads t u after rest e).0 in
@@ -129,13 +129,13 @@ one_fault_of_file kind bytes m n f g a b = one_fault_of_lines kind (lines_in (wi
 
 -- ---- the one answer
 
-pub line_only : (kind : Kind) (text : List ℕ) (r : Result Version RowFault) → IsLineReading kind text r
-    → (v : Version) → kind_of v ≡ kind → Spells v text → MatchResult r (λ w. w ≡ v) (λ e. e ≡ rowfault.OutOfMemory)
+pub line_only : (kind : Kind) (text : List ℕ) (r : Result RowValue RowFault) → IsLineReading kind text r
+    → (v : RowValue) → kind_of v ≡ kind → Spells v text → MatchResult r (λ w. w ≡ v) (λ e. e ≡ rowfault.OutOfMemory)
 line_only kind text (Ok w) given v k s = spells_one_row w v text (given.0 ∙ sym k) given.1 s
 line_only kind text (Err rowfault.OutOfMemory) given v k s = refl
 line_only kind text (Err (rowfault.Line f)) given v k s = absurd (spelled_then_faulty kind v text f (k, s) given)
 
-pub line_refused : (kind : Kind) (text : List ℕ) (r : Result Version RowFault) → IsLineReading kind text r
+pub line_refused : (kind : Kind) (text : List ℕ) (r : Result RowValue RowFault) → IsLineReading kind text r
     → (f : LineFault) → IsFaultOf kind text f → MatchResult r (λ w. ⊥) (λ e. (e ≡ rowfault.OutOfMemory) ⊎ (e ≡ rowfault.Line f))
 line_refused kind text (Ok w) given f fault = spelled_then_faulty kind w text f given fault
 line_refused kind text (Err rowfault.OutOfMemory) given f fault = inl refl

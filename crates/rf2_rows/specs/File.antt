@@ -8,7 +8,7 @@ use Rattle.rf2_rows.specs.declared.fault.LineFault.{LineFault}
 use Rattle.rf2_rows.specs.declared.fault.FileFault.{FileFault}
 use Rattle.rf2_rows.specs.declared.fault.FileFault.TheVariants as filefault
 use Rattle.rf2_rows.specs.declared.fault.LineFault.TheVariants as fault
-use Rattle.rf2_values.specs.Row.{Version, Spells, kind_of, line_limit}
+use Rattle.rf2_values.specs.Row.{RowValue, Spells, kind_of, line_limit}
 use Rattle.rf2_rows.specs.Line.{header, IsFaultOf}
 
 -- a line end is LF or CR LF
@@ -28,11 +28,11 @@ abbrev pub mark : List ℕ
 mark = 0xef ∷ 0xbb ∷ 0xbf ∷ []
 
 -- each text spells the row of its place
-abbrev pub SpellsEach : Kind → List Version → List (List ℕ) → Type 0
+abbrev pub SpellsEach : Kind → List RowValue → List (List ℕ) → Type 0
 SpellsEach kind rows texts = AllZip (λ v text. (kind_of v ≡ kind) × Spells v text) rows texts
 
 -- an optional mark, the header, and then one line for each row in order
-pub record IsReleaseFile (kind : Kind) (rows : List Version) (bytes : List ℕ) : Type 0 where
+pub record IsReleaseFile (kind : Kind) (rows : List RowValue) (bytes : List ℕ) : Type 0 where
   pub front : List ℕ
   pub is_front : (front ≡ []) ⊎ (front ≡ mark)
   pub body : List ℕ
@@ -63,7 +63,7 @@ IsFirstLineFault kind text f =
 -- those before it spell rows.
 abbrev pub IsFaultOfRows : Kind → List (List ℕ) → ℕ → LineFault → Type 0
 IsFaultOfRows kind lines n f =
-    (rows : List Version) × (before : List (List ℕ)) × (text : List ℕ) × (after : List (List ℕ))
+    (rows : List RowValue) × (before : List (List ℕ)) × (text : List ℕ) × (after : List (List ℕ))
     × (lines ≡ before ++ text ∷ after) × SpellsEach kind rows before × IsFaultOf kind text f
     × (n ≡ length before + 2)
 

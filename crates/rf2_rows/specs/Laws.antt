@@ -2,7 +2,7 @@
 use Rattle.std.specs.Prelude.{◌≡◌, ◌≢◌, ◌↔◌, ◌⊎◌, ℕ, ◌-◌, ◌<◌, List, length, slice_index}
 use Rattle.std.specs.List.{All, AllByRecursion}
 use Rattle.rf2_values.specs.declared.row.Kind.{Kind}
-use Rattle.rf2_values.specs.Row.{Version, IsVersion, Spells, canonical, kind_of}
+use Rattle.rf2_values.specs.Row.{RowValue, IsVersion, Spells, canonical, kind_of}
 use Rattle.rf2_rows.specs.declared.fault.LineFault.{LineFault}
 use Rattle.rf2_rows.specs.Line.{IsFaultOf}
 use Rattle.rf2_rows.specs.File.{InLines, lines_in, IsReleaseFile, IsFaultOfFile}
@@ -12,11 +12,11 @@ use Rattle.rf2_rows.specs.File.{InLines, lines_in, IsReleaseFile, IsFaultOfFile}
 -- A text spells at most one row of a kind.
 abbrev pub SpellsOneRow : Type 0
 SpellsOneRow =
-    (v w : Version) (text : List ℕ) → kind_of v ≡ kind_of w → Spells v text → Spells w text → v ≡ w
+    (v w : RowValue) (text : List ℕ) → kind_of v ≡ kind_of w → Spells v text → Spells w text → v ≡ w
 
 -- The canonical spelling of a row spells it.
 abbrev pub CanonicalSpells : Type 0
-CanonicalSpells = (v : Version) → IsVersion v → Spells v (canonical v)
+CanonicalSpells = (v : RowValue) → IsVersion v → Spells v (canonical v)
 
 -- A line has at most one fault.
 abbrev pub OneFaultOfLine : Type 0
@@ -27,13 +27,13 @@ OneFaultOfLine =
 -- A line that spells a row has no fault.
 abbrev pub RowHasNoFault : Type 0
 RowHasNoFault =
-    (v : Version) (text : List ℕ) (f : LineFault) → Spells v text → ¬ IsFaultOf (kind_of v) text f
+    (v : RowValue) (text : List ℕ) (f : LineFault) → Spells v text → ¬ IsFaultOf (kind_of v) text f
 
 -- Each line spells a row of the kind or has a fault.
 abbrev pub RowOrFault : Type 0
 RowOrFault =
     (kind : Kind) (text : List ℕ)
-    → ((v : Version) × (kind_of v ≡ kind) × Spells v text)
+    → ((v : RowValue) × (kind_of v ≡ kind) × Spells v text)
     ⊎ ((f : LineFault) × IsFaultOf kind text f)
 
 -- ---- files
@@ -41,7 +41,7 @@ RowOrFault =
 -- The bytes of a file are those of at most one list of rows.
 abbrev pub OneList : Type 0
 OneList =
-    (kind : Kind) (rows others : List Version) (bytes : List ℕ)
+    (kind : Kind) (rows others : List RowValue) (bytes : List ℕ)
     → IsReleaseFile kind rows bytes → IsReleaseFile kind others bytes → rows ≡ others
 
 -- A file has at most one first faulty line, with one fault.
@@ -53,14 +53,14 @@ OneFaultOfFile =
 -- A release file has no fault.
 abbrev pub ReleaseFileHasNoFault : Type 0
 ReleaseFileHasNoFault =
-    (kind : Kind) (rows : List Version) (bytes : List ℕ) (n : ℕ) (f : LineFault)
+    (kind : Kind) (rows : List RowValue) (bytes : List ℕ) (n : ℕ) (f : LineFault)
     → IsReleaseFile kind rows bytes → ¬ IsFaultOfFile kind bytes n f
 
 -- Each file is a release file of the kind or has a fault.
 abbrev pub FileOrFault : Type 0
 FileOrFault =
     (kind : Kind) (bytes : List ℕ)
-    → ((rows : List Version) × IsReleaseFile kind rows bytes)
+    → ((rows : List RowValue) × IsReleaseFile kind rows bytes)
     ⊎ ((n : ℕ) × (f : LineFault) × IsFaultOfFile kind bytes n f)
 
 -- ---- the lines of bytes

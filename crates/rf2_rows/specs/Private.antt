@@ -2,7 +2,7 @@
 use Rattle.std.specs.Prelude.{◌≡◌, ℕ, List, map, Result, Ok, Err}
 use Rattle.std.specs.Borrow.{Bor}
 use Rattle.rf2_values.specs.declared.row.Kind.{Kind}
-use Rattle.rf2_values.specs.Row.{Version, Spells, kind_of}
+use Rattle.rf2_values.specs.Row.{RowValue, Spells, kind_of}
 use Rattle.rf2_rows.specs.declared.fault.RowFault.{RowFault}
 use Rattle.rf2_rows.specs.declared.fault.RowFault.TheVariants as rowfault
 use Rattle.rf2_rows.specs.declared.fault.FileFault.{FileFault}
@@ -14,7 +14,7 @@ abbrev pub texts : List (Bor (List ℕ)) → List (List ℕ)
 texts columns = map (λ column. column.now) columns
 
 -- what reading a line gives, where memory lasts
-abbrev pub IsLineReading : Kind → List ℕ → Result Version RowFault → Type 0
+abbrev pub IsLineReading : Kind → List ℕ → Result RowValue RowFault → Type 0
 IsLineReading kind text (Ok v) = (kind_of v ≡ kind) × Spells v text
 IsLineReading kind text (Err rowfault.OutOfMemory) = Unit {0}
 IsLineReading kind text (Err (rowfault.Line f)) = IsFaultOf kind text f

@@ -1,7 +1,7 @@
 //! Files: reading rows.
 
 ghost use Rattle.std.specs.Prelude.{◌≡◌, ℕ, ◌<◌, ◌↔◌, ◌⊎◌, length, List, MatchResult, MatchOption, IfOk, IfErr};
-ghost use Rattle.rf2_values.specs.Row.{Version};
+ghost use Rattle.rf2_values.specs.Row.{RowValue};
 ghost use Rattle.rf2_rows.specs.declared.fault.LineFault.{LineFault};
 ghost use Rattle.rf2_rows.specs.declared.fault.FileFault.TheVariants as filefault;
 ghost use Rattle.rf2_rows.specs.Line.{header};
@@ -114,7 +114,7 @@ pub fn read_file(alloc: Global, kind: Kind, bytes: &[u8]) -> Result<Vec<Row>, Fi
     // What is read is spelled so.
     ensures found { IfOk result (λ rows. IsReleaseFile kind rows.items bytes.now) }
     // What is spelled so is read, unless memory runs out.
-    ensures only { (rows : List Version) → IsReleaseFile kind rows bytes.now
+    ensures only { (rows : List RowValue) → IsReleaseFile kind rows bytes.now
         → MatchResult result (λ v. v.items ≡ rows) (λ e. e ≡ filefault.OutOfMemory) }
     // Which line is faulty, and how.
     ensures fault { IfErr result (IsFaultThat (IsFaultOfFile kind bytes.now)) }

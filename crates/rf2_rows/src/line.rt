@@ -5,7 +5,7 @@ ghost use Rattle.rf2_values.specs.declared.row.Kind.TheVariants as kind;
 ghost use Rattle.rf2_rows.specs.declared.fault.LineFault.{LineFault};
 ghost use Rattle.rf2_rows.specs.declared.fault.RowFault.TheVariants as rowfault;
 ghost use Rattle.rf2_values.specs.Time.{IsTime};
-ghost use Rattle.rf2_values.specs.Row.{Version, IsVersion, IsBody, IsConcept, IsIdOf, kind_of, kind_of_body, body_columns};
+ghost use Rattle.rf2_values.specs.Row.{RowValue, IsVersion, IsBody, IsConcept, IsIdOf, kind_of, kind_of_body, body_columns};
 ghost use Rattle.rf2_values.specs.Row.{Spells, SpellsId, SpellsColumns, flag as flag_text, line_limit, line_of};
 ghost use Rattle.rf2_rows.specs.Line.{IsLineFaultThat, FirstFault, columns_in, common_layout, own_layout, IsFaultOfColumns, IsFaultOf};
 ghost use Rattle.rf2_rows.specs.Private.{texts, IsLineReading};
@@ -251,7 +251,7 @@ pub fn parse_line(alloc: Global, kind: Kind, text: &[u8]) -> Result<Row, RowFaul
     // What is read is spelled so.
     ensures found { IfOk result (λ v. (kind_of v ≡ kind) × Spells v text.now) }
     // What is spelled so is read, unless memory runs out.
-    ensures only { (v : Version) → kind_of v ≡ kind → Spells v text.now
+    ensures only { (v : RowValue) → kind_of v ≡ kind → Spells v text.now
         → MatchResult result (λ w. w ≡ v) (λ e. e ≡ rowfault.OutOfMemory) }
     // How the line is faulty.
     ensures fault { IfErr result (IsLineFaultThat (IsFaultOf kind text.now)) }

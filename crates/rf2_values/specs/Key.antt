@@ -6,10 +6,10 @@ use Rattle.std.specs.declared.cmp.Ordering.{Ordering}
 use Rattle.rf2_values.specs.declared.row.Kind.{Kind}
 use Rattle.rf2_values.specs.declared.row.Kind.TheVariants as kind
 use Rattle.rf2_values.specs.declared.key.Key.{Key}
-use Rattle.rf2_values.specs.Row.{Version, kind_of}
+use Rattle.rf2_values.specs.Row.{RowValue, kind_of}
 
 -- a row is named by its kind, its id and its time
-abbrev pub key_of : Version → Key
+abbrev pub key_of : RowValue → Key
 key_of v = record { id = v.id; time = v.time; kind = kind_of v }
 
 -- the kinds in their order

@@ -13,14 +13,14 @@ use Rattle.rf2_values.specs.Text.{IsText}
 use Rattle.rf2_values.specs.Member.{SpellsMember, member_text}
 
 -- a row as clauses see it
-pub record Version : Type 0 where
+pub record RowValue : Type 0 where
   pub id : ℕ
   pub time : ℕ
   pub active : Bool
   pub module_id : ℕ
   pub body : Body
 
-abbrev pub version : ℕ → ℕ → Bool → ℕ → Body → Version
+abbrev pub version : ℕ → ℕ → Bool → ℕ → Body → RowValue
 version id time active module_id body =
     record { id = id; time = time; active = active; module_id = module_id; body = body }
 
@@ -31,7 +31,7 @@ kind_of_body (body.Relationship r) = kind.Relationship
 kind_of_body (body.Association a) = kind.Association
 kind_of_body (body.Concrete c) = kind.Concrete
 
-abbrev pub kind_of : Version → Kind
+abbrev pub kind_of : RowValue → Kind
 kind_of v = kind_of_body v.body
 
 -- an SCTID of a class
@@ -105,7 +105,7 @@ body_columns (body.Concrete c) =
     ∷ decimal c.characteristic_type ∷ decimal c.modifier ∷ []
 
 -- the columns after the identifier
-abbrev pub later_columns : Version → List (List ℕ)
+abbrev pub later_columns : RowValue → List (List ℕ)
 later_columns v =
     decimal v.time ∷ flag v.active ∷ decimal v.module_id ∷ body_columns v.body
 
@@ -118,7 +118,7 @@ abbrev pub tabbed : List (List ℕ) → List ℕ
 tabbed columns = flat_map (λ column. 9 ∷ column) columns
 
 -- the canonical spelling
-abbrev pub canonical : Version → List ℕ
+abbrev pub canonical : RowValue → List ℕ
 canonical v = line_of (id_text (kind_of v) v.id ∷ later_columns v)
 
 -- the most bytes that a line may have, without its line end
@@ -126,7 +126,7 @@ abbrev pub line_limit : ℕ
 line_limit = 65535
 
 -- what a row may be
-pub record IsVersion (v : Version) : Type 0 where
+pub record IsVersion (v : RowValue) : Type 0 where
   pub id : IsIdOf (kind_of v) v.id
   pub time : IsTime v.time
   pub module_id : IsOfClass class.Concept v.module_id
@@ -134,13 +134,13 @@ pub record IsVersion (v : Version) : Type 0 where
   pub short : length (canonical v) ≤ line_limit
 
 -- the texts are the spellings of the row's columns
-abbrev pub SpellsColumns : Version → List (List ℕ) → Type 0
+abbrev pub SpellsColumns : RowValue → List (List ℕ) → Type 0
 SpellsColumns v texts =
     (id : List ℕ) × SpellsId (kind_of v) v.id id × (texts ≡ id ∷ later_columns v)
 
 -- the text is the spellings of the row's columns,
 -- joined by TAB, in no more bytes than a line may have
-pub record Spells (v : Version) (text : List ℕ) : Type 0 where
+pub record Spells (v : RowValue) (text : List ℕ) : Type 0 where
   pub is_row : IsVersion v
   pub columns : (texts : List (List ℕ)) × SpellsColumns v texts × (text ≡ line_of texts)
   pub short : length text ≤ line_limit

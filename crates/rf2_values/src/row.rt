@@ -162,9 +162,9 @@ pub struct Row {
 }
 
 impl Model for Row {
-    ghost use Rattle.rf2_values.specs.Row.{Version, version, IsVersion};
+    ghost use Rattle.rf2_values.specs.Row.{RowValue, version, IsVersion};
 
-    ghost Value = { Version };
+    ghost Value = { RowValue };
 
     ghost view = { λ r. version r.id r.time r.active r.module_id r.body };
 

@@ -4,45 +4,45 @@ use Rattle.std.proofs.lemmas.List.{length-append}
 use Rattle.rf2_values.specs.Key.{key_of}
 use Rattle.history_model.specs.declared.stamped.StampedRow.{StampedRow}
 use Rattle.history_model.specs.InOrder.{Has}
-use Rattle.segment.specs.declared.place.Posted.{Posted}
+use Rattle.segment.specs.declared.place.RowPlace.{RowPlace}
 use Rattle.segment.specs.Records.{record_of, segment_of, IsSegment, IsRecordAt}
-use Rattle.segment.specs.Standing.{record_len, posted, with_places, EachStandsAtItsByte}
+use Rattle.segment.specs.Standing.{record_len, row_place, with_places, EachStandsAtItsByte}
 use Rattle.segment.proofs.Places.{each_at_its_place}
 use Rattle.segment.proofs.SegmentLaws.{segment_push, no_rows}
 
 -- what a place says of its row
-pub record Says (p : Posted) (s : StampedRow) : Type 0 where
+pub record Says (p : RowPlace) (s : StampedRow) : Type 0 where
   pub key_is : p.key ≡ key_of s.row
   pub import_is : p.import ≡ s.import
   pub bytes_are : p.bytes ≡ record_len s
 
-pub says_posted : (s : StampedRow) (at : ℕ) → Says (posted s at) s
-unfolding posted
+pub says_posted : (s : StampedRow) (at : ℕ) → Says (row_place s at) s
+unfolding row_place
 says_posted s at = record { key_is = refl; import_is = refl; bytes_are = refl }
 
-pub placed : (at : ℕ) (rows : List StampedRow) (s : StampedRow) → Has rows s → (p : Posted) × Has (with_places at rows) (s, p)
+pub placed : (at : ℕ) (rows : List StampedRow) (s : StampedRow) → Has rows s → (p : RowPlace) × Has (with_places at rows) (s, p)
 placed at [] s h = absurd h
 placed at (r ∷ rows) s h = elim h [
-  | inl e ↦ (posted r at, inl (ap (λ (t : StampedRow). (t, posted r at)) e))
+  | inl e ↦ (row_place r at, inl (ap (λ (t : StampedRow). (t, row_place r at)) e))
   | inr t ↦ let w = placed (at + record_len r) rows s t in (w.0, inr w.1)
 ]
 
-pub row_there : (at : ℕ) (rows : List StampedRow) (x : StampedRow × Posted) → Has (with_places at rows) x → Has rows x.0
+pub row_there : (at : ℕ) (rows : List StampedRow) (x : StampedRow × RowPlace) → Has (with_places at rows) x → Has rows x.0
 row_there at [] x h = absurd h
-row_there at (r ∷ rows) x h = elim h [ inl e ↦ inl (ap (λ (y : StampedRow × Posted). y.0) e) | inr t ↦ inr (row_there (at + record_len r) rows x t) ]
+row_there at (r ∷ rows) x h = elim h [ inl e ↦ inl (ap (λ (y : StampedRow × RowPlace). y.0) e) | inr t ↦ inr (row_there (at + record_len r) rows x t) ]
 
-pub says : (at : ℕ) (rows : List StampedRow) (x : StampedRow × Posted) → Has (with_places at rows) x → Says x.1 x.0
+pub says : (at : ℕ) (rows : List StampedRow) (x : StampedRow × RowPlace) → Has (with_places at rows) x → Says x.1 x.0
 says at [] x h = absurd h
-says at (r ∷ rows) x h = elim h [ inl e ↦ subst (λ (y : StampedRow × Posted). Says y.1 y.0) e (says_posted r at) | inr t ↦ says (at + record_len r) rows x t ]
+says at (r ∷ rows) x h = elim h [ inl e ↦ subst (λ (y : StampedRow × RowPlace). Says y.1 y.0) e (says_posted r at) | inr t ↦ says (at + record_len r) rows x t ]
 
 -- ---- where its record is
 
-at_byte : (s : StampedRow) (at : ℕ) → (posted s at).at ≡ at
-unfolding posted
+at_byte : (s : StampedRow) (at : ℕ) → (row_place s at).at ≡ at
+unfolding row_place
 at_byte s at = refl
 
 -- the rows before one, and those after it
-pub record Between (at : ℕ) (rows : List StampedRow) (x : StampedRow × Posted) : Type 0 where
+pub record Between (at : ℕ) (rows : List StampedRow) (x : StampedRow × RowPlace) : Type 0 where
   pub before : List StampedRow
   pub after : List StampedRow
   pub rows_are : rows ≡ before ++ x.0 ∷ after
@@ -52,10 +52,10 @@ first_len : (r : StampedRow) (rows : List StampedRow) → length (segment_of (r 
 unfolding segment_of
 first_len r rows = length-append (record_of r) (segment_of rows)
 
-pub between : (at : ℕ) (rows : List StampedRow) (x : StampedRow × Posted) → Has (with_places at rows) x → Between at rows x
+pub between : (at : ℕ) (rows : List StampedRow) (x : StampedRow × RowPlace) → Has (with_places at rows) x → Between at rows x
 between at [] x h = absurd h
 between at (r ∷ rows) x h = elim h [
-  | inl e ↦ subst (λ (y : StampedRow × Posted). Between at (r ∷ rows) y) e (record {
+  | inl e ↦ subst (λ (y : StampedRow × RowPlace). Between at (r ∷ rows) y) e (record {
     before = [];
     after = rows;
     rows_are = refl;
@@ -71,7 +71,7 @@ between at (r ∷ rows) x h = elim h [
       }
 ]
 
-pub record_there : (rows : List StampedRow) (bytes : List ℕ) (s : StampedRow) (p : Posted) → IsSegment rows bytes → Has (with_places 0 rows) (s, p) → IsRecordAt bytes p.at s (p.at + p.bytes)
+pub record_there : (rows : List StampedRow) (bytes : List ℕ) (s : StampedRow) (p : RowPlace) → IsSegment rows bytes → Has (with_places 0 rows) (s, p) → IsRecordAt bytes p.at s (p.at + p.bytes)
 record_there rows bytes s p is h =
     let w = between 0 rows (s, p) h in
     let b = says 0 rows (s, p) h in

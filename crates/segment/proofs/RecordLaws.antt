@@ -9,7 +9,7 @@ use Rattle.rf2_values.specs.declared.row.Kind.{Kind}
 use Rattle.rf2_values.specs.declared.row.Kind.TheVariants as kinds
 use Rattle.rf2_values.specs.declared.row.Body.{Body}
 use Rattle.rf2_values.specs.declared.row.Body.TheVariants as bodies
-use Rattle.rf2_values.specs.Row.{Version, IsVersion, IsBody, IsIdOf, kind_of, kind_of_body, line_limit, line_of, body_columns, flag, id_text}
+use Rattle.rf2_values.specs.Row.{RowValue, IsVersion, IsBody, IsIdOf, kind_of, kind_of_body, line_limit, line_of, body_columns, flag, id_text}
 use Rattle.rf2_values.specs.Time.{IsTime}
 use Rattle.rf2_values.proofs.Lengths.{length-line}
 use Rattle.history_model.specs.declared.stamped.StampedRow.{StampedRow}
@@ -58,7 +58,7 @@ body_fits (bodies.Concrete c) id time active module_id is short =
     let len = length-line id (time ∷ active ∷ module_id ∷ body_columns (bodies.Concrete c)) in
     (omega (arith, is.0.sctid.high), (is.2, (omega (arith, is.3.sctid.high), (omega (arith, is.4.sctid.high), (omega (arith, is.5.sctid.high), (omega (arith, len, short), tt))))))
 
-pub row_fits : (v : Version) → IsVersion v → AllByRecursion Fits (body_fields v.body)
+pub row_fits : (v : RowValue) → IsVersion v → AllByRecursion Fits (body_fields v.body)
 row_fits v is = body_fits v.body (id_text (kind_of v) v.id) (decimal v.time) (flag v.active) (decimal v.module_id) is.body is.short
 
 -- ---- reading the fields of a row again
@@ -230,7 +230,7 @@ body_room (bodies.Association a) id time active module_id short = omega arith
 body_room (bodies.Concrete c) id time active module_id short =
     let len = length-line id (time ∷ active ∷ module_id ∷ body_columns (bodies.Concrete c)) in omega (arith, len, short)
 
-pub row_room : (v : Version) → IsVersion v → fields_len (body_fields v.body) ≤ 65564
+pub row_room : (v : RowValue) → IsVersion v → fields_len (body_fields v.body) ≤ 65564
 row_room v is = body_room v.body (id_text (kind_of v) v.id) (decimal v.time) (flag v.active) (decimal v.module_id) is.short
 
 pub length-fields : (s : StampedRow) → length (spelled (fields_of s)) ≡ 34 + fields_len (body_fields s.row.body)
@@ -261,7 +261,7 @@ few_texts (bodies.Association a) id time active module_id short = omega arith
 few_texts (bodies.Concrete c) id time active module_id short =
     let len = length-line id (time ∷ active ∷ module_id ∷ body_columns (bodies.Concrete c)) in omega (arith, len, short)
 
-pub texts_room : (v : Version) → IsVersion v → texts_len v.body ≤ line_limit
+pub texts_room : (v : RowValue) → IsVersion v → texts_len v.body ≤ line_limit
 texts_room v is = few_texts v.body (id_text (kind_of v) v.id) (decimal v.time) (flag v.active) (decimal v.module_id) is.short
 
 -- a record begins with its own length

@@ -3,7 +3,7 @@ use Rattle.std.specs.Prelude.{◌≡◌, ℕ, ◌+◌, List, [], ◌∷◌, leng
 use Rattle.rf2_values.specs.Key.{key_of}
 use Rattle.history_model.specs.declared.stamped.StampedRow.{StampedRow}
 use Rattle.history_model.specs.InOrder.{Has}
-use Rattle.segment.specs.declared.place.Posted.{Posted}
+use Rattle.segment.specs.declared.place.RowPlace.{RowPlace}
 use Rattle.segment.specs.Records.{record_of, IsSegment, IsRecordAt}
 
 -- how many bytes the record of a row has
@@ -11,20 +11,20 @@ abbrev pub record_len : StampedRow → ℕ
 record_len s = length (record_of s)
 
 -- a row's place, its record beginning at this byte
-unfoldable pub posted : StampedRow → ℕ → Posted
-posted s at = record { key = key_of s.row; import = s.import; at = at; bytes = record_len s }
+unfoldable pub row_place : StampedRow → ℕ → RowPlace
+row_place s at = record { key = key_of s.row; import = s.import; at = at; bytes = record_len s }
 
 -- rows whose records stand one after the other from a byte on, each with its place
-abbrev pub with_places : ℕ → List StampedRow → List (StampedRow × Posted)
+abbrev pub with_places : ℕ → List StampedRow → List (StampedRow × RowPlace)
 with_places at [] = []
-with_places at (s ∷ rows) = (s, posted s at) ∷ with_places (at + record_len s) rows
+with_places at (s ∷ rows) = (s, row_place s at) ∷ with_places (at + record_len s) rows
 
 -- the places of a segment's rows, in order
-abbrev pub places_of : List StampedRow → List Posted
+abbrev pub places_of : List StampedRow → List RowPlace
 places_of rows = map (λ x. x.1) (with_places 0 rows)
 
 -- the row stands at the place, in the list with this number
-pub record StandsAt (lists : List (List StampedRow)) (segment : ℕ) (at : Posted)
+pub record StandsAt (lists : List (List StampedRow)) (segment : ℕ) (at : RowPlace)
     (s : StampedRow) : Type 0 where
   pub rows : List StampedRow
   pub list_is : slice_get lists segment ≡ Some rows
@@ -32,14 +32,14 @@ pub record StandsAt (lists : List (List StampedRow)) (segment : ℕ) (at : Poste
 
 -- what a place says of the row that stands there, and
 -- where the row's record is in the bytes of its list
-pub record IsPlaceIn (bytes : List ℕ) (at : Posted) (s : StampedRow) : Type 0 where
+pub record IsPlaceIn (bytes : List ℕ) (at : RowPlace) (s : StampedRow) : Type 0 where
   pub key_is : at.key ≡ key_of s.row
   pub import_is : at.import ≡ s.import
   pub record_is : IsRecordAt bytes at.at s (at.at + at.bytes)
 
 -- where a row stands, its record is at that byte of the segment
 abbrev pub EachStandsAtItsByte : Type 0
-EachStandsAtItsByte = (lists : List (List StampedRow)) (segment : ℕ) (at : Posted) (s : StampedRow)
-    (rows : List StampedRow) (bytes : List ℕ)
+EachStandsAtItsByte = (lists : List (List StampedRow)) (segment : ℕ) (at : RowPlace)
+    (s : StampedRow) (rows : List StampedRow) (bytes : List ℕ)
     → StandsAt lists segment at s → slice_get lists segment ≡ Some rows → IsSegment rows bytes
     → IsPlaceIn bytes at s

@@ -16,7 +16,7 @@ pub use decoding::{decode, record_at};
 pub use encoding::{encode, encoded_len};
 pub use fault::SegmentFault;
 pub use history_model::StampedRow;
-pub use place::Posted;
+pub use place::RowPlace;
 
 #[cfg(test)]
 mod tests;

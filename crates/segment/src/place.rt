@@ -1,7 +1,7 @@
 //! Where rows stand in their segments.
 
 ghost use Rattle.std.specs.Prelude.{◌≡◌};
-ghost use Rattle.segment.specs.Standing.{posted};
+ghost use Rattle.segment.specs.Standing.{row_place};
 
 use crate::encoding::record_len;
 use history_model::StampedRow;
@@ -10,7 +10,7 @@ use rf2_values::Key;
 /// Where a row's record stands in its segment, with
 /// what names the row and the number of its import.
 #[derive(Clone, Copy, Debug, PartialEq, Eq)]
-pub struct Posted {
+pub struct RowPlace {
     pub key: Key,
     /// The number of the import that first brought the row, from 1 on.
     pub import: u32,
@@ -20,13 +20,13 @@ pub struct Posted {
     pub bytes: u32,
 }
 
-impl Posted {
+impl RowPlace {
     /// The place of a row whose record begins at this byte of its segment.
-    #[tactic(auto, unfolding(crate::specs::Standing::posted))]
-    pub fn new(stamped: &StampedRow, at: u32) -> Posted
-        ensures { result ≡ posted stamped.now at }
+    #[tactic(auto, unfolding(crate::specs::Standing::row_place))]
+    pub fn new(stamped: &StampedRow, at: u32) -> RowPlace
+        ensures { result ≡ row_place stamped.now at }
     {
-        Posted {
+        RowPlace {
             key: stamped.row.key(),
             import: stamped.import,
             at,

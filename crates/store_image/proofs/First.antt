@@ -5,12 +5,12 @@ use Rattle.rf2_values.specs.declared.row.Kind.{Kind}
 use Rattle.rf2_values.specs.declared.row.Kind.TheVariants as kinds
 use Rattle.directory.specs.declared.entry.Entry.{Entry}
 use Rattle.directory.specs.declared.layout.Layout.TheVariants as layouts
-use Rattle.directory.specs.Listings.{Listing, IsListing}
+use Rattle.directory.specs.Listings.{DirectoryValue, IsListing}
 use Rattle.directory.specs.Content.{listing_bytes, header_bytes, mark}
 use Rattle.store_image.specs.Says.{HasKind}
 use Rattle.store_image.specs.First.{FirstStillStands, IsFirstKind, first_bytes}
 
-of_first : ℕ → ℕ → List Entry → Listing
+of_first : ℕ → ℕ → List Entry → DirectoryValue
 of_first epoch imports entries = record { layout = layouts.One; epoch = epoch; imports = imports; entries = entries }
 
 same_bytes : (epoch imports : ℕ) (entries : List Entry) → first_bytes epoch imports entries ≡ listing_bytes (of_first epoch imports entries)

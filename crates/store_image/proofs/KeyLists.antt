@@ -10,7 +10,7 @@ use Rattle.history_model.specs.History.{stamped_cmp}
 use Rattle.history_model.specs.Lists.{AreLists, ShareNoKey, EachApart}
 use Rattle.history_model.proofs.Filtered.{Has-map, Has-map_from}
 use Rattle.directory.specs.declared.entry.Entry.{Entry}
-use Rattle.segment.specs.declared.place.Posted.{Posted}
+use Rattle.segment.specs.declared.place.RowPlace.{RowPlace}
 use Rattle.segment.specs.Standing.{places_of}
 use Rattle.store_image.specs.Says.{AreSegments}
 use Rattle.store_image.specs.Keys.{keys_of, AreDisjoint, EachKeyOnce}
@@ -67,7 +67,7 @@ once_from : (lists : List (List StampedRow)) → EachApart lists → EachKeyOnce
 once_from [] apart = tt
 once_from (rows ∷ lists) apart = (all_disjoint rows lists apart.0, once_from lists apart.1)
 
-module _ (places : List (List Posted)) (lists : List (List StampedRow)) (places_are : places ≡ map places_of lists) where
+module _ (places : List (List RowPlace)) (lists : List (List StampedRow)) (places_are : places ≡ map places_of lists) where
   keys_are : map keys_of places ≡ map row_keys lists
   keys_are = ap (map keys_of) places_are ∙ key_lists lists
 

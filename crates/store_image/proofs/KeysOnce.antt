@@ -15,14 +15,14 @@ use Rattle.rf2_values.specs.Key.{key_cmp, keys_total}
 use Rattle.history_model.specs.InOrder.{Has, IsAscending}
 use Rattle.history_model.proofs.InOrder.{Has-all, all_from_has, Has-append_cases, Has-append_right, above}
 use Rattle.history_model.proofs.Keys.{same_key}
-use Rattle.segment.specs.declared.place.Posted.{Posted}
+use Rattle.segment.specs.declared.place.RowPlace.{RowPlace}
 use Rattle.store_image.specs.declared.apart.Rest.{Rest}
 use Rattle.store_image.specs.Keys.{keys_of, AreDisjoint, EachKeyOnce, keys_in, keys_left, first_cmp, AreOpen, Opens, IsBehind}
 use Rattle.store_image.proofs.AnyOrder.{once_permuted}
 
 -- ---- lists of places
 
-pub no_keys : (places : List Posted) → length places ≡ 0 → keys_of places ≡ []
+pub no_keys : (places : List RowPlace) → length places ≡ 0 → keys_of places ≡ []
 no_keys [] none = refl
 no_keys (p ∷ places) none = absurd (omega (arith, none))
 
@@ -40,14 +40,14 @@ all_push : {X : Type 0} (P : X → Type 0) (xs : List X) (x : X) → AllByRecurs
 all_push P [] x all here = (here, tt)
 all_push P (y ∷ xs) x all here = (all.0, all_push P xs x all.1 here)
 
-pub one_skipped : (key : Key) (places left behind : List Posted) (first : Posted) → IsBehind key places left → left ≡ first ∷ behind → key_cmp first.key key ≡ Less → IsBehind key places behind
+pub one_skipped : (key : Key) (places left behind : List RowPlace) (first : RowPlace) → IsBehind key places left → left ≡ first ∷ behind → key_cmp first.key key ≡ Less → IsBehind key places behind
 one_skipped key places left behind first is left_is less = record {
   before = is.before ++ first ∷ [];
   whole = is.whole ∙ ap (λ l. is.before ++ l) left_is ∙ sym (append_assoc is.before (first ∷ []) behind);
-  below = all_push (λ (p : Posted). key_cmp p.key key ≡ Less) is.before first is.below less;
+  below = all_push (λ (p : RowPlace). key_cmp p.key key ≡ Less) is.before first is.below less;
 }
 
-pub fewer_left : (key : Key) (places left : List Posted) → IsBehind key places left → length left < length places + 1
+pub fewer_left : (key : Key) (places left : List RowPlace) → IsBehind key places left → length left < length places + 1
 fewer_left key places left is =
     let whole = ap length is.whole in
     omega (arith, whole, length-append is.before left)
@@ -78,7 +78,7 @@ module _ (rests new : List Rest) (rest : Rest) (moved : IsPermutation (rest ∷ 
     each = All-permutation (λ r. IsAscending key_cmp (keys_in r)) (rest ∷ rests) new moved (All-cons (λ r. IsAscending key_cmp (keys_in r)) rest rests up opened.each);
   }
 
-  pub left_put : (places : List Posted) → length places ≡ length (keys_in rest) → keys_left new ≡ keys_left rests + length places
+  pub left_put : (places : List RowPlace) → length places ≡ length (keys_in rest) → keys_left new ≡ keys_left rests + length places
   left_put places long = let s = sum_by_pushed (λ r. length (keys_in r)) rest rests new moved in omega (arith, s, long)
 
 all_of : {X : Type 0} (P : X → Type 0) (xs : List X) → ((x : X) → P x) → AllByRecursion P xs
@@ -142,10 +142,10 @@ module _ (old rests : List Rest) (rest : Rest) (moved : IsPermutation old (rest 
   pub round_open : AreOpen rests
   round_open = record { heap = (ordered opened.heap).0; each = All-tail (λ r. IsAscending key_cmp (keys_in r)) rest rests all_ascend }
 
-  pub round_ascends : (key : Key) (left : List Posted) → IsBehind key rest.places.now left → IsAscending key_cmp (keys_of left)
+  pub round_ascends : (key : Key) (left : List RowPlace) → IsBehind key rest.places.now left → IsAscending key_cmp (keys_of left)
   round_ascends key left is =
       let up = All-head (λ r. IsAscending key_cmp (keys_in r)) rest rests all_ascend in
-      ascends_behind (keys_of is.before) (keys_of left) (subst (λ (k : List Key). IsAscending key_cmp k) (ap keys_of is.whole ∙ map-joined (λ (p : Posted). p.key) is.before left) up.1)
+      ascends_behind (keys_of is.before) (keys_of left) (subst (λ (k : List Key). IsAscending key_cmp k) (ap keys_of is.whole ∙ map-joined (λ (p : RowPlace). p.key) is.before left) up.1)
 
   taken_out : EachKeyOnce (map keys_in old) ↔ EachKeyOnce (keys_in rest ∷ map keys_in rests)
   taken_out =
@@ -166,11 +166,11 @@ module _ (old rests : List Rest) (rest : Rest) (moved : IsPermutation old (rest 
             once.0.0 rest.first (inl refl) (inl (sym same))
 
   -- what is below all others goes
-  module _ (next : Rest) (least : IsUpperBound first_cmp next rests) (less : key_cmp rest.first next.first ≡ Less) (left : List Posted) (is : IsBehind next.first rest.places.now left) where
+  module _ (next : Rest) (least : IsUpperBound first_cmp next rests) (less : key_cmp rest.first next.first ≡ Less) (left : List RowPlace) (is : IsBehind next.first rest.places.now left) where
     keys_whole : keys_in rest ≡ (rest.first ∷ keys_of is.before) ++ keys_of left
-    keys_whole = ap (λ l. rest.first ∷ l) (ap keys_of is.whole ∙ map-joined (λ (p : Posted). p.key) is.before left)
+    keys_whole = ap (λ l. rest.first ∷ l) (ap keys_of is.whole ∙ map-joined (λ (p : RowPlace). p.key) is.before left)
 
-    below : (places : List Posted) → AllByRecursion (λ (p : Posted). key_cmp p.key next.first ≡ Less) places → AllByRecursion (λ (k : Key). key_cmp k next.first ≡ Less) (keys_of places)
+    below : (places : List RowPlace) → AllByRecursion (λ (p : RowPlace). key_cmp p.key next.first ≡ Less) places → AllByRecursion (λ (k : Key). key_cmp k next.first ≡ Less) (keys_of places)
     below [] all = tt
     below (p ∷ places) all = (all.0, below places all.1)
 
@@ -194,11 +194,11 @@ module _ (old rests : List Rest) (rest : Rest) (moved : IsPermutation old (rest 
           λ once. subst Once none ((opens []).1 (once_permuted at_front put (IsPermutation-sym put at_front front) (subst Front (sym short) (goes.0 (tells.1 once))))),
         )
 
-  pub round_shrinks : (new : List Rest) (key : Key) (left : List Posted) → IsBehind key rest.places.now left → keys_left new ≡ keys_left rests + length left → keys_left new < keys_left old
+  pub round_shrinks : (new : List Rest) (key : Key) (left : List RowPlace) → IsBehind key rest.places.now left → keys_left new ≡ keys_left rests + length left → keys_left new < keys_left old
   round_shrinks new key left is put =
       let popped = sum_by_popped (λ r. length (keys_in r)) rest old rests moved in
       let fewer = fewer_left key rest.places.now left is in
-      omega (arith, put, popped, fewer, length-map rest.places.now (λ (p : Posted). p.key))
+      omega (arith, put, popped, fewer, length-map rest.places.now (λ (p : RowPlace). p.key))
 
 -- ---- the lists one after the other
 
@@ -214,11 +214,11 @@ module _ (lists : List (List Key)) (i : ℕ) (d : List Key) (rests new : List Re
       )
 
 -- the keys of one of the lists
-module _ (lists : List (Vec Posted Global)) (i : ℕ) (v : Vec Posted Global) (places : List Posted) (lt : i < length lists) (is : v ≡ get_or lists i v) (places_are : places ≡ v.items) where
+module _ (lists : List (Vec RowPlace Global)) (i : ℕ) (v : Vec RowPlace Global) (places : List RowPlace) (lt : i < length lists) (is : v ≡ get_or lists i v) (places_are : places ≡ v.items) where
   pub as_many_lists : i < length (map keys_of (map vec_items lists))
-  as_many_lists = omega (arith, lt, length-map (map vec_items lists) keys_of, length-map lists (vec_items {X = Posted} {Z = Global}))
+  as_many_lists = omega (arith, lt, length-map (map vec_items lists) keys_of, length-map lists (vec_items {X = RowPlace} {Z = Global}))
 
   pub list_keys : get_or (map keys_of (map vec_items lists)) i [] ≡ keys_of places
   list_keys =
-      get_or-map keys_of (map vec_items lists) i v.items [] (omega (arith, lt, length-map lists (vec_items {X = Posted} {Z = Global})))
-      ∙ ap keys_of (get_or-map vec_items lists i v v.items lt ∙ ap (λ (w : Vec Posted Global). w.items) (sym is) ∙ sym places_are)
+      get_or-map keys_of (map vec_items lists) i v.items [] (omega (arith, lt, length-map lists (vec_items {X = RowPlace} {Z = Global})))
+      ∙ ap keys_of (get_or-map vec_items lists i v v.items lt ∙ ap (λ (w : Vec RowPlace Global). w.items) (sym is) ∙ sym places_are)

@@ -9,71 +9,71 @@ use Rattle.history_model.specs.declared.stamped.StampedRow.{StampedRow}
 use Rattle.history_model.specs.InOrder.{IsAscending}
 use Rattle.history_model.specs.History.{stamped_cmp}
 use Rattle.history_model.proofs.Keys.{stamped_total}
-use Rattle.segment.specs.declared.place.Posted.{Posted}
+use Rattle.segment.specs.declared.place.RowPlace.{RowPlace}
 use Rattle.segment.specs.Records.{record_of, segment_of, IsStamped, IsSegment}
-use Rattle.segment.specs.Standing.{record_len, posted, with_places, places_of}
+use Rattle.segment.specs.Standing.{record_len, row_place, with_places, places_of}
 use Rattle.segment.proofs.Ascending.{ascends_push, ascends_front, last_below, last_split}
 use Rattle.segment.proofs.Decoded.{reads_on}
 use Rattle.segment.proofs.RecordLaws.{same_records}
 use Rattle.segment.proofs.SegmentLaws.{segment_push, all_push, no_rows, goes_on}
-use Rattle.store_image.specs.declared.fault.ImageFault.{ImageFault}
-use Rattle.store_image.specs.declared.fault.ImageFault.TheVariants as faults
+use Rattle.store_image.specs.declared.fault.RowsFault.{RowsFault}
+use Rattle.store_image.specs.declared.fault.RowsFault.TheVariants as faults
 use Rattle.store_image.specs.Reading.{HasRecord, IsNoRecord, AreReadTo, BeginsWith, IsNotNext}
 
 -- ---- places
 
-key_posted : (s : StampedRow) (at : ℕ) → (posted s at).key ≡ key_of s.row
-unfolding posted
+key_posted : (s : StampedRow) (at : ℕ) → (row_place s at).key ≡ key_of s.row
+unfolding row_place
 key_posted s at = refl
 
 -- the keys of places are those of their rows
-pub keys_from : (at : ℕ) (rows : List StampedRow) → map (λ (p : Posted). p.key) (map (λ (x : StampedRow × Posted). x.1) (with_places at rows)) ≡ map (λ (s : StampedRow). key_of s.row) rows
+pub keys_from : (at : ℕ) (rows : List StampedRow) → map (λ (p : RowPlace). p.key) (map (λ (x : StampedRow × RowPlace). x.1) (with_places at rows)) ≡ map (λ (s : StampedRow). key_of s.row) rows
 keys_from at [] = refl
 keys_from at (s ∷ rows) =
-    ap (λ k. k ∷ map (λ (p : Posted). p.key) (map (λ (x : StampedRow × Posted). x.1) (with_places (at + record_len s) rows))) (key_posted s at) ∙ ap (λ l. key_of s.row ∷ l) (keys_from (at + record_len s) rows)
+    ap (λ k. k ∷ map (λ (p : RowPlace). p.key) (map (λ (x : StampedRow × RowPlace). x.1) (with_places (at + record_len s) rows))) (key_posted s at) ∙ ap (λ l. key_of s.row ∷ l) (keys_from (at + record_len s) rows)
 
 first_len : (s : StampedRow) (rows : List StampedRow) → length (segment_of (s ∷ rows)) ≡ length (record_of s) + length (segment_of rows)
 unfolding segment_of
 first_len s rows = length-append (record_of s) (segment_of rows)
 
-with_more_from : (at : ℕ) (rows : List StampedRow) (s : StampedRow) → with_places at (rows ++ s ∷ []) ≡ with_places at rows ++ (s, posted s (at + length (segment_of rows))) ∷ []
+with_more_from : (at : ℕ) (rows : List StampedRow) (s : StampedRow) → with_places at (rows ++ s ∷ []) ≡ with_places at rows ++ (s, row_place s (at + length (segment_of rows))) ∷ []
 with_more_from at [] s =
     let none = ap length no_rows in
     let same : at ≡ at + length (segment_of []) = omega (arith, none) in
-    ap (λ n. (s, posted s n) ∷ []) same
+    ap (λ n. (s, row_place s n) ∷ []) same
 with_more_from at (r ∷ rows) s =
     let same : at + record_len r + length (segment_of rows) ≡ at + length (segment_of (r ∷ rows)) = omega (arith, first_len r rows) in
-    ap (λ l. (r, posted r at) ∷ l) (with_more_from (at + record_len r) rows s ∙ ap (λ n. with_places (at + record_len r) rows ++ (s, posted s n) ∷ []) same)
+    ap (λ l. (r, row_place r at) ∷ l) (with_more_from (at + record_len r) rows s ∙ ap (λ n. with_places (at + record_len r) rows ++ (s, row_place s n) ∷ []) same)
 
 -- one row more has the place where those before it end
-pub with_more : (at : ℕ) (rows : List StampedRow) (s : StampedRow) → at ≡ length (segment_of rows) → with_places 0 (rows ++ s ∷ []) ≡ with_places 0 rows ++ (s, posted s at) ∷ []
+pub with_more : (at : ℕ) (rows : List StampedRow) (s : StampedRow) → at ≡ length (segment_of rows) → with_places 0 (rows ++ s ∷ []) ≡ with_places 0 rows ++ (s, row_place s at) ∷ []
 with_more at rows s is =
     let same : 0 + length (segment_of rows) ≡ at = omega (arith, is) in
-    with_more_from 0 rows s ∙ ap (λ n. with_places 0 rows ++ (s, posted s n) ∷ []) same
+    with_more_from 0 rows s ∙ ap (λ n. with_places 0 rows ++ (s, row_place s n) ∷ []) same
 
 map-more : {X Y : Type 0} (f : X → Y) (xs : List X) (x : X) → map f (xs ++ x ∷ []) ≡ map f xs ++ f x ∷ []
 map-more f [] x = refl
 map-more f (y ∷ xs) x = ap (λ l. f y ∷ l) (map-more f xs x)
 
-pub places_more : (at : ℕ) (rows : List StampedRow) (s : StampedRow) → at ≡ length (segment_of rows) → places_of (rows ++ s ∷ []) ≡ places_of rows ++ posted s at ∷ []
-places_more at rows s is = ap (map (λ (x : StampedRow × Posted). x.1)) (with_more at rows s is) ∙ map-more (λ (x : StampedRow × Posted). x.1) (with_places 0 rows) (s, posted s at)
+pub places_more : (at : ℕ) (rows : List StampedRow) (s : StampedRow) → at ≡ length (segment_of rows) → places_of (rows ++ s ∷ []) ≡ places_of rows ++ row_place s at ∷ []
+places_more at rows s is = ap (map (λ (x : StampedRow × RowPlace). x.1)) (with_more at rows s is) ∙ map-more (λ (x : StampedRow × RowPlace). x.1) (with_places 0 rows) (s, row_place s at)
 
 -- ---- the order
 
-module _ (places : List Posted) (rows : List StampedRow) (s : StampedRow) (are : places ≡ places_of rows) (up : IsAscending stamped_cmp rows) where
+module _ (places : List RowPlace) (rows : List StampedRow) (s : StampedRow) (are : places ≡ places_of rows) (up : IsAscending stamped_cmp rows) where
   -- behind no rows each comes
   pub none_before : length places ≡ 0 → IsAscending stamped_cmp (rows ++ s ∷ [])
-  none_before none = first rows (omega (arith, none, ap length (ap (map (λ (p : Posted). p.key)) are ∙ keys_from 0 rows), length-map places (λ (p : Posted). p.key), length-map rows (λ (t : StampedRow). key_of t.row))) where
+  none_before none = first rows (omega (arith, none, ap length (ap (map (λ (p : RowPlace). p.key)) are ∙ keys_from 0 rows), length-map places (λ (p : RowPlace). p.key), length-map rows (λ (t : StampedRow). key_of t.row))) where
     first : (rows : List StampedRow) → length rows ≡ 0 → IsAscending stamped_cmp (rows ++ s ∷ [])
     first [] none = (tt, tt)
     first (r ∷ rows) none = absurd (omega (arith, none))
 
-  module _ (last d : Posted) (some : 1 ≤ length places) (last_is : last ≡ get_or places (length places - 1) d) where
-    keys_are : map (λ (p : Posted). p.key) places ≡ map (λ (t : StampedRow). key_of t.row) rows
-    keys_are = ap (map (λ (p : Posted). p.key)) are ∙ keys_from 0 rows
+  module _ (last d : RowPlace) (some : 1 ≤ length places) (last_is : last ≡ get_or places (length places - 1) d) where
+    keys_are : map (λ (p : RowPlace). p.key) places ≡ map (λ (t : StampedRow). key_of t.row) rows
+    keys_are = ap (map (λ (p : RowPlace). p.key)) are ∙ keys_from 0 rows
 
     as_many : length places ≡ length rows
-    as_many = sym (length-map places (λ (p : Posted). p.key)) ∙ ap length keys_are ∙ length-map rows (λ (t : StampedRow). key_of t.row)
+    as_many = sym (length-map places (λ (p : RowPlace). p.key)) ∙ ap length keys_are ∙ length-map rows (λ (t : StampedRow). key_of t.row)
 
     l : StampedRow
     l = get_or rows (length rows - 1) s
@@ -81,8 +81,8 @@ module _ (places : List Posted) (rows : List StampedRow) (s : StampedRow) (are :
     last_key : last.key ≡ key_of l.row
     unfolding l
     last_key =
-        ap (λ (p : Posted). p.key) last_is
-        ∙ sym (get_or-map (λ (p : Posted). p.key) places (length places - 1) d d.key (omega (arith, some)))
+        ap (λ (p : RowPlace). p.key) last_is
+        ∙ sym (get_or-map (λ (p : RowPlace). p.key) places (length places - 1) d d.key (omega (arith, some)))
         ∙ ap (λ ks. get_or ks (length places - 1) d.key) keys_are
         ∙ get_or-map (λ (t : StampedRow). key_of t.row) rows (length places - 1) s d.key (omega (arith, some, as_many))
         ∙ ap (λ n. key_of (get_or rows (n - 1) s).row) as_many
@@ -102,19 +102,19 @@ module _ (places : List Posted) (rows : List StampedRow) (s : StampedRow) (are :
 
 -- ---- one row more
 
-pub more_are_read : (at next imports : ℕ) (places after : List Posted) (rows more : List StampedRow) (s : StampedRow) (place : Posted) → AreReadTo at imports places rows → IsStamped s → next ≡ at + length (record_of s) → s.import ≤ imports
-    → IsAscending stamped_cmp (rows ++ s ∷ []) → place ≡ posted s at → after ≡ places ++ place ∷ [] → more ≡ rows ++ s ∷ [] → AreReadTo next imports after more
+pub more_are_read : (at next imports : ℕ) (places after : List RowPlace) (rows more : List StampedRow) (s : StampedRow) (place : RowPlace) → AreReadTo at imports places rows → IsStamped s → next ≡ at + length (record_of s) → s.import ≤ imports
+    → IsAscending stamped_cmp (rows ++ s ∷ []) → place ≡ row_place s at → after ≡ places ++ place ∷ [] → more ≡ rows ++ s ∷ [] → AreReadTo next imports after more
 more_are_read at next imports places after rows more s place read is next_is low up place_is after_is more_is =
     let long = ap length (segment_push rows s) ∙ length-append (segment_of rows) (record_of s) in
     subst (λ (r : List StampedRow). AreReadTo next imports after r) (sym more_is) (record {
-      places_are = after_is ∙ ap (λ p. places ++ p ∷ []) place_is ∙ ap (λ (l : List Posted). l ++ posted s at ∷ []) read.places_are ∙ sym (places_more at rows s read.at_is);
+      places_are = after_is ∙ ap (λ p. places ++ p ∷ []) place_is ∙ ap (λ (l : List RowPlace). l ++ row_place s at ∷ []) read.places_are ∙ sym (places_more at rows s read.at_is);
       at_is = omega (arith, next_is, read.at_is, long);
       each = all_push IsStamped rows s read.each is;
       ascending = up;
       numbered = All-push (λ (t : StampedRow). t.import ≤ imports) rows s read.numbered low;
     })
 
-pub more_taken : (at : ℕ) (rows more : List StampedRow) (s : StampedRow) (place : Posted) → at ≡ length (segment_of rows) → place ≡ posted s at → more ≡ rows ++ s ∷ [] → with_places 0 more ≡ with_places 0 rows ++ (s, place) ∷ []
+pub more_taken : (at : ℕ) (rows more : List StampedRow) (s : StampedRow) (place : RowPlace) → at ≡ length (segment_of rows) → place ≡ row_place s at → more ≡ rows ++ s ∷ [] → with_places 0 more ≡ with_places 0 rows ++ (s, place) ∷ []
 more_taken at rows more s place is place_is more_is =
     ap (with_places 0) more_is ∙ with_more at rows s is ∙ ap (λ p. with_places 0 rows ++ (s, p) ∷ []) (sym place_is)
 
@@ -155,17 +155,15 @@ next_of at rows others (m ∷ more) bytes rest here more_rows whole rest_is each
   has = (each.0, ap (take (length (record_of m))) (here ∙ rest_is) ∙ take_at (record_of m) (segment_of more) (length (record_of m)) refl);
 }
 
-module _ (at imports : ℕ) (places : List Posted) (rows : List StampedRow) (bytes : List ℕ) (read : AreReadTo at imports places rows) where
+module _ (at imports : ℕ) (places : List RowPlace) (rows : List StampedRow) (bytes : List ℕ) (read : AreReadTo at imports places rows) where
   next_there : BeginsWith rows bytes → (others : List StampedRow) → IsSegment others bytes → length rows < length others → IsNext at rows others bytes
   next_there begins others is more_rows =
       let on = goes_on rows others begins.0 read.each is.each (sym begins.1 ∙ is.bytes_are) in
       next_of at rows others on.0 bytes begins.0 (behind at rows bytes begins.0 read.at_is begins.1) more_rows on.1 on.2 on.3
 
-  pub no_record : (e : ImageFault) → IsNoRecord e bytes at → IsNotNext e imports rows bytes
+  pub no_record : (e : RowsFault) → IsNoRecord e bytes at → IsNotNext e imports rows bytes
   no_record faults.OutOfMemory none = tt
   no_record faults.DiskFault none = tt
-  no_record faults.NotEmpty none = none
-  no_record faults.NotAStore none = none
   no_record faults.Damaged none = λ begins others is numbered more_rows.
       let next = next_there begins others is more_rows in none next.row next.has
 

@@ -9,18 +9,16 @@ use Rattle.directory.specs.declared.entry.Entry.{Entry}
 use Rattle.directory.specs.Listings.{IsEntry}
 use Rattle.directory.specs.Places.{extent_of}
 use Rattle.history_model.specs.declared.stamped.StampedRow.{StampedRow}
-use Rattle.history_model.specs.Lists.{AreLists}
-use Rattle.segment.specs.declared.place.Posted.{Posted}
+use Rattle.segment.specs.declared.place.RowPlace.{RowPlace}
 use Rattle.segment.specs.Records.{record_of, segment_of, IsSegment}
 use Rattle.segment.specs.Standing.{with_places}
-use Rattle.segment.proofs.SegmentLaws.{no_rows, goes_on, one_segment}
-use Rattle.store_image.specs.declared.fault.ImageFault.{ImageFault}
-use Rattle.store_image.specs.declared.fault.ImageFault.TheVariants as faults
+use Rattle.segment.proofs.SegmentLaws.{no_rows, goes_on}
+use Rattle.store_image.specs.declared.fault.RowsFault.{RowsFault}
+use Rattle.store_image.specs.declared.fault.RowsFault.TheVariants as faults
 use Rattle.store_image.specs.Stands.{Holds, HoldsAll}
 use Rattle.store_image.specs.Says.{IsSegmentOf, AreSegments, bytes_listed, pieces_of}
-use Rattle.store_image.specs.Reading.{AreReadTo, AreNumbered, BeginsWith, IsNotNext, IsAt, IsNotReadAt, AreNotRead}
+use Rattle.store_image.specs.Reading.{AreReadTo, AreNumbered, BeginsWith, IsNotNext, IsAt, IsNotReadAt}
 use Rattle.store_image.proofs.Added.{AreSegments-push, pieces_of-push}
-use Rattle.store_image.proofs.Standing.{same_segments}
 use Rattle.store_image.proofs.Windowed.{record_least}
 
 -- ---- room for an entry
@@ -51,7 +49,7 @@ at_segment file entry rows is = record {
   bytes_are = ap (λ n. take n (drop (start_of (extent_of entry)) file)) (sym is.0.bytes) ∙ is.1.bytes;
 }
 
-pub none_read : (imports : ℕ) (places : List Posted) (rows : List StampedRow) → places ≡ [] → rows ≡ [] → AreReadTo 0 imports places rows
+pub none_read : (imports : ℕ) (places : List RowPlace) (rows : List StampedRow) → places ≡ [] → rows ≡ [] → AreReadTo 0 imports places rows
 none_read imports places rows places_are none =
     subst (λ (r : List StampedRow). AreReadTo 0 imports places r) (sym none) (record {
       places_are = places_are;
@@ -64,11 +62,9 @@ none_read imports places rows places_are none =
 pub none_begins : (rows : List StampedRow) (bytes : List ℕ) → rows ≡ [] → BeginsWith rows bytes
 none_begins rows bytes none = (bytes, sym (ap (λ (l : List ℕ). l ++ bytes) (ap segment_of none ∙ no_rows)))
 
-pub not_next : (e : ImageFault) (imports : ℕ) (entry : Entry) (rows : List StampedRow) (file : List ℕ) → IsNotNext e imports rows (bytes_of (extent_of entry) file) → BeginsWith rows (bytes_of (extent_of entry) file) → length rows < entry.rows → IsNotReadAt e imports entry file
+pub not_next : (e : RowsFault) (imports : ℕ) (entry : Entry) (rows : List StampedRow) (file : List ℕ) → IsNotNext e imports rows (bytes_of (extent_of entry) file) → BeginsWith rows (bytes_of (extent_of entry) file) → length rows < entry.rows → IsNotReadAt e imports entry file
 not_next faults.OutOfMemory imports entry rows file why begins more = tt
 not_next faults.DiskFault imports entry rows file why begins more = tt
-not_next faults.NotEmpty imports entry rows file why begins more = why
-not_next faults.NotAStore imports entry rows file why begins more = why
 not_next faults.Damaged imports entry rows file why begins more = λ others is numbered.
     let count = is.0.count in
     why begins others (at_segment file entry others is) numbered (omega (arith, more, count))
@@ -77,7 +73,7 @@ nothing : {X : Type 0} (xs : List X) → length xs ≡ 0 → xs ≡ []
 nothing [] none = refl
 nothing (x ∷ xs) none = absurd (omega (arith, none))
 
-pub wrong_end : (at imports : ℕ) (entry : Entry) (places : List Posted) (rows : List StampedRow) (file : List ℕ) → AreReadTo at imports places rows → length rows ≡ entry.rows → (at ≡ entry.bytes → ⊥) → BeginsWith rows (bytes_of (extent_of entry) file)
+pub wrong_end : (at imports : ℕ) (entry : Entry) (places : List RowPlace) (rows : List StampedRow) (file : List ℕ) → AreReadTo at imports places rows → length rows ≡ entry.rows → (at ≡ entry.bytes → ⊥) → BeginsWith rows (bytes_of (extent_of entry) file)
     → IsNotReadAt faults.Damaged imports entry file
 wrong_end at imports entry places rows file read count wrong begins others is numbered =
     let segment = at_segment file entry others is in
@@ -88,7 +84,7 @@ wrong_end at imports entry places rows file read count wrong begins others is nu
     let same : others ≡ rows = on.1 ∙ ap (λ (l : List StampedRow). rows ++ l) none ∙ append-nil rows in
     wrong (read.at_is ∙ sym (ap (λ (l : List StampedRow). length (segment_of l)) same) ∙ is.0.bytes)
 
-pub segment_found : (imports : ℕ) (entry : Entry) (places : List Posted) (rows : List StampedRow) → AreReadTo entry.bytes imports places rows → length rows ≡ entry.rows → IsSegmentOf entry rows
+pub segment_found : (imports : ℕ) (entry : Entry) (places : List RowPlace) (rows : List StampedRow) → AreReadTo entry.bytes imports places rows → length rows ≡ entry.rows → IsSegmentOf entry rows
 segment_found imports entry places rows read count = record {
   is = record { each = read.each; ascending = read.ascending; bytes_are = refl };
   bytes = sym read.at_is;
@@ -116,12 +112,12 @@ at_found file entry rows is found begins =
 
 -- ---- all segments
 
-record IsThere (imports : ℕ) (file : List ℕ) (entry : Entry) : Type 0 where
-  rows : List StampedRow
-  at : IsAt file entry rows
-  numbered : AreNumbered imports rows
+pub record IsThere (imports : ℕ) (file : List ℕ) (entry : Entry) : Type 0 where
+  pub rows : List StampedRow
+  pub at : IsAt file entry rows
+  pub numbered : AreNumbered imports rows
 
-entry_there : (imports : ℕ) (file : List ℕ) (entries : List Entry) (lists : List (List StampedRow)) (i : ℕ) (d : Entry) → i < length entries → AreSegments entries lists → AllByRecursion (AreNumbered imports) lists → HoldsAll (pieces_of entries lists) file
+pub entry_there : (imports : ℕ) (file : List ℕ) (entries : List Entry) (lists : List (List StampedRow)) (i : ℕ) (d : Entry) → i < length entries → AreSegments entries lists → AllByRecursion (AreNumbered imports) lists → HoldsAll (pieces_of entries lists) file
     → IsThere imports file (get_or entries i d)
 entry_there imports file [] lists i d lt are numbered held = absurd (omega (arith, lt))
 entry_there imports file (e ∷ entries) [] i d lt are numbered held = absurd are
@@ -129,20 +125,6 @@ entry_there imports file (e ∷ entries) (rows ∷ lists) zero d lt are numbered
     record { rows = rows; at = (are.0, All-head (λ piece. Holds piece file) (start_of (extent_of e), segment_of rows) (pieces_of entries lists) held); numbered = numbered.0 }
 entry_there imports file (e ∷ entries) (rows ∷ lists) (suc i) d lt are numbered held =
     entry_there imports file entries lists i d (omega (arith, lt)) are.1 numbered.1 (All-tail (λ piece. Holds piece file) (start_of (extent_of e), segment_of rows) (pieces_of entries lists) held)
-
--- where one segment isn't there, they all aren't
-pub not_read_at : (e : ImageFault) (imports : ℕ) (file : List ℕ) (entries : List Entry) (i : ℕ) (d : Entry) → i < length entries → IsNotReadAt e imports (get_or entries i d) file → AreNotRead e imports entries file
-not_read_at faults.OutOfMemory imports file entries i d lt why = tt
-not_read_at faults.DiskFault imports file entries i d lt why = tt
-not_read_at faults.NotEmpty imports file entries i d lt why = why
-not_read_at faults.NotAStore imports file entries i d lt why = why
-not_read_at faults.Damaged imports file entries i d lt why = λ lists are held.
-    let there = entry_there imports file entries lists i d lt are.segments are.numbered held in why there.rows there.at there.numbered
-
--- where two segments that were read share a key, no segments are there that share none
-pub not_apart : (imports : ℕ) (file : List ℕ) (entries : List Entry) (lists : List (List StampedRow)) → AreSegments entries lists → HoldsAll (pieces_of entries lists) file → (AreLists lists → ⊥) → AreNotRead faults.Damaged imports entries file
-not_apart imports file entries lists are held not others read there =
-    not (subst (λ (l : List (List StampedRow)). AreLists l) (same_segments one_segment file entries others lists read.segments are there held) read.apart)
 
 all_pushed : {X : Type 0} (P : X → Type 0) (xs : List X) (x : X) → AllByRecursion P xs → P x → AllByRecursion P (xs ++ x ∷ [])
 all_pushed P [] x all p = (p, tt)
@@ -181,5 +163,5 @@ module _ (entries : List Entry) (i : ℕ) (d : Entry) (lists more : List (List S
       let pieces = ap (λ l. pieces_of (take (i + 1) entries) l) more_is ∙ ap (λ (l : List Entry). pieces_of l (lists ++ rows ∷ [])) front ∙ pieces_of-push (take i entries) lists (get_or entries i d) rows are in
       subst P (sym pieces) (All-push (λ piece. Holds piece file) (pieces_of (take i entries) lists) (start_of (extent_of (get_or entries i d)), segment_of rows) held is.1)
 
-  pub more_segments_taken : (segments : List (List (StampedRow × Posted))) → (segments ++ map (with_places 0) lists) ++ with_places 0 rows ∷ [] ≡ segments ++ map (with_places 0) more
+  pub more_segments_taken : (segments : List (List (StampedRow × RowPlace))) → (segments ++ map (with_places 0) lists) ++ with_places 0 rows ∷ [] ≡ segments ++ map (with_places 0) more
   more_segments_taken segments = append_assoc segments (map (with_places 0) lists) (with_places 0 rows ∷ []) ∙ ap (λ l. segments ++ l) (sym (map-push (with_places 0) lists rows) ∙ sym (ap (map (with_places 0)) more_is))

@@ -16,7 +16,7 @@ use Rattle.segment.specs.Records.{record_of, IsStamped, IsRecordAt}
 use Rattle.segment.specs.Reading.{fixed_len}
 use Rattle.segment.proofs.RecordLaws.{record_size, row_room, length-record}
 use Rattle.store_image.specs.declared.window.Window.{Window}
-use Rattle.store_image.specs.Answers.{of_segment}
+use Rattle.store_image.specs.Reading.{of_segment}
 use Rattle.store_image.specs.Reading.{HasRecord, HasNoRecord, IsNoRecord, Sees, IsFull, bytes_in}
 
 -- ---- how long a record is

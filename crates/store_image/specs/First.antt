@@ -17,7 +17,7 @@ use Rattle.directory.specs.Listings.{IsEntry}
 use Rattle.directory.specs.Content.{entry_bytes}
 use Rattle.store_image.specs.Stands.{Stands}
 use Rattle.store_image.specs.Says.{AreSegments, pieces_of}
-use Rattle.store_image.specs.Images.{StandsFor}
+use Rattle.store_image.specs.Images.{Represents}
 
 -- the bytes that were read of a content block
 abbrev pub first_bytes : ℕ → ℕ → List Entry → List ℕ
@@ -52,4 +52,4 @@ pub record StoodFor (file : List ℕ) (h : History) (epoch : ℕ) (entries : Lis
 -- what stood for a history does so in version 1 still, and nothing else does in that version
 abbrev pub FirstStillStands : Type 0
 FirstStillStands = (file : List ℕ) (h : History) (epoch : ℕ) (entries : List Entry)
-    → StoodFor file h epoch entries ↔ StandsFor file h layouts.One epoch entries
+    → StoodFor file h epoch entries ↔ Represents file h layouts.One epoch entries

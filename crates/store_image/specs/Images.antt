@@ -10,9 +10,9 @@ use Rattle.store_image.specs.Stands.{Stands}
 use Rattle.store_image.specs.Says.{Says, pieces_of}
 
 -- The bytes stand for the history, in this version, at this epoch and with these entries: the
--- current slot's content lists them, and each entry's extent is the segment of some of the rows, all
--- of which together are the history's.
-pub record StandsFor (file : List ℕ) (h : History) (layout : Layout) (epoch : ℕ)
+-- current slot's content lists them, and each entry's extent is the segment of some of the rows,
+-- all of which together are the history's.
+pub record Represents (file : List ℕ) (h : History) (layout : Layout) (epoch : ℕ)
     (entries : List Entry) : Type 0 where
   pub slot : Slot
   pub content : List ℕ
@@ -25,19 +25,19 @@ pub record StandsFor (file : List ℕ) (h : History) (layout : Layout) (epoch : 
 -- in this version, at some epoch and with some entries
 abbrev pub StandsAs : Layout → History → List ℕ → Type 0
 StandsAs layout h file =
-    (epoch : ℕ) × (entries : List Entry) × StandsFor file h layout epoch entries
+    (epoch : ℕ) × (entries : List Entry) × Represents file h layout epoch entries
 
 -- in some version
-abbrev pub StandsForHistory : History → List ℕ → Type 0
-StandsForHistory h file = (layout : Layout) × StandsAs layout h file
+abbrev pub RepresentsHistory : History → List ℕ → Type 0
+RepresentsHistory h file = (layout : Layout) × StandsAs layout h file
 
 -- they stand for some history
 abbrev pub IsStore : List ℕ → Type 0
-IsStore file = (h : History) × StandsForHistory h file
+IsStore file = (h : History) × RepresentsHistory h file
 
 -- bytes stand for one history, version, epoch and list of entries at most
-abbrev pub StandsForOne : Type 0
-StandsForOne = (file : List ℕ) (h g : History) (layout other : Layout) (epoch others : ℕ)
+abbrev pub RepresentsOne : Type 0
+RepresentsOne = (file : List ℕ) (h g : History) (layout other : Layout) (epoch others : ℕ)
     (entries lists : List Entry)
-    → StandsFor file h layout epoch entries → StandsFor file g other others lists
+    → Represents file h layout epoch entries → Represents file g other others lists
     → (h ≡ g) × (layout ≡ other) × (epoch ≡ others) × (entries ≡ lists)

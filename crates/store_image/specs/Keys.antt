@@ -8,10 +8,10 @@ use Rattle.std.specs.declared.cmp.Ordering.TheVariants.{Less}
 use Rattle.rf2_values.specs.declared.key.Key.{Key}
 use Rattle.rf2_values.specs.Key.{key_cmp, keys_total}
 use Rattle.history_model.specs.InOrder.{Has, IsAscending}
-use Rattle.segment.specs.declared.place.Posted.{Posted}
+use Rattle.segment.specs.declared.place.RowPlace.{RowPlace}
 use Rattle.store_image.specs.declared.apart.Rest.{Rest}
 
-abbrev pub keys_of : List Posted → List Key
+abbrev pub keys_of : List RowPlace → List Key
 keys_of places = map (λ p. p.key) places
 
 -- no key is in both
@@ -50,12 +50,12 @@ Opens old new keys =
     (later : List (List Key)) → EachKeyOnce (new ++ later) ↔ EachKeyOnce (old ++ keys ∷ later)
 
 -- what is left of the places behind some whose keys are below this one
-pub record IsBehind (key : Key) (places left : List Posted) : Type 0 where
-  pub before : List Posted
+pub record IsBehind (key : Key) (places left : List RowPlace) : Type 0 where
+  pub before : List RowPlace
   pub whole : places ≡ before ++ left
   pub below : AllByRecursion (λ p. key_cmp p.key key ≡ Less) before
 
 -- the first key isn't below this one
-abbrev pub StartsFrom : Key → List Posted → Type 0
+abbrev pub StartsFrom : Key → List RowPlace → Type 0
 StartsFrom key [] = Unit {0}
 StartsFrom key (place ∷ places) = key_cmp place.key key ≡ Less → ⊥

@@ -11,7 +11,7 @@ use Rattle.directory.specs.declared.entry.Entry.{Entry}
 use Rattle.directory.specs.declared.layout.Layout.{Layout}
 use Rattle.directory.specs.declared.layout.Layout.TheVariants as layouts
 use Rattle.directory.specs.Places.{extent_of}
-use Rattle.directory.specs.Listings.{Listing, IsListing}
+use Rattle.directory.specs.Listings.{DirectoryValue, IsListing}
 use Rattle.directory.specs.Content.{Lists}
 use Rattle.segment.specs.Records.{IsSegment, segment_of}
 
@@ -50,12 +50,12 @@ pieces_of (entry ∷ entries) (rows ∷ lists) =
     (start_of (extent_of entry), segment_of rows) ∷ pieces_of entries lists
 
 -- the rows of all lists, with the number of imports
-abbrev pub history_of : Listing → List (List StampedRow) → History
+abbrev pub history_of : DirectoryValue → List (List StampedRow) → History
 history_of d lists = record { imports = d.imports; rows = listed lists }
 
 -- a directory and the rows of the segments that it lists: no key is in two of
 -- them, together they are a history, and the version has rows of their kinds
-pub record IsKept (d : Listing) (lists : List (List StampedRow)) : Type 0 where
+pub record IsKept (d : DirectoryValue) (lists : List (List StampedRow)) : Type 0 where
   pub listing : IsListing d
   pub segments : AreSegments d.entries lists
   pub apart : AreLists lists
@@ -63,6 +63,7 @@ pub record IsKept (d : Listing) (lists : List (List StampedRow)) : Type 0 where
   pub kinds : All (AreOfLayout d.layout) lists
 
 -- the content block lists the directory
-pub record Says (content : List ℕ) (d : Listing) (lists : List (List StampedRow)) : Type 0 where
+pub record Says (content : List ℕ) (d : DirectoryValue) (lists : List (List StampedRow))
+    : Type 0 where
   pub lists_it : Lists content d
   pub kept : IsKept d lists

@@ -11,7 +11,7 @@ ghost use Rattle.rf2_values.specs.Key.{key_cmp};
 ghost use Rattle.store_image.specs.Keys.{keys_of, keys_in, keys_left, first_cmp, firsts_total, EachKeyOnce, AreOpen, Opens, IsBehind, StartsFrom};
 
 use rf2_values::Key;
-use segment::Posted;
+use segment::RowPlace;
 use std::alloc::{AllocError, Global};
 use std::cmp::Ordering;
 use std::collections::BinaryHeap;
@@ -21,7 +21,7 @@ use std::collections::BinaryHeap;
 #[derive(Clone, Copy, Drop)]
 pub(crate) struct Rest<'a> {
     first: Key,
-    places: &'a [Posted],
+    places: &'a [RowPlace],
 }
 
 impl Ord for Rest<'_> {
@@ -64,7 +64,7 @@ impl Eq for Rest<'_> {
 }
 
 /// Whether no key is in two of the lists. Each is in ascending order of keys.
-pub(crate) fn are_apart(alloc: Global, lists: &[Vec<Posted>]) -> Result<bool, AllocError>
+pub(crate) fn are_apart(alloc: Global, lists: &[Vec<RowPlace>]) -> Result<bool, AllocError>
     requires { AllByRecursion (IsAscending key_cmp) (map keys_of (map vec_items lists.now)) }
     ensures { IfOk result
         (λ apart. IsTrue apart ↔ EachKeyOnce (map keys_of (map vec_items lists.now))) }
@@ -97,7 +97,7 @@ fn run_out(rests: &mut BinaryHeap<Rest<'_>>) -> Result<bool, AllocError>
 }
 
 /// Puts a list among those that are gone over.
-fn put_in<'a>(rests: &mut BinaryHeap<Rest<'a>>, list: &'a [Posted]) -> Result<(), AllocError>
+fn put_in<'a>(rests: &mut BinaryHeap<Rest<'a>>, list: &'a [RowPlace]) -> Result<(), AllocError>
     requires rests { AreOpen (heap_items rests.old) }
     requires ascending { IsAscending key_cmp (keys_of list.now) }
     ensures rests { OnOk result (AreOpen (heap_items rests.new)) }
@@ -120,7 +120,7 @@ fn put_in<'a>(rests: &mut BinaryHeap<Rest<'a>>, list: &'a [Posted]) -> Result<()
 }
 
 /// The places from the first one on whose key isn't below this one.
-fn skip_below<'a>(places: &'a [Posted], key: &Key) -> &'a [Posted]
+fn skip_below<'a>(places: &'a [RowPlace], key: &Key) -> &'a [RowPlace]
     ensures behind { IsBehind key.now places.now result.now }
     ensures first { StartsFrom key.now result.now }
 {

@@ -1,61 +1,134 @@
 //! Why a disk isn't made a store, or isn't read as one.
 
-use blocks::{ExtentFault, SlotFault};
+use blocks::SlotFault;
 use directory::DirectoryFault;
 use disk_model::DiskFault;
 use segment::SegmentFault;
 use std::alloc::{AllocError, AllocFailed};
 use thiserror::Error;
 
-/// Why a disk isn't made a store, or isn't read as one.
+/// Why a disk isn't made a store.
 #[derive(Clone, Copy, Debug, PartialEq, Eq, Error)]
-pub enum ImageFault {
+pub enum MakeFault {
     #[error("out of memory")]
     OutOfMemory,
     #[error("the disk failed")]
     DiskFault,
     #[error("the disk isn't empty")]
     NotEmpty,
+}
+
+/// The part of a store that is damaged. What is read before it isn't.
+#[derive(Clone, Copy, Debug, PartialEq, Eq, Error)]
+pub enum Damage {
+    /// A gate is open, and neither slot is the current one.
+    #[error("the slots (the file ends within them, or both have one epoch)")]
+    Slots,
+    /// The content of the current slot is no directory.
+    #[error("the directory")]
+    Directory,
+    /// At the place of this entry, counted from 1, is no such segment.
+    #[error("segment {0}")]
+    Segment(usize),
+    #[error("two segments that share a key")]
+    SharedKey,
+    #[error("a row of a kind that its layout doesn't have")]
+    Kind,
+}
+
+/// Why a disk isn't read as a store.
+#[derive(Clone, Copy, Debug, PartialEq, Eq, Error)]
+pub enum LoadFault {
+    #[error("out of memory")]
+    OutOfMemory,
+    #[error("the disk failed")]
+    DiskFault,
     #[error("the disk has no store")]
     NotAStore,
-    #[error("the store is damaged")]
+    #[error("the store is damaged: {0}")]
+    Damaged(Damage),
+}
+
+/// Why the rows of a segment aren't read.
+#[derive(Clone, Copy)]
+pub(crate) enum RowsFault {
+    OutOfMemory,
+    DiskFault,
     Damaged,
 }
 
-impl From<AllocError> for ImageFault {
+impl RowsFault {
     ghost use Rattle.std.specs.Prelude.{◌≡◌};
-    ghost use Rattle.store_image.specs.declared.fault.ImageFault.TheVariants.{OutOfMemory};
+    ghost use Rattle.store_image.specs.Damage.{in_segment};
+
+    /// The fault of the segment with this number, counted from 1.
+    pub(crate) fn in_segment(self, number: usize) -> LoadFault
+        ensures { result ≡ in_segment number self }
+    {
+        match self {
+            RowsFault::OutOfMemory => LoadFault::OutOfMemory,
+            RowsFault::DiskFault => LoadFault::DiskFault,
+            RowsFault::Damaged => LoadFault::Damaged(Damage::Segment(number)),
+        }
+    }
+}
+
+impl From<AllocError> for MakeFault {
+    ghost use Rattle.std.specs.Prelude.{◌≡◌};
+    ghost use Rattle.store_image.specs.declared.fault.MakeFault.TheVariants.{OutOfMemory};
 
     ghost from_gives = { λ _ e. e ≡ OutOfMemory };
 
     fn from(_: AllocError) -> Self {
-        ImageFault::OutOfMemory
+        MakeFault::OutOfMemory
     }
 }
 
-impl<T: Drop> From<AllocFailed<T>> for ImageFault {
+impl From<DiskFault> for MakeFault {
     ghost use Rattle.std.specs.Prelude.{◌≡◌};
-    ghost use Rattle.store_image.specs.declared.fault.ImageFault.TheVariants.{OutOfMemory};
-
-    ghost from_gives = { λ _ e. e ≡ OutOfMemory };
-
-    fn from(_: AllocFailed<T>) -> Self {
-        ImageFault::OutOfMemory
-    }
-}
-
-impl From<DiskFault> for ImageFault {
-    ghost use Rattle.std.specs.Prelude.{◌≡◌};
-    ghost use Rattle.store_image.specs.declared.fault.ImageFault.TheVariants.{DiskFault};
+    ghost use Rattle.store_image.specs.declared.fault.MakeFault.TheVariants.{DiskFault};
 
     ghost from_gives = { λ _ e. e ≡ DiskFault };
 
     fn from(_: DiskFault) -> Self {
-        ImageFault::DiskFault
+        MakeFault::DiskFault
     }
 }
 
-impl From<SlotFault> for ImageFault {
+impl From<AllocError> for LoadFault {
+    ghost use Rattle.std.specs.Prelude.{◌≡◌};
+    ghost use Rattle.store_image.specs.declared.fault.LoadFault.TheVariants.{OutOfMemory};
+
+    ghost from_gives = { λ _ e. e ≡ OutOfMemory };
+
+    fn from(_: AllocError) -> Self {
+        LoadFault::OutOfMemory
+    }
+}
+
+impl<T: Drop> From<AllocFailed<T>> for LoadFault {
+    ghost use Rattle.std.specs.Prelude.{◌≡◌};
+    ghost use Rattle.store_image.specs.declared.fault.LoadFault.TheVariants.{OutOfMemory};
+
+    ghost from_gives = { λ _ e. e ≡ OutOfMemory };
+
+    fn from(_: AllocFailed<T>) -> Self {
+        LoadFault::OutOfMemory
+    }
+}
+
+impl From<DiskFault> for LoadFault {
+    ghost use Rattle.std.specs.Prelude.{◌≡◌};
+    ghost use Rattle.store_image.specs.declared.fault.LoadFault.TheVariants.{DiskFault};
+
+    ghost from_gives = { λ _ e. e ≡ DiskFault };
+
+    fn from(_: DiskFault) -> Self {
+        LoadFault::DiskFault
+    }
+}
+
+impl From<SlotFault> for LoadFault {
     ghost use Rattle.std.specs.Prelude.{◌≡◌};
     ghost use Rattle.store_image.specs.Answers.{of_slot};
 
@@ -63,28 +136,14 @@ impl From<SlotFault> for ImageFault {
 
     fn from(fault: SlotFault) -> Self {
         match fault {
-            SlotFault::DiskFault => ImageFault::DiskFault,
-            SlotFault::NoSlot => ImageFault::NotAStore,
-            SlotFault::ShortSlot | SlotFault::TwoEqual => ImageFault::Damaged,
+            SlotFault::DiskFault => LoadFault::DiskFault,
+            SlotFault::NoSlot => LoadFault::NotAStore,
+            SlotFault::ShortSlot | SlotFault::EqualEpochs => LoadFault::Damaged(Damage::Slots),
         }
     }
 }
 
-impl From<ExtentFault> for ImageFault {
-    ghost use Rattle.std.specs.Prelude.{◌≡◌};
-    ghost use Rattle.store_image.specs.Answers.{of_extent};
-
-    ghost from_gives = { λ fault e. e ≡ of_extent fault };
-
-    fn from(fault: ExtentFault) -> Self {
-        match fault {
-            ExtentFault::DiskFault => ImageFault::DiskFault,
-            ExtentFault::Short => ImageFault::Damaged,
-        }
-    }
-}
-
-impl From<DirectoryFault> for ImageFault {
+impl From<DirectoryFault> for LoadFault {
     ghost use Rattle.std.specs.Prelude.{◌≡◌};
     ghost use Rattle.store_image.specs.Answers.{of_directory};
 
@@ -92,22 +151,55 @@ impl From<DirectoryFault> for ImageFault {
 
     fn from(fault: DirectoryFault) -> Self {
         match fault {
-            DirectoryFault::OutOfMemory => ImageFault::OutOfMemory,
-            DirectoryFault::BadDirectory => ImageFault::Damaged,
+            DirectoryFault::OutOfMemory => LoadFault::OutOfMemory,
+            DirectoryFault::BadDirectory => LoadFault::Damaged(Damage::Directory),
         }
     }
 }
 
-impl From<SegmentFault> for ImageFault {
+impl From<AllocError> for RowsFault {
     ghost use Rattle.std.specs.Prelude.{◌≡◌};
-    ghost use Rattle.store_image.specs.Answers.{of_segment};
+    ghost use Rattle.store_image.specs.declared.fault.RowsFault.TheVariants.{OutOfMemory};
+
+    ghost from_gives = { λ _ e. e ≡ OutOfMemory };
+
+    fn from(_: AllocError) -> Self {
+        RowsFault::OutOfMemory
+    }
+}
+
+impl<T: Drop> From<AllocFailed<T>> for RowsFault {
+    ghost use Rattle.std.specs.Prelude.{◌≡◌};
+    ghost use Rattle.store_image.specs.declared.fault.RowsFault.TheVariants.{OutOfMemory};
+
+    ghost from_gives = { λ _ e. e ≡ OutOfMemory };
+
+    fn from(_: AllocFailed<T>) -> Self {
+        RowsFault::OutOfMemory
+    }
+}
+
+impl From<DiskFault> for RowsFault {
+    ghost use Rattle.std.specs.Prelude.{◌≡◌};
+    ghost use Rattle.store_image.specs.declared.fault.RowsFault.TheVariants.{DiskFault};
+
+    ghost from_gives = { λ _ e. e ≡ DiskFault };
+
+    fn from(_: DiskFault) -> Self {
+        RowsFault::DiskFault
+    }
+}
+
+impl From<SegmentFault> for RowsFault {
+    ghost use Rattle.std.specs.Prelude.{◌≡◌};
+    ghost use Rattle.store_image.specs.Reading.{of_segment};
 
     ghost from_gives = { λ fault e. e ≡ of_segment fault };
 
     fn from(fault: SegmentFault) -> Self {
         match fault {
-            SegmentFault::OutOfMemory => ImageFault::OutOfMemory,
-            SegmentFault::BadSegment => ImageFault::Damaged,
+            SegmentFault::OutOfMemory => RowsFault::OutOfMemory,
+            SegmentFault::BadSegment => RowsFault::Damaged,
         }
     }
 }

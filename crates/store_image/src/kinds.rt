@@ -1,13 +1,13 @@
 //! Which kinds of rows a version of the layout has.
 
 ghost use Rattle.std.specs.Prelude.{◌↔◌, List, map, vec_items, IsTrue, All};
-ghost use Rattle.segment.specs.declared.place.Posted.{Posted};
+ghost use Rattle.segment.specs.declared.place.RowPlace.{RowPlace};
 ghost use Rattle.store_image.specs.Says.{HasKind};
 ghost use Rattle.store_image.specs.Reading.{AreOfKinds};
 
 use directory::Layout;
 use rf2_values::Kind;
-use segment::Posted;
+use segment::RowPlace;
 
 /// Whether the version has rows of the kind.
 fn has_kind(layout: Layout, kind: Kind) -> bool
@@ -20,7 +20,7 @@ fn has_kind(layout: Layout, kind: Kind) -> bool
 }
 
 /// Whether the version has rows of the kinds of all these places.
-fn have_kinds(layout: Layout, places: &[Posted]) -> bool
+fn have_kinds(layout: Layout, places: &[RowPlace]) -> bool
     ensures { IsTrue result ↔ AreOfKinds layout places.now }
 {
     for place in places {
@@ -32,7 +32,7 @@ fn have_kinds(layout: Layout, places: &[Posted]) -> bool
 }
 
 /// The same of several lists.
-pub(crate) fn all_have_kinds(layout: Layout, lists: &[Vec<Posted>]) -> bool
+pub(crate) fn all_have_kinds(layout: Layout, lists: &[Vec<RowPlace>]) -> bool
     ensures { IsTrue result ↔ All (AreOfKinds layout) (map vec_items lists.now) }
 {
     for list in lists {

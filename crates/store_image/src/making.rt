@@ -1,20 +1,20 @@
 //! Making an empty store.
 
-ghost use Rattle.std.specs.Prelude.{◌≡◌, ◌≢◌, ◌⊎◌, ◌↔◌, ◌≤◌, [], length, IfOk, IfErr, OnOk};
+ghost use Rattle.std.specs.Prelude.{◌≡◌, ◌⊎◌, ◌↔◌, ◌≤◌, [], length, IfOk, IfErr, OnOk};
 ghost use Rattle.disk_model.specs.Disk.{EachImage, LeavesOnly};
 ghost use Rattle.blocks.specs.Calls.{MakesCalls};
 ghost use Rattle.blocks.specs.Outside.{StemsWithin};
 ghost use Rattle.blocks.specs.Slots.{slots_range};
 ghost use Rattle.history_model.specs.History.{no_history};
 ghost use Rattle.directory.specs.declared.layout.Layout.TheVariants as layouts;
-ghost use Rattle.store_image.specs.declared.fault.ImageFault.TheVariants as faults;
-ghost use Rattle.store_image.specs.Images.{StandsFor};
+ghost use Rattle.store_image.specs.declared.fault.MakeFault.TheVariants as faults;
+ghost use Rattle.store_image.specs.Images.{Represents};
 ghost use Rattle.store_image.specs.Shown.{IsOnDisk};
-ghost use Rattle.store_image.specs.Answers.{empty_listing, IsLookedAt, IsMade, IsNewStore, CountsFault, StaysIfRefused};
+ghost use Rattle.store_image.specs.Answers.{empty_listing, IsLookedAt, IsMade, IsNewStore, CountsMaking, StaysIfRefused};
 
 use crate::content::content_of;
-use crate::fault::ImageFault;
-use blocks::{Slot, start};
+use crate::fault::MakeFault;
+use blocks::{Slot, format_slots};
 use directory::Directory;
 use disk_model::Disk;
 use std::alloc::Global;
@@ -27,15 +27,15 @@ pub struct Made {
 }
 
 /// Looks whether a disk has no byte. `NotEmpty` where it has one.
-pub fn check_empty<D: Disk>(disk: &mut D) -> Result<(), ImageFault>
+pub fn check_empty<D: Disk>(disk: &mut D) -> Result<(), MakeFault>
     ensures exact { D.is_honest disk.old → IsLookedAt result (D.moments disk.old).state.now }
     ensures refused { IfErr result (λ e. (e ≡ faults.NotEmpty) ⊎ (e ≡ faults.DiskFault)) }
     ensures moments { D.is_honest disk.old → D.moments disk.new ≡ D.moments disk.old }
     ensures honesty { D.is_honest disk.old ↔ D.is_honest disk.new }
-    ensures failures { CountsFault result (D.failures disk.old) (D.failures disk.new) }
+    ensures failures { CountsMaking result (D.failures disk.old) (D.failures disk.new) }
 {
     if disk.len()? > 0 {
-        return Err(ImageFault::NotEmpty);
+        return Err(MakeFault::NotEmpty);
     }
     Ok(())
 }
@@ -43,17 +43,15 @@ pub fn check_empty<D: Disk>(disk: &mut D) -> Result<(), ImageFault>
 /// Makes an empty store on a disk of no bytes: the length is looked at, then all room is taken, and
 /// then it writes. So `OutOfMemory` leaves the disk empty. A stop before it has answered may leave
 /// anything.
-pub fn make<D: Disk>(alloc: Global, disk: &mut D) -> Result<Made, ImageFault>
+pub fn make<D: Disk>(alloc: Global, disk: &mut D) -> Result<Made, MakeFault>
     ensures made { IfOk result (λ made. (made.slot ≡ Slot.A) × (made.directory ≡ empty_listing)) }
-    // On every disk, one that lies among them, it is refused for no other reasons.
-    ensures causes { IfErr result (λ e. (e ≢ faults.NotAStore) × (e ≢ faults.Damaged)) }
     ensures exact { D.is_honest disk.old → IsMade result (D.moments disk.old).state.now }
     ensures on_disk { D.is_honest disk.old
         → IfOk result (λ made. IsOnDisk (D.moments disk.new).state made.slot made.directory []) }
     // Whatever a stop leaves stands for the empty history.
     ensures stands { D.is_honest disk.old
         → OnOk result (EachImage (D.moments disk.new).state
-        (λ c. StandsFor c no_history layouts.Two 1 [])) }
+        (λ c. Represents c no_history layouts.Two 1 [])) }
     // A read then gives the two slots, and nothing behind them.
     ensures bytes { D.is_honest disk.old → OnOk result (IsNewStore (D.moments disk.new).state.now) }
     ensures refused { D.is_honest disk.old
@@ -68,12 +66,12 @@ pub fn make<D: Disk>(alloc: Global, disk: &mut D) -> Result<Made, ImageFault>
     ensures calls { D.is_honest disk.old
         → MakesCalls result 9 (D.moments disk.old) (D.moments disk.new) }
     ensures honesty { D.is_honest disk.old ↔ D.is_honest disk.new }
-    ensures failures { CountsFault result (D.failures disk.old) (D.failures disk.new) }
+    ensures failures { CountsMaking result (D.failures disk.old) (D.failures disk.new) }
 {
     check_empty(disk)?;
     let directory = Directory::new(alloc)?;
     let content = content_of(&directory);
-    let current = start(disk, &content)?;
+    let current = format_slots(disk, &content)?;
     Ok(Made {
         slot: current.slot,
         directory,

@@ -1,25 +1,24 @@
 //! Reading what a disk stands for.
 
-ghost use Rattle.std.specs.Prelude.{◌≡◌, ◌≢◌, ◌↔◌, ◌+◌, ◌≤◌, ◌++◌, [], List, map, vec_items, IfOk, IfErr, MatchResult};
+ghost use Rattle.std.specs.Prelude.{◌≡◌, ◌↔◌, ◌+◌, ◌≤◌, ◌++◌, [], List, map, vec_items, IfOk, MatchResult};
 ghost use Rattle.disk_model.specs.Disk.{IsImage, LeavesOnly};
 ghost use Rattle.blocks.specs.Slots.{slots_read};
 ghost use Rattle.history_model.specs.declared.stamped.StampedRow.{StampedRow};
-ghost use Rattle.segment.specs.declared.place.Posted.{Posted};
+ghost use Rattle.segment.specs.declared.place.RowPlace.{RowPlace};
 ghost use Rattle.segment.specs.Standing.{places_of, with_places};
 ghost use Rattle.store_image.specs.Says.{bytes_listed, IsKept};
 ghost use Rattle.store_image.specs.Shown.{Shows, IsOnDisk};
-ghost use Rattle.store_image.specs.Answers.{IsNotOpened, IsSynced, CountsFault};
-ghost use Rattle.store_image.specs.declared.fault.ImageFault.TheVariants as faults;
+ghost use Rattle.store_image.specs.Answers.{IsNotOpened, IsSynced, CountsLoading};
 
-use crate::fault::ImageFault;
+use crate::fault::{Damage, LoadFault};
 use crate::kinds::all_have_kinds;
 use crate::reading::{Segments, read_segments};
 use crate::sink::RowSink;
 use blocks::{Slot, read_current};
 use directory::Directory;
 use disk_model::Disk;
-use history_model::Shown;
-use segment::Posted;
+use history_model::GhostRows;
+use segment::RowPlace;
 use std::alloc::Global;
 
 /// What was read.
@@ -30,18 +29,19 @@ pub struct Loaded {
     /// What its content lists.
     pub directory: Directory,
     /// The places of each segment's rows, in the directory's order.
-    pub places: Vec<Vec<Posted>>,
+    pub places: Vec<Vec<RowPlace>>,
     /// The rows of each segment, which clauses alone see.
-    pub shown: Vec<Shown>,
+    pub shown: Vec<GhostRows>,
 }
 
 /// Reads what a disk stands for, after a sync. Each record is read once,
 /// through a buffer of fixed size, and its row is handed to the sink.
+/// Where the bytes stand for nothing, the damaged part is answered.
 pub fn load<D: Disk, S: RowSink>(
     alloc: Global,
     disk: &mut D,
     sink: &mut S,
-) -> Result<Loaded, ImageFault>
+) -> Result<Loaded, LoadFault>
     ensures exact { D.is_honest disk.old
         → MatchResult result
         (λ l. Shows l.slot l.directory l.shown.items (D.moments disk.old).state.now)
@@ -51,7 +51,7 @@ pub fn load<D: Disk, S: RowSink>(
     ensures places { IfOk result
         (λ l. map vec_items l.places.items ≡ map places_of l.shown.items) }
     // The sink took each segment's rows, in order, with their places.
-    ensures taken { (segments : List (List (StampedRow × Posted)))
+    ensures taken { (segments : List (List (StampedRow × RowPlace)))
         → S.has_taken sink.old segments [] → IfOk result
         (λ l. S.has_taken sink.new (segments ++ map (with_places 0) l.shown.items) []) }
     // A stop at any moment leaves what it might have left before.
@@ -67,10 +67,8 @@ pub fn load<D: Disk, S: RowSink>(
     // After Ok each stop leaves what was read.
     ensures on_disk { D.is_honest disk.old
         → IfOk result (λ l. IsOnDisk (D.moments disk.new).state l.slot l.directory l.shown.items) }
-    // On every disk, one that lies among them, it has no other reasons.
-    ensures causes { IfErr result (λ e. e ≢ faults.NotEmpty) }
     ensures honesty { D.is_honest disk.old ↔ D.is_honest disk.new }
-    ensures failures { CountsFault result (D.failures disk.old) (D.failures disk.new) }
+    ensures failures { CountsLoading result (D.failures disk.old) (D.failures disk.new) }
     // On every disk it reads the slots, and each byte of the listed segments once.
     ensures bytes_read { IfOk result (λ l. D.bytes_read disk.new
         ≤ D.bytes_read disk.old + slots_read + bytes_listed l.directory.entries) }
@@ -87,7 +85,7 @@ pub fn load<D: Disk, S: RowSink>(
         sink,
     )?;
     if !all_have_kinds(directory.layout(), places.as_slice()) {
-        return Err(ImageFault::Damaged);
+        return Err(LoadFault::Damaged(Damage::Kind));
     }
     Ok(Loaded {
         slot: current.slot,

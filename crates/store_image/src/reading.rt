@@ -1,6 +1,6 @@
 //! Reading the segments that a directory lists, record by record.
 
-ghost use Rattle.std.specs.Prelude.{◌≡◌, ◌↔◌, ℕ, ◌+◌, ◌≤◌, [], ◌∷◌, ◌++◌, List, length, map, vec_items, IsTrue, IfOk, IfErr, OnOk, MatchResult, ◌≢◌};
+ghost use Rattle.std.specs.Prelude.{◌≡◌, ◌↔◌, ℕ, ◌+◌, ◌≤◌, [], ◌∷◌, ◌++◌, List, length, map, vec_items, IsTrue, IfOk, IfErr, OnOk, MatchResult};
 ghost use Rattle.std.specs.List.{AllByRecursion};
 ghost use Rattle.blocks.specs.Extents.{bytes_of};
 ghost use Rattle.directory.specs.Listings.{IsEntry};
@@ -10,30 +10,30 @@ ghost use Rattle.history_model.specs.InOrder.{IsAscending};
 ghost use Rattle.history_model.specs.History.{stamped_cmp};
 ghost use Rattle.rf2_values.specs.Key.{key_cmp};
 ghost use Rattle.std.specs.declared.cmp.Ordering.TheVariants.{Less};
-ghost use Rattle.segment.specs.declared.place.Posted.{Posted};
-ghost use Rattle.segment.specs.Standing.{posted, places_of, with_places};
+ghost use Rattle.segment.specs.declared.place.RowPlace.{RowPlace};
+ghost use Rattle.segment.specs.Standing.{row_place, places_of, with_places};
 ghost use Rattle.store_image.specs.Stands.{HoldsAll};
 ghost use Rattle.store_image.specs.Says.{IsSegmentOf, bytes_listed, pieces_of};
-ghost use Rattle.store_image.specs.Reading.{Sees, AreReadTo, BeginsWith, IsNotNext, AreNumbered, IsAt, IsNotReadAt, AreRead, AreNotRead};
-ghost use Rattle.store_image.specs.Answers.{CountsFault};
-ghost use Rattle.store_image.specs.declared.fault.ImageFault.TheVariants as faults;
+ghost use Rattle.store_image.specs.Reading.{CountsFault, Sees, AreReadTo, BeginsWith, IsNotNext, AreNumbered, IsAt, IsNotReadAt, AreRead};
+ghost use Rattle.store_image.specs.Damage.{AreNotRead};
+ghost use Rattle.store_image.specs.Answers.{CountsLoading};
 
 use crate::apart::{are_apart, is_below};
-use crate::fault::ImageFault;
+use crate::fault::{Damage, LoadFault, RowsFault};
 use crate::sink::RowSink;
 use crate::window::Window;
 use blocks::BLOCK;
 use directory::Entry;
 use disk_model::Disk;
-use history_model::{Shown, StampedRow};
-use segment::Posted;
+use history_model::{GhostRows, StampedRow};
+use segment::RowPlace;
 use std::alloc::{AllocError, Global};
 
 /// Rows that were read: their places, and the rows, which clauses alone see.
 #[derive(Drop)]
 pub(crate) struct Rows {
-    pub(crate) places: Vec<Posted>,
-    pub(crate) shown: Shown,
+    pub(crate) places: Vec<RowPlace>,
+    pub(crate) shown: GhostRows,
 }
 
 impl Rows {
@@ -41,10 +41,10 @@ impl Rows {
     fn push(&mut self, row: &StampedRow, at: u32) -> Result<(), AllocError>
         ensures shown { OnOk result (self.new.shown ≡ self.old.shown ++ row.now ∷ []) }
         ensures places { OnOk result
-            (self.new.places.items ≡ self.old.places.items ++ posted row.now at ∷ []) }
+            (self.new.places.items ≡ self.old.places.items ++ row_place row.now at ∷ []) }
     {
         self.shown.push(row)?;
-        match self.places.push(Posted::new(row, at)) {
+        match self.places.push(RowPlace::new(row, at)) {
             Ok(()) => Ok(()),
             Err(_) => Err(AllocError),
         }
@@ -54,8 +54,8 @@ impl Rows {
 /// The same of several segments.
 #[derive(Drop)]
 pub(crate) struct Segments {
-    pub(crate) places: Vec<Vec<Posted>>,
-    pub(crate) shown: Vec<Shown>,
+    pub(crate) places: Vec<Vec<RowPlace>>,
+    pub(crate) shown: Vec<GhostRows>,
 }
 
 /// The fewest bytes that a record has.
@@ -68,7 +68,7 @@ pub(crate) fn read_segments<D: Disk, S: RowSink>(
     entries: &[Entry],
     imports: u32,
     sink: &mut S,
-) -> Result<Segments, ImageFault>
+) -> Result<Segments, LoadFault>
     requires { AllByRecursion IsEntry entries.now }
     ensures read { IfOk result (λ read. AreRead imports entries.now read.shown.items) }
     ensures places { IfOk result
@@ -76,13 +76,12 @@ pub(crate) fn read_segments<D: Disk, S: RowSink>(
     ensures exact { D.is_honest disk.old → MatchResult result
         (λ read. HoldsAll (pieces_of entries.now read.shown.items) (D.moments disk.old).state.now)
         (λ e. AreNotRead e imports entries.now (D.moments disk.old).state.now) }
-    ensures taken { (segments : List (List (StampedRow × Posted)))
+    ensures taken { (segments : List (List (StampedRow × RowPlace)))
         → S.has_taken sink.old segments [] → IfOk result
         (λ read. S.has_taken sink.new (segments ++ map (with_places 0) read.shown.items) []) }
     ensures moments { D.is_honest disk.old → D.moments disk.new ≡ D.moments disk.old }
-    ensures causes { IfErr result (λ e. e ≢ faults.NotEmpty) }
     ensures honesty { D.is_honest disk.old ↔ D.is_honest disk.new }
-    ensures failures { CountsFault result (D.failures disk.old) (D.failures disk.new) }
+    ensures failures { CountsLoading result (D.failures disk.old) (D.failures disk.new) }
     // Whatever it answers.
     ensures bytes_read { D.bytes_read disk.new ≤ D.bytes_read disk.old + bytes_listed entries.now }
 {
@@ -90,12 +89,16 @@ pub(crate) fn read_segments<D: Disk, S: RowSink>(
     let mut places = Vec::with_capacity(alloc, entries.len())?;
     let mut shown = Vec::with_capacity(alloc, entries.len())?;
     for entry in entries {
-        let rows = read_segment(alloc, disk, &mut window, *entry, imports, sink)?;
+        let number = places.len() + 1;
+        let rows = match read_segment(alloc, disk, &mut window, *entry, imports, sink) {
+            Ok(rows) => rows,
+            Err(fault) => return Err(fault.in_segment(number)),
+        };
         places.push(rows.places)?;
         shown.push(rows.shown)?;
     }
     if !are_apart(alloc, places.as_slice())? {
-        return Err(ImageFault::Damaged);
+        return Err(LoadFault::Damaged(Damage::SharedKey));
     }
     Ok(Segments { places, shown })
 }
@@ -108,7 +111,7 @@ fn read_segment<D: Disk, S: RowSink>(
     entry: Entry,
     imports: u32,
     sink: &mut S,
-) -> Result<Rows, ImageFault>
+) -> Result<Rows, RowsFault>
     requires { IsEntry entry }
     ensures found { IfOk result (λ rows. IsSegmentOf entry rows.shown) }
     ensures numbered { IfOk result (λ rows. AreNumbered imports rows.shown) }
@@ -116,11 +119,10 @@ fn read_segment<D: Disk, S: RowSink>(
     ensures exact { D.is_honest disk.old → MatchResult result
         (λ rows. IsAt (D.moments disk.old).state.now entry rows.shown)
         (λ e. IsNotReadAt e imports entry (D.moments disk.old).state.now) }
-    ensures taken { (segments : List (List (StampedRow × Posted)))
+    ensures taken { (segments : List (List (StampedRow × RowPlace)))
         → S.has_taken sink.old segments [] → IfOk result
         (λ rows. S.has_taken sink.new (segments ++ with_places 0 rows.shown ∷ []) []) }
     ensures moments { D.is_honest disk.old → D.moments disk.new ≡ D.moments disk.old }
-    ensures causes { IfErr result (λ e. e ≢ faults.NotEmpty) }
     ensures honesty { D.is_honest disk.old ↔ D.is_honest disk.new }
     ensures failures { CountsFault result (D.failures disk.old) (D.failures disk.new) }
     ensures bytes_read { D.bytes_read disk.new ≤ D.bytes_read disk.old + entry.bytes }
@@ -134,21 +136,20 @@ fn read_segment<D: Disk, S: RowSink>(
 
 /// Whether the disk reaches as far as an entry says, and as many rows may have as many bytes.
 /// So memory is taken for no more places than the disk has records.
-fn check_room<D: Disk>(disk: &mut D, entry: Entry) -> Result<(), ImageFault>
+fn check_room<D: Disk>(disk: &mut D, entry: Entry) -> Result<(), RowsFault>
     ensures exact { D.is_honest disk.old → (imports : ℕ) → MatchResult result (λ _. Unit {0})
         (λ e. IsNotReadAt e imports entry (D.moments disk.old).state.now) }
     ensures moments { D.is_honest disk.old → D.moments disk.new ≡ D.moments disk.old }
-    ensures causes { IfErr result (λ e. e ≢ faults.NotEmpty) }
     ensures honesty { D.is_honest disk.old ↔ D.is_honest disk.new }
     ensures failures { CountsFault result (D.failures disk.old) (D.failures disk.new) }
     ensures bytes_read { D.bytes_read disk.new ≡ D.bytes_read disk.old }
 {
     let end = BLOCK * u64::from(entry.first) + u64::from(entry.bytes);
     if end > disk.len()? {
-        return Err(ImageFault::Damaged);
+        return Err(RowsFault::Damaged);
     }
     if RECORD_MIN * u64::from(entry.rows) > u64::from(entry.bytes) {
-        return Err(ImageFault::Damaged);
+        return Err(RowsFault::Damaged);
     }
     Ok(())
 }
@@ -161,7 +162,7 @@ fn read_rows<D: Disk, S: RowSink>(
     entry: Entry,
     imports: u32,
     sink: &mut S,
-) -> Result<Rows, ImageFault>
+) -> Result<Rows, RowsFault>
     requires extent { window.old.extent ≡ extent_of entry }
     requires from { window.old.from ≡ 0 }
     requires sees { (file : List ℕ) → Sees window.old file }
@@ -172,25 +173,24 @@ fn read_rows<D: Disk, S: RowSink>(
     ensures exact { D.is_honest disk.old → MatchResult result
         (λ rows. BeginsWith rows.shown (bytes_of (extent_of entry) (D.moments disk.old).state.now))
         (λ e. IsNotReadAt e imports entry (D.moments disk.old).state.now) }
-    ensures taken { (segments : List (List (StampedRow × Posted)))
+    ensures taken { (segments : List (List (StampedRow × RowPlace)))
         → S.has_taken sink.old segments [] → IfOk result
         (λ rows. S.has_taken sink.new segments (with_places 0 rows.shown)) }
     ensures moments { D.is_honest disk.old → D.moments disk.new ≡ D.moments disk.old }
-    ensures causes { IfErr result (λ e. e ≢ faults.NotEmpty) }
     ensures honesty { D.is_honest disk.old ↔ D.is_honest disk.new }
     ensures failures { CountsFault result (D.failures disk.old) (D.failures disk.new) }
     ensures bytes_read { D.bytes_read disk.new ≤ D.bytes_read disk.old + entry.bytes }
 {
     let mut rows = Rows {
         places: Vec::with_capacity(alloc, entry.rows as usize)?,
-        shown: Shown::new(alloc),
+        shown: GhostRows::new(alloc),
     };
     let mut at = 0;
     'rows: for _count in 0..entry.rows {
         at = read_row(alloc, disk, window, at, imports, &mut rows, sink)?;
     }
     if at != entry.bytes {
-        return Err(ImageFault::Damaged);
+        return Err(RowsFault::Damaged);
     }
     Ok(rows)
 }
@@ -205,7 +205,7 @@ fn read_row<D: Disk, S: RowSink>(
     imports: u32,
     rows: &mut Rows,
     sink: &mut S,
-) -> Result<u32, ImageFault>
+) -> Result<u32, RowsFault>
     requires from { window.old.from ≤ at }
     requires reached { at ≤ window.old.from + window.old.len }
     requires rows { AreReadTo at imports rows.old.places.items rows.old.shown }
@@ -225,11 +225,10 @@ fn read_row<D: Disk, S: RowSink>(
         (bytes_of window.old.extent (D.moments disk.old).state.now)) }
     ensures sees { D.is_honest disk.old → Sees window.old (D.moments disk.old).state.now
         → IfOk result (λ next. Sees window.new (D.moments disk.old).state.now) }
-    ensures taken { (segments : List (List (StampedRow × Posted)))
+    ensures taken { (segments : List (List (StampedRow × RowPlace)))
         → S.has_taken sink.old segments (with_places 0 rows.old.shown) → IfOk result
         (λ next. S.has_taken sink.new segments (with_places 0 rows.new.shown)) }
     ensures moments { D.is_honest disk.old → D.moments disk.new ≡ D.moments disk.old }
-    ensures causes { IfErr result (λ e. e ≢ faults.NotEmpty) }
     ensures honesty { D.is_honest disk.old ↔ D.is_honest disk.new }
     ensures failures { CountsFault result (D.failures disk.old) (D.failures disk.new) }
     ensures bytes_read { D.bytes_read disk.new + window.old.asked
@@ -237,18 +236,18 @@ fn read_row<D: Disk, S: RowSink>(
 {
     let (row, next) = window.row_at(alloc, disk, at)?;
     if row.import > imports {
-        return Err(ImageFault::Damaged);
+        return Err(RowsFault::Damaged);
     }
     if !comes_after(rows.places.as_slice(), &row) {
-        return Err(ImageFault::Damaged);
+        return Err(RowsFault::Damaged);
     }
     rows.push(&row, at)?;
-    sink.take(&row, Posted::new(&row, at))?;
+    sink.take(&row, RowPlace::new(&row, at))?;
     Ok(next)
 }
 
 /// Whether the row's key is above those of rows in key order, which stand at these places.
-fn comes_after(places: &[Posted], row: &StampedRow) -> bool
+fn comes_after(places: &[RowPlace], row: &StampedRow) -> bool
     ensures { (rows : List StampedRow) → places.now ≡ places_of rows
         → IsAscending stamped_cmp rows
         → (IsTrue result ↔ IsAscending stamped_cmp (rows ++ row.now ∷ [])) }

@@ -2,28 +2,28 @@
 
 ghost use Rattle.std.specs.Prelude.{List, [], ◌∷◌, ◌++◌, OnOk};
 ghost use Rattle.history_model.specs.declared.stamped.StampedRow.{StampedRow};
-ghost use Rattle.segment.specs.declared.place.Posted.{Posted};
+ghost use Rattle.segment.specs.declared.place.RowPlace.{RowPlace};
 
 use history_model::StampedRow;
-use segment::Posted;
+use segment::RowPlace;
 use std::alloc::AllocError;
 
 /// Takes the rows of a store, segment by segment in the directory's order, as they are read.
 pub trait RowSink {
     /// It took the rows of these segments, each with its
     /// place, and of the segment that is being read these.
-    ghost has_taken: { Self → List (List (StampedRow × Posted)) → List (StampedRow × Posted)
+    ghost has_taken: { Self → List (List (StampedRow × RowPlace)) → List (StampedRow × RowPlace)
         → Type 0 };
 
     /// Takes the next row of the segment.
-    fn take(&mut self, row: &StampedRow, at: Posted) -> Result<(), AllocError>
-        ensures { OnOk result ((segments : List (List (StampedRow × Posted)))
-            (rows : List (StampedRow × Posted)) → has_taken self.old segments rows
+    fn take(&mut self, row: &StampedRow, at: RowPlace) -> Result<(), AllocError>
+        ensures { OnOk result ((segments : List (List (StampedRow × RowPlace)))
+            (rows : List (StampedRow × RowPlace)) → has_taken self.old segments rows
             → has_taken self.new segments (rows ++ (row.now, at) ∷ [])) };
 
     /// The segment has no more rows.
     fn end_segment(&mut self) -> Result<(), AllocError>
-        ensures { OnOk result ((segments : List (List (StampedRow × Posted)))
-            (rows : List (StampedRow × Posted)) → has_taken self.old segments rows
+        ensures { OnOk result ((segments : List (List (StampedRow × RowPlace)))
+            (rows : List (StampedRow × RowPlace)) → has_taken self.old segments rows
             → has_taken self.new (segments ++ rows ∷ []) []) };
 }

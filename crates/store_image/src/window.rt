@@ -1,8 +1,8 @@
 //! A segment's bytes, read through a buffer of fixed size.
 
-ghost use Rattle.std.specs.Prelude.{◌≡◌, ◌≢◌, ◌↔◌, ℕ, ◌+◌, ◌-◌, ◌^◌, ◌<◌, ◌≤◌, List, length, drop, vec_len, IfOk, IfErr, OnOk, MatchResult};
+ghost use Rattle.std.specs.Prelude.{◌≡◌, ◌↔◌, ℕ, ◌+◌, ◌-◌, ◌^◌, ◌<◌, ◌≤◌, List, length, drop, vec_len, IfOk, IfErr, OnOk, MatchResult};
 
-use crate::fault::ImageFault;
+use crate::fault::RowsFault;
 use blocks::{BLOCK, Extent};
 use disk_model::{Disk, DiskFault};
 use segment::{SegmentFault, StampedRow, record_at};
@@ -32,9 +32,7 @@ impl Window {
     ghost use Rattle.fault_counts.specs.Counting.{CountsEach};
     ghost use Rattle.blocks.specs.Extents.{bytes_of};
     ghost use Rattle.segment.specs.Records.{record_of, IsStamped};
-    ghost use Rattle.store_image.specs.Answers.{CountsFault};
-    ghost use Rattle.store_image.specs.declared.fault.ImageFault.TheVariants as faults;
-    ghost use Rattle.store_image.specs.Reading.{bytes_in, HasRecord, HasNoRecord, IsNoRecord, Sees, IsFull};
+    ghost use Rattle.store_image.specs.Reading.{CountsFault, bytes_in, HasRecord, HasNoRecord, IsNoRecord, Sees, IsFull};
 
     /// A window on a segment of no bytes.
     pub(crate) fn new(alloc: Global) -> Result<Window, AllocError> {
@@ -129,7 +127,7 @@ impl Window {
         alloc: Global,
         disk: &mut D,
         at: u32,
-    ) -> Result<(StampedRow, u32), ImageFault>
+    ) -> Result<(StampedRow, u32), RowsFault>
         requires from { self.old.from ≤ at }
         requires reached { at ≤ self.old.from + self.old.len }
         ensures extent { self.new.extent ≡ self.old.extent }
@@ -146,7 +144,6 @@ impl Window {
         ensures sees { D.is_honest disk.old → Sees self.old (D.moments disk.old).state.now
             → IfOk result (λ _. Sees self.new (D.moments disk.old).state.now) }
         ensures moments { D.is_honest disk.old → D.moments disk.new ≡ D.moments disk.old }
-        ensures causes { IfErr result (λ e. e ≢ faults.NotEmpty) }
         ensures honesty { D.is_honest disk.old ↔ D.is_honest disk.new }
         ensures failures { CountsFault result (D.failures disk.old) (D.failures disk.new) }
         // Whatever it answers.
@@ -155,7 +152,7 @@ impl Window {
     {
         match self.row_in(alloc, at) {
             Ok((row, next)) => Ok((row, next)),
-            Err(SegmentFault::OutOfMemory) => Err(ImageFault::OutOfMemory),
+            Err(SegmentFault::OutOfMemory) => Err(RowsFault::OutOfMemory),
             Err(SegmentFault::BadSegment) => {
                 self.forget_before(at);
                 self.fill(disk)?;

@@ -1,8 +1,8 @@
 -- The first by id that are kept.
 use Rattle.std.proofs.Common.{◌≡◌, ℕ, zero, suc, ◌+◌, ◌<◌, ◌≤◌, Bool, true, false, List, [], ◌∷◌, ◌++◌, length, get_or, take, map, refl, sym, ap, subst, inl, inr, ◌∙◌, arith, append_assoc}
-use Rattle.std.specs.Prelude.{◌==◌, ◌-◌, nat_lt, nat_le, Some, Ok, Err, slice_get}
+use Rattle.std.specs.Prelude.{◌==◌, ◌-◌, nat_lt, nat_le, Option, Some, Ok, Err, slice_get}
 use Rattle.std.specs.Ordering.{nat_cmp}
-use Rattle.std.specs.Cmp.{IsTotalOrder, nat_cmp_total, ranked, on_total, tied_itself}
+use Rattle.std.specs.Cmp.{nat_cmp_total, ranked, tied_itself}
 use Rattle.std.specs.declared.cmp.Ordering.{Ordering}
 use Rattle.std.specs.declared.cmp.Ordering.TheVariants.{Less, Equal, Greater}
 use Rattle.std.proofs.lemmas.Bool.Decides.{nat_tests}
@@ -13,17 +13,13 @@ use Rattle.history_model.specs.Searches.{IsPlace}
 use Rattle.history_model.proofs.InOrder.{Has-all, all_from_has, Has-append_left, Has-append_right, Has-append_cases, Has-put_cases, Has-put_old, Has-put_new, IsAscending-put}
 use Rattle.as_of_index.specs.declared.chosen.Chosen.{Chosen}
 use Rattle.as_of_index.specs.Chosen.{chosen_cmp}
-use Rattle.as_of_index.specs.Current.{IsCurrentAt}
-use Rattle.term_prefix.specs.Keeping.{IsTaken, AreKept, SaysTaken, SaysWanted}
+use Rattle.term_prefix.specs.Keeping.{IsTaken, Counts, AreKept, SaysTaken, SaysWanted}
 use Rattle.as_of_index.proofs.Ordered.{IsAscending-take}
 use Rattle.as_of_index.specs.Search.{SplitsAt}
 use Rattle.as_of_index.proofs.Paging.{less_from}
 use Rattle.as_of_index.proofs.First.{Has-take, taken_or_above, length-put, put_there, put_new}
 use Rattle.as_of_index.proofs.First.{Falls}
-use Rattle.as_of_index.proofs.Current.{map-push}
-
-pub chosen_total : IsTotalOrder chosen_cmp
-chosen_total = on_total (λ (k : Chosen). k.at.key.id) nat_cmp_total
+use Rattle.as_of_index.proofs.Current.{chosen_total, map-push}
 
 few : {X : Type 0} (n : ℕ) (xs : List X) → length (take n xs) ≤ n
 few zero xs = omega arith
@@ -40,8 +36,8 @@ taken_id limit ys j id up h e = elim (taken_or_above chosen_total limit ys j up 
   | inr r ↦ inr (r.0, λ i k. subst (λ n. i.at.key.id < n) e (lower i j (r.1 i k)))
 ]
 
-module _ (lists : List (List StampedRow)) (date pin limit : ℕ) where
-  pub kept_more : (seen kept : List Chosen) (k : Chosen) → AreKept lists date pin limit seen kept → SaysWanted lists date pin limit kept k true → AreKept lists date pin limit (seen ++ k ∷ []) (take limit (put chosen_cmp k kept))
+module _ (lists : List (List StampedRow)) (date : ℕ) (after : Option ℕ) (limit pin : ℕ) where
+  pub kept_more : (seen kept : List Chosen) (k : Chosen) → AreKept lists date after limit pin seen kept → SaysWanted lists date after limit pin kept k true → AreKept lists date after limit pin (seen ++ k ∷ []) (take limit (put chosen_cmp k kept))
   kept_more seen kept k a w =
       let up = IsAscending-put chosen_total k kept a.ascending in
       record {
@@ -64,7 +60,7 @@ module _ (lists : List (List StampedRow)) (date pin limit : ℕ) where
           ]
         ];
         only = λ m h. elim (Has-put_cases chosen_cmp k kept m (Has-take limit (put chosen_cmp k kept) m h)) [
-          | inl e ↦ subst (λ (x : Chosen). Has (seen ++ k ∷ []) x × IsCurrentAt lists date pin x.segment x.at) e (Has-append_right seen (k ∷ []) k (inl refl), w.0)
+          | inl e ↦ subst (λ (x : Chosen). Has (seen ++ k ∷ []) x × Counts lists date after pin x) e (Has-append_right seen (k ∷ []) k (inl refl), w.0)
           | inr old ↦ (let o = a.only m old in (Has-append_left seen (k ∷ []) m o.0, o.1))
         ];
       } where
@@ -77,7 +73,7 @@ module _ (lists : List (List StampedRow)) (date pin limit : ℕ) where
           | inr y ↦ taken_id limit (put chosen_cmp k kept) y.0 k.at.key.id up (Has-put_old chosen_cmp k kept y.0 y.1) (sym (ranked k.at.key.id y.0.at.key.id Equal (sym y.2)))
         ]
 
-  pub kept_other : (seen kept : List Chosen) (k : Chosen) → AreKept lists date pin limit seen kept → SaysWanted lists date pin limit kept k false → AreKept lists date pin limit (seen ++ k ∷ []) kept
+  pub kept_other : (seen kept : List Chosen) (k : Chosen) → AreKept lists date after limit pin seen kept → SaysWanted lists date after limit pin kept k false → AreKept lists date after limit pin (seen ++ k ∷ []) kept
   kept_other seen kept k a w = record {
     ascending = a.ascending;
     few = a.few;
@@ -86,7 +82,7 @@ module _ (lists : List (List StampedRow)) (date pin limit : ℕ) where
       | inr r ↦ elim r [
         | inl e ↦ elim w [
           | inl t ↦ subst (λ (x : Chosen). IsTaken limit kept x.at.key.id) e t
-          | inr no_more ↦ absurd (no_more (subst (λ (x : Chosen). IsCurrentAt lists date pin x.segment x.at) (sym e) now))
+          | inr no_more ↦ absurd (no_more (subst (λ (x : Chosen). Counts lists date after pin x) (sym e) now))
         ]
         | inr f ↦ absurd f
       ]
@@ -94,7 +90,7 @@ module _ (lists : List (List StampedRow)) (date pin limit : ℕ) where
     only = λ m h. let o = a.only m h in (Has-append_left seen (k ∷ []) m o.0, o.1);
   }
 
-  pub kept_same : (seen others kept : List Chosen) → ((k : Chosen) → Has seen k → Has others k) → ((k : Chosen) → Has others k → Has seen k) → AreKept lists date pin limit seen kept → AreKept lists date pin limit others kept
+  pub kept_same : (seen others kept : List Chosen) → ((k : Chosen) → Has seen k → Has others k) → ((k : Chosen) → Has others k → Has seen k) → AreKept lists date after limit pin seen kept → AreKept lists date after limit pin others kept
   kept_same seen others kept f g a = record {
     ascending = a.ascending;
     few = a.few;

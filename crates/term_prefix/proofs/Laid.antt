@@ -16,14 +16,14 @@ use Rattle.std.specs.declared.cmp.Ordering.{Ordering}
 use denote.Ref.{Bor}
 use denote.Param.Members.{Mut}
 use Rattle.as_of_index.proofs.Current.{map-push}
-use Rattle.segment.specs.declared.place.Posted.{Posted}
+use Rattle.segment.specs.declared.place.RowPlace.{RowPlace}
 use Rattle.term_prefix.specs.declared.text.Term.{Term}
 use Rattle.term_prefix.specs.Terms.{TermAt, TextsRise}
 use Rattle.term_prefix.specs.Pushed.{posted_term, term_of_body}
 use Rattle.term_prefix.specs.Laid.{term_at, terms_at, AreLaid, AddsTerm, IsCut}
 use Rattle.rf2_values.specs.declared.row.Body.TheVariants as body
 use Rattle.rf2_values.specs.declared.row.Description.{Description}
-use Rattle.rf2_values.specs.Row.{Version}
+use Rattle.rf2_values.specs.Row.{RowValue}
 use Rattle.history_model.specs.Queries.{folded as folding}
 
 -- ---- one after the other
@@ -36,7 +36,7 @@ laid-each : (from : ℕ) (ts : List Term) (end : ℕ) → AreLaid from ts end �
 laid-each from [] end a = tt
 laid-each from (t ∷ ts) end a = (let le = laid_end (from + t.len) ts end a.1 in let e = a.0 in omega arith, laid-each (from + t.len) ts end a.1)
 
-laid-push : (from : ℕ) (ts : List Term) (end n : ℕ) (at : Posted) → AreLaid from ts end → AreLaid from (ts ++ record { at = at; start = end; len = n } ∷ []) (end + n)
+laid-push : (from : ℕ) (ts : List Term) (end n : ℕ) (at : RowPlace) → AreLaid from ts end → AreLaid from (ts ++ record { at = at; start = end; len = n } ∷ []) (end + n)
 laid-push from [] end n at a = (sym a, ap (λ m. m + n) a)
 laid-push from (t ∷ ts) end n at a = (a.0, laid-push (from + t.len) ts end n at a.1)
 
@@ -59,7 +59,7 @@ terms-append text more (t ∷ ts) a =
     let rest = terms-append text more ts a.1 in
     λ i. one i ∷ rest i
 
-pub added : (text : List ℕ) (ts : List Term) (folded : List ℕ) (at : Posted) (text' : List ℕ) (ts' : List Term) → AreLaid 0 ts (length text) → AddsTerm text ts folded at text' ts'
+pub added : (text : List ℕ) (ts : List Term) (folded : List ℕ) (at : RowPlace) (text' : List ℕ) (ts' : List Term) → AreLaid 0 ts (length text) → AddsTerm text ts folded at text' ts'
     → AreLaid 0 ts' (length text') × (terms_at text' ts' ≡ terms_at text ts ++ record { folded = folded; at = at } ∷ [])
 added text ts folded at text' ts' a w =
     let t : Term = record { at = at; start = length text; len = length folded } in
@@ -109,15 +109,15 @@ module _ (text : List ℕ) where
 
 -- ---- a row that is pushed
 
-pub laid_after : {A B : Type 0} (r : Result A B) (text : List ℕ) (ts : List Term) (folded : List ℕ) (at : Posted) (text' : List ℕ) (ts' : List Term) → OnOk r (AddsTerm text ts folded at text' ts') → OnErr r ((text' ≡ text) × (ts' ≡ ts)) → AreLaid 0 ts (length text) → AreLaid 0 ts' (length text')
+pub laid_after : {A B : Type 0} (r : Result A B) (text : List ℕ) (ts : List Term) (folded : List ℕ) (at : RowPlace) (text' : List ℕ) (ts' : List Term) → OnOk r (AddsTerm text ts folded at text' ts') → OnErr r ((text' ≡ text) × (ts' ≡ ts)) → AreLaid 0 ts (length text) → AreLaid 0 ts' (length text')
 laid_after (Ok x) text ts folded at text' ts' ok err a = (added text ts folded at text' ts' a ok).0
 laid_after (Err e) text ts folded at text' ts' ok err a = subst (λ x. AreLaid 0 x (length text')) (sym err.1) (subst (λ x. AreLaid 0 ts (length x)) (sym err.0) a)
 
-pub pushed_after : {A B : Type 0} (r : Result A B) (text : List ℕ) (ts : List Term) (folded : List ℕ) (at : Posted) (text' : List ℕ) (ts' : List Term) (old posted : List TermAt) → OnOk r (AddsTerm text ts folded at text' ts') → AreLaid 0 ts (length text) → terms_at text ts ≡ old → posted ≡ record { folded = folded; at = at } ∷ [] → OnOk r (terms_at text' ts' ≡ old ++ posted)
+pub pushed_after : {A B : Type 0} (r : Result A B) (text : List ℕ) (ts : List Term) (folded : List ℕ) (at : RowPlace) (text' : List ℕ) (ts' : List Term) (old posted : List TermAt) → OnOk r (AddsTerm text ts folded at text' ts') → AreLaid 0 ts (length text) → terms_at text ts ≡ old → posted ≡ record { folded = folded; at = at } ∷ [] → OnOk r (terms_at text' ts' ≡ old ++ posted)
 pushed_after (Ok x) text ts folded at text' ts' old posted ok a view_is is = (added text ts folded at text' ts' a ok).1 ∙ (λ i. view_is i ++ sym is i)
 pushed_after (Err e) text ts folded at text' ts' old posted ok a view_is is = tt
 
-pub posted_is : (row : Version) (d : Description) (at : Posted) (text : List ℕ) → row.active ≡ true → row.body ≡ body.Description d → text ≡ folding d.term → posted_term row at ≡ record { folded = text; at = at } ∷ []
+pub posted_is : (row : RowValue) (d : Description) (at : RowPlace) (text : List ℕ) → row.active ≡ true → row.body ≡ body.Description d → text ≡ folding d.term → posted_term row at ≡ record { folded = text; at = at } ∷ []
 posted_is row d at text active is e =
     ap (λ b. if b then term_of_body row.body at else []) active
     ∙ ap (λ b. term_of_body b at) is

@@ -13,7 +13,7 @@ use Rattle.std.proofs.lemmas.List.Sorted.{ranks_by}
 use Rattle.history_model.specs.InOrder.{Has}
 use Rattle.history_model.proofs.InOrder.{Has-all, Has-append_left, Has-append_right, Has-append_cases}
 use Rattle.history_model.proofs.Filtered.{both, Has-map, Has-map_from, Has-filter, Has-filter_from}
-use Rattle.segment.specs.declared.place.Posted.{Posted}
+use Rattle.segment.specs.declared.place.RowPlace.{RowPlace}
 use Rattle.term_prefix.specs.declared.text.Term.{Term}
 use Rattle.as_of_index.specs.Search.{SplitsAt}
 use Rattle.term_prefix.specs.Terms.{TermAt, TextsRise}
@@ -112,7 +112,7 @@ module _ (text prefix : List ℕ) where
     ]
 
   -- the places of those that are found
-  pub places_from : (ts those : List Term) → ((t : Term) → (Has those t → Has ts t × (begins_so t ≡ true)) × (Has ts t × (begins_so t ≡ true) → Has those t)) → (p : Posted)
+  pub places_from : (ts those : List Term) → ((t : Term) → (Has those t → Has ts t × (begins_so t ≡ true)) × (Has ts t × (begins_so t ≡ true) → Has those t)) → (p : RowPlace)
       → (Has (map (λ (t : Term). t.at) those) p → Has (map (λ (t : TermAt). t.at) (filter (begins prefix) (terms_at text ts))) p)
       × (Has (map (λ (t : TermAt). t.at) (filter (begins prefix) (terms_at text ts))) p → Has (map (λ (t : Term). t.at) those) p)
   places_from ts those which p = (

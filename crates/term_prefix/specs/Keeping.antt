@@ -1,8 +1,9 @@
 -- The first places by id that are kept while postings are gone through: words of private functions.
-use Rattle.std.specs.Prelude.{◌≡◌, ◌⊎◌, ◌≤◌, ◌<◌, ℕ, Bool, true, false, List, length, map, nat_eq}
+use Rattle.std.specs.Prelude.{◌≡◌, ◌⊎◌, ◌≤◌, ◌<◌, ℕ, Bool, true, false, List, length, map, nat_eq, Option}
 use Rattle.std.specs.List.{filter, starts_with}
 use Rattle.history_model.specs.declared.stamped.StampedRow.{StampedRow}
 use Rattle.history_model.specs.InOrder.{Has, IsAscending}
+use Rattle.history_model.specs.Queries.{is_above}
 use Rattle.as_of_index.specs.declared.chosen.Chosen.{Chosen}
 use Rattle.as_of_index.specs.Chosen.{chosen, chosen_cmp}
 use Rattle.as_of_index.specs.Current.{IsCurrentAt}
@@ -30,18 +31,25 @@ abbrev pub SaysTaken : ℕ → List Chosen → ℕ → Bool → Type 0
 SaysTaken limit kept id true = IsTaken limit kept id
 SaysTaken limit kept id false = limit ≤ length kept → (j : Chosen) × Has kept j × (id < j.at.key.id)
 
--- and of a place: it is current, and there is room for it
-abbrev pub SaysWanted : List (List StampedRow) → ℕ → ℕ → ℕ → List Chosen → Chosen → Bool → Type 0
-SaysWanted lists date pin limit kept k true =
-    IsCurrentAt lists date pin k.segment k.at × SaysTaken limit kept k.at.key.id false
-SaysWanted lists date pin limit kept k false =
-    IsTaken limit kept k.at.key.id ⊎ (IsCurrentAt lists date pin k.segment k.at → ⊥)
+-- the id is above, if one is given, and the place is current
+pub record Counts (lists : List (List StampedRow)) (date : ℕ) (after : Option ℕ) (pin : ℕ)
+    (k : Chosen) : Type 0 where
+  pub above : is_above after k.at.key.id ≡ true
+  pub current : IsCurrentAt lists date pin k.segment k.at
 
--- of those that are current, the first by id, as many as may be
-pub record AreKept (lists : List (List StampedRow)) (date pin limit : ℕ) (seen kept : List Chosen)
-    : Type 0 where
+-- and of a place: it counts, and there is room for it
+abbrev pub SaysWanted : List (List StampedRow) → ℕ → Option ℕ → ℕ → ℕ → List Chosen → Chosen → Bool
+    → Type 0
+SaysWanted lists date after limit pin kept k true =
+    Counts lists date after pin k × SaysTaken limit kept k.at.key.id false
+SaysWanted lists date after limit pin kept k false =
+    IsTaken limit kept k.at.key.id ⊎ (Counts lists date after pin k → ⊥)
+
+-- of those that count, the first by id, as many as may be
+pub record AreKept (lists : List (List StampedRow)) (date : ℕ) (after : Option ℕ) (limit pin : ℕ)
+    (seen kept : List Chosen) : Type 0 where
   pub ascending : IsAscending chosen_cmp kept
   pub few : length kept ≤ limit
-  pub all : (k : Chosen) → Has seen k → IsCurrentAt lists date pin k.segment k.at
+  pub all : (k : Chosen) → Has seen k → Counts lists date after pin k
       → IsTaken limit kept k.at.key.id
-  pub only : (k : Chosen) → Has kept k → Has seen k × IsCurrentAt lists date pin k.segment k.at
+  pub only : (k : Chosen) → Has kept k → Has seen k × Counts lists date after pin k

@@ -1,7 +1,7 @@
 -- How the folded terms of a list stand in one text: words of the types' own invariants, and of
 -- private functions.
 use Rattle.std.specs.Prelude.{◌≡◌, ℕ, ◌+◌, List, [], ◌∷◌, ◌++◌, length, map, take, drop}
-use Rattle.segment.specs.declared.place.Posted.{Posted}
+use Rattle.segment.specs.declared.place.RowPlace.{RowPlace}
 use Rattle.term_prefix.specs.declared.text.Term.{Term}
 use Rattle.term_prefix.specs.Terms.{TermAt}
 
@@ -18,7 +18,7 @@ AreLaid from [] end = from ≡ end
 AreLaid from (t ∷ ts) end = (t.start ≡ from) × AreLaid (from + t.len) ts end
 
 -- a term was added, its folding at the end of the text
-pub record AddsTerm (text : List ℕ) (ts : List Term) (folded : List ℕ) (at : Posted)
+pub record AddsTerm (text : List ℕ) (ts : List Term) (folded : List ℕ) (at : RowPlace)
     (text' : List ℕ) (ts' : List Term) : Type 0 where
   pub texts : text' ≡ text ++ folded
   pub terms : ts' ≡ ts ++ record { at = at; start = length text; len = length folded } ∷ []

@@ -1,19 +1,19 @@
 -- What is posted of rows, and lists of it that stay such.
-use Rattle.std.specs.Prelude.{◌≡◌, ℕ, List, [], ◌∷◌, ◌++◌, remove, slice_set, if◌then◌else◌}
+use Rattle.std.specs.Prelude.{◌≡◌, ℕ, List, [], ◌∷◌, ◌++◌, remove, slice_set, if◌then◌else◌, Option}
 use Rattle.std.specs.List.Sorted.{IsPermutation}
 use Rattle.rf2_values.specs.declared.row.Body.{Body}
 use Rattle.rf2_values.specs.declared.row.Body.TheVariants as body
-use Rattle.rf2_values.specs.Row.{Version}
+use Rattle.rf2_values.specs.Row.{RowValue}
 use Rattle.history_model.specs.declared.stamped.StampedRow.{StampedRow}
 use Rattle.history_model.specs.History.{rows_at}
 use Rattle.history_model.specs.Lists.{listed}
-use Rattle.history_model.specs.Queries.{folded, terms}
-use Rattle.segment.specs.declared.place.Posted.{Posted}
+use Rattle.history_model.specs.Queries.{folded, search_terms}
+use Rattle.segment.specs.declared.place.RowPlace.{RowPlace}
 use Rattle.segment.specs.Standing.{with_places}
 use Rattle.as_of_index.specs.Postings.{posted_all, AllPosted}
 use Rattle.term_prefix.specs.Terms.{TermAt, PostsTerms, term_keys, terms_among}
 
-abbrev pub term_of_body : Body → Posted → List TermAt
+abbrev pub term_of_body : Body → RowPlace → List TermAt
 term_of_body (body.Concept c) at = []
 term_of_body (body.Description d) at = record { folded = folded d.term; at = at } ∷ []
 term_of_body (body.Relationship r) at = []
@@ -21,7 +21,7 @@ term_of_body (body.Association a) at = []
 term_of_body (body.Concrete c) at = []
 
 -- what is posted of a row: an active description's folded term
-abbrev pub posted_term : Version → Posted → List TermAt
+abbrev pub posted_term : RowValue → RowPlace → List TermAt
 posted_term row at = if row.active then term_of_body row.body at else []
 
 -- the list is what is posted of these rows, each with its own place, in any order
@@ -40,10 +40,10 @@ PostedTermsStand = (lists : List (List StampedRow)) (terms : List (List TermAt))
 -- and nothing is left out
 abbrev pub PostedTermsAreAll : Type 0
 PostedTermsAreAll = (lists : List (List StampedRow)) (posts : List (List TermAt))
-    (prefix : List ℕ) (date pin limit : ℕ)
+    (prefix : List ℕ) (date : ℕ) (after : Option ℕ) (limit pin : ℕ)
     → ArePosted lists posts
-    → terms_among (term_keys posts) prefix date limit (rows_at pin (listed lists))
-    ≡ terms prefix date limit (rows_at pin (listed lists))
+    → terms_among (term_keys posts) prefix date after limit (rows_at pin (listed lists))
+    ≡ search_terms prefix date after limit (rows_at pin (listed lists))
 
 -- they stay such where a list is added
 abbrev pub PostedTermsMore : Type 0

@@ -1,16 +1,16 @@
 -- Postings of descriptions' terms, and the rows that are found by the beginning of one.
-use Rattle.std.specs.Prelude.{◌≡◌, ℕ, true, false, ◌&&◌, List, [], ◌∷◌, map, take}
+use Rattle.std.specs.Prelude.{◌≡◌, ℕ, true, false, ◌&&◌, List, [], ◌∷◌, map, take, Option}
 use Rattle.std.specs.List.{filter, AllByRecursion}
 use Rattle.std.specs.Ordering.{nat_cmp, is_lt}
 use Rattle.std.specs.Cmp.Lexicographic.{slice_cmp}
 use Rattle.rf2_values.specs.declared.row.Body.{Body}
 use Rattle.rf2_values.specs.declared.row.Body.TheVariants as body
 use Rattle.rf2_values.specs.declared.key.Key.{Key}
-use Rattle.rf2_values.specs.Row.{Version}
+use Rattle.rf2_values.specs.Row.{RowValue}
 use Rattle.history_model.specs.declared.stamped.StampedRow.{StampedRow}
 use Rattle.history_model.specs.InOrder.{Has, joined}
-use Rattle.history_model.specs.Queries.{snapshot, is_term, folded, terms}
-use Rattle.segment.specs.declared.place.Posted.{Posted}
+use Rattle.history_model.specs.Queries.{snapshot, folded, is_term_above, search_terms}
+use Rattle.segment.specs.declared.place.RowPlace.{RowPlace}
 use Rattle.segment.specs.Standing.{StandsAt}
 use Rattle.as_of_index.specs.Current.{is_among}
 use Rattle.as_of_index.specs.Postings.{numbered}
@@ -18,7 +18,7 @@ use Rattle.as_of_index.specs.Postings.{numbered}
 -- a folded term and the place of its row
 pub record TermAt : Type 0 where
   pub folded : List ℕ
-  pub at : Posted
+  pub at : RowPlace
 
 -- no text is below one before it
 abbrev pub TextsRise : List TermAt → Type 0
@@ -35,7 +35,7 @@ HasFolded text (body.Association a) = ⊥
 HasFolded text (body.Concrete c) = ⊥
 
 -- what a posting says of the row that stands at its place
-pub record IsTermOf (t : TermAt) (row : Version) : Type 0 where
+pub record IsTermOf (t : TermAt) (row : RowValue) : Type 0 where
   pub active : row.active ≡ true
   pub folded_is : HasFolded t.folded row.body
 
@@ -48,15 +48,17 @@ PostsTerms lists terms = (x : ℕ × TermAt) → Has (numbered 0 terms) x
 abbrev pub term_keys : List (List TermAt) → List Key
 term_keys terms = map (λ t. t.at.key) (joined terms)
 
--- the first so many active descriptions at the date with such a term, drawn from the versions with
--- these keys alone
-unfoldable pub terms_among : List Key → List ℕ → ℕ → ℕ → List Version → List Version
-terms_among keys prefix date limit rows =
-    take limit (filter (λ row. is_term prefix row && is_among keys row) (snapshot rows date))
+-- the first so many active descriptions at the date with such a term and an id above, if one is
+-- given, drawn from the versions with these keys alone
+unfoldable pub terms_among : List Key → List ℕ → ℕ → Option ℕ → ℕ → List RowValue → List RowValue
+terms_among keys prefix date after limit rows =
+    take limit
+    (filter (λ row. is_term_above prefix after row && is_among keys row) (snapshot rows date))
 
 -- where each of them is posted these are the answers
 abbrev pub EachTermIsPosted : Type 0
-EachTermIsPosted = (keys : List Key) (prefix : List ℕ) (date limit : ℕ) (rows : List Version)
-    → ((row : Version) → Has (snapshot rows date) row → is_term prefix row ≡ true
+EachTermIsPosted = (keys : List Key) (prefix : List ℕ) (date : ℕ) (after : Option ℕ) (limit : ℕ)
+    (rows : List RowValue)
+    → ((row : RowValue) → Has (snapshot rows date) row → is_term_above prefix after row ≡ true
     → is_among keys row ≡ true)
-    → terms_among keys prefix date limit rows ≡ terms prefix date limit rows
+    → terms_among keys prefix date after limit rows ≡ search_terms prefix date after limit rows

@@ -11,10 +11,10 @@ mod sealed;
 mod search;
 mod text;
 
-use as_of_index::Beside;
+use as_of_index::PerList;
 pub use postings::Postings;
 pub use sealed::Sealed;
 pub use search::find;
 
 /// The terms of several lists of rows, in the order of these lists.
-pub type Terms = Beside<Sealed>;
+pub type Terms = PerList<Sealed>;

@@ -15,7 +15,7 @@ use crate::text::{Term, piece};
 use caseless::default_case_fold_str;
 use history_model::StampedRow;
 use rf2_values::Body;
-use segment::Posted;
+use segment::RowPlace;
 use std::alloc::{AllocError, Global};
 use std::cmp::Ordering;
 use std::marker::Model;
@@ -57,7 +57,7 @@ fn push_term(
     text: &mut Vec<u8>,
     terms: &mut Vec<Term>,
     folded: &[u8],
-    at: Posted,
+    at: RowPlace,
 ) -> Result<(), AllocError>
     ensures ok { OnOk result
         (AddsTerm text.old.items terms.old.items folded.now at text.new.items terms.new.items) }
@@ -116,7 +116,7 @@ impl Postings {
     }
 
     /// Adds the row's term with the row's place, if it is an active description.
-    pub fn push(&mut self, row: &StampedRow, at: Posted) -> Result<(), AllocError>
+    pub fn push(&mut self, row: &StampedRow, at: RowPlace) -> Result<(), AllocError>
         ensures ok { OnOk result (self.new ≡ self.old ++ posted_term row.now.row at) }
         ensures err { OnErr result (self.new ≡ self.old) }
     {

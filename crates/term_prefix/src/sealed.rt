@@ -10,7 +10,7 @@ ghost use Rattle.term_prefix.specs.Laid.{term_at, terms_at};
 ghost use Rattle.term_prefix.specs.Keeping.{begins};
 
 use crate::text::{Term, piece};
-use segment::Posted;
+use segment::RowPlace;
 use std::cmp::Ordering;
 use std::marker::Model;
 
@@ -64,7 +64,7 @@ fn candidates<'a>(text: &[u8], terms: &'a [Term], prefix: &[u8]) -> &'a [Term]
 impl Sealed {
     /// Those that begin with the prefix.
     pub(crate) fn candidates(&self, prefix: &[u8]) -> &[Term]
-        ensures { (p : Posted) → Has (map (λ t. t.at) result.now) p
+        ensures { (p : RowPlace) → Has (map (λ t. t.at) result.now) p
             ↔ Has (map (λ t. t.at) (filter (begins prefix.now) self.now)) p }
     {
         candidates(self.text.as_slice(), self.terms.as_slice(), prefix)

@@ -5,6 +5,7 @@ ghost use Rattle.std.specs.List.{sum_by};
 ghost use Rattle.history_model.specs.declared.stamped.StampedRow.{StampedRow};
 ghost use Rattle.history_model.specs.InOrder.{IsAscending, put};
 ghost use Rattle.history_model.specs.Searches.{IsPlace};
+ghost use Rattle.history_model.specs.Queries.{is_above};
 ghost use Rattle.history_model.specs.History.{rows_at};
 ghost use Rattle.history_model.specs.Lists.{listed};
 ghost use Rattle.as_of_index.specs.Places.{Lists};
@@ -21,10 +22,10 @@ use crate::text::Term;
 use as_of_index::{Chosen, Index, ReadFault, RowReader, read_all};
 use caseless::default_case_fold_str;
 use rf2_values::{EffectiveTime, Row};
-use segment::Posted;
+use segment::RowPlace;
 use std::alloc::{AllocError, Global};
 
-fn id_of(at: &Posted) -> u128
+fn id_of(at: &RowPlace) -> u128
     ensures { result ≡ at.now.key.id }
 {
     at.key.id
@@ -45,7 +46,7 @@ fn place_for(kept: &[Chosen], id: u128) -> Result<usize, usize>
 }
 
 /// Keeps the place, and of all that are kept the first so many by id.
-fn keep(kept: &mut Vec<Chosen>, limit: u32, segment: usize, at: Posted) -> Result<(), AllocError>
+fn keep(kept: &mut Vec<Chosen>, limit: u32, segment: usize, at: RowPlace) -> Result<(), AllocError>
     ensures { OnOk result (IsAscending chosen_cmp kept.old.items → length kept.old.items ≤ limit
         → kept.new.items ≡ take limit (put chosen_cmp (chosen segment at) kept.old.items)) }
 {
@@ -75,70 +76,87 @@ fn is_taken(kept: &[Chosen], limit: u32, id: u128) -> bool
     }
 }
 
+fn is_above(after: Option<u128>, id: u128) -> bool
+    ensures { result ≡ is_above after id }
+{
+    match after {
+        None => true,
+        Some(after) => after < id,
+    }
+}
+
 /// Whether the place is to be kept. Whether it is current is asked last, since that costs a search
 /// of the index.
 fn is_wanted(
     kept: &[Chosen],
-    limit: u32,
     segment: usize,
-    at: &Posted,
+    at: &RowPlace,
     index: &Index,
     time: EffectiveTime,
+    after: Option<u128>,
+    limit: u32,
     pin: u32,
 ) -> bool
     ensures { (lists : List (List StampedRow)) → Lists index.now lists
         → IsAscending chosen_cmp kept.now
-        → SaysWanted lists time pin limit kept.now (chosen segment at.now) result }
+        → SaysWanted lists time after limit pin kept.now (chosen segment at.now) result }
 {
-    !is_taken(kept, limit, id_of(at)) && index.is_current(segment, *at, time, pin)
+    let id = id_of(at);
+    is_above(after, id) && !is_taken(kept, limit, id) && index.is_current(segment, *at, time, pin)
 }
 
-/// Keeps those of the terms that are current, and of all that are kept the first so many by id.
+/// Keeps those of the terms that are current and have an id above `after`, and of all that are kept
+/// the first so many by id.
 fn keep_current(
     kept: &mut Vec<Chosen>,
-    limit: u32,
     terms: &[Term],
     segment: usize,
     index: &Index,
     time: EffectiveTime,
+    after: Option<u128>,
+    limit: u32,
     pin: u32,
 ) -> Result<(), AllocError>
     ensures { OnOk result ((lists : List (List StampedRow)) → Lists index.now lists
-        → (seen : List Chosen) → AreKept lists time pin limit seen kept.old.items
-        → AreKept lists time pin limit (seen ++ map (λ t. chosen segment t.at) terms.now)
+        → (seen : List Chosen) → AreKept lists time after limit pin seen kept.old.items
+        → AreKept lists time after limit pin (seen ++ map (λ t. chosen segment t.at) terms.now)
         kept.new.items) }
 {
     for term in terms {
-        if is_wanted(kept, limit, segment, &term.at, index, time, pin) {
+        if is_wanted(kept, segment, &term.at, index, time, after, limit, pin) {
             keep(kept, limit, segment, term.at)?;
         }
     }
     Ok(())
 }
 
-/// The first places by id of the current terms that begin with the prefix.
+/// The first places by id, above `after`, of the current terms that begin with the prefix.
 fn keep_all(
     alloc: Global,
     lists: &[Sealed],
     index: &Index,
     prefix: &[u8],
     time: EffectiveTime,
-    pin: u32,
+    after: Option<u128>,
     limit: u32,
+    pin: u32,
 ) -> Result<Vec<Chosen>, AllocError>
     ensures { IfOk result (λ kept. (rows : List (List StampedRow)) → Lists index.now rows
-        → AreKept rows time pin limit (begun prefix.now (numbered 0 lists.now)) kept.items) }
+        → AreKept rows time after limit pin (begun prefix.now (numbered 0 lists.now))
+        kept.items) }
 {
     let mut kept = Vec::new(alloc);
     for (segment, list) in lists.iter().enumerate() {
         let those = list.candidates(prefix);
-        keep_current(&mut kept, limit, those, segment, index, time, pin)?;
+        keep_current(&mut kept, those, segment, index, time, after, limit, pin)?;
     }
     Ok(kept)
 }
 
-/// The first rows by id of active descriptions at the date of which the folded term begins with the
-/// folded prefix, of the rows that the pin shows and of the versions that are posted.
+/// The first rows by id, above `after` if that is given, of active descriptions at the date of
+/// which the folded term begins with the folded prefix, of the rows that the pin shows and of the
+/// versions that are posted. Of the posted terms that begin so, one with an id above `after` costs
+/// a bisection a list at most, and another none.
 pub fn find<R: RowReader>(
     alloc: Global,
     terms: &Terms,
@@ -146,12 +164,14 @@ pub fn find<R: RowReader>(
     reader: &mut R,
     prefix: &str,
     time: EffectiveTime,
-    pin: u32,
+    after: Option<u128>,
     limit: u32,
+    pin: u32,
 ) -> Result<Vec<Row>, ReadFault>
     ensures found { R.is_honest reader.old → Lists index.now (R.lists reader.old)
         → PostsTerms (R.lists reader.old) terms.now
-        → IfOk result (λ rows. rows.items ≡ terms_among (term_keys terms.now) prefix.now time limit
+        → IfOk result (λ rows. rows.items
+        ≡ terms_among (term_keys terms.now) prefix.now time after limit
         (rows_at pin (listed (R.lists reader.old)))) }
     ensures undamaged { R.is_honest reader.old → Lists index.now (R.lists reader.old)
         → PostsTerms (R.lists reader.old) terms.now → IfErr result (λ e. e ≢ readfault.Damaged) }
@@ -174,8 +194,9 @@ pub fn find<R: RowReader>(
         index,
         folded.as_bytes(),
         time,
-        pin,
+        after,
         limit,
+        pin,
     )?;
     read_all(alloc, reader, kept.as_slice())
 }

@@ -2,12 +2,12 @@
 
 ghost use Rattle.std.specs.Prelude.{◌≡◌, take, drop};
 
-use segment::Posted;
+use segment::RowPlace;
 
 /// Where a folded term stands in its list's text, and where its row stands.
 #[derive(Clone, Copy, Debug)]
 pub(crate) struct Term {
-    pub(crate) at: Posted,
+    pub(crate) at: RowPlace,
     pub(crate) start: usize,
     pub(crate) len: usize,
 }

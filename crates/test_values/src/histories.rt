@@ -2,9 +2,10 @@
 
 ghost use Rattle.std.specs.Prelude.{◌<◌};
 
-use history_model::{Receipt, Shown, StampedRow, listing, plain};
+use history_model::{GhostRows, Receipt, StampedRow, listing, plain};
 use rf2_values::{
-    Association, Body, Concept, Description, EffectiveTime, Kind, Relationship, Row, Sctid, Text,
+    Association, Body, Concept, Concrete, Description, EffectiveTime, Kind, Relationship, Row,
+    Sctid, Text,
 };
 use std::alloc::{AllocError, Global};
 use std::mem::size_of;
@@ -79,6 +80,18 @@ fn street_under_root(id: u128, time: u32, active: bool) -> Result<Row, Fail> {
         modifier: sctid(MODIFIER)?,
     });
     row(id, time, active, body)
+}
+
+fn street_has_number(alloc: Global, time: u32) -> Result<Row, Fail> {
+    let body = Body::Concrete(Concrete {
+        source: sctid(STREET)?,
+        value: text(alloc, "#7")?,
+        group: 0,
+        type_id: sctid(OTHER)?,
+        characteristic_type: sctid(INFERRED)?,
+        modifier: sctid(MODIFIER)?,
+    });
+    row(1_000_027, time, true, body)
 }
 
 fn street_replaced_by_other(time: u32) -> Result<Row, Fail> {
@@ -196,9 +209,9 @@ fn concepts_at_a_date_and_a_pin(rt: HostRuntime) -> Result<(), Fail> {
     for (pin, id, date, want) in cases {
         let (id, date) = (u128::from(id), day(date)?);
         let shown = plain::rows_at(alloc, pin, &rows)?;
-        let found = plain::lookup(&shown, Kind::Concept, id, date);
+        let found = plain::get(&shown, Kind::Concept, id, date);
         assert_eq!(rt; found.map(version), want, "{id} at pin {pin}");
-        let listed = listing::lookup(&rows, Kind::Concept, id, date, pin);
+        let listed = listing::get(&rows, Kind::Concept, id, date, pin);
         assert_eq!(rt; listed.map(version), want, "{id} at pin {pin}, listed");
     }
     Ok(())
@@ -298,10 +311,105 @@ fn terms_and_pages(rt: HostRuntime) -> Result<(), Fail> {
     Ok(())
 }
 
+/// The id and the time of each row.
+fn versions_of(alloc: Global, rows: &[&Row]) -> Result<Vec<(u128, u32)>, AllocError> {
+    rows.iter()
+        .map(|row| (row.id, row.time.value()))
+        .collect(alloc)
+}
+
+#[test]
+fn rows_about_a_component(rt: HostRuntime) -> Result<(), Fail> {
+    let alloc = rt.alloc();
+    let mut rows = all_rows(&rt, alloc)?;
+    let number = vec![in alloc; street_has_number(alloc, 20_200_131)?]?;
+    import(&rt, alloc, 3, &mut rows, number)?;
+    let (old, new) = (20_200_131, 20_210_131);
+    let member = 0x0b6a_0c2e_5d0f_4c53_9f6e_8d9d_2a7b_1c01;
+    let two = [(1_000_027, old), (2_000_029, old)];
+    let cases: [(u32, Kind, u32, &[(u128, u32)]); 8] = [
+        (4, Kind::Description, old, &[(1_000_015, old)]),
+        (4, Kind::Description, new, &[(1_000_015, new)]),
+        (1, Kind::Description, new, &[(1_000_015, old)]),
+        (4, Kind::Description, 20_191_231, &[]),
+        (4, Kind::Relationship, old, &two),
+        (4, Kind::Relationship, new, &[(1_000_027, old)]),
+        (4, Kind::Association, new, &[(member, new)]),
+        (4, Kind::Concrete, new, &[(1_000_027, old)]),
+    ];
+    for (pin, kind, date, want) in cases {
+        let shown = plain::rows_at(alloc, pin, &rows)?;
+        let found = plain::about(alloc, &shown, kind, sctid(STREET)?, day(date)?)?;
+        let versions = versions_of(alloc, &found)?;
+        assert_eq!(rt; versions.as_slice(), want, "{date} at pin {pin}");
+    }
+    Ok(())
+}
+
+#[test]
+fn no_rows_about_a_component(rt: HostRuntime) -> Result<(), Fail> {
+    let alloc = rt.alloc();
+    let rows = all_rows(&rt, alloc)?;
+    let shown = plain::rows_at(alloc, 3, &rows)?;
+    for (kind, id) in [
+        (Kind::Relationship, ROOT),
+        (Kind::Association, OTHER),
+        (Kind::Concept, STREET),
+    ] {
+        let found = plain::about(alloc, &shown, kind, sctid(id)?, day(20_210_131)?)?;
+        assert!(rt; found.is_empty(), "{id}");
+    }
+    Ok(())
+}
+
+#[test]
+fn searches_that_go_on(rt: HostRuntime) -> Result<(), Fail> {
+    let alloc = rt.alloc();
+    let rows = all_rows(&rt, alloc)?;
+    for (pin, date, after, limit, want) in [
+        (3, 20_200_131, None, 10, Some(20_200_131)),
+        (3, 20_200_131, Some(1_000_014), 1, Some(20_200_131)),
+        (3, 20_200_131, Some(1_000_015), 10, None),
+        (3, 20_200_131, None, 0, None),
+        (3, 20_210_131, None, 10, None),
+        (1, 20_210_131, None, 10, Some(20_200_131)),
+    ] {
+        let shown = plain::rows_at(alloc, pin, &rows)?;
+        let found = plain::search_terms(alloc, &shown, "STRASS", day(date)?, after, limit)?;
+        assert_eq!(rt;
+            found.first().map(|row| row.time.value()),
+            want,
+            "{limit} at {date}"
+        );
+    }
+    Ok(())
+}
+
+#[test]
+fn receipts_of_imports(rt: HostRuntime) -> Result<(), Fail> {
+    let alloc = rt.alloc();
+    let mut rows = all_rows(&rt, alloc)?;
+    let again = vec![in alloc; concept(ROOT, 20_200_131, true)?]?;
+    import(&rt, alloc, 3, &mut rows, again)?;
+    for (number, want) in [
+        (0, None),
+        (1, Some((6, Some(20_200_131)))),
+        (2, Some((4, Some(20_210_131)))),
+        (3, Some((2, Some(20_200_731)))),
+        (4, Some((0, None))),
+        (5, None),
+    ] {
+        let receipt = plain::import_receipt(4, &rows, number);
+        let found = receipt.map(|r| (r.new, r.latest.map(|day| day.value())));
+        assert_eq!(rt; found, want, "{number}");
+    }
+    Ok(())
+}
+
 #[test]
 fn shown_rows_take_rows_and_no_memory(rt: HostRuntime) -> Result<(), Fail> {
     let alloc = rt.alloc();
-    let mut shown = Shown::new(alloc);
+    let mut shown = GhostRows::new(alloc);
     for row in first_release(alloc)? {
         assert!(rt; shown.push(&StampedRow { row, import: 1 }).is_ok());
     }

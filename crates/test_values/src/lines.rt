@@ -2,6 +2,7 @@
 
 use line_commands::{Command, Unread, parse};
 use rf2_values::{EffectiveTime, Kind, Sctid};
+use std::process::Abort;
 use std::test::*;
 
 /// A line of one session, and the command that it asks.
@@ -149,7 +150,12 @@ fn lines_ask_commands(rt: HostRuntime) -> Result<(), Fail> {
         (b"0 ABANDON", 0, Command::Abandon),
         (b"0 TRIM", 0, Command::Trim),
     ];
-    for (line, session, command) in &lines {
+    assert_asked(&rt, &lines)
+}
+
+/// Each line asks the command that stands beside it.
+fn assert_asked(rt: &impl Abort, lines: &[Asked<'_>]) -> Result<(), Fail> {
+    for (line, session, command) in lines {
         let Ok(request) = parse(line) else {
             return Err(Fail::from("a line that asks"));
         };
@@ -157,6 +163,69 @@ fn lines_ask_commands(rt: HostRuntime) -> Result<(), Fail> {
         assert_eq!(rt; request.command, *command, "{line:?}");
     }
     Ok(())
+}
+
+fn ask_search(time: EffectiveTime, after: Option<u128>, limit: u32, prefix: &str) -> Command<'_> {
+    Command::Search {
+        time,
+        after,
+        limit,
+        prefix,
+    }
+}
+
+#[test]
+fn lines_ask_about_search_and_receipt(rt: HostRuntime) -> Result<(), Fail> {
+    let time = EffectiveTime::of(20210131).ok_or("a date")?;
+    let concept = Sctid::of(1000004).ok_or("an identifier")?;
+    let relationship = Sctid::of(2000029).ok_or("an identifier")?;
+    let about = |kind: Kind, id: Sctid| Command::About { kind, id, time };
+    let after = Some(1_000_015);
+    let lines: [Asked<'_>; 9] = [
+        (
+            b"0 ABOUT D 1000004 20210131",
+            0,
+            about(Kind::Description, concept),
+        ),
+        (
+            b"0 ABOUT R 1000004 20210131",
+            0,
+            about(Kind::Relationship, concept),
+        ),
+        (
+            b"0 ABOUT V 1000004 20210131",
+            0,
+            about(Kind::Concrete, concept),
+        ),
+        (
+            b"9 ABOUT A 2000029 20210131",
+            9,
+            about(Kind::Association, relationship),
+        ),
+        (
+            b"0 SEARCH 20210131 - 1 we",
+            0,
+            ask_search(time, None, 1, "we"),
+        ),
+        (
+            b"0 SEARCH 20210131 1000015 1000 we",
+            0,
+            ask_search(time, after, 1000, "we"),
+        ),
+        // The rest of the line is the prefix.
+        (
+            b"0 SEARCH 20210131 - 10 - 10 a",
+            0,
+            ask_search(time, None, 10, "- 10 a"),
+        ),
+        (b"0 RECEIPT 1", 0, Command::Receipt { number: 1 }),
+        (
+            b"0 RECEIPT 4294967295",
+            0,
+            Command::Receipt { number: u32::MAX },
+        ),
+    ];
+    assert_asked(&rt, &lines)
 }
 
 #[test]
@@ -181,7 +250,7 @@ fn lines_that_ask_nothing(rt: HostRuntime) {
         b"0 STATUS\r",
         b"0 STATUSES 1",
     ];
-    let arguments: [&[u8]; 36] = [
+    let arguments: [&[u8]; 51] = [
         b"0 STATUS ",
         b"0 UNPIN 1",
         b"0 PIN ",
@@ -202,6 +271,21 @@ fn lines_that_ask_nothing(rt: HostRuntime) {
         b"0 HISTORY C 138875005 20200131",
         b"0 CHILDREN 1000015 20200131",
         b"0 REPLACED 11000003039 20200131",
+        b"0 ABOUT C 1000004 20210131",
+        b"0 ABOUT D 1000015 20210131",
+        b"0 ABOUT R 1000027 20210131",
+        b"0 ABOUT A 11000003039 20210131",
+        b"0 ABOUT D 1000004",
+        b"0 ABOUT D 1000004 20210131 ",
+        b"0 RECEIPT",
+        b"0 RECEIPT 0",
+        b"0 RECEIPT 01",
+        b"0 RECEIPT 4294967296",
+        b"0 SEARCH 20210131 10 we",
+        b"0 SEARCH 20210131 1000004 10 we",
+        b"0 SEARCH 20210131 - 1001 we",
+        b"0 SEARCH 20210131 - 10 ",
+        b"0 SEARCH 20210131 - 10 \xff",
         b"0 PAGE C 20200131 - 0",
         b"0 PAGE C 20200131 - 1001",
         b"0 PAGE C 20200131 1000015 10",

@@ -17,11 +17,11 @@ pub(crate) struct Replay {
     /// What a read gave.
     pub(crate) now: Vec<u8>,
     /// The bytes at the last sync.
-    pub(crate) base: Vec<u8>,
+    pub(crate) durable: Vec<u8>,
     /// The least length since then.
     pub(crate) least: usize,
     /// The ranges written since then, each by its start and its end.
-    pub(crate) loose: Vec<(usize, usize)>,
+    pub(crate) unsynced: Vec<(usize, usize)>,
 }
 
 impl Replay {
@@ -49,9 +49,9 @@ impl Replay {
     {
         Ok(Replay {
             now: first.to_vec(alloc)?,
-            base: first.to_vec(alloc)?,
+            durable: first.to_vec(alloc)?,
             least: first.len(),
-            loose: Vec::new(alloc),
+            unsynced: Vec::new(alloc),
         })
     }
 
@@ -90,7 +90,7 @@ impl Replay {
         overwrite(&mut self.now, at, &bytes[..count])?;
         if !bytes.is_empty() {
             let from = at as usize;
-            self.loose.push((from, from + bytes.len()))?;
+            self.unsynced.push((from, from + bytes.len()))?;
         }
         Ok(())
     }
@@ -113,9 +113,9 @@ impl Replay {
         ensures { OnOk result ((s : DiskState) → Shows self.old s
             → Shows self.new (settled s.now)) }
     {
-        self.base = self.now.to_vec(alloc)?;
+        self.durable = self.now.to_vec(alloc)?;
         self.least = self.now.len();
-        self.loose.clear();
+        self.unsynced.clear();
         Ok(())
     }
 
@@ -125,18 +125,18 @@ impl Replay {
     {
         let Replay {
             mut now,
-            mut base,
+            mut durable,
             least,
-            loose,
+            unsynced,
         } = self;
         match choice {
             Choice::Kept => now,
             Choice::Lost => {
-                base.truncate(least);
-                base
+                durable.truncate(least);
+                durable
             }
             Choice::Filled(byte) => {
-                fill_loose(&mut now, least, &loose, byte);
+                fill_unsynced(&mut now, least, &unsynced, byte);
                 now
             }
         }
@@ -144,8 +144,8 @@ impl Replay {
 }
 
 /// Writes the byte to each position in one of the ranges, and to each from `least` on.
-fn fill_loose(image: &mut [u8], least: usize, ranges: &[(usize, usize)], byte: u8)
-    ensures loose { (i : ℕ) → i < length image.old
+fn fill_unsynced(image: &mut [u8], least: usize, ranges: &[(usize, usize)], byte: u8)
+    ensures unsynced { (i : ℕ) → i < length image.old
         → (¬ (All (IsOutside i) ranges.now)) ⊎ (least ≤ i) → slice_index image.new i ≡ byte }
     ensures fixed { (i : ℕ) → i < least → All (IsOutside i) ranges.now
         → slice_index image.new i ≡ slice_index image.old i }

@@ -1,7 +1,7 @@
 use Rattle.std.proofs.Common.{◌≡◌, ◌≤◌, List, length, sym, subst, take, take_all, get_or, true, arith}
 use Rattle.std.specs.List.{AllByRecursion}
 use Rattle.history_model.specs.InOrder.{IsAscending}
-use Rattle.segment.specs.declared.place.Posted.{Posted}
+use Rattle.segment.specs.declared.place.RowPlace.{RowPlace}
 use Rattle.as_of_index.specs.Places.{place_cmp}
 use Rattle.as_of_index.specs.Search.{all_places, in_segment, is_before, SplitsAt, IsPassed}
 use Rattle.as_of_index.proofs.Found.{places-more}
@@ -24,7 +24,7 @@ go_on-first-requires c =
     let a = c.args in
     let at = passed_at (Components a.kind a.after) a.lists.now c.loop-segment.cursors.items c.loop-segment.segment c.index-lists-segment.result c.index.result.now c.loop-segment.invariant.passed c.loop-segment-test.true in
     let own : get_or c.loop-segment.cursors.items c.loop-segment.segment c.index.result.now ≤ length c.index-lists-segment.result =
-    subst (λ (qs : List Posted). get_or c.loop-segment.cursors.items c.loop-segment.segment c.index.result.now ≤ length qs) (sym c.index-lists-segment.is) at.within in
+    subst (λ (qs : List RowPlace). get_or c.loop-segment.cursors.items c.loop-segment.segment c.index.result.now ≤ length qs) (sym c.index-lists-segment.is) at.within in
     rw c.places-places.ensures.places (subst (λ n. n ≤ length c.index-lists-segment.result) (sym c.index.ensures) own)
 
 pub index_mut-requires : goal.index_mut-requires
@@ -49,7 +49,7 @@ loop-segment-preserved c =
     let found = id_of_list a.kind a.after i ps c.go_on-first.result ascends split in
     record {
       passed = passed_set start a.lists.now c.loop-segment.cursors.items i ps c.go_on-first.result c.loop-segment.invariant.passed
-          (subst (λ (qs : List Posted). c.go_on-first.result ≤ length qs) c.index-lists-segment.is within) (subst (λ qs. SplitsAt (is_before start) qs c.go_on-first.result) c.index-lists-segment.is split);
+          (subst (λ (qs : List RowPlace). c.go_on-first.result ≤ length qs) c.index-lists-segment.is within) (subst (λ qs. SplitsAt (is_before start) qs c.go_on-first.result) c.index-lists-segment.is split);
       next = rw (c.lesser-best.ensures, c.id_at.ensures, c.places-places.ensures.places, places-more a.lists.now i ps c.loop-segment-test.true c.index-lists-segment.is)
           (id_more a.kind a.after (all_places 0 (take i a.lists.now)) (in_segment i ps) c.loop-segment.best _ c.loop-segment.invariant.next found);
     }

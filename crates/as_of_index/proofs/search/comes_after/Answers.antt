@@ -1,7 +1,7 @@
 use Rattle.std.proofs.Common.{List, ◌++◌, ◌∷◌, [], ◌-◌, length, take, subst, sym, ap, ◌∙◌}
 use Rattle.std.specs.Ordering.{is_lt}
 use Rattle.history_model.specs.InOrder.{IsAscending}
-use Rattle.segment.specs.declared.place.Posted.{Posted}
+use Rattle.segment.specs.declared.place.RowPlace.{RowPlace}
 use Rattle.segment.proofs.Ascending.{ascends_push, last_below, last_split}
 use Rattle.as_of_index.specs.Places.{place_cmp}
 use Rattle.as_of_index.proofs.Ordered.{places_total}
@@ -14,8 +14,8 @@ returns-in-len1-up c =
     let last = c.last-item.result in
     let front = take (length list - 1) list in
     let split = last_split list last c.in-len1-up.len_at_least c.last-item.is in
-    let up = λ (l : List Posted). IsAscending place_cmp l in
-    let more = λ (l : List Posted). IsAscending place_cmp (l ++ c.args.p.now ∷ []) in (
+    let up = λ (l : List RowPlace). IsAscending place_cmp l in
+    let more = λ (l : List RowPlace). IsAscending place_cmp (l ++ c.args.p.now ∷ []) in (
       λ t. subst more (sym split) (ascends_push places_total front last c.args.p.now (subst up split c.requires) (less_than (place_cmp last c.args.p.now) (sym c.is_under.ensures ∙ t))),
       λ all. c.is_under.ensures ∙ ap is_lt (last_below place_cmp front last c.args.p.now (subst more split all)),
     )

@@ -1,8 +1,8 @@
-use Rattle.std.proofs.Common.{ℕ, subst, take, take_all}
+use Rattle.std.proofs.Common.{subst, take, take_all}
 use Rattle.as_of_index.specs.Postings.{numbered}
 use Rattle.associations.specs.declared.postings.Link.{Link}
 use Rattle.associations.specs.Edges.{Edges, links_in}
-use Rattle.associations.specs.Collecting.{AreSourcesTaken}
+use Rattle.associations.specs.Collecting.{GivesSource, AreSourcesTaken}
 use Rattle.associations.proofs.Numbering.{numbered-more}
 use Rattle.associations.proofs.Collected.{none_taken, more_taken}
 use Rattle.associations.proofs.hierarchy.sources.Goals as goal
@@ -10,7 +10,7 @@ use Rattle.associations.proofs.hierarchy.sources.Goals as goal
 pub loop-segment-init : goal.loop-segment-init
 loop-segment-init c = λ lists listed_so.
     let a = c.args in
-    rw c.new-ids.ensures.items (none_taken (λ (x : Link). x.at) (λ (n : ℕ) (x : Link). x.source) lists a.time a.pin 0 (λ (x : Link). x.destination) a.destination)
+    rw c.new-ids.ensures.items (none_taken (GivesSource lists a.time a.pin) (λ (x : Link). x.destination) a.destination)
 
 pub loop-segment-preserved : goal.loop-segment-preserved
 loop-segment-preserved c = λ lists listed_so.
@@ -20,7 +20,7 @@ loop-segment-preserved c = λ lists listed_so.
     let so_far = c.loop-segment.invariant lists listed_so in
     let which = rw c.links.ensures.links at (c.links_to-those.ensures (rw c.links.ensures.links c.links.ensures.rising)) in
     rw (numbered-more (λ (e : Edges). e.links) a.links.now i list c.loop-segment-test.true c.index-links-segment.is)
-    (more_taken (λ (x : Link). x.at) (λ (n : ℕ) (x : Link). x.source) lists a.time a.pin i (λ (x : Link). x.destination) a.destination (numbered 0 (links_in (take i a.links.now))) list.links c.links_to-those.result.now c.loop-segment.ids.items c.add_sources.new.ids.items
+    (more_taken (GivesSource lists a.time a.pin) (λ (x : Link). x.destination) a.destination i (numbered 0 (links_in (take i a.links.now))) list.links c.links_to-those.result.now c.loop-segment.ids.items c.add_sources.new.ids.items
     so_far which (c.in_ok-add_sources.ensures lists listed_so))
 
 pub returns : goal.returns

@@ -2,7 +2,7 @@ use Rattle.std.proofs.Common.{subst, take, take_all}
 use Rattle.as_of_index.specs.Postings.{numbered}
 use Rattle.associations.specs.declared.postings.Reference.{Reference}
 use Rattle.associations.specs.Edges.{Edges, references_in}
-use Rattle.associations.specs.Collecting.{ranked, AreRankedTaken}
+use Rattle.associations.specs.Collecting.{GivesRanked, AreRankedTaken}
 use Rattle.associations.proofs.Numbering.{numbered-more}
 use Rattle.associations.proofs.Collected.{none_taken, more_taken}
 use Rattle.associations.proofs.substitutes.chosen_all.Goals as goal
@@ -10,7 +10,7 @@ use Rattle.associations.proofs.substitutes.chosen_all.Goals as goal
 pub loop-segment-init : goal.loop-segment-init
 loop-segment-init c = λ lists listed_so.
     let a = c.args in
-    rw c.new-kept.ensures.items (none_taken (λ (x : Reference). x.at) ranked lists a.time a.pin 0 (λ (x : Reference). x.referenced) a.referenced)
+    rw c.new-kept.ensures.items (none_taken (GivesRanked lists a.time a.pin) (λ (x : Reference). x.referenced) a.referenced)
 
 pub loop-segment-preserved : goal.loop-segment-preserved
 loop-segment-preserved c = λ lists listed_so.
@@ -20,7 +20,7 @@ loop-segment-preserved c = λ lists listed_so.
     let so_far = c.loop-segment.invariant lists listed_so in
     let which = rw c.references.ensures.references at (c.references_to-those.ensures (rw c.references.ensures.references c.references.ensures.rising)) in
     rw (numbered-more (λ (e : Edges). e.references) a.links.now i list c.loop-segment-test.true c.index-links-segment.is)
-    (more_taken (λ (x : Reference). x.at) ranked lists a.time a.pin i (λ (x : Reference). x.referenced) a.referenced (numbered 0 (references_in (take i a.links.now))) list.references c.references_to-those.result.now c.loop-segment.kept.items c.add_references.new.kept.items
+    (more_taken (GivesRanked lists a.time a.pin) (λ (x : Reference). x.referenced) a.referenced i (numbered 0 (references_in (take i a.links.now))) list.references c.references_to-those.result.now c.loop-segment.kept.items c.add_references.new.kept.items
     so_far which (c.in_ok-add_references.ensures lists listed_so))
 
 pub returns : goal.returns

@@ -1,12 +1,12 @@
 use Rattle.std.proofs.Common.{refl, ap, ◌∙◌}
-use Rattle.line_server.specs.Replies.{desk}
+use Rattle.line_server.specs.Replies.{server}
 use Rattle.command_line.proofs.Merged.{asked_status, told_refusal}
 use Rattle.command_line.proofs.merging.merge_all.Goals.{in-Ok, in-Err}
 use Rattle.command_line.proofs.merging.merge_all.Goals as goal
 
 pub returns : goal.returns
 returns g c =
-    let from = ap (λ pins. desk pins c.args.store.now) c.new-pins.ensures.none in
+    let from = ap (λ pins. server pins c.args.store.now) c.new-pins.ensures.none in
     elim c.match-merge_to.branch [
       | in-Ok w ↦
           let t = w.answer-reply.ensures.turn in

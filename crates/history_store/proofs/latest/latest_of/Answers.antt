@@ -1,4 +1,4 @@
-use Rattle.history_store.specs.Latest.{place_time}
+use Rattle.history_store.specs.Private.{place_time}
 use Rattle.history_store.proofs.LatestTimes.{latest_more}
 use Rattle.history_store.proofs.latest.latest_of.Goals as goal
 

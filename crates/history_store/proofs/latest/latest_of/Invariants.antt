@@ -1,5 +1,5 @@
 use Rattle.std.proofs.Common.{take}
-use Rattle.history_store.specs.Latest.{IsLatest, place_time}
+use Rattle.history_store.specs.Private.{IsLatest, place_time}
 use Rattle.history_store.proofs.latest.latest_of.Given as goal
 
 -- of those so far

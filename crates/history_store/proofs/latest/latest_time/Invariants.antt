@@ -1,6 +1,6 @@
 use Rattle.std.proofs.Common.{take}
 use Rattle.history_model.specs.InOrder.{joined}
-use Rattle.history_store.specs.Latest.{IsLatest, place_time}
+use Rattle.history_store.specs.Private.{IsLatest, place_time}
 use Rattle.history_store.proofs.latest.latest_time.Given as goal
 
 -- of the lists so far

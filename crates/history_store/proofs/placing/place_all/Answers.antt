@@ -1,7 +1,7 @@
 use Rattle.std.proofs.Common.{◌≡◌, ◌≤◌, ℕ, ◌++◌, ◌∷◌, [], List, length, sym, ap, subst, ◌∙◌, arith, append_assoc, append-nil}
 use Rattle.std.specs.List.{AllByRecursion}
 use Rattle.history_model.specs.declared.stamped.StampedRow.{StampedRow}
-use Rattle.segment.specs.declared.place.Posted.{Posted}
+use Rattle.segment.specs.declared.place.RowPlace.{RowPlace}
 use Rattle.segment.specs.Records.{segment_of, record_of, IsStamped}
 use Rattle.segment.specs.Standing.{places_of, with_places}
 use Rattle.segment.proofs.SegmentLaws.{segment_push, no_rows, all_push}
@@ -45,13 +45,13 @@ loop-row-preserved g c =
     record {
       split = inv.split ∙ ap (λ (l : List StampedRow). shown ++ l) c.in-Some.ensures.steps ∙ sym (append_assoc shown (item ∷ []) c.next.new.self) ∙ ap (λ (l : List StampedRow). l ++ c.next.new.self) grown;
       bytes = c.in_ok-add_record.ensures.bytes ∙ ap (λ (b : List ℕ). b ++ record_of item) inv.bytes ∙ sym (segment_push shown item) ∙ ap segment_of grown;
-      places = c.in_ok-push-2.ensures.items ∙ ap (λ (l : List Posted). l ++ c.new-place.result ∷ []) inv.places ∙ ap (λ (p : Posted). places_of shown ++ p ∷ []) c.new-place.ensures
+      places = c.in_ok-push-2.ensures.items ∙ ap (λ (l : List RowPlace). l ++ c.new-place.result ∷ []) inv.places ∙ ap (λ (p : RowPlace). places_of shown ++ p ∷ []) c.new-place.ensures
           ∙ sym (places_push shown item at here) ∙ ap places_of grown;
       each = subst (AllByRecursion IsStamped) grown (all_push IsStamped shown item inv.each c.in_ok-add_record.ensures.stamped);
       taken = λ segments before.
           let step = c.in_ok-take.ensures segments (with_places 0 shown) (inv.taken segments before) in
-          let same = ap (λ (p : Posted). with_places 0 shown ++ (item, p) ∷ []) c.new-place.ensures ∙ sym (taken_push shown item at here) ∙ ap (with_places 0) grown in
-          subst (λ (l : List (StampedRow × Posted)). g.S.RowSink.has_taken c.take.new.self segments l) same step;
+          let same = ap (λ (p : RowPlace). with_places 0 shown ++ (item, p) ∷ []) c.new-place.ensures ∙ sym (taken_push shown item at here) ∙ ap (with_places 0) grown in
+          subst (λ (l : List (StampedRow × RowPlace)). g.S.RowSink.has_taken c.take.new.self segments l) same step;
     }
 
 pub loop-row-preserved-in_ok-push-2 : goal.loop-row-preserved-in_ok-push-2
@@ -66,13 +66,13 @@ loop-row-preserved-in_ok-push-2 g c =
     record {
       split = inv.split ∙ ap (λ (l : List StampedRow). shown ++ l) c.in-Some.ensures.steps ∙ sym (append_assoc shown (item ∷ []) c.next.new.self) ∙ ap (λ (l : List StampedRow). l ++ c.next.new.self) grown;
       bytes = c.in_ok-add_record.ensures.bytes ∙ ap (λ (b : List ℕ). b ++ record_of item) inv.bytes ∙ sym (segment_push shown item) ∙ ap segment_of grown;
-      places = c.in_ok-push-2.ensures.items ∙ ap (λ (l : List Posted). l ++ c.new-place.result ∷ []) inv.places ∙ ap (λ (p : Posted). places_of shown ++ p ∷ []) c.new-place.ensures
+      places = c.in_ok-push-2.ensures.items ∙ ap (λ (l : List RowPlace). l ++ c.new-place.result ∷ []) inv.places ∙ ap (λ (p : RowPlace). places_of shown ++ p ∷ []) c.new-place.ensures
           ∙ sym (places_push shown item at here) ∙ ap places_of grown;
       each = subst (AllByRecursion IsStamped) grown (all_push IsStamped shown item inv.each c.in_ok-add_record.ensures.stamped);
       taken = λ segments before.
           let step = c.in_ok-take.ensures segments (with_places 0 shown) (inv.taken segments before) in
-          let same = ap (λ (p : Posted). with_places 0 shown ++ (item, p) ∷ []) c.new-place.ensures ∙ sym (taken_push shown item at here) ∙ ap (with_places 0) grown in
-          subst (λ (l : List (StampedRow × Posted)). g.S.RowSink.has_taken c.take.new.self segments l) same step;
+          let same = ap (λ (p : RowPlace). with_places 0 shown ++ (item, p) ∷ []) c.new-place.ensures ∙ sym (taken_push shown item at here) ∙ ap (with_places 0) grown in
+          subst (λ (l : List (StampedRow × RowPlace)). g.S.RowSink.has_taken c.take.new.self segments l) same step;
     }
 
 pub loop-row-preserved-in_ok-push-2-2 : goal.loop-row-preserved-in_ok-push-2-2
@@ -87,13 +87,13 @@ loop-row-preserved-in_ok-push-2-2 g c =
     record {
       split = inv.split ∙ ap (λ (l : List StampedRow). shown ++ l) c.in-Some.ensures.steps ∙ sym (append_assoc shown (item ∷ []) c.next.new.self) ∙ ap (λ (l : List StampedRow). l ++ c.next.new.self) grown;
       bytes = c.in_ok-add_record.ensures.bytes ∙ ap (λ (b : List ℕ). b ++ record_of item) inv.bytes ∙ sym (segment_push shown item) ∙ ap segment_of grown;
-      places = c.in_ok-push-2.ensures.items ∙ ap (λ (l : List Posted). l ++ c.new-place.result ∷ []) inv.places ∙ ap (λ (p : Posted). places_of shown ++ p ∷ []) c.new-place.ensures
+      places = c.in_ok-push-2.ensures.items ∙ ap (λ (l : List RowPlace). l ++ c.new-place.result ∷ []) inv.places ∙ ap (λ (p : RowPlace). places_of shown ++ p ∷ []) c.new-place.ensures
           ∙ sym (places_push shown item at here) ∙ ap places_of grown;
       each = subst (AllByRecursion IsStamped) grown (all_push IsStamped shown item inv.each c.in_ok-add_record.ensures.stamped);
       taken = λ segments before.
           let step = c.in_ok-take.ensures segments (with_places 0 shown) (inv.taken segments before) in
-          let same = ap (λ (p : Posted). with_places 0 shown ++ (item, p) ∷ []) c.new-place.ensures ∙ sym (taken_push shown item at here) ∙ ap (with_places 0) grown in
-          subst (λ (l : List (StampedRow × Posted)). g.S.RowSink.has_taken c.take.new.self segments l) same step;
+          let same = ap (λ (p : RowPlace). with_places 0 shown ++ (item, p) ∷ []) c.new-place.ensures ∙ sym (taken_push shown item at here) ∙ ap (with_places 0) grown in
+          subst (λ (l : List (StampedRow × RowPlace)). g.S.RowSink.has_taken c.take.new.self segments l) same step;
     }
 
 pub returns-clause-placed : goal.returns-clause-placed

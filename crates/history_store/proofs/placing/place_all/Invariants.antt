@@ -1,7 +1,7 @@
 use Rattle.std.proofs.Common.{◌≡◌, ◌++◌, List, []}
 use Rattle.std.specs.List.{AllByRecursion}
 use Rattle.history_model.specs.declared.stamped.StampedRow.{StampedRow}
-use Rattle.segment.specs.declared.place.Posted.{Posted}
+use Rattle.segment.specs.declared.place.RowPlace.{RowPlace}
 use Rattle.segment.specs.Records.{segment_of, IsStamped}
 use Rattle.segment.specs.Standing.{with_places, places_of}
 use Rattle.history_store.proofs.placing.place_all.Given as goal
@@ -13,5 +13,5 @@ invariant-loop-row g l = record {
   bytes : l.bytes.items ≡ segment_of l.shown;
   places : l.places.items ≡ places_of l.shown;
   each : AllByRecursion IsStamped l.shown;
-  taken : (segments : List (List (StampedRow × Posted))) → g.S.RowSink.has_taken l.fn.sink segments [] → g.S.RowSink.has_taken l.sink segments (with_places 0 l.shown);
+  taken : (segments : List (List (StampedRow × RowPlace))) → g.S.RowSink.has_taken l.fn.sink segments [] → g.S.RowSink.has_taken l.sink segments (with_places 0 l.shown);
 }

@@ -4,7 +4,7 @@ use Rattle.history_model.specs.declared.stamped.StampedRow.{StampedRow}
 use Rattle.history_model.specs.InOrder.{IsAscending}
 use Rattle.history_model.specs.History.{stamped, stamped_cmp}
 use Rattle.segment.specs.Records.{IsSegment, segment_of}
-use Rattle.history_store.specs.Ongoing.{merge_of}
+use Rattle.history_store.specs.MergeInProgress.{merge_of}
 use Rattle.history_store.specs.Prepared.{IsPlacedAt}
 use Rattle.segment.specs.Standing.{with_places, places_of}
 use Rattle.std.specs.List.Sorted.{IsPermutation}
@@ -14,7 +14,7 @@ use Rattle.term_prefix.specs.Pushed.{posted_term}
 use Rattle.associations.specs.Edges.{Edges, AreSameEdges, posted_edges}
 use Rattle.history_store.proofs.Taken.{no_terms, no_links}
 use Rattle.history_store.proofs.NewSegment.{ascending_stamped, from_one, added_listing, prepared_is, length-stamped}
-use Rattle.segment.specs.declared.place.Posted.{Posted}
+use Rattle.segment.specs.declared.place.RowPlace.{RowPlace}
 use Rattle.as_of_index.specs.Places.{place_cmp}
 use Rattle.history_store.proofs.Places.{ascending_places}
 use Rattle.history_store.proofs.preparing.prepare.Goals as goal
@@ -48,4 +48,4 @@ returns-clause-prepared c =
 
 pub new-requires : goal.new-requires
 new-requires c =
-    subst (λ (p : List Posted). IsAscending place_cmp p) (sym (c.in_ok-placed.ensures.placed.0 ∙ ap places_of c.in_ok-list.ensures)) (ascending_places _ (ascending_stamped _ c.args.fresh.items c.requires.ascending))
+    subst (λ (p : List RowPlace). IsAscending place_cmp p) (sym (c.in_ok-placed.ensures.placed.0 ∙ ap places_of c.in_ok-list.ensures)) (ascending_places _ (ascending_stamped _ c.args.fresh.items c.requires.ascending))

@@ -1,6 +1,4 @@
-use Rattle.std.proofs.Common.{◌≡◌, sym, ◌∙◌, arith, length}
-use Rattle.std.proofs.lemmas.Bool.{eqb-true}
-use Rattle.line_commands.proofs.Forms.{none_read, terms_uncut, terms_no_time, terms_no_limit, terms_no_prefix}
+use Rattle.line_commands.proofs.Forms.{none_read, terms_uncut, terms_no_time, terms_no_limit, terms_no_prefix, terms_found}
 use Rattle.line_commands.proofs.arguments.terms.Goals as goal
 
 pub returns-in_err-time : goal.returns-in_err-time
@@ -12,8 +10,8 @@ returns-in_err-time-2 c = none_read _ _ c.from_residual-in_err-time-2.result c.f
 pub returns-in_err-limit : goal.returns-in_err-limit
 returns-in_err-limit c = none_read _ _ c.from_residual-in_err-limit.result c.from_residual-in_err-limit.ensures (λ command s. terms_no_limit _ _ _ _ c.in_ok-time.ensures.0 c.in_ok-time.ensures.1 c.in_ok-time.ensures.2 command c.in_err-limit.ensures s)
 
-pub returns-then-is_empty : goal.returns-then-is_empty
-returns-then-is_empty c = λ command s. terms_no_prefix _ _ _ _ c.in_ok-time.ensures.0 c.in_ok-time.ensures.1 c.in_ok-time.ensures.2 command (λ some utf8. let none : length c.in_ok-time.prefix.now ≡ 0 = eqb-true _ _ (sym c.is_empty.ensures ∙ c.if-is_empty.true) in omega arith) s
+pub returns-in_err-prefix : goal.returns-in_err-prefix
+returns-in_err-prefix c = none_read _ _ c.from_residual-in_err-prefix.result c.from_residual-in_err-prefix.ensures (λ command s. terms_no_prefix _ _ _ _ c.in_ok-time.ensures.0 c.in_ok-time.ensures.1 c.in_ok-time.ensures.2 command c.in_err-prefix.ensures s)
 
-pub returns-in-Err : goal.returns-in-Err
-returns-in-Err c = λ command s. terms_no_prefix _ _ _ _ c.in_ok-time.ensures.0 c.in_ok-time.ensures.1 c.in_ok-time.ensures.2 command (λ some utf8. c.in-Err.ensures.cases.0 utf8) s
+pub returns : goal.returns
+returns c = terms_found _ _ _ _ _ c.in_ok-time-2.time c.in_ok-limit.limit c.in_ok-time.ensures.2 c.in_ok-time-2.ensures.0 c.in_ok-time-2.ensures.1 c.in_ok-limit.ensures.0 c.in_ok-limit.ensures.1 c.in_ok-limit.ensures.2 c.in_ok-prefix.ensures.0 c.in_ok-prefix.ensures.1 c.in_ok-prefix.ensures.2

@@ -26,3 +26,12 @@ returns-in-Pin c = rw c.in-Pin.is c.pin.ensures
 
 pub returns-in-Step : goal.returns-in-Step
 returns-in-Step c = rw c.in-Step.is c.step.ensures
+
+pub returns-in-Search : goal.returns-in-Search
+returns-in-Search c = rw c.in-Search.is c.search.ensures
+
+pub returns-in-About : goal.returns-in-About
+returns-in-About c = rw c.in-About.is c.about.ensures
+
+pub returns-in-Receipt : goal.returns-in-Receipt
+returns-in-Receipt c = rw c.in-Receipt.is c.receipt.ensures

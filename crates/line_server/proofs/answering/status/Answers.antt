@@ -7,5 +7,5 @@ returns-then-needs_reopen g c = status_closed g.D.Disk.is_honest g.D.Disk.moment
 
 pub returns : goal.returns
 returns g c =
-    let told = rw (c.imports.ensures, c.row_count.ensures, c.segments.ensures, c.merge_left.ensures) at c.counted.ensures in
-    status_told g.D.Disk.is_honest g.D.Disk.moments g.D.Disk.failures c.args.store.now c.counted.result (sym c.needs_reopen.ensures ∙ c.if-needs_reopen.false) told
+    let told = rw (c.imports.ensures, c.row_count.ensures, c.segments.ensures, c.merge_left.ensures) at c.reply_status.ensures in
+    status_told g.D.Disk.is_honest g.D.Disk.moments g.D.Disk.failures c.args.store.now c.reply_status.result (sym c.needs_reopen.ensures ∙ c.if-needs_reopen.false) told

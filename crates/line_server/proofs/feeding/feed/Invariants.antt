@@ -1,6 +1,6 @@
 use Rattle.std.proofs.Common.{◌≡◌, List, ℕ, ◌++◌, take}
 use Rattle.line_server.specs.Pins.{AreWithin}
-use Rattle.line_server.specs.Replies.{desk}
+use Rattle.line_server.specs.Replies.{server}
 use Rattle.line_server.specs.Steps.{kept}
 use Rattle.line_server.specs.Feeding.{IsUnended}
 use Rattle.line_server.proofs.Progressing.{Progress}
@@ -11,6 +11,6 @@ abbrev pub invariant-loop-byte : goal.invariant-loop-byte
 invariant-loop-byte g l =
     ((part : List ℕ) → IsUnended part → l.fn.line ≡ kept part
     → Progress (g.S.Source.is_honest l.fn.source) (g.S.Source.releases l.fn.source) g.D.Disk.is_honest g.D.Disk.moments g.D.Disk.failures (g.W.Write.contents l.fn.writer) (g.W.Write.contents l.writer)
-    (desk l.fn.pins l.fn.store) (desk l.pins l.store) (part ++ take l.byte-index l.piece) l.line l.answered)
+    (server l.fn.pins l.fn.store) (server l.pins l.store) (part ++ take l.byte-index l.piece) l.line l.answered)
     × AreWithin l.store.history.imports l.pins
     × (g.S.Source.is_honest l.fn.source → g.S.Source.is_honest l.source × (g.S.Source.releases l.source ≡ g.S.Source.releases l.fn.source))

@@ -2,7 +2,7 @@ use Rattle.std.proofs.Common.{◌≡◌, ◌≤◌, ◌<◌, ◌^◌, ℕ, Bool,
 use Rattle.std.specs.Prelude.{⊤}
 use Rattle.std.proofs.lemmas.Result.{err_from_is_err_and}
 use Rattle.rf2_values.specs.declared.row.Kind.{Kind}
-use Rattle.rf2_values.specs.Row.{Version, IsVersion, IsBody, version, kind_of}
+use Rattle.rf2_values.specs.Row.{RowValue, IsVersion, IsBody, version, kind_of}
 use Rattle.rf2_values.specs.Sctid.{IsSctid}
 use Rattle.rf2_values.specs.Time.{IsTime}
 use Rattle.history_model.specs.declared.stamped.StampedRow.{StampedRow}
@@ -70,7 +70,7 @@ returns-in-None c = λ s is has.
 
 pub returns-in-Some-of : goal.returns-in-Some-of
 returns-in-Some-of c =
-    let made : Version = version c.in-Some.common.id c.in_ok-time.time c.in_ok-active.active c.in_ok-module_id.module_id c.in_ok-body.body in
+    let made : RowValue = version c.in-Some.common.id c.in_ok-time.time c.in_ok-active.active c.in_ok-module_id.module_id c.in_ok-body.body in
     let s : StampedRow = record { row = made; import = c.in_ok-import.import } in
     let fits : IsBytes c.args.bytes.now = λ i. omega (arith, c.type_inv.bytes i) in
     let parts = fields_some common_forms c.args.bytes.now (raw_common_fields c.in-Some.common, c.in-Some.rest.now) fits c.in-Some.ensures in
@@ -86,4 +86,4 @@ returns-in-Some-of c =
     let small : c.in_ok-import.import < 2 ^ 32 = omega (arith, c.in_ok-import.ensures.1) in
     let stamped : IsStamped s = record { row = c.in-Some-of.ensures.0; from_one = c.in_ok-import.ensures.0; fits = small } in
     let bytes = row_found c.args.bytes.now c.in-Some.common c.in-Some.rest.now s fits c.in-Some.ensures agrees in
-    subst (λ (v : Version). IsRowIn c.args.bytes.now (record { row = v; import = c.in_ok-import.import })) (sym c.in-Some-of.ensures.1) (stamped, bytes)
+    subst (λ (v : RowValue). IsRowIn c.args.bytes.now (record { row = v; import = c.in_ok-import.import })) (sym c.in-Some-of.ensures.1) (stamped, bytes)

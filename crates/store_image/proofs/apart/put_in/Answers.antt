@@ -3,7 +3,7 @@ use Rattle.std.specs.BinaryHeap.{heap_items}
 use Rattle.std.proofs.lemmas.List.{length-map}
 use Rattle.history_model.specs.InOrder.{IsAscending}
 use Rattle.rf2_values.specs.Key.{key_cmp}
-use Rattle.segment.specs.declared.place.Posted.{Posted}
+use Rattle.segment.specs.declared.place.RowPlace.{RowPlace}
 use Rattle.store_image.specs.declared.apart.Rest.{Rest}
 use Rattle.store_image.specs.Keys.{keys_of, keys_in}
 use Rattle.store_image.proofs.KeysOnce.{no_keys, opens_none, opens_put, open_still, left_put}
@@ -25,4 +25,4 @@ returns-in-Ok-clause-lists c =
 pub returns-in-Ok-clause-left : goal.returns-in-Ok-clause-left
 returns-in-Ok-clause-left c =
     let rest : Rest = record { first = c.in-Some.first.now.key; places = c.in-Some.places } in
-    left_put (heap_items c.args.rests.now) (heap_items c.push.new.self) rest c.in-Ok.ensures.permutation c.args.list.now (sym (length-map c.args.list.now (λ (p : Posted). p.key)) ∙ ap length (ap keys_of c.in-Some.ensures.cases.0))
+    left_put (heap_items c.args.rests.now) (heap_items c.push.new.self) rest c.in-Ok.ensures.permutation c.args.list.now (sym (length-map c.args.list.now (λ (p : RowPlace). p.key)) ∙ ap length (ap keys_of c.in-Some.ensures.cases.0))

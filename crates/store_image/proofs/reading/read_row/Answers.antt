@@ -1,7 +1,7 @@
 use Rattle.std.proofs.Common.{List, refl, sym, subst, ◌∙◌, arith}
 use Rattle.std.proofs.lemmas.Result.{err_from_is_err_and}
 use Rattle.history_model.specs.declared.stamped.StampedRow.{StampedRow}
-use Rattle.segment.specs.declared.place.Posted.{Posted}
+use Rattle.segment.specs.declared.place.RowPlace.{RowPlace}
 use Rattle.segment.specs.Standing.{with_places}
 use Rattle.store_image.proofs.RowsRead.{no_record, above_number, out_of_order, more_are_read, more_taken, begins_more}
 use Rattle.store_image.proofs.reading.read_row.Goals as goal
@@ -35,5 +35,5 @@ returns-clause-exact g c honest sees begins =
 
 pub returns-clause-taken : goal.returns-clause-taken
 returns-clause-taken g c segments taken =
-    let P : List (StampedRow × Posted) → Type 0 = λ rows. g.S.RowSink.has_taken c.take.new.self segments rows in
+    let P : List (StampedRow × RowPlace) → Type 0 = λ rows. g.S.RowSink.has_taken c.take.new.self segments rows in
     subst P (sym (more_taken c.args.at c.args.rows.now.shown c.push.new.self.shown c.in_ok-row.row c.new.result c.requires.rows.at_is c.new.ensures c.in_ok-push.ensures.shown)) (c.in_ok-take.ensures segments (with_places 0 c.args.rows.now.shown) taken)

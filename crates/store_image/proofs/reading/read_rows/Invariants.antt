@@ -2,7 +2,7 @@ use Rattle.std.proofs.Common.{◌≡◌, ◌↔◌, ◌+◌, ◌≤◌, List, []
 use Rattle.blocks.specs.Extents.{bytes_of}
 use Rattle.directory.specs.Places.{extent_of}
 use Rattle.history_model.specs.declared.stamped.StampedRow.{StampedRow}
-use Rattle.segment.specs.declared.place.Posted.{Posted}
+use Rattle.segment.specs.declared.place.RowPlace.{RowPlace}
 use Rattle.segment.specs.Standing.{with_places}
 use Rattle.store_image.specs.Reading.{Sees, AreReadTo, BeginsWith}
 use Rattle.store_image.proofs.reading.read_rows.Given as goal
@@ -20,7 +20,7 @@ invariant-rows g l =
       within : l.at ≤ l.fn.entry.bytes;
       sees : g.D.Disk.is_honest l.fn.disk → Sees l.window old.state.now;
       begins : g.D.Disk.is_honest l.fn.disk → BeginsWith l.rows.shown (bytes_of (extent_of l.fn.entry) old.state.now);
-      taken : (segments : List (List (StampedRow × Posted))) → g.S.RowSink.has_taken l.fn.sink segments [] → g.S.RowSink.has_taken l.sink segments (with_places 0 l.rows.shown);
+      taken : (segments : List (List (StampedRow × RowPlace))) → g.S.RowSink.has_taken l.fn.sink segments [] → g.S.RowSink.has_taken l.sink segments (with_places 0 l.rows.shown);
       moments : g.D.Disk.is_honest l.fn.disk → g.D.Disk.moments l.disk ≡ old;
       honesty : g.D.Disk.is_honest l.fn.disk ↔ g.D.Disk.is_honest l.disk;
       failures : g.D.Disk.failures l.disk ≡ g.D.Disk.failures l.fn.disk;

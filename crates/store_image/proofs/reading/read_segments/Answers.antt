@@ -1,19 +1,21 @@
 use Rattle.std.specs.Prelude.{vec_items, map}
 use Rattle.std.specs.List.{AllByRecursion}
-use Rattle.std.proofs.Common.{◌≡◌, ◌++◌, ℕ, List, [], ◌∷◌, get_or, take, sym, ap, subst, ◌∙◌, arith, take_all, Vec, Global}
-use Rattle.std.proofs.lemmas.Result.{err_from_is_err_and}
+use Rattle.std.proofs.Common.{◌≡◌, ◌++◌, ℕ, List, [], ◌∷◌, get_or, take, sym, ap, subst, ◌∙◌, arith, take_all, length-take, Vec, Global}
+use Rattle.std.proofs.lemmas.List.{length-map}
 use Rattle.disk_model.specs.Disk.{Moments}
 use Rattle.directory.specs.declared.entry.Entry.{Entry}
 use Rattle.history_model.specs.declared.stamped.StampedRow.{StampedRow}
 use Rattle.history_model.specs.InOrder.{IsAscending}
 use Rattle.rf2_values.specs.Key.{key_cmp}
-use Rattle.segment.specs.declared.place.Posted.{Posted}
+use Rattle.segment.specs.declared.place.RowPlace.{RowPlace}
 use Rattle.segment.specs.Standing.{places_of, with_places}
 use Rattle.store_image.specs.Stands.{HoldsAll}
 use Rattle.store_image.specs.Says.{AreSegments, pieces_of}
 use Rattle.store_image.specs.Reading.{IsAt, IsNotReadAt}
+use Rattle.store_image.specs.Damage.{AreThere}
 use Rattle.store_image.specs.Keys.{keys_of, EachKeyOnce}
-use Rattle.store_image.proofs.Segments.{bytes_more, bytes_up_to, bytes_within, not_read_at, not_apart, map-push, more_segments, more_numbered, more_held, more_segments_taken}
+use Rattle.store_image.proofs.Segments.{bytes_more, bytes_up_to, bytes_within, map-push, more_segments, more_numbered, more_held, more_segments_taken}
+use Rattle.store_image.proofs.Damaged.{not_read_at, number_of}
 use Rattle.store_image.proofs.KeyLists.{ascending_keys, lists_from_once, once_from_lists}
 use Rattle.store_image.proofs.reading.read_segments.Goals as goal
 
@@ -25,26 +27,34 @@ none = record { first = 0; bytes = 0; rows = 0 }
 same_now : (old new : Moments) → new ≡ old → new.state.now ≡ old.state.now
 same_now old new same = ap (λ (m : Moments). m.state.now) same
 
-pub returns-in_err-rows-clause-exact : goal.returns-in_err-rows-clause-exact
+-- the segments before the one that isn't read
+pub returns-in-Err-clause-exact : goal.returns-in-Err-clause-exact
 unfolding none
-returns-in_err-rows-clause-exact g c honest =
-    let p = err_from_is_err_and c.from_residual-in_err-rows.result c.from_residual-in_err-rows.ensures.1 in
+returns-in-Err-clause-exact g c honest =
     let inv = c.loop-entry.invariant in
     let entries = c.args.entries.now in
     let i = c.loop-entry.entry-index in
-    let e = c.in_err-rows.field-0.0 in
-    let why = subst (IsNotReadAt e c.args.imports (get_or entries i none)) (same_now _ _ (inv.moments honest)) (c.in_err-rows.ensures.exact (inv.honesty.0 honest)) in
-    rw (p.1, p.2) (not_read_at e c.args.imports _ entries i none c.loop-entry-test.true why)
+    let lists = c.loop-entry.shown.items in
+    let e = c.in-Err.fault in
+    let lt = c.loop-entry-test.true in
+    let now : List ℕ = (g.D.Disk.moments c.args.disk.now).state.now in
+    let why = subst (IsNotReadAt e c.args.imports (get_or entries i none)) (same_now _ _ (inv.moments honest)) (c.in-Err.ensures.exact (inv.honesty.0 honest)) in
+    let there : AreThere c.args.imports (take i entries) lists now = record { segments = inv.segments; numbered = inv.numbered; held = inv.held honest } in
+    let count = number_of (map vec_items c.loop-entry.places.items) lists (take i entries) inv.places inv.segments in
+    let long = length-map c.loop-entry.places.items (vec_items {X = RowPlace} {Z = Global}) in
+    let front = length-take i entries in
+    let places = c.len-number.ensures in
+    rw (c.in_segment.ensures) (not_read_at e _ c.args.imports now entries lists i none lt (omega (arith, count, long, front, lt, places)) there why)
 
 pub loop-entry-preserved : goal.loop-entry-preserved
 unfolding none
 loop-entry-preserved g c =
     let inv = c.loop-entry.invariant in
-    let read = c.in_ok-rows.ensures in
+    let read = c.in-Ok.ensures in
     let entries = c.args.entries.now in
     let i = c.loop-entry.entry-index in
     let lists = c.loop-entry.shown.items in
-    let rows = c.in_ok-rows.rows.shown in
+    let rows = c.in-Ok.rows.shown in
     let more : List (List StampedRow) = c.push-in-loop-entry.new.self.items in
     let more_is : more ≡ lists ++ rows ∷ [] = c.in_ok-push-2.ensures.items in
     let lt = c.loop-entry-test.true in
@@ -52,9 +62,9 @@ loop-entry-preserved g c =
       segments = more_segments entries i none lists more rows lt more_is inv.segments read.found;
       numbered = more_numbered entries i none lists more rows lt more_is c.args.imports inv.numbered read.numbered;
       places = ap (map vec_items) c.in_ok-push.ensures.items
-          ∙ map-push vec_items c.loop-entry.places.items c.in_ok-rows.rows.places
-          ∙ ap (λ (l : List (List Posted)). l ++ c.in_ok-rows.rows.places.items ∷ []) inv.places
-          ∙ ap (λ (p : List Posted). map places_of lists ++ p ∷ []) read.places
+          ∙ map-push vec_items c.loop-entry.places.items c.in-Ok.rows.places
+          ∙ ap (λ (l : List (List RowPlace)). l ++ c.in-Ok.rows.places.items ∷ []) inv.places
+          ∙ ap (λ (p : List RowPlace). map places_of lists ++ p ∷ []) read.places
           ∙ sym (map-push places_of lists rows)
           ∙ sym (ap (map places_of) more_is);
       held = λ honest.
@@ -62,7 +72,7 @@ loop-entry-preserved g c =
           more_held entries i none lists more rows lt more_is _ inv.segments (inv.held honest) there;
       taken = λ segments taken.
           let before = segments ++ map (with_places 0) lists in
-          subst (λ (l : List (List (StampedRow × Posted))). g.S.RowSink.has_taken c.read_segment.new.sink l []) (more_segments_taken entries i none lists more rows lt more_is segments) (read.taken before (inv.taken segments taken));
+          subst (λ (l : List (List (StampedRow × RowPlace))). g.S.RowSink.has_taken c.read_segment.new.sink l []) (more_segments_taken entries i none lists more rows lt more_is segments) (read.taken before (inv.taken segments taken));
       moments = λ honest. read.moments (inv.honesty.0 honest) ∙ inv.moments honest;
       honesty = (λ h. read.honesty.0 (inv.honesty.0 h), λ h. inv.honesty.1 (read.honesty.1 h));
       failures = read.failures ∙ inv.failures;
@@ -73,7 +83,7 @@ pub are_apart-requires : goal.are_apart-requires
 are_apart-requires g c =
     let inv = c.loop-entry.invariant in
     let lists = c.loop-entry.shown.items in
-    subst (λ (l : List (Vec Posted Global)). AllByRecursion (IsAscending key_cmp) (map keys_of (map vec_items l))) (sym c.as_slice.ensures.value) (ascending_keys (map vec_items c.loop-entry.places.items) lists inv.places (take c.loop-entry.entry-index c.args.entries.now) inv.segments)
+    subst (λ (l : List (Vec RowPlace Global)). AllByRecursion (IsAscending key_cmp) (map keys_of (map vec_items l))) (sym c.as_slice.ensures.value) (ascending_keys (map vec_items c.loop-entry.places.items) lists inv.places (take c.loop-entry.entry-index c.args.entries.now) inv.segments)
 
 pub returns-then-not-branch-clause-exact : goal.returns-then-not-branch-clause-exact
 unfolding none
@@ -87,11 +97,16 @@ returns-then-not-branch-clause-exact g c honest =
     let are = subst (λ (l : List Entry). AreSegments l lists) whole inv.segments in
     let now : List ℕ = (g.D.Disk.moments c.args.disk.now).state.now in
     let held = subst (λ (l : List Entry). HoldsAll (pieces_of l lists) now) whole (inv.held honest) in
-    not_apart c.args.imports now entries lists are held (λ apart.
-    let once = once_from_lists (map vec_items c.loop-entry.places.items) lists inv.places apart in
-    let yes = c.in_ok-are_apart.ensures.1 (subst (λ (l : List (Vec Posted Global)). EachKeyOnce (map keys_of (map vec_items l))) (sym c.as_slice.ensures.value) once) in
-    let no = c.if-not-branch.true in
-    absurd cc)
+    let there : AreThere c.args.imports entries lists now = record { segments = are; numbered = inv.numbered; held = held } in
+    record {
+      lists = lists;
+      there = there;
+      shared = λ apart.
+          let once = once_from_lists (map vec_items c.loop-entry.places.items) lists inv.places apart in
+          let yes = c.in_ok-are_apart.ensures.1 (subst (λ (l : List (Vec RowPlace Global)). EachKeyOnce (map keys_of (map vec_items l))) (sym c.as_slice.ensures.value) once) in
+          let no = c.if-not-branch.true in
+          absurd cc;
+    }
 
 pub returns-clause-read : goal.returns-clause-read
 returns-clause-read g c =
@@ -102,7 +117,7 @@ returns-clause-read g c =
     let ended = c.loop-entry-test.false in
     let whole : take i entries ≡ entries = take_all i entries (omega (arith, ended)) in
     let are = subst (λ (l : List Entry). AreSegments l lists) whole inv.segments in
-    let once = subst (λ (l : List (Vec Posted Global)). EachKeyOnce (map keys_of (map vec_items l))) c.as_slice.ensures.value (c.in_ok-are_apart.ensures.0 c.if-not-branch.false) in
+    let once = subst (λ (l : List (Vec RowPlace Global)). EachKeyOnce (map keys_of (map vec_items l))) c.as_slice.ensures.value (c.in_ok-are_apart.ensures.0 c.if-not-branch.false) in
     record {
       segments = are;
       apart = lists_from_once (map vec_items c.loop-entry.places.items) lists inv.places entries are once;
@@ -111,26 +126,26 @@ returns-clause-read g c =
 
 -- ---- the bytes that were read
 
-pub returns-in_err-rows-clause-bytes_read : goal.returns-in_err-rows-clause-bytes_read
+pub returns-in-Err-clause-bytes_read : goal.returns-in-Err-clause-bytes_read
 unfolding none
-returns-in_err-rows-clause-bytes_read g c =
+returns-in-Err-clause-bytes_read g c =
     let entries = c.args.entries.now in
     let i = c.loop-entry.entry-index in
-    omega (arith, c.loop-entry.invariant.bytes_read, c.in_err-rows.ensures.bytes_read, bytes_up_to entries i none c.loop-entry-test.true)
+    omega (arith, c.loop-entry.invariant.bytes_read, c.in-Err.ensures.bytes_read, bytes_up_to entries i none c.loop-entry-test.true)
 
 pub returns-in_err-push-clause-bytes_read : goal.returns-in_err-push-clause-bytes_read
 unfolding none
 returns-in_err-push-clause-bytes_read g c =
     let entries = c.args.entries.now in
     let i = c.loop-entry.entry-index in
-    omega (arith, c.loop-entry.invariant.bytes_read, c.in_ok-rows.ensures.bytes_read, bytes_up_to entries i none c.loop-entry-test.true)
+    omega (arith, c.loop-entry.invariant.bytes_read, c.in-Ok.ensures.bytes_read, bytes_up_to entries i none c.loop-entry-test.true)
 
 pub returns-in_err-push-2-clause-bytes_read : goal.returns-in_err-push-2-clause-bytes_read
 unfolding none
 returns-in_err-push-2-clause-bytes_read g c =
     let entries = c.args.entries.now in
     let i = c.loop-entry.entry-index in
-    omega (arith, c.loop-entry.invariant.bytes_read, c.in_ok-rows.ensures.bytes_read, bytes_up_to entries i none c.loop-entry-test.true)
+    omega (arith, c.loop-entry.invariant.bytes_read, c.in-Ok.ensures.bytes_read, bytes_up_to entries i none c.loop-entry-test.true)
 
 pub returns-in_err-are_apart-clause-bytes_read : goal.returns-in_err-are_apart-clause-bytes_read
 returns-in_err-are_apart-clause-bytes_read g c =

@@ -2,7 +2,7 @@ use Rattle.std.specs.Prelude.{vec_items, map}
 use Rattle.std.specs.List.{AllByRecursion}
 use Rattle.std.proofs.Common.{◌≡◌, ◌↔◌, ◌+◌, ◌≤◌, ◌++◌, List, [], take}
 use Rattle.history_model.specs.declared.stamped.StampedRow.{StampedRow}
-use Rattle.segment.specs.declared.place.Posted.{Posted}
+use Rattle.segment.specs.declared.place.RowPlace.{RowPlace}
 use Rattle.segment.specs.Standing.{places_of, with_places}
 use Rattle.store_image.specs.Stands.{HoldsAll}
 use Rattle.store_image.specs.Says.{AreSegments, bytes_listed, pieces_of}
@@ -19,7 +19,7 @@ invariant-loop-entry g l =
       numbered : AllByRecursion (AreNumbered l.fn.imports) l.shown.items;
       places : map vec_items l.places.items ≡ map places_of l.shown.items;
       held : g.D.Disk.is_honest l.fn.disk → HoldsAll (pieces_of done l.shown.items) old.state.now;
-      taken : (segments : List (List (StampedRow × Posted))) → g.S.RowSink.has_taken l.fn.sink segments [] → g.S.RowSink.has_taken l.sink (segments ++ map (with_places 0) l.shown.items) [];
+      taken : (segments : List (List (StampedRow × RowPlace))) → g.S.RowSink.has_taken l.fn.sink segments [] → g.S.RowSink.has_taken l.sink (segments ++ map (with_places 0) l.shown.items) [];
       moments : g.D.Disk.is_honest l.fn.disk → g.D.Disk.moments l.disk ≡ old;
       honesty : g.D.Disk.is_honest l.fn.disk ↔ g.D.Disk.is_honest l.disk;
       failures : g.D.Disk.failures l.disk ≡ g.D.Disk.failures l.fn.disk;

@@ -1,5 +1,5 @@
 use Rattle.std.proofs.Common.{◌++◌, map, subst, take}
-use Rattle.segment.specs.declared.place.Posted.{Posted}
+use Rattle.segment.specs.declared.place.RowPlace.{RowPlace}
 use Rattle.term_prefix.specs.declared.text.Term.{Term}
 use Rattle.as_of_index.specs.Chosen.{chosen}
 use Rattle.as_of_index.specs.Postings.{numbered}
@@ -17,7 +17,7 @@ loop-segment-preserved c = λ rows listed_so.
     let new = c.keep_current.new.kept.items in
     let before = numbered 0 (take i a.lists.now) in
     let step = c.in_ok-keep_current.ensures rows listed_so (begun a.prefix.now before) (c.loop-segment.invariant rows listed_so) in
-    let by_places = subst (λ ks. AreKept rows a.time a.pin a.limit (begun a.prefix.now before ++ ks) new) (map_twice i those) step in
+    let by_places = subst (λ ks. AreKept rows a.time a.after a.limit a.pin (begun a.prefix.now before ++ ks) new) (map_twice i those) step in
     let same = begun_more a.prefix.now before i list (map (λ (t : Term). t.at) those) c.candidates-those.ensures in
     rw (terms-more a.lists.now i list c.loop-segment-test.true c.index-lists-segment.is)
-    (kept_same rows a.time a.pin a.limit (begun a.prefix.now before ++ map (λ (p : Posted). chosen i p) (map (λ (t : Term). t.at) those)) (begun a.prefix.now (before ++ map (λ t. (i, t)) list)) new (λ k. (same k).0) (λ k. (same k).1) by_places)
+    (kept_same rows a.time a.after a.limit a.pin (begun a.prefix.now before ++ map (λ (p : RowPlace). chosen i p) (map (λ (t : Term). t.at) those)) (begun a.prefix.now (before ++ map (λ t. (i, t)) list)) new (λ k. (same k).0) (λ k. (same k).1) by_places)

@@ -6,4 +6,4 @@ use Rattle.term_prefix.specs.Keeping.{AreKept, begun}
 use Rattle.term_prefix.proofs.search.keep_all.Given as goal
 
 abbrev pub invariant-loop-segment : goal.invariant-loop-segment
-invariant-loop-segment l = (rows : List (List StampedRow)) → Lists l.index rows → AreKept rows l.time l.pin l.limit (begun l.prefix (numbered 0 (take l.segment l.lists))) l.kept.items
+invariant-loop-segment l = (rows : List (List StampedRow)) → Lists l.index rows → AreKept rows l.time l.after l.limit l.pin (begun l.prefix (numbered 0 (take l.segment l.lists))) l.kept.items

@@ -8,4 +8,4 @@ use Rattle.term_prefix.specs.Keeping.{AreKept}
 use Rattle.term_prefix.proofs.search.keep_current.Given as goal
 
 abbrev pub invariant-loop-term : goal.invariant-loop-term
-invariant-loop-term l = (lists : List (List StampedRow)) → Lists l.index lists → (seen : List Chosen) → AreKept lists l.time l.pin l.limit seen l.fn.kept.items → AreKept lists l.time l.pin l.limit (seen ++ map (λ (t : Term). chosen l.segment t.at) (take l.term-index l.terms)) l.kept.items
+invariant-loop-term l = (lists : List (List StampedRow)) → Lists l.index lists → (seen : List Chosen) → AreKept lists l.time l.after l.limit l.pin seen l.fn.kept.items → AreKept lists l.time l.after l.limit l.pin (seen ++ map (λ (t : Term). chosen l.segment t.at) (take l.term-index l.terms)) l.kept.items

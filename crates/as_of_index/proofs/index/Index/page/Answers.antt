@@ -5,7 +5,7 @@ use Rattle.history_model.specs.declared.stamped.StampedRow.{StampedRow}
 use Rattle.segment.specs.Standing.{StandsAt}
 use Rattle.as_of_index.specs.declared.search.Start.TheVariants.{Components}
 use Rattle.as_of_index.specs.Search.{ArePassed}
-use Rattle.as_of_index.proofs.Standing.{are_lists, lookup_from_pick}
+use Rattle.as_of_index.proofs.Standing.{are_lists, get_from_pick}
 use Rattle.as_of_index.proofs.Walking.{id_above, versions_ahead, others_ahead}
 use Rattle.as_of_index.proofs.Paging.{page_more, page_same, page_done, page_full, fewer_left}
 use Rattle.as_of_index.proofs.index.Index.page.Goals as goal
@@ -19,7 +19,7 @@ latest_on-requires g c =
 
 pub returns-in_err-found-in-Some-clause-undamaged : goal.returns-in_err-found-in-Some-clause-undamaged
 returns-in_err-found-in-Some-clause-undamaged g c = λ honest listed_so.
-    let w = lookup_from_pick c.args.kind c.in-Some.id c.args.time c.args.pin (g.R.RowReader.lists c.args.reader.now) (are_lists (g.R.RowReader.lists c.args.reader.now) (rw (c.self.view_is, listed_so) at c.self.invariant.places)) (Some (c.in-Some-latest_on.segment, c.in-Some-latest_on.at)) (rw (c.as_slice-lists.ensures.value, c.self.view_is, listed_so) at c.in-Some-latest_on.ensures) in
+    let w = get_from_pick c.args.kind c.in-Some.id c.args.time c.args.pin (g.R.RowReader.lists c.args.reader.now) (are_lists (g.R.RowReader.lists c.args.reader.now) (rw (c.self.view_is, listed_so) at c.self.invariant.places)) (Some (c.in-Some-latest_on.segment, c.in-Some-latest_on.at)) (rw (c.as_slice-lists.ensures.value, c.self.view_is, listed_so) at c.in-Some-latest_on.ensures) in
     let stands = subst (λ ls. StandsAt ls c.in-Some-latest_on.segment c.in-Some-latest_on.at w.0) (sym (c.loop-lists.invariant.lists)) w.1 in
     let k = c.in_err-found-in-Some.ensures.undamaged (c.loop-lists.invariant.honesty honest) w.0 stands in
     search rules
@@ -48,7 +48,7 @@ loop-lists-preserved-in_ok-push-in-Some g c =
       disk_faults = found.ensures.disk_faults ∙ so_far.disk_faults;
       damages = found.ensures.damages ∙ so_far.damages;
       rows = λ honest listed_so.
-          let w = lookup_from_pick c.args.kind c.in-Some.id c.args.time c.args.pin (g.R.RowReader.lists c.args.reader.now) (are_lists (g.R.RowReader.lists c.args.reader.now) (rw (c.self.view_is, listed_so) at c.self.invariant.places)) (Some (c.in-Some-latest_on.segment, c.in-Some-latest_on.at)) (rw (c.as_slice-lists.ensures.value, c.self.view_is, listed_so) at c.in-Some-latest_on.ensures) in
+          let w = get_from_pick c.args.kind c.in-Some.id c.args.time c.args.pin (g.R.RowReader.lists c.args.reader.now) (are_lists (g.R.RowReader.lists c.args.reader.now) (rw (c.self.view_is, listed_so) at c.self.invariant.places)) (Some (c.in-Some-latest_on.segment, c.in-Some-latest_on.at)) (rw (c.as_slice-lists.ensures.value, c.self.view_is, listed_so) at c.in-Some-latest_on.ensures) in
           let stands = subst (λ ls. StandsAt ls c.in-Some-latest_on.segment c.in-Some-latest_on.at w.0) (sym (so_far.lists)) w.1 in
           let same = found.ensures.found (so_far.honesty honest) w.0 stands in
           rw c.in_ok-push-in-Some.ensures.items
@@ -74,7 +74,7 @@ loop-lists-preserved g c =
       damages = so_far.damages;
       rows = λ honest listed_so.
           page_same a.kind a.time a.pin (g.R.RowReader.lists a.reader.now) c.loop-lists.last c.in-Some.id (a.limit - length c.loop-lists.rows.items) c.loop-lists.rows.items _
-          (rw (c.as_slice-lists.ensures.value, c.self.view_is, listed_so) at c.in-Some.ensures.next) (lookup_from_pick c.args.kind c.in-Some.id c.args.time c.args.pin (g.R.RowReader.lists c.args.reader.now) (are_lists (g.R.RowReader.lists c.args.reader.now) (rw (c.self.view_is, listed_so) at c.self.invariant.places)) None (rw (c.as_slice-lists.ensures.value, c.self.view_is, listed_so) at (rw c.in_default.is at c.latest_on.ensures))) (so_far.rows honest listed_so);
+          (rw (c.as_slice-lists.ensures.value, c.self.view_is, listed_so) at c.in-Some.ensures.next) (get_from_pick c.args.kind c.in-Some.id c.args.time c.args.pin (g.R.RowReader.lists c.args.reader.now) (are_lists (g.R.RowReader.lists c.args.reader.now) (rw (c.self.view_is, listed_so) at c.self.invariant.places)) None (rw (c.as_slice-lists.ensures.value, c.self.view_is, listed_so) at (rw c.in_default.is at c.latest_on.ensures))) (so_far.rows honest listed_so);
     }
 
 pub returns-in-None-clause-found : goal.returns-in-None-clause-found

@@ -1,7 +1,7 @@
 use Rattle.std.specs.Prelude.{None}
 use Rattle.std.proofs.Common.{ap, refl}
-use Rattle.directory.specs.Listings.{Listing}
-use Rattle.history_store.specs.Shelf.{shelf_of}
+use Rattle.directory.specs.Listings.{DirectoryValue}
+use Rattle.history_store.specs.Catalog.{catalog_of}
 use Rattle.history_store.proofs.Held.{held_first, new_history}
 use Rattle.history_store.proofs.Taken.{none_posted, none_linked}
 use Rattle.history_store.proofs.store.Store.create.Goals as goal
@@ -16,8 +16,8 @@ invariant_of-result g c = (
 
 pub returns-in-Ok-clause-new : goal.returns-in-Ok-clause-new
 returns-in-Ok-clause-new g c =
-    record { history = new_history _ _ c.in-Ok.ensures.empty.0 c.new.ensures.items; shelf = ap (λ (l : Listing). shelf_of l None) c.in-Ok.ensures.empty.0; open_still = refl }
+    record { history = new_history _ _ c.in-Ok.ensures.empty.0 c.new.ensures.items; catalog = ap (λ (l : DirectoryValue). catalog_of l None) c.in-Ok.ensures.empty.0; open_still = refl }
 
 pub returns-in-Ok-clause-made : goal.returns-in-Ok-clause-made
 returns-in-Ok-clause-made g c = λ honest.
-    (c.in-Ok.ensures.made honest, record { history = new_history _ _ c.in-Ok.ensures.empty.0 c.new.ensures.items; shelf = ap (λ (l : Listing). shelf_of l None) c.in-Ok.ensures.empty.0; open_still = refl })
+    (c.in-Ok.ensures.made honest, record { history = new_history _ _ c.in-Ok.ensures.empty.0 c.new.ensures.items; catalog = ap (λ (l : DirectoryValue). catalog_of l None) c.in-Ok.ensures.empty.0; open_still = refl })

@@ -1,6 +1,6 @@
 use Rattle.std.proofs.Common.{subst}
 use Rattle.history_model.specs.InOrder.{joined}
-use Rattle.history_store.specs.Latest.{IsLatest, place_time}
+use Rattle.history_store.specs.Private.{IsLatest, place_time}
 use Rattle.history_store.proofs.LatestTimes.{latest_rows}
 use Rattle.history_store.proofs.store.Store.latest_time.Goals as goal
 

@@ -1,6 +1,6 @@
 use Rattle.std.proofs.Common.{sym, ap, refl}
-use Rattle.history_store.specs.Shelf.{shelf_of}
-use Rattle.history_store.specs.Ongoing.{merge_of}
+use Rattle.history_store.specs.Catalog.{catalog_of}
+use Rattle.history_store.specs.MergeInProgress.{merge_of}
 use Rattle.history_store.proofs.GoingOn.{no_merge}
 use Rattle.history_store.proofs.store.Store.merge_abandon.Goals as goal
 
@@ -9,4 +9,4 @@ invariant_of-self g c = (c.self.invariant.0, c.self.invariant.1, c.self.invarian
 
 pub returns-clause-answer : goal.returns-clause-answer
 returns-clause-answer g c =
-    rw (← c.self.view_is) ((_, ap merge_of (sym c.in-Some.ensures.value)), ap (λ o. shelf_of c.self.inside.directory (merge_of o)) c.take.ensures.after, record { history = refl; was_open = c.if-self.false; open_still = c.if-self.false })
+    rw (← c.self.view_is) ((_, ap merge_of (sym c.in-Some.ensures.value)), ap (λ o. catalog_of c.self.inside.directory (merge_of o)) c.take.ensures.after, record { history = refl; was_open = c.if-self.false; open_still = c.if-self.false })

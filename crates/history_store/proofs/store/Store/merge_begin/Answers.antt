@@ -1,6 +1,6 @@
 use Rattle.std.proofs.Common.{sym, ap, refl, ◌∙◌}
 use Rattle.std.proofs.lemmas.Result.{err_from_is_err_and}
-use Rattle.history_store.specs.Ongoing.{merge_of}
+use Rattle.history_store.specs.MergeInProgress.{merge_of}
 use Rattle.history_store.proofs.GoingOn.{goes_on, goes_not_on}
 use Rattle.history_store.proofs.BegunMerge.{segments_long, begun_merge, is_begun, not_begun, unbegun_refused}
 use Rattle.history_store.proofs.store.Store.merge_begin.Goals as goal
@@ -18,7 +18,7 @@ invariant_of-self g c = (
 
 pub returns-then-is_some-clause-answer : goal.returns-then-is_some-clause-answer
 returns-then-is_some-clause-answer g c =
-    rw (← c.self.view_is) ((c.if-self.false, goes_on c.self.inside.directory c.self.inside.merge (sym c.is_some.ensures ∙ c.if-is_some.true)), record { history = refl; shelf = refl; closed = λ is. absurd (cc); still = λ other. refl })
+    rw (← c.self.view_is) ((c.if-self.false, goes_on c.self.inside.directory c.self.inside.merge (sym c.is_some.ensures ∙ c.if-is_some.true)), record { history = refl; catalog = refl; closed = λ is. absurd (cc); still = λ other. refl })
 
 pub returns-in_err-merge-clause-answer : goal.returns-in_err-merge-clause-answer
 returns-in_err-merge-clause-answer g c =

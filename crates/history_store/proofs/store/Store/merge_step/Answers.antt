@@ -5,9 +5,9 @@ use Rattle.disk_model.proofs.MomentSteps.{stayed}
 use Rattle.history_store.specs.declared.refusal.Refusal.TheVariants as refusals
 use Rattle.blocks.specs.Extents.{byte_range}
 use Rattle.blocks.specs.Outside.{SameOutside}
-use Rattle.history_store.specs.declared.ongoing.Ongoing.{Ongoing}
-use Rattle.history_store.specs.Shelf.{reserved_by}
-use Rattle.history_store.specs.Ongoing.{merge_of}
+use Rattle.history_store.specs.declared.merge_in_progress.MergeInProgress.{MergeInProgress}
+use Rattle.history_store.specs.Catalog.{reserved_by}
+use Rattle.history_store.specs.MergeInProgress.{merge_of}
 use Rattle.history_store.proofs.Held.{held_stands}
 use Rattle.history_store.proofs.SteppedStore.{held_lent, held_back, merge_back, no_fault, is_stepped, stepping_refused}
 use Rattle.history_store.proofs.StepWrites.{some_rows, none_unfinished, wrote_shown, wrote_ok, wrote_err}
@@ -80,7 +80,7 @@ returns-else-matches-clause-acknowledged g c =
 
 pub returns-in-Ok-clause-elsewhere : goal.returns-in-Ok-clause-elsewhere
 returns-in-Ok-clause-elsewhere g c =
-    rw (← c.self.view_is) (λ honest. subst (λ (o : Option Ongoing). SameOutside (map byte_range (option_to_list (reserved_by (merge_of o)))) (g.D.Disk.moments c.self.inside.disk).state.now (g.D.Disk.moments c.step-stepped.new.disk).state.now)
+    rw (← c.self.view_is) (λ honest. subst (λ (o : Option MergeInProgress). SameOutside (map byte_range (option_to_list (reserved_by (merge_of o)))) (g.D.Disk.moments c.self.inside.disk).state.now (g.D.Disk.moments c.step-stepped.new.disk).state.now)
     c.in-Some.ensures.value (c.in-Ok.ensures.elsewhere honest))
 
 -- ---- what it writes

@@ -1,0 +1,726 @@
+#!/usr/bin/env python3
+"""Checks that the words of specs/ which no public contract reaches stand apart.
+
+check_private.py [--list] [--count] [--why CRATE.WORD]
+
+A word is a definition of a crate's specs/. It is reached if a public contract cites it, or the
+definition of a word that is reached. Public contracts are the clauses of functions and traits that
+other crates can name (a law is such a function), the ghost members of these traits and of their
+impls for types that other crates can name, the Model and the ghost fields of these types, and the
+Value and the view of the types in their fields. Proofs cite words too, and reach none; and where a
+ghost member cites a definition whose body is shut, that is a proof, and isn't reached.
+
+A module is private if its name, or that of a module around it, begins or ends with `Private`. A
+word that is reached and stands in one is said in a line of its own on standard error, with the path
+by which it is reached, and the status is 1 then; `--list` does the same for a word that isn't
+reached and stands in no such module. `--count` prints a table of the counts, and `--why` the path
+to a word. A name that a term binds itself counts as the word of that name: so a word may be taken
+for a reached one, and never the other way round. Nothing is built. Standard library alone.
+"""
+
+import glob
+import os
+import re
+import sys
+
+ROOT = os.path.dirname(os.path.dirname(os.path.abspath(__file__)))
+
+USE = re.compile(r"\s*(?:pub )?(?:ghost )?use (?P<path>[^\s;{]+?)(?:\.\{(?P<names>[^}]*)\})?"
+                 r"(?: as (?P<alias>\S+?))?;?\s*$")
+DECLARATION = re.compile(r"(?:(?:abbrev|unfoldable|pattern) )*(?:pub )?(?:(?P<sort>record|data) )?"
+                         r"(?P<name>[^\s(){}]+)(?= )")
+HEAD = re.compile(r"(?:abbrev|unfoldable|pattern|pub|record|data|module|mutual|infix\w*)\s"
+                  r"|[^\s(){}]+(?: \{[^}]*\})? :(?:\s|$)")
+ANTT_NAME = re.compile(r'[^\s(){};,"«»]+')
+STRING = re.compile(r'"(?:[^"\\\n]|\\.)*"')
+QUOTED = re.compile(STRING.pattern + r"|(?:^|(?<=\s))--.*$", re.M)
+CONSTRUCTORS = re.compile(r"^  (?P<names>[^\s:(){}]+(?: [^\s:(){}]+)*) :", re.M)
+
+
+def text_of(path):
+    with open(path, encoding="utf-8") as file:
+        return file.read()
+
+
+def without_comments(text):
+    return QUOTED.sub(lambda found: found[0] if found[0].startswith('"') else "", text)
+
+
+def spellings(name):
+    """A name, and the parts that stand between the arguments if it is an operator."""
+    return [name] + [part for part in name.split("◌") if part and part != name]
+
+
+def is_private_name(module):
+    """Whether a module's path says that its words are private."""
+    return any(re.match(r"Private|.*Private$", part) for part in module.split("."))
+
+
+# ---- antt
+
+
+class Import:
+    """A `use` line: the module's path, and its names with what each is called here."""
+
+    def __init__(self, path, names, alias):
+        self.path, self.names, self.alias = path, names, alias
+
+    @staticmethod
+    def of(line):
+        """The import that a line is, or None."""
+        found = USE.match(line)
+        if not found:
+            return None
+        names = None
+        if found["names"] is not None:
+            pairs = (part.split(" as ") for part in found["names"].split(",") if part.strip())
+            names = [(pair[0].strip(), pair[-1].strip()) for pair in pairs]
+        return Import(found["path"], names, found["alias"])
+
+
+class Word:
+    """A definition: its name, its text, and the line on which it begins."""
+
+    def __init__(self, key, sort, text, line):
+        self.key, self.sort, self.text, self.line = key, sort, text, line
+        self.crate, self.module, self.name = key
+        # Its body is shut, so that nothing but what its signature says is known of it.
+        self.is_proof = not sort and not re.match(r"abbrev|unfoldable|pattern", text)
+        self.constructors = []
+        if sort == "data":
+            for found in CONSTRUCTORS.finditer(text):
+                self.constructors += found["names"].split(" ")
+
+
+class Module:
+    """A file of specs/: its imports, its words, and the modules that it names or passes on."""
+
+    def __init__(self, crate, name, path):
+        self.crate, self.name, self.path = crate, name, path
+        self.imports, self.words = [], []
+        self.passed, self.passed_names = {}, {}
+        begun = None
+        lines = text_of(path).split("\n")
+        for number, line in enumerate(lines + ["pub "], 1):
+            if re.match(r"(pub )?use ", line):
+                self.take_use(line)
+            elif HEAD.match(line) and not line.startswith("pub mod "):
+                if begun:
+                    self.take_word(lines[begun - 1: number - 1], begun)
+                begun = number
+
+    def take_use(self, line):
+        found = Import.of(line)
+        if line.startswith("pub ") and found.names is None:
+            self.passed[found.alias or found.path.split(".")[-1]] = found.path
+        elif line.startswith("pub "):
+            self.passed_names.update((here, (found.path, name)) for name, here in found.names)
+        self.imports.append(found)
+
+    def take_word(self, lines, number):
+        found = DECLARATION.match(lines[0])
+        if found and not re.match(r"infix|module|mutual", lines[0]):
+            key = (self.crate, self.name, found["name"])
+            text = without_comments("\n".join(lines))
+            self.words.append(Word(key, found["sort"], text, number))
+
+
+def names_in(text):
+    """The names that a term has, each as its parts between dots; what follows a `)` is a field."""
+    text = QUOTED.sub(" ", text)
+    for token in ANTT_NAME.findall(text):
+        parts = token.split(".")
+        if parts[0] or len(parts) == 1:
+            yield parts
+    if re.search(r"(?<![^\s(])do(?!\S)", text):
+        yield [">>="]
+
+
+# ---- Rattle
+
+
+class Item:
+    """An item of Rattle: what it is, its name, whether it is `pub`, and what stands in it."""
+
+    def __init__(self, sort, name, is_open):
+        self.sort, self.name, self.is_open = sort, name, is_open
+        self.head, self.clauses, self.items, self.is_test = "", [], [], False
+
+
+class Reader:
+    """Reads the items of a file of Rattle; bodies of functions are passed over."""
+
+    SKIPPED = re.compile(r'\s+|//[^\n]*|/\*.*?\*/', re.S)
+    TEXT = re.compile(r'b?r(#*)".*?"\1|b?"(?:[^"\\]|\\.)*"|b?\'(?:[^\'\\]|\\[^\']+)\'', re.S)
+    NAME = re.compile(r"\w+")
+    OPENERS, CLOSERS = "([{", ")]}"
+
+    def __init__(self, text):
+        self.text, self.at = text, 0
+
+    def token(self):
+        """The next token, or an empty one at the end."""
+        found = self.SKIPPED.match(self.text, self.at)
+        while found:
+            self.at = found.end()
+            found = self.SKIPPED.match(self.text, self.at)
+        for form in (self.TEXT, self.NAME):
+            found = form.match(self.text, self.at)
+            if found:
+                self.at = found.end()
+                return found[0]
+        self.at += 1
+        return self.text[self.at - 1: self.at]
+
+    def peek(self):
+        at = self.at
+        token = self.token()
+        self.at = at
+        return token
+
+    def skip_group(self):
+        """Passes over a group, from its opening bracket to the one that closes it."""
+        depth = 0
+        while True:
+            token = self.token()
+            depth += (token in self.OPENERS) - (token in self.CLOSERS) if token else 0
+            if depth <= 0 or not token:
+                return
+
+    def term(self):
+        """The term of a clause, between braces."""
+        self.token()
+        begin, depth = self.at, 1
+        while depth:
+            found = re.compile(r'[{}]|"(?:[^"\\]|\\.)*"').search(self.text, self.at)
+            depth += {"{": 1, "}": -1}.get(found[0], 0)
+            self.at = found.end()
+        return self.text[begin: self.at - 1]
+
+    def until(self, stops):
+        """What stands before one of these tokens, outside of groups."""
+        begin = self.at
+        while self.peek() and self.peek() not in stops:
+            if self.peek() in self.OPENERS:
+                self.skip_group()
+            else:
+                self.token()
+        return self.text[begin: self.at]
+
+    def items(self):
+        """The items up to the end of the block."""
+        items = []
+        while self.peek() and self.peek() != "}":
+            item = self.item()
+            if item:
+                items.append(item)
+        self.token()
+        return items
+
+    def item(self):
+        """The next item, with what stands before its first word."""
+        is_test = is_open = False
+        while True:
+            token = self.token()
+            if token == "#":
+                begin = self.at
+                self.until("[")
+                self.skip_group()
+                is_test = is_test or re.match(r"\[(cfg\()?test", self.text[begin: self.at])
+            elif token == "pub":
+                is_open = self.peek() != "("
+                if not is_open:
+                    self.skip_group()
+            elif not (token == "const" and self.peek() == "fn") and token != "unsafe":
+                break
+        item = self.item_of(token, is_open)
+        if item:
+            item.is_test = bool(is_test)
+        return item
+
+    def item_of(self, sort, is_open):
+        """The item that begins with this word."""
+        if sort == "ghost":
+            return self.ghost()
+        if sort in ("use", "type", "const", "static"):
+            item = Item(sort, self.peek(), is_open)
+            item.head = self.until(";")
+            self.token()
+            return item
+        if sort in ("mod", "struct", "enum", "trait", "impl", "fn"):
+            item = Item(sort, self.peek(), is_open)
+            getattr(self, "read_" + sort)(item)
+            return item
+        self.until(";{")
+        self.skip_group()
+        return None
+
+    def ghost(self):
+        """A `ghost use`, or a ghost field or member."""
+        name = self.token()
+        item = Item("ghost", name, True)
+        if name == "use":
+            item.sort = "ghost use"
+            begin = self.text.rindex("ghost", 0, self.at)
+            self.at = self.text.index(";", self.at) + 1
+            item.head = self.text[begin: self.at]
+            return item
+        self.token()
+        item.clauses.append((name, self.term()))
+        if self.peek() in (";", ","):
+            self.token()
+        return item
+
+    def read_mod(self, item):
+        item.head = self.until(";{")
+        item.is_inline = self.token() == "{"
+        if item.is_inline:
+            item.items = self.items()
+
+    def read_struct(self, item):
+        item.head = self.until("{;")
+        if self.token() == "{":
+            item.items = self.fields()
+            item.head += " ".join(field.head for field in item.items)
+
+    def fields(self):
+        fields = []
+        while self.peek() not in ("}", ""):
+            if self.peek() == "#":
+                self.token()
+                self.skip_group()
+            elif self.peek() == "ghost":
+                self.token()
+                fields.append(self.ghost())
+            else:
+                field = Item("field", "", True)
+                field.head = self.until(",}")
+                fields.append(field)
+                if self.peek() == ",":
+                    self.token()
+        self.token()
+        return fields
+
+    def read_enum(self, item):
+        item.head = self.until("{")
+        begin = self.at
+        self.skip_group()
+        item.head += self.text[begin: self.at]
+
+    def read_trait(self, item):
+        item.head = self.until("{")
+        self.token()
+        item.items = self.items()
+
+    read_impl = read_trait
+
+    def read_fn(self, item):
+        stops = ("requires", "ensures", "ghost", "{", ";")
+        item.head = self.until(stops)
+        while self.peek() in stops[:3]:
+            kind = self.token()
+            name = self.until("{")
+            item.clauses.append((kind + " " + name.strip(), self.term()))
+        if self.peek() == "{":
+            self.skip_group()
+        else:
+            self.token()
+
+
+RUST_PATH = re.compile(r"[A-Za-z_]\w*(?:::[A-Za-z_]\w*)*")
+
+
+def used_names(head):
+    """The names that a `use` brings: each with its path, without braces."""
+    def walk(front, text):
+        text = text.strip()
+        found = re.match(r"([\w:]*?)(?:::)?\{(.*)\}$", text, re.S)
+        if found:
+            depth, begin = 0, 0
+            inner = found[2] + ","
+            for at, sign in enumerate(inner):
+                depth += (sign == "{") - (sign == "}")
+                if sign == "," and not depth:
+                    if inner[begin:at].strip():
+                        parts = [part for part in found[1].split("::") if part]
+                        yield from walk(front + parts, inner[begin:at])
+                    begin = at + 1
+            return
+        path, _, alias = text.partition(" as ")
+        parts = front + path.strip().split("::")
+        if parts[-1] == "self":
+            parts.pop()
+        yield parts, alias.strip() or parts[-1]
+    yield from walk([], head)
+
+
+class RustModule:
+    """A module of Rattle: its items, the modules below it, and what its `use` lines bring."""
+
+    def __init__(self, crate, name, above, path):
+        self.crate, self.name, self.above, self.path = crate, name, above, path
+        self.items, self.below, self.used, self.ghost_uses = [], {}, {}, []
+        self.named = {}
+
+    def take(self, items, folder):
+        """Takes items, and reads the files of the modules that they name."""
+        for item in items:
+            item.module = self
+            if item.sort == "use":
+                for parts, alias in used_names(item.head):
+                    self.used[alias] = (parts, item.is_open)
+            elif item.sort == "ghost use":
+                self.ghost_uses.append(item.head)
+            elif item.sort == "mod" and not item.is_test:
+                self.take_module(item, folder)
+            elif item.sort != "impl" and not item.is_test:
+                self.named[item.name] = item
+        self.items = [item for item in items if not item.is_test]
+
+    def take_module(self, item, folder):
+        below = RustModule(self.crate, item.name, self, self.path)
+        below.is_open = item.is_open
+        items = item.items
+        if not item.is_inline:
+            below.path = os.path.join(folder, item.name + ".rt")
+            items = Reader(text_of(below.path)).items()
+        below.take(items, os.path.join(folder, item.name))
+        self.below[item.name] = below
+
+    def all(self):
+        yield self
+        for below in self.below.values():
+            yield from below.all()
+
+
+class Crate:
+    """A crate: its modules of Rattle, and those of specs/."""
+
+    def __init__(self, name):
+        self.name = name
+        self.folder = os.path.join(ROOT, "crates", name)
+        self.specs, self.root = {}, None
+        for path in sorted(glob.glob(self.folder + "/specs/**/*.antt", recursive=True)):
+            module = os.path.relpath(path, self.folder + "/specs")[: -len(".antt")]
+            module = module.replace(os.sep, ".")
+            self.specs[module] = Module(name, module, path)
+        for root in ("lib", "main"):
+            path = os.path.join(self.folder, "src", root + ".rt")
+            if os.path.exists(path):
+                self.root = RustModule(name, "", None, path)
+                self.root.take(Reader(text_of(path)).items(), os.path.join(self.folder, "src"))
+        if self.root is None:
+            self.root = RustModule(name, "", None, "")
+
+
+class Project:
+    """All crates, and what their public contracts reach."""
+
+    def __init__(self):
+        names = sorted(os.path.basename(d) for d in glob.glob(ROOT + "/crates/*"))
+        self.crates = {name: Crate(name) for name in names}
+        self.words = {w.key: w for c in self.crates.values() for m in c.specs.values()
+                      for w in m.words}
+        self.scopes = {}
+        self.public = set()
+        self.why, self.left = {}, []
+        for crate in self.crates.values():
+            self.take_exports(crate.root, set())
+        self.impls = [(module, item) for crate in self.crates.values()
+                      for module in crate.root.all() for item in module.items
+                      if item.sort == "impl"]
+        self.reach_public()
+        while self.left:
+            self.follow(self.left.pop())
+
+    # ---- names
+
+    def module_at(self, path):
+        """The module of specs/ with this path, such as `Rattle.blocks.specs.Cache`."""
+        parts = path.split(".")
+        crate = self.crates.get(parts[1]) if len(parts) > 3 and parts[0] == "Rattle" else None
+        if crate is None or parts[2] != "specs" or parts[3] == "declared":
+            return None
+        parts = parts[3:]
+        for at, part in enumerate(parts):
+            above = crate.specs.get(".".join(parts[:at]) or "Lib")
+            if above and part in above.passed:
+                return self.module_at(".".join([above.passed[part]] + parts[at + 1:]))
+        return crate.specs.get(".".join(parts))
+
+    def node_at(self, path, name):
+        """What a name of a module is: a word, a type of Rattle, or None for what isn't ours."""
+        parts = path.split(".")
+        if len(parts) > 4 and parts[2:4] == ["specs", "declared"] and parts[1] in self.crates:
+            parts = [part for part in parts[4:] if not part.startswith("The")]
+            return self.type_at(self.crates[path.split(".")[1]], parts)
+        module = self.module_at(path)
+        for word in module.words if module else []:
+            if name == word.name or name in word.constructors:
+                return word.key
+        if module and name in module.passed_names:
+            return self.node_at(*module.passed_names[name])
+        return None
+
+    def node_of(self, parts, scope):
+        """What a name with dots is, in a scope: its first part may be a module, or `Rattle`."""
+        node = "Rattle" if parts[0] == "Rattle" else scope.get(parts[0])
+        if not isinstance(node, str):
+            return node
+        for at in range(1, len(parts)):
+            found = self.node_at(".".join([node] + parts[1:at]), parts[at])
+            if found:
+                return found
+        return None
+
+    def type_at(self, crate, parts):
+        """The type that stands at a path of a crate."""
+        module = crate.root
+        for part in parts:
+            if part in module.named and part == parts[-1]:
+                return ("type", crate.name, module.named[part])
+            if part not in module.below:
+                return None
+            module = module.below[part]
+        return None
+
+    def scope_of(self, imports, own=()):
+        """What names mean below some imports: a node, or the path of a module."""
+        scope = {}
+        for found in imports:
+            if found.names is None:
+                scope[found.alias or found.path.split(".")[-1]] = found.path
+                continue
+            for name, here in found.names:
+                node = self.node_at(found.path, name)
+                scope.update((part, node) for part in spellings(here) if node or part == here)
+        for word in own:
+            for name in spellings(word.name) + word.constructors:
+                scope[name] = word.key
+        return scope
+
+    def cited(self, text, scope, hidden=()):
+        """The nodes that a term names, in a scope."""
+        for parts in names_in(text):
+            node = self.node_of(parts, scope) if parts[0] not in hidden else None
+            if node:
+                yield node
+
+    # ---- what other crates can name
+
+    def resolve(self, module, parts, seen=()):
+        """The item or the module that a path of Rattle names, or None."""
+        if (module, tuple(parts)) in seen:
+            return None
+        seen = seen + ((module, tuple(parts)),)
+        first, rest = parts[0], parts[1:]
+        if first in ("crate", "self", "super"):
+            found = {"crate": self.crates[module.crate].root, "self": module,
+                     "super": module.above}[first]
+        elif first in module.named:
+            found = module.named[first]
+        elif first in module.below:
+            found = module.below[first]
+        elif first in module.used and module.used[first][0] != parts:
+            found = self.resolve(module, module.used[first][0], seen)
+        else:
+            found = self.crates[first].root if first in self.crates else None
+        if rest and isinstance(found, RustModule):
+            return self.resolve(found, rest, seen)
+        return found
+
+    def take_exports(self, module, seen):
+        """Takes what a module hands out: its `pub` items, and what it passes on."""
+        if module in seen:
+            return
+        seen.add(module)
+        found = [item for item in module.named.values() if item.is_open or item.name == "main"]
+        found += [below for below in module.below.values() if below.is_open]
+        for parts, is_open in module.used.values():
+            if is_open:
+                found.append(self.resolve(module, parts))
+        for item in found:
+            if isinstance(item, RustModule):
+                self.take_exports(item, seen)
+            elif item is not None:
+                self.public.add(item)
+
+    def types_in(self, module, text):
+        """The types that a piece of Rattle names."""
+        for path in RUST_PATH.findall(STRING.sub("", text)):
+            found = self.resolve(module, path.split("::"))
+            if isinstance(found, Item) and found.sort in ("struct", "enum", "type", "trait"):
+                yield found
+
+    # ---- what is reached
+
+    def reach(self, node, by):
+        if node and node not in self.why:
+            self.why[node] = by
+            self.left.append(node)
+
+    def reach_terms(self, clauses, module, holders, by, hidden=(), is_member=False):
+        """Reaches what clauses cite, which stand in these items of a module."""
+        lines = module.ghost_uses + [i.head for h in holders for i in h.items
+                                     if i.sort == "ghost use"]
+        above = module.above
+        while above and above.path == module.path:
+            lines = above.ghost_uses + lines
+            above = above.above
+        scope = self.scope_of(filter(None, map(Import.of, lines)))
+        for name, text in clauses:
+            said = "%s · %s" % (by, name)
+            for node in self.cited(text, scope, hidden):
+                if not (is_member and node in self.words and self.words[node].is_proof):
+                    self.reach(node, said)
+            for parts in names_in(text):
+                item = self.resolve(module, parts[:1]) if parts[0] not in scope else None
+                if isinstance(item, Item) and item.sort in ("struct", "enum"):
+                    self.reach(("type", item.module.crate, item), said)
+
+    def reach_function(self, item, module, holders, by):
+        inside = item.head[item.head.find("("):]
+        hidden = set(re.findall(r"(?:\(|,)\s*(?:mut )?(\w+)\s*:", inside)) | {"result", "self"}
+        for holder in holders:
+            if holder.sort == "trait":
+                hidden |= {i.name for i in holder.items if i.sort == "ghost"}
+        self.reach_terms(item.clauses, module, holders, by, hidden)
+
+    def reach_members(self, holder, module, by, is_wanted):
+        """Reaches what the members of a trait or an impl cite."""
+        for item in holder.items:
+            if item.sort == "fn" and is_wanted(item):
+                self.reach_function(item, module, [holder], by + "::" + item.name)
+            elif item.sort == "ghost" and is_wanted(item):
+                hidden = {i.name for i in holder.items if i.sort == "ghost"}
+                hidden = hidden if holder.sort == "trait" else ()
+                self.reach_terms(item.clauses, module, [holder], by, hidden, True)
+
+    def reach_public(self):
+        """Reaches what public functions, traits, types and impls cite."""
+        for item in sorted(self.public, key=lambda i: (i.module.crate, i.name)):
+            by = item.module.crate + "::" + item.name
+            if item.sort == "fn":
+                self.reach_function(item, item.module, [], by)
+            elif item.sort == "trait":
+                self.reach_members(item, item.module, by, lambda member: True)
+            elif item.sort in ("struct", "enum"):
+                self.reach(("type", item.module.crate, item), by)
+                self.reach_terms([c for i in item.items for c in i.clauses], item.module, [], by)
+        for module, item in self.impls:
+            self.reach_impl(module, item)
+
+    def reach_impl(self, module, item):
+        """Reaches what an impl cites, if it is one for a public type, of a public trait."""
+        trait, made = parts_of_impl(item.head)
+        types = list(self.types_in(module, made.split("<")[0]))
+        front = list(self.types_in(module, trait))
+        by = module.crate + "::" + re.match(r"[&\w']*", made.split("::")[-1].strip())[0]
+        if not all(t in self.public for t in types + front):
+            return
+        if not trait:
+            self.reach_members(item, module, by, lambda m: m.sort == "fn" and m.is_open)
+        elif trait.split("::")[-1] != "Model" or types:
+            self.reach_members(item, module, trait + " for " + by, lambda m: True)
+
+    def follow(self, node):
+        """Reaches what a node that is reached cites itself."""
+        if node[0] == "type":
+            self.follow_type(node)
+            return
+        module = self.crates[node[0]].specs[node[1]]
+        if module not in self.scopes:
+            self.scopes[module] = self.scope_of(module.imports, module.words)
+        for cited in self.cited(self.words[node].text, self.scopes[module]):
+            if cited[:2] != node[:2] or self.words[cited].line < self.words[node].line:
+                self.reach(cited, node)
+
+    def follow_type(self, node):
+        """Reaches the types of the fields, and what the Model says of the value."""
+        item = node[2]
+        for found in self.types_in(item.module, item.head):
+            if found.sort in ("struct", "enum") and found is not item:
+                self.reach(("type", found.module.crate, found), node)
+        for module, holder in self.impls:
+            trait, made = parts_of_impl(holder.head)
+            if module.crate == node[1] and trait.split("::")[-1] == "Model":
+                if item in self.types_in(module, made.split("<")[0]):
+                    wanted = lambda m: m.name in ("Value", "view", "inverse")
+                    self.reach_members(holder, module, self.said(node), wanted)
+
+    # ---- what is said
+
+    def said(self, node):
+        if isinstance(node, str):
+            return node
+        if node[0] == "type":
+            return "%s::%s" % (node[1], node[2].name)
+        return "%s.specs.%s.%s" % node
+
+    def path_to(self, node):
+        """How a node is reached, from itself up to a public contract."""
+        path = [self.said(node)]
+        while not isinstance(node, str):
+            node = self.why[node]
+            path.append(self.said(node))
+        return ", by ".join(path)
+
+    def is_wrong(self, word, is_listing):
+        is_reached = word.key in self.why
+        return is_reached == is_private_name(word.module) and (is_reached or is_listing)
+
+
+def parts_of_impl(head):
+    """The trait, or nothing, and the type of an impl."""
+    head = re.sub(r"\s+", " ", head).strip()
+    if head.startswith("<"):
+        depth = 0
+        for at, sign in enumerate(head):
+            depth += (sign == "<") - (sign == ">" and head[at - 1] != "-")
+            if not depth:
+                break
+        head = head[at + 1:].strip()
+    head = head.split(" where ")[0]
+    trait, found, made = head.partition(" for ")
+    return (trait.strip(), made.strip()) if found else ("", head.strip())
+
+
+def print_counts(project):
+    """A line for each crate with specs/: its words, those that are private, and their modules."""
+    print("%-18s %6s %8s %6s" % ("crate", "words", "private", "apart"))
+    total = [0, 0, 0]
+    for crate in project.crates.values():
+        words = [word for module in crate.specs.values() for word in module.words]
+        private = [word for word in words if word.key not in project.why]
+        apart = [word for word in private if is_private_name(word.module)]
+        counts = len(words), len(private), len(apart)
+        total = [a + b for a, b in zip(total, counts)]
+        if words:
+            print("%-18s %6d %8d %6d" % ((crate.name,) + counts))
+    print("%-18s %6d %8d %6d" % (("all",) + tuple(total)))
+
+
+def main(words):
+    is_listing, is_counting = "--list" in words, "--count" in words
+    asked = [word for word in words if not word.startswith("--")]
+    unknown = set(words) - {"--list", "--count", "--why"} - set(asked)
+    if unknown or bool(asked) != ("--why" in words):
+        print(__doc__.strip(), file=sys.stderr)
+        return 2
+    project, wrong = Project(), 0
+    for key, word in project.words.items():
+        if "%s.%s" % (word.crate, word.name) in asked:
+            print(project.path_to(key) if key in project.why else project.said(key) + ": private")
+        if project.is_wrong(word, is_listing):
+            wrong += 1
+            path = os.path.relpath(project.crates[word.crate].specs[word.module].path, ROOT)
+            what = project.path_to(key) if key in project.why else "no public contract reaches it"
+            print("%s:%d: %s: %s" % (path, word.line, word.name, what), file=sys.stderr)
+    if is_counting:
+        print_counts(project)
+    print("%d words, %d not so" % (len(project.words), wrong), file=sys.stderr)
+    return 1 if wrong or not project.words else 0
+
+
+if __name__ == "__main__":
+    sys.exit(main(sys.argv[1:]))

@@ -1,6 +1,0 @@
-use Rattle.acceptance_index.proofs.Replaced.{replaced_places}
-use Rattle.acceptance_index.proofs.picks.put_in.Goals as goal
-
-pub replace_two-requires-clause-lists : goal.replace_two-requires-clause-lists
-replace_two-requires-clause-lists c =
-    replaced_places c.args.index.now c.args.i c.args.j c.args.list (c.may_add.ensures.0 c.if-not-may_add.false).1

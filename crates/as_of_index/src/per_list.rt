@@ -1,0 +1,69 @@
+//! What is kept of each list of rows beside its places.
+
+ghost use Rattle.std.specs.Prelude.{◌≡◌, ◌<◌, ◌++◌, ◌∷◌, [], length, IfOk, remove, slice_set};
+ghost use Rattle.as_of_index.specs.Places.{max_lists};
+
+use crate::index::MAX_LISTS;
+use std::alloc::{AllocError, Global};
+use std::marker::Model;
+
+/// One item for each list of an index, in the order of these lists.
+#[derive(Drop)]
+pub struct PerList<T> {
+    lists: Vec<T>,
+}
+
+impl<T> Model for PerList<T> {
+    ghost use Rattle.std.specs.Prelude.{List, vec_capacity, ◌≤◌};
+    ghost use Rattle.as_of_index.specs.Places.{max_lists};
+
+    ghost Value = { List T };
+
+    ghost view = { λ a. a.lists.items };
+
+    ghost invariant = { λ a. max_lists ≤ vec_capacity a.lists };
+}
+
+impl<T: Drop> PerList<T> {
+    /// No lists, with room for all that there may be.
+    pub fn new(alloc: Global) -> Result<PerList<T>, AllocError>
+        ensures { IfOk result (λ lists. lists ≡ []) }
+    {
+        let lists = Vec::with_capacity(alloc, MAX_LISTS)?;
+        Ok(PerList { lists })
+    }
+
+    /// How many lists there are.
+    pub fn lists(&self) -> usize
+        ensures { result ≡ length self.now }
+    {
+        self.lists.len()
+    }
+
+    /// Adds a list as the last. It takes no memory.
+    pub fn add(&mut self, list: T)
+        requires { length self.old < max_lists }
+        ensures { self.new ≡ self.old ++ list ∷ [] }
+    {
+        let Ok(()) = self.lists.push(list) else {
+            unreachable!()
+        };
+    }
+
+    /// Puts a list in the place of two, at the first's. It takes no memory.
+    pub fn replace_two(&mut self, i: usize, j: usize, list: T)
+        requires places { i < j }
+        requires within { j < length self.old }
+        ensures { self.new ≡ remove (slice_set self.old i list) j }
+    {
+        self.lists[i] = list;
+        let _removed = self.lists.remove(j);
+    }
+
+    /// All of them.
+    pub fn as_slice(&self) -> &[T]
+        ensures { result.now ≡ self.now }
+    {
+        self.lists.as_slice()
+    }
+}

@@ -1,0 +1,183 @@
+//! What is about a component, as the posted subjects say.
+
+ghost use Rattle.std.specs.Prelude.{◌≡◌, ◌≢◌, ◌↔◌, ◌+◌, ◌≤◌, List, Some, ◌==◌, IfOk, IfErr, OnOk};
+ghost use Rattle.std.specs.List.{sum_by};
+ghost use Rattle.std.specs.List.Sorted.{IsNonDecreasingBy};
+ghost use Rattle.std.specs.Ordering.{eq_by_cmp};
+ghost use Rattle.rf2_values.specs.Key.{kind_place};
+ghost use Rattle.history_model.specs.declared.stamped.StampedRow.{StampedRow};
+ghost use Rattle.history_model.specs.InOrder.{Has};
+ghost use Rattle.history_model.specs.History.{rows_at};
+ghost use Rattle.history_model.specs.Lists.{listed};
+ghost use Rattle.history_model.specs.Queries.{about};
+ghost use Rattle.segment.specs.declared.place.RowPlace.{RowPlace};
+ghost use Rattle.as_of_index.specs.Places.{Lists};
+ghost use Rattle.as_of_index.specs.Chosen.{chosen, chosen_cmp};
+ghost use Rattle.as_of_index.specs.Postings.{numbered};
+ghost use Rattle.fault_counts.specs.Counting.{Counts, CountsDiskFault, CountsDamage};
+ghost use Rattle.fault_counts.specs.declared.fault.ReadFault.TheVariants as readfault;
+ghost use Rattle.associations.specs.Edges.{subjects_in};
+ghost use Rattle.associations.specs.Laws.{EachPosted};
+ghost use Rattle.associations.specs.Collecting.{IsCurrentFrom, GivesRow, Takes, AreOnce, AreRows};
+
+use crate::Links;
+use crate::postings::{Sealed, Subject};
+use as_of_index::{Chosen, Index, ReadFault, RowReader, read_all};
+use rf2_values::{EffectiveTime, Kind, Row, Sctid};
+use segment::RowPlace;
+use std::alloc::{AllocError, Global};
+use std::cmp::Ordering;
+
+/// Those of a component.
+fn subjects_of(list: &[Subject], id: u64) -> &[Subject]
+    ensures { IsNonDecreasingBy (λ x. x.subject) list.now →
+        (x : _) → Has result.now x ↔ (Has list.now x × (x.subject ≡ id)) }
+{
+    let first = list.partition_point(|x| x.subject < id);
+    let rest = &list[first..];
+    let count = rest.partition_point(|x| x.subject <= id);
+    &rest[..count]
+}
+
+fn chosen(segment: usize, at: RowPlace) -> Chosen
+    ensures { result ≡ chosen segment at }
+{
+    Chosen {
+        segment,
+        at,
+        refset: 0,
+        target: 0,
+    }
+}
+
+/// By id.
+fn compare(a: &Chosen, b: &Chosen) -> Ordering
+    ensures { result ≡ chosen_cmp a.now b.now }
+{
+    a.at.key.id.cmp(&b.at.key.id)
+}
+
+fn is_same_id(a: &Chosen, b: &Chosen) -> bool
+    ensures { result ≡ eq_by_cmp chosen_cmp a.now b.now }
+{
+    compare(a, b).is_eq()
+}
+
+/// One of each id, ascending. It takes no memory.
+fn sort_once(kept: &mut Vec<Chosen>)
+    ensures { AreOnce chosen_cmp kept.old.items kept.new.items }
+{
+    kept.sort_unstable_by(|a, b| compare(a, b));
+    kept.dedup_by(|a, b| is_same_id(a, b));
+}
+
+fn is_kind(at: &RowPlace, kind: Kind) -> bool
+    ensures { result ≡ (kind_place at.now.key.kind == kind_place kind) }
+{
+    at.key.kind as u8 == kind as u8
+}
+
+/// The place of the record that begins at a byte of a list, if its row is of the kind and current.
+/// Whether it is current is asked last, since that costs a bisection a list.
+fn current_from(
+    index: &Index,
+    segment: usize,
+    byte: u32,
+    kind: Kind,
+    time: EffectiveTime,
+    pin: u32,
+) -> Option<RowPlace>
+    ensures { (lists : List (List StampedRow)) → Lists index.now lists → (at : RowPlace)
+        → (result ≡ Some at) ↔ IsCurrentFrom lists kind time pin segment byte at }
+{
+    match index.place_from_byte(segment, byte) {
+        Some(at) => {
+            if is_kind(&at, kind) && index.is_current(segment, at, time, pin) {
+                Some(at)
+            } else {
+                None
+            }
+        }
+        None => None,
+    }
+}
+
+/// Adds those that are of the kind and current.
+fn add_current(
+    kept: &mut Vec<Chosen>,
+    subjects: &[Subject],
+    segment: usize,
+    index: &Index,
+    kind: Kind,
+    time: EffectiveTime,
+    pin: u32,
+) -> Result<(), AllocError>
+    ensures { OnOk result ((lists : List (List StampedRow)) → Lists index.now lists
+        → Takes (GivesRow lists kind time pin segment) subjects.now kept.old.items
+        kept.new.items) }
+{
+    for x in subjects {
+        if let Some(at) = current_from(index, segment, x.byte, kind, time, pin) {
+            kept.push(chosen(segment, at))?;
+        }
+    }
+    Ok(())
+}
+
+/// The places of the current rows of a kind that are about a component, by id.
+fn chosen_all(
+    alloc: Global,
+    links: &[Sealed],
+    index: &Index,
+    kind: Kind,
+    id: u64,
+    time: EffectiveTime,
+    pin: u32,
+) -> Result<Vec<Chosen>, AllocError>
+    ensures { IfOk result (λ kept. (lists : List (List StampedRow)) → Lists index.now lists
+        → AreRows lists kind time pin id (numbered 0 (subjects_in links.now)) kept.items) }
+{
+    let mut kept = Vec::new(alloc);
+    for (segment, list) in links.iter().enumerate() {
+        let those = subjects_of(list.subjects(), id);
+        add_current(&mut kept, those, segment, index, kind, time, pin)?;
+    }
+    sort_once(&mut kept);
+    Ok(kept)
+}
+
+/// The active rows of a kind at the date that are about the component, ascending by id, of the rows
+/// that the pin shows. It makes a bisection a list, and for each posted row of the component, of
+/// whatever kind, one more; each of the kind costs a bisection a list.
+pub fn about<R: RowReader>(
+    alloc: Global,
+    links: &Links,
+    index: &Index,
+    reader: &mut R,
+    kind: Kind,
+    id: Sctid,
+    time: EffectiveTime,
+    pin: u32,
+) -> Result<Vec<Row>, ReadFault>
+    ensures found { R.is_honest reader.old → Lists index.now (R.lists reader.old)
+        → EachPosted (R.lists reader.old) links.now
+        → IfOk result (λ rows.
+        rows.items ≡ about kind id time (rows_at pin (listed (R.lists reader.old)))) }
+    ensures undamaged { R.is_honest reader.old → Lists index.now (R.lists reader.old)
+        → EachPosted (R.lists reader.old) links.now
+        → IfErr result (λ e. e ≢ readfault.Damaged) }
+    // No more is read than the rows that it answers take, each read once.
+    ensures work { IfOk result (λ rows.
+        R.work reader.new ≤ R.work reader.old + sum_by R.cost rows.items) }
+    ensures lists { R.lists reader.new ≡ R.lists reader.old }
+    ensures honesty { R.is_honest reader.old → R.is_honest reader.new }
+    ensures stays { R.stays reader.old reader.new }
+    ensures disk_faults { Counts CountsDiskFault result
+        (R.disk_faults reader.old) (R.disk_faults reader.new) }
+    ensures damages { Counts CountsDamage result (R.damages reader.old) (R.damages reader.new) }
+{
+    // It says that no key is listed twice.
+    let _listed = index.lists();
+    let kept = chosen_all(alloc, links.as_slice(), index, kind, id.value(), time, pin)?;
+    read_all(alloc, reader, kept.as_slice())
+}

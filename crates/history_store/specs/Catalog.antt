@@ -1,0 +1,86 @@
+-- The catalog of a store: where its segments lie, and what an import adds to it. It holds no row.
+use Rattle.std.specs.Prelude.{◌≡◌, ◌⊎◌, ℕ, ◌+◌, ◌^◌, ◌<◌, ◌≤◌, List, [], ◌∷◌, ◌++◌, length, sum_by, Option, Some, None}
+use Rattle.blocks.specs.declared.extent.Extent.{Extent}
+use Rattle.blocks.specs.Extents.{block_count}
+use Rattle.history_model.specs.declared.stamped.StampedRow.{StampedRow}
+use Rattle.directory.specs.declared.entry.Entry.{Entry}
+use Rattle.directory.specs.declared.layout.Layout.{Layout}
+use Rattle.directory.specs.declared.layout.Layout.TheVariants as layouts
+use Rattle.directory.specs.Listings.{DirectoryValue, most_entries}
+use Rattle.directory.specs.Places.{extent_of}
+use Rattle.directory.specs.Fit.{fit}
+use Rattle.segment.specs.Records.{segment_of}
+
+-- a merge that goes on: the places of its two segments,
+-- where its output is to lie, and the rows that are left
+pub record Merge : Type 0 where
+  pub i : ℕ
+  pub j : ℕ
+  pub output : Extent
+  pub left : ℕ
+
+pub record Catalog : Type 0 where
+  pub layout : Layout
+  pub epoch : ℕ
+  pub entries : List Entry
+  pub merge : Option Merge
+
+-- of a directory, and the merge that goes on
+abbrev pub catalog_of : DirectoryValue → Option Merge → Catalog
+catalog_of d merge =
+    record { layout = d.layout; epoch = d.epoch; entries = d.entries; merge = merge }
+
+-- the blocks that a store needs: those of the slots, of which one holds
+-- the directory, and those of the segments that it lists
+abbrev pub blocks_in_use : List Entry → ℕ
+blocks_in_use entries = 4 + sum_by (λ entry. block_count (extent_of entry)) entries
+
+-- the extent that a merge reserves
+abbrev pub reserved_by : Option Merge → Option Extent
+reserved_by None = None
+reserved_by (Some merge) = Some merge.output
+
+-- the segment of these rows, from this block on
+abbrev pub entry_at : ℕ → List StampedRow → Entry
+entry_at first rows = record { first = first; bytes = length (segment_of rows); rows = length rows }
+
+-- the first place where a segment of these rows finds room
+abbrev pub place_for : List StampedRow → Catalog → Option ℕ
+place_for rows catalog =
+    fit (block_count (extent_of (entry_at 0 rows))) catalog.entries (reserved_by catalog.merge)
+
+-- a segment of these rows is added, at the first place where it finds room. The version from
+-- before says how many entries there may be, and it is 2 afterwards.
+pub record IsPlaced (rows : List StampedRow) (catalog next : Catalog) : Type 0 where
+  pub few : length catalog.entries < most_entries catalog.layout
+  pub short : length (segment_of rows) < 2 ^ 32
+  pub first : ℕ
+  pub place : place_for rows catalog ≡ Some first
+  pub next_is : next ≡ record {
+    layout = layouts.Two;
+    epoch = catalog.epoch + 1;
+    entries = catalog.entries ++ entry_at first rows ∷ [];
+    merge = catalog.merge;
+  }
+
+-- the catalog after an import of these new rows; without any, no segment is added
+abbrev pub IsCatalogAfter : List StampedRow → Catalog → Catalog → Type 0
+IsCatalogAfter [] catalog next =
+    next ≡ record {
+      layout = layouts.Two;
+      epoch = catalog.epoch + 1;
+      entries = catalog.entries;
+      merge = catalog.merge;
+    }
+IsCatalogAfter (s ∷ rows) catalog next = IsPlaced (s ∷ rows) catalog next
+
+-- a segment is wanted, and the directory lists as many as it can
+pub record HasNoEntry (rows : List StampedRow) (catalog : Catalog) : Type 0 where
+  pub some : 1 ≤ length rows
+  pub all_taken : length catalog.entries ≡ most_entries catalog.layout
+
+-- a segment is wanted, and it is too long, or there is no place for it
+pub record HasNoPlace (rows : List StampedRow) (catalog : Catalog) : Type 0 where
+  pub some : 1 ≤ length rows
+  pub few : length catalog.entries < most_entries catalog.layout
+  pub none : (2 ^ 32 ≤ length (segment_of rows)) ⊎ (place_for rows catalog ≡ None)

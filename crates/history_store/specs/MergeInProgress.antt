@@ -1,0 +1,84 @@
+-- A merge that goes on: in memory stand the places of the rows taken so far and what is
+-- posted of them, and their bytes stand where the output is to lie, as a read gives them.
+use Rattle.std.specs.Prelude.{◌≡◌, ℕ, ◌<◌, ◌++◌, Bool, false, List, length, Option, Some, None, slice_get}
+use Rattle.std.specs.List.{AllByRecursion, AllZip}
+use Rattle.rf2_values.specs.Key.{key_of}
+use Rattle.history_model.specs.declared.stamped.StampedRow.{StampedRow}
+use Rattle.history_model.specs.Lists.{union}
+use Rattle.directory.specs.declared.entry.Entry.{Entry}
+use Rattle.directory.specs.Listings.{DirectoryValue, IsEntry}
+use Rattle.directory.specs.Places.{AreBeside, extent_of, extents_of}
+use Rattle.merge.specs.declared.MergeProgress.{MergeProgress}
+use Rattle.merge.specs.Merged.{IsOf, count_left, rows_left}
+use Rattle.segment.specs.declared.place.RowPlace.{RowPlace}
+use Rattle.segment.specs.Records.{IsStamped, segment_of}
+use Rattle.segment.specs.Standing.{record_len, places_of, with_places}
+use Rattle.as_of_index.specs.Postings.{posted_all}
+use Rattle.term_prefix.specs.Terms.{TermAt}
+use Rattle.term_prefix.specs.Pushed.{posted_term}
+use Rattle.associations.specs.Edges.{Edges, posted_edges}
+use Rattle.store_image.specs.Says.{IsSegmentOf}
+use Rattle.store_image.specs.Ahead.{BeginsWith}
+use Rattle.history_store.specs.declared.merge_in_progress.MergeInProgress.{MergeInProgress}
+use Rattle.history_store.specs.Catalog.{Merge}
+
+-- what the catalog shows of it
+abbrev pub merge_of : Option MergeInProgress → Option Merge
+merge_of None = None
+merge_of (Some m) =
+    Some (record { i = m.i; j = m.j; output = extent_of m.entry; left = count_left m.places })
+
+-- the one row has the key, the import's number and the length of the other
+pub record IsLike (s other : StampedRow) : Type 0 where
+  pub key : key_of s.row ≡ key_of other.row
+  pub import : s.import ≡ other.import
+  pub bytes : record_len s ≡ record_len other
+
+-- The rows that were read and taken of the two lists, and then what is left of them, are their
+-- union; a disk that isn't honest may have given rows that are like these. The output's extent
+-- shares no block with a segment that is listed.
+pub record IsMergeOf (honest : Type 0) (d : DirectoryValue) (lists : List (List StampedRow))
+    (i j : ℕ) (entry : Entry)
+    (places : MergeProgress) (rows : List StampedRow) (written : ℕ) : Type 0 where
+  pub a : List StampedRow
+  pub b : List StampedRow
+  pub below : i < j
+  pub within : j < length d.entries
+  pub a_is : slice_get lists i ≡ Some a
+  pub b_is : slice_get lists j ≡ Some b
+  pub lengths : IsOf places a b
+  pub taken : honest → rows ++ rows_left places a b ≡ union a b
+  pub alike : AllZip IsLike (rows ++ rows_left places a b) (union a b)
+  pub each : AllByRecursion IsStamped rows
+  pub segment : IsSegmentOf entry (union a b)
+  pub is_entry : IsEntry entry
+  pub beside : AllByRecursion (AreBeside (extent_of entry)) (extents_of d.entries)
+  pub written_is : written ≡ length (segment_of rows)
+
+-- what is kept of rows that were taken: their places in the output, and what is posted of them
+pub record AreTaken (rows : List StampedRow) (listed : List RowPlace) (terms : List TermAt)
+    (edges : Edges) : Type 0 where
+  pub listed_are : listed ≡ places_of rows
+  pub terms_are : terms ≡ posted_all posted_term (with_places 0 rows)
+  pub edges_are : edges ≡ posted_edges (with_places 0 rows)
+
+-- it is one of two of the segments that are listed
+abbrev pub IsMergingOf : Type 0 → DirectoryValue → List (List StampedRow) → Option MergeInProgress
+    → Type 0
+IsMergingOf honest d lists None = Unit {0}
+IsMergingOf honest d lists (Some m) =
+    IsMergeOf honest d lists m.i m.j m.entry m.places m.shown m.written
+    × AreTaken m.shown m.listed.items m.terms m.edges
+
+-- a read gives what was written of the output; a stop may still lose it
+abbrev pub IsWritten : Option MergeInProgress → List ℕ → Type 0
+IsWritten None now = Unit {0}
+IsWritten (Some m) now = BeginsWith (extent_of m.entry) (segment_of m.shown) now
+
+-- A merge that goes on is of two of these segments. As long
+-- as no call has failed, a read gives what was written of it.
+pub record HasMerge (honest : Type 0) (now : List ℕ) (d : DirectoryValue)
+    (lists : List (List StampedRow)) (merge : Option MergeInProgress) (needs_reopen : Bool)
+    : Type 0 where
+  pub merging : IsMergingOf honest d lists merge
+  pub written : honest → needs_reopen ≡ false → IsWritten merge now

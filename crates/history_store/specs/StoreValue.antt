@@ -1,0 +1,61 @@
+-- A store as clauses see it.
+use Rattle.std.specs.Prelude.{◌≡◌, ℕ, ◌+◌, [], ◌∷◌, Bool, false, List}
+use Rattle.disk_model.specs.Disk.{DiskState, Moments, EachImage}
+use Rattle.blocks.specs.declared.slots.Slot.{Slot}
+use Rattle.history_model.specs.declared.stamped.StampedRow.{StampedRow}
+use Rattle.history_model.specs.History.{History}
+use Rattle.history_model.specs.Lists.{listed}
+use Rattle.directory.specs.Listings.{DirectoryValue}
+use Rattle.store_image.specs.Says.{IsKept}
+use Rattle.store_image.specs.Images.{Represents}
+use Rattle.store_image.specs.Shown.{IsOnDisk}
+use Rattle.lru.specs.LruCache.{LruCache, lru_cache}
+use Rattle.blocks.specs.Cache.{AgreesWith}
+use Rattle.segment.specs.declared.place.RowPlace.{RowPlace}
+use Rattle.as_of_index.specs.Places.{Lists}
+use Rattle.history_store.specs.Catalog.{Catalog}
+
+-- the device, the history, where its segments lie, whether a call failed so that the
+-- store has to be opened again, and which blocks of the device are kept in memory
+pub record StoreValue (D : Type 0) : Type 0 where
+  pub disk : D
+  pub history : History
+  pub catalog : Catalog
+  pub needs_reopen : Bool
+  pub cache : LruCache ℕ (List ℕ)
+
+-- for how many blocks there is room
+abbrev pub cache_blocks : ℕ
+cache_blocks = 1024
+
+-- no block is kept
+abbrev pub no_blocks : LruCache ℕ (List ℕ)
+no_blocks = lru_cache [] cache_blocks
+
+-- no call has failed, and whatever a stop leaves stands for what the store holds
+pub record IsAcknowledged {D : Type 0} (moments : D → Moments) (s : StoreValue D) : Type 0 where
+  pub open_still : s.needs_reopen ≡ false
+  pub each : EachImage (moments s.disk).state
+      (λ c. Represents c s.history s.catalog.layout s.catalog.epoch s.catalog.entries)
+
+-- What is kept in memory fits together: the index lists the places of these rows. As long
+-- as no call has failed, the disk has them, and what is kept of it is as a read gives it.
+pub record IsHeld (honest : Type 0) (state : DiskState) (cache : LruCache ℕ (List ℕ)) (slot : Slot)
+    (d : DirectoryValue)
+    (index : List (List RowPlace)) (lists : List (List StampedRow))
+    (needs_reopen : Bool) : Type 0 where
+  pub kept : IsKept d lists
+  pub places : Lists index lists
+  pub on_disk : honest → needs_reopen ≡ false → IsOnDisk state slot d lists
+  pub agrees : honest → needs_reopen ≡ false → AgreesWith cache state.now
+
+-- no import and no epoch goes past these
+abbrev pub last_import : ℕ
+last_import = 4294967295
+
+abbrev pub last_epoch : ℕ
+last_epoch = 18446744073709551615
+
+-- the history with one import more, that brought these rows
+abbrev pub with_rows : History → List StampedRow → History
+with_rows h rows = record { imports = h.imports + 1; rows = listed (h.rows ∷ rows ∷ []) }

@@ -1,0 +1,323 @@
+//! The questions to a store. None of them changes what it holds.
+
+ghost use Rattle.std.specs.Prelude.{◌≡◌, ◌⊎◌, ◌+◌, ◌≤◌};
+ghost use Rattle.std.specs.Prelude.{IfOk, IfErr, MatchResult, Ok, Err, true, false};
+
+use crate::brought::receipt_of;
+use crate::reading::DiskRows;
+use crate::refusal::Refusal;
+use crate::store::Store;
+use as_of_index::ReadFault;
+use associations::{about, children, replacements};
+use disk_model::Disk;
+use history_model::ImportReceipt;
+use rf2_rows::{EffectiveTime, Kind, Row, Sctid};
+use term_prefix::find;
+
+impl<D: Disk> Store<D> {
+    ghost use Rattle.std.specs.List.{sum_by};
+    ghost use Rattle.std.specs.Option.{option_to_list};
+    ghost use Rattle.history_model.specs.History.{rows_at};
+    ghost use Rattle.history_model.specs.Brought.{ImportReceiptOf};
+    ghost use Rattle.history_model.specs.Queries.{get, versions, page, terms, search_terms};
+    ghost use Rattle.history_model.specs.Queries.{about, children, replacements};
+    ghost use Rattle.history_store.specs.Answers.{IsReadingOf};
+    ghost use Rattle.history_store.specs.Queries.{IsQuery};
+    ghost use Rattle.history_store.specs.Reading.{row_cost};
+    ghost use Rattle.history_store.specs.Refusals.{of_read};
+    ghost use Rattle.history_store.specs.StoreValue.{IsAcknowledged};
+    ghost use Rattle.history_store.specs.declared.refusal.Refusal.TheVariants as refusals;
+
+    /// What was read of the rows, as the store answers it. Where
+    /// the device failed, the store has to be opened again.
+    fn answered<T>(&mut self, read: Result<T, ReadFault>) -> Result<T, Refusal>
+        requires still { self.old.needs_reopen ≡ false }
+        ensures same { MatchResult read (λ found. result ≡ Ok found)
+            (λ fault. result ≡ Err (of_read fault)) }
+        ensures left { IsReadingOf result self.old self.new }
+        ensures disk { self.new.disk ≡ self.old.disk }
+        ensures cache { self.new.cache ≡ self.old.cache }
+        ensures acknowledged { D.is_honest self.old.disk → self.new.needs_reopen ≡ false
+            → IsAcknowledged D.moments self.new }
+    {
+        match read {
+            Ok(found) => Ok(found),
+            Err(fault) => {
+                if matches!(fault, ReadFault::DiskFault) {
+                    self.needs_reopen = true;
+                }
+                Err(Refusal::from(fault))
+            }
+        }
+    }
+
+    /// The component's row at the date, as the first `pin` imports show it.
+    pub fn get(
+        &mut self,
+        kind: Kind,
+        id: u128,
+        time: EffectiveTime,
+        pin: u32,
+    ) -> Result<Option<Row>, Refusal>
+        requires { pin ≤ self.old.history.imports }
+        ensures found { D.is_honest self.old.disk
+            → IfOk result (λ row. row ≡ get kind id time (rows_at pin self.old.history.rows)) }
+        ensures query { IsQuery result D.is_honest D.moments D.failures self.old self.new }
+        // Whatever is on the disk, no more is read than the row that is answered takes,
+        // and nothing where none is answered.
+        ensures bytes_read { IfOk result (λ row. D.bytes_read self.new.disk
+            ≤ D.bytes_read self.old.disk + sum_by row_cost (option_to_list row)) }
+    {
+        if self.needs_reopen {
+            return Err(Refusal::ReopenNeeded);
+        }
+        let mut reader = DiskRows {
+            disk: &mut self.disk,
+            cache: &mut self.cache,
+            entries: self.directory.entries(),
+            shown: self.shown.as_slice(),
+            damages: 0,
+        };
+        let read = self.index.get(&mut reader, kind, id, time, pin);
+        self.answered(read)
+    }
+
+    /// All versions of the component that the first `pin` imports brought, ascending by time.
+    pub fn history(&mut self, kind: Kind, id: u128, pin: u32) -> Result<Vec<Row>, Refusal>
+        requires { pin ≤ self.old.history.imports }
+        ensures found { D.is_honest self.old.disk
+            → IfOk result (λ rows. rows.items ≡ versions kind id
+            (rows_at pin self.old.history.rows)) }
+        ensures query { IsQuery result D.is_honest D.moments D.failures self.old self.new }
+        // Whatever is on the disk, no more is read than the rows that are answered take.
+        ensures bytes_read { IfOk result (λ rows. D.bytes_read self.new.disk
+            ≤ D.bytes_read self.old.disk + sum_by row_cost rows.items) }
+    {
+        if self.needs_reopen {
+            return Err(Refusal::ReopenNeeded);
+        }
+        let mut reader = DiskRows {
+            disk: &mut self.disk,
+            cache: &mut self.cache,
+            entries: self.directory.entries(),
+            shown: self.shown.as_slice(),
+            damages: 0,
+        };
+        let read = self.index.history(&mut reader, kind, id, pin);
+        self.answered(read)
+    }
+
+    /// The first rows of a kind at the date, at most
+    /// `limit`, ascending by id from above `after` on.
+    pub fn page(
+        &mut self,
+        kind: Kind,
+        time: EffectiveTime,
+        after: Option<u128>,
+        limit: u32,
+        pin: u32,
+    ) -> Result<Vec<Row>, Refusal>
+        requires { pin ≤ self.old.history.imports }
+        ensures found { D.is_honest self.old.disk
+            → IfOk result (λ rows. rows.items ≡ page kind time after limit
+            (rows_at pin self.old.history.rows)) }
+        ensures query { IsQuery result D.is_honest D.moments D.failures self.old self.new }
+        // Whatever is on the disk, no more is read than the rows that are answered take.
+        ensures bytes_read { IfOk result (λ rows. D.bytes_read self.new.disk
+            ≤ D.bytes_read self.old.disk + sum_by row_cost rows.items) }
+    {
+        if self.needs_reopen {
+            return Err(Refusal::ReopenNeeded);
+        }
+        let mut reader = DiskRows {
+            disk: &mut self.disk,
+            cache: &mut self.cache,
+            entries: self.directory.entries(),
+            shown: self.shown.as_slice(),
+            damages: 0,
+        };
+        let read = self.index.page(&mut reader, kind, time, after, limit, pin);
+        self.answered(read)
+    }
+
+    /// The active rows of a kind that are about a component, ascending by id: the descriptions of a
+    /// concept, the relationships of a source, what an association refers to.
+    pub fn about(
+        &mut self,
+        kind: Kind,
+        id: Sctid,
+        time: EffectiveTime,
+        pin: u32,
+    ) -> Result<Vec<Row>, Refusal>
+        requires { pin ≤ self.old.history.imports }
+        ensures found { D.is_honest self.old.disk
+            → IfOk result (λ rows. rows.items ≡ about kind id time
+            (rows_at pin self.old.history.rows)) }
+        ensures query { IsQuery result D.is_honest D.moments D.failures self.old self.new }
+        // Whatever is on the disk, no more is read than the rows that are answered take.
+        ensures bytes_read { IfOk result (λ rows. D.bytes_read self.new.disk
+            ≤ D.bytes_read self.old.disk + sum_by row_cost rows.items) }
+    {
+        if self.needs_reopen {
+            return Err(Refusal::ReopenNeeded);
+        }
+        let mut reader = DiskRows {
+            disk: &mut self.disk,
+            cache: &mut self.cache,
+            entries: self.directory.entries(),
+            shown: self.shown.as_slice(),
+            damages: 0,
+        };
+        let read = about(
+            self.alloc,
+            &self.links,
+            &self.index,
+            &mut reader,
+            kind,
+            id,
+            time,
+            pin,
+        );
+        self.answered(read)
+    }
+
+    /// Active descriptions whose term begins with the prefix, whatever the case,
+    /// ascending by id from above `after` on, at most `limit`.
+    pub fn search(
+        &mut self,
+        prefix: &str,
+        time: EffectiveTime,
+        after: Option<u128>,
+        limit: u32,
+        pin: u32,
+    ) -> Result<Vec<Row>, Refusal>
+        requires { pin ≤ self.old.history.imports }
+        ensures found { D.is_honest self.old.disk
+            → IfOk result (λ rows. rows.items ≡ search_terms prefix.now time after limit
+            (rows_at pin self.old.history.rows)) }
+        ensures query { IsQuery result D.is_honest D.moments D.failures self.old self.new }
+        // Whatever is on the disk, no more is read than the rows that are answered take.
+        ensures bytes_read { IfOk result (λ rows. D.bytes_read self.new.disk
+            ≤ D.bytes_read self.old.disk + sum_by row_cost rows.items) }
+    {
+        if self.needs_reopen {
+            return Err(Refusal::ReopenNeeded);
+        }
+        let mut reader = DiskRows {
+            disk: &mut self.disk,
+            cache: &mut self.cache,
+            entries: self.directory.entries(),
+            shown: self.shown.as_slice(),
+            damages: 0,
+        };
+        let read = find(
+            self.alloc,
+            &self.terms,
+            &self.index,
+            &mut reader,
+            prefix,
+            time,
+            after,
+            limit,
+            pin,
+        );
+        self.answered(read)
+    }
+
+    /// Such descriptions from the first id on, at most `limit`.
+    pub fn terms(
+        &mut self,
+        prefix: &str,
+        time: EffectiveTime,
+        limit: u32,
+        pin: u32,
+    ) -> Result<Vec<Row>, Refusal>
+        requires { pin ≤ self.old.history.imports }
+        ensures found { D.is_honest self.old.disk
+            → IfOk result (λ rows. rows.items ≡ terms prefix.now time limit
+            (rows_at pin self.old.history.rows)) }
+        ensures query { IsQuery result D.is_honest D.moments D.failures self.old self.new }
+        // Whatever is on the disk, no more is read than the rows that are answered take.
+        ensures bytes_read { IfOk result (λ rows. D.bytes_read self.new.disk
+            ≤ D.bytes_read self.old.disk + sum_by row_cost rows.items) }
+    {
+        self.search(prefix, time, None, limit, pin)
+    }
+
+    /// The sources of the active relationships of the type "is a" to a concept, ascending.
+    /// Nothing is read.
+    pub fn children(
+        &mut self,
+        id: Sctid,
+        time: EffectiveTime,
+        pin: u32,
+    ) -> Result<Vec<u64>, Refusal>
+        requires { pin ≤ self.old.history.imports }
+        ensures found { IfOk result (λ ids. (self.old.needs_reopen ≡ false)
+            × (ids.items ≡ children id time (rows_at pin self.old.history.rows))) }
+        ensures refused { IfErr result (λ e. ((e ≡ refusals.ReopenNeeded)
+            × (self.old.needs_reopen ≡ true)) ⊎ ((e ≡ refusals.OutOfMemory)
+            × (self.old.needs_reopen ≡ false))) }
+        ensures unchanged { self.new ≡ self.old }
+    {
+        if self.needs_reopen {
+            return Err(Refusal::ReopenNeeded);
+        }
+        let found = children(self.alloc, &self.links, &self.index, id, time, pin)?;
+        Ok(found)
+    }
+
+    /// The active associations of a component, one step, ascending by refset, target and member.
+    pub fn replacements(
+        &mut self,
+        id: Sctid,
+        time: EffectiveTime,
+        pin: u32,
+    ) -> Result<Vec<Row>, Refusal>
+        requires { pin ≤ self.old.history.imports }
+        ensures found { D.is_honest self.old.disk
+            → IfOk result (λ rows. rows.items ≡ replacements id time
+            (rows_at pin self.old.history.rows)) }
+        ensures query { IsQuery result D.is_honest D.moments D.failures self.old self.new }
+        // Whatever is on the disk, no more is read than the rows that are answered take.
+        ensures bytes_read { IfOk result (λ rows. D.bytes_read self.new.disk
+            ≤ D.bytes_read self.old.disk + sum_by row_cost rows.items) }
+    {
+        if self.needs_reopen {
+            return Err(Refusal::ReopenNeeded);
+        }
+        let mut reader = DiskRows {
+            disk: &mut self.disk,
+            cache: &mut self.cache,
+            entries: self.directory.entries(),
+            shown: self.shown.as_slice(),
+            damages: 0,
+        };
+        let read = replacements(
+            self.alloc,
+            &self.links,
+            &self.index,
+            &mut reader,
+            id,
+            time,
+            pin,
+        );
+        self.answered(read)
+    }
+
+    /// What an import was the first to bring, whatever was imported after it.
+    /// It goes over all places in memory, and reads nothing.
+    pub fn receipt(&self, number: u32) -> Result<ImportReceipt, Refusal>
+        requires first { 1 ≤ number }
+        requires last { number ≤ self.now.history.imports }
+        ensures found { IfOk result (λ r. (self.now.needs_reopen ≡ false)
+            × ImportReceiptOf self.now.history number r.new r.latest) }
+        ensures refused { IfErr result (λ e. (e ≡ refusals.ReopenNeeded)
+            × (self.now.needs_reopen ≡ true)) }
+    {
+        if self.needs_reopen {
+            return Err(Refusal::ReopenNeeded);
+        }
+        Ok(receipt_of(&self.index, number))
+    }
+}

@@ -1,0 +1,69 @@
+-- What a release brings, and what refuses it.
+use Rattle.std.specs.Prelude.{◌≡◌, ◌≢◌, ℕ, ◌+◌, List, ◌++◌, length, ⊤}
+use Rattle.rf2_values.specs.Row.{RowValue}
+use Rattle.rf2_values.specs.Key.{key_of}
+use Rattle.history_model.specs.InOrder.{Has, IsAscending}
+use Rattle.history_model.specs.History.{row_cmp, IsConsistent}
+use Rattle.import_check.specs.declared.release.Release.{Release}
+use Rattle.import_check.specs.declared.found.NewRows.{NewRows}
+use Rattle.import_check.specs.declared.fault.ImportFault.{ImportFault}
+use Rattle.import_check.specs.declared.fault.ImportFault.TheVariants as importfault
+use Rattle.fault_counts.specs.declared.fault.ReadFault.TheVariants as readfault
+use Rattle.import_check.specs.Known.{IsUnknown}
+use Rattle.fault_counts.specs.Counting.{CountsDiskFault, CountsDamage}
+use Rattle.import_check.specs.Release.{SpellFiles, IsReleaseOf, IsFaultOfRelease, HasContradiction}
+
+-- the rows that are not known, each once and in key order, and how many of the others there are
+pub record AreNewRows (known rows fresh : List RowValue) (repeated : ℕ) : Type 0 where
+  pub ascending : IsAscending row_cmp fresh
+  pub from_release : (row : RowValue) → Has fresh row → Has rows row
+  pub not_known : (row : RowValue) → Has fresh row → Has known row → ⊥
+  pub each : (row : RowValue) → Has rows row → (Has known row → ⊥) → Has fresh row
+  pub counted : length fresh + repeated ≡ length rows
+
+-- these rows ascend, and none of their keys is known
+pub record IsApart (known fresh : List RowValue) : Type 0 where
+  pub ascending : IsAscending row_cmp fresh
+  pub unknown : (row : RowValue) → Has fresh row → IsUnknown known (key_of row)
+
+-- a release that is taken: its rows and those that are known are consistent, and these rows are new
+pub record IsTaken (known : List RowValue) (rows : List RowValue) (fresh : NewRows) : Type 0 where
+  pub consistent : IsConsistent (known ++ rows)
+  pub fresh_is : AreNewRows known rows fresh.rows.items fresh.repeated
+
+-- each file is a release file
+pub record IsRead (release : Release) : Type 0 where
+  pub lists : List (List RowValue)
+  pub spelled : SpellFiles release.files.items lists
+
+-- the release is one of these rows, and it is taken
+pub record IsAcceptedAs (known : List RowValue) (release : Release) (fresh : NewRows) : Type 0 where
+  pub rows : List RowValue
+  pub rows_are : IsReleaseOf release rows
+  pub taken : IsTaken known rows fresh
+
+-- Why a release is refused: a row has a fault, which is that of the release; or each file is a
+-- release file, and a known row can't be had or a line contradicts. That memory ran out says
+-- nothing.
+abbrev pub IsRefusal : (honest : Type 0) → List RowValue → Release → ImportFault → Type 0
+IsRefusal honest known release importfault.OutOfMemory = ⊤
+IsRefusal honest known release (importfault.Known fault) =
+    IsRead release × (honest → fault ≢ readfault.Damaged)
+IsRefusal honest known release (importfault.Row file line fault) =
+    IsFaultOfRelease release file line fault
+IsRefusal honest known release (importfault.Contradiction file line key) =
+    IsRead release × (honest → HasContradiction known release file line key)
+
+-- the count of answers `DiskFault` of what is known goes up with that answer, and else stays
+abbrev pub CountsAnyDiskFault : ImportFault → ℕ → ℕ → Type 0
+CountsAnyDiskFault importfault.OutOfMemory old new = new ≡ old
+CountsAnyDiskFault (importfault.Known fault) old new = CountsDiskFault fault old new
+CountsAnyDiskFault (importfault.Row file line fault) old new = new ≡ old
+CountsAnyDiskFault (importfault.Contradiction file line key) old new = new ≡ old
+
+-- and likewise that of its answers `Damaged`
+abbrev pub CountsAnyDamage : ImportFault → ℕ → ℕ → Type 0
+CountsAnyDamage importfault.OutOfMemory old new = new ≡ old
+CountsAnyDamage (importfault.Known fault) old new = CountsDamage fault old new
+CountsAnyDamage (importfault.Row file line fault) old new = new ≡ old
+CountsAnyDamage (importfault.Contradiction file line key) old new = new ≡ old

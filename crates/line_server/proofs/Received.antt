@@ -1,0 +1,116 @@
+-- What a RECEIPT is answered.
+use Rattle.std.proofs.Common.{◌≡◌, ◌⊎◌, ℕ, ◌≤◌, ◌<◌, Bool, true, false, List, length, Option, Some, Result, Ok, Err, inl, inr, refl, sym, ap, subst, ◌∙◌, arith}
+use Rattle.std.specs.Prelude.{◌==◌}
+use Rattle.std.specs.List.{filter}
+use Rattle.std.proofs.lemmas.Bool.{false≢true}
+use Rattle.std.proofs.lemmas.Bool.Decides.{nat_tests}
+use Rattle.rf2_values.specs.Row.{RowValue}
+use Rattle.history_model.specs.declared.stamped.StampedRow.{StampedRow}
+use Rattle.history_model.specs.History.{History, IsHistory, stamped_cmp, after_release}
+use Rattle.history_model.specs.Brought.{brought_by, IsLatestDay, ImportReceiptOf}
+use Rattle.history_model.proofs.InOrder.{same_ascending}
+use Rattle.history_model.proofs.Keys.{stamped_total}
+use Rattle.history_model.proofs.Filtered.{Has-filter, Has-filter_from, IsAscending-filter}
+use Rattle.history_model.proofs.Releases.{then_is_history}
+use Rattle.history_model.proofs.Receipts.{after_cases, after_old}
+use Rattle.history_model.proofs.Brought.{one_receipt_for_an_import}
+use Rattle.history_store.specs.declared.refusal.Refusal.{Refusal}
+use Rattle.history_store.specs.declared.refusal.Refusal.TheVariants as store
+use Rattle.line_commands.specs.Commands.{Command, Import, Receipt, Pin}
+use Rattle.line_server.specs.declared.refusal.LineRefusal.{LineRefusal}
+use Rattle.line_server.specs.declared.refusal.LineRefusal.TheVariants as refusals
+use Rattle.line_server.specs.Sources.{Releases}
+use Rattle.line_server.specs.ReplyValue.{Answer, Done}
+use Rattle.line_server.specs.Replies.{Server, IsOutcome, imports_seen, receipt_of}
+use Rattle.line_server.specs.Laws.{PinnedReceiptIsUndisturbed, BroughtAlike}
+use Rattle.line_server.proofs.Pinned.{asked_outcome}
+
+abbrev pub is_receipt : Command → Bool
+is_receipt (Receipt number) = true
+is_receipt _ = false
+
+abbrev number_of : Command → ℕ
+number_of (Receipt number) = number
+number_of _ = 0
+
+-- ---- how it comes out
+
+-- a session is told the receipt of an import
+abbrev pub IsGiven : {D : Type 0} → ℕ → ℕ → Result Answer LineRefusal → Server D → Type 0
+IsGiven session number outcome s =
+    (brought : ℕ) × (latest : Option ℕ) × (s.store.needs_reopen ≡ false) × (number ≤ imports_seen s session) × ImportReceiptOf s.store.history number brought latest
+    × (outcome ≡ Ok (Done (receipt_of number brought latest)))
+
+abbrev IsShut : {D : Type 0} → ℕ → ℕ → Result Answer LineRefusal → Server D → Type 0
+IsShut session number outcome s = (s.store.needs_reopen ≡ true) × (number ≤ imports_seen s session) × (outcome ≡ Err (refusals.Store store.ReopenNeeded))
+
+abbrev IsUnseen : {D : Type 0} → ℕ → ℕ → Result Answer LineRefusal → Server D → Type 0
+IsUnseen session number outcome s = (imports_seen s session < number) × (outcome ≡ Err refusals.PinRange)
+
+abbrev pub ComesOut : {D : Type 0} → ℕ → ℕ → Result Answer LineRefusal → Server D → Type 0
+ComesOut session number outcome s = IsGiven session number outcome s ⊎ (IsShut session number outcome s ⊎ IsUnseen session number outcome s)
+
+pub receipt_out : {D : Type 0} (honest : Type 0) (releases : Releases) (session number : ℕ) (outcome : Result Answer LineRefusal) (old new : Server D) → IsOutcome honest releases session (Receipt number) outcome old new
+    → (new ≡ old) × ComesOut session number outcome old
+receipt_out honest releases session number (Ok answer) old new h = (h.unchanged, inl (h.brought, h.latest, h.open_still, h.seen, h.receipt, ap Ok h.answer_is))
+receipt_out honest releases session number (Err (refusals.Unread reason)) old new h = absurd h
+receipt_out honest releases session number (Err refusals.PinRange) old new ((n, inl h), same) = absurd (false≢true (sym (ap is_receipt h.0)))
+receipt_out honest releases session number (Err refusals.PinRange) old new ((n, inr h), same) =
+    (same, inr (inr (subst (λ (k : ℕ). imports_seen old session < k) (sym (ap number_of h.0)) h.1, refl)))
+receipt_out honest releases session number (Err refusals.NoFolder) old new h = absurd (false≢true (sym (ap is_receipt h.1)))
+receipt_out honest releases session number (Err (refusals.Store e)) old new h = (h.1.2, inr (inl (h.1.1, h.0, ap (λ (r : Refusal). Err (refusals.Store r)) h.1.0)))
+
+-- ---- one receipt
+
+-- the receipt of an import that brought the same rows
+pub moved_receipt : (h g : History) (number brought imported : ℕ) (latest day : Option ℕ) → BroughtAlike number h g → ImportReceiptOf h number imported day → ImportReceiptOf g number brought latest → ImportReceiptOf h number brought latest
+moved_receipt h g number brought imported latest day alike here there = record {
+  imported = here.imported;
+  new_is = there.new_is ∙ ap length (sym alike);
+  latest_is = subst (λ (rows : List StampedRow). IsLatestDay latest rows) (sym alike) there.latest_is;
+}
+
+told_alike : (h g : History) (number brought count : ℕ) (latest day : Option ℕ) → BroughtAlike number h g → ImportReceiptOf h number brought latest → ImportReceiptOf g number count day → receipt_of number brought latest ≡ receipt_of number count day
+told_alike h g number brought count latest day alike here there =
+    let one = one_receipt_for_an_import h number brought count latest day here (moved_receipt h g number count brought day latest alike here there) in
+    ap (λ (n : ℕ). receipt_of number n latest) one.0 ∙ ap (λ (d : Option ℕ). receipt_of number count d) one.1
+
+module _ {D : Type 0} (session number : ℕ) (x y : Result Answer LineRefusal) (a b : Server D) (seen : imports_seen a session ≡ imports_seen b session) (needs : a.store.needs_reopen ≡ b.store.needs_reopen)
+    (alike : number ≤ imports_seen a session → BroughtAlike number a.store.history b.store.history) where
+  pub one_receipt : ComesOut session number x a → ComesOut session number y b → x ≡ y
+  one_receipt (inl h) (inl k) = h.5 ∙ ap (λ (words : List (List ℕ)). Ok (Done words)) (told_alike a.store.history b.store.history number h.0 k.0 h.1 k.1 (alike h.3) h.4 k.4) ∙ sym k.5
+  one_receipt (inl h) (inr (inl k)) = absurd (false≢true (sym h.2 ∙ needs ∙ k.0))
+  one_receipt (inl h) (inr (inr k)) = absurd (let within = h.3 in let above = k.0 in omega (arith, within, above, seen))
+  one_receipt (inr (inl h)) (inl k) = absurd (false≢true (sym k.2 ∙ sym needs ∙ h.0))
+  one_receipt (inr (inl h)) (inr (inl k)) = h.2 ∙ sym k.2
+  one_receipt (inr (inl h)) (inr (inr k)) = absurd (let within = h.1 in let above = k.0 in omega (arith, within, above, seen))
+  one_receipt (inr (inr h)) (inl k) = absurd (let within = k.3 in let above = h.0 in omega (arith, within, above, seen))
+  one_receipt (inr (inr h)) (inr (inl k)) = absurd (let within = k.1 in let above = h.0 in omega (arith, within, above, seen))
+  one_receipt (inr (inr h)) (inr (inr k)) = h.1 ∙ sym k.1
+
+pub receipt_undisturbed : (D : Type 0) (honest : D → Type 0) → PinnedReceiptIsUndisturbed D honest
+receipt_undisturbed D honest releases others a b after next line session pin number one two needs asks pa pb alike ra rb =
+    one_receipt session number one two a b (pa ∙ sym pb) needs (λ within. alike)
+    (receipt_out (honest a.store.disk) releases session number one a after (asked_outcome (honest a.store.disk) releases a after line session (Receipt number) one asks ra)).1
+    (receipt_out (honest b.store.disk) others session number two b next (asked_outcome (honest b.store.disk) others b next line session (Receipt number) two asks rb)).1
+
+-- ---- imports that come later
+
+-- another release changes nothing of what an import brought
+pub brought_stays : (h : History) (release : List RowValue) (number : ℕ) → IsHistory h → number ≤ h.imports → BroughtAlike number (after_release h release) h
+unfolding brought_by
+brought_stays h release number is within =
+    let of_import : StampedRow → Bool = λ s. s.import == number in
+    let after = after_release h release in
+    same_ascending stamped_total (filter of_import after.rows) (filter of_import h.rows)
+    (IsAscending-filter of_import stamped_cmp after.rows (then_is_history h release is).ascending)
+    (IsAscending-filter of_import stamped_cmp h.rows is.ascending)
+    (λ s there.
+    let f = Has-filter of_import after.rows s there in
+    elim (after_cases h release s is f.0).origin [
+      | inl late ↦ absurd (let own : s.import ≡ number = grind (arith, nat_tests, f.1) in let last = late.0 in omega (arith, own, last, within))
+      | inr known ↦ Has-filter_from of_import h.rows s known.1 f.1
+    ])
+    (λ s there.
+    let f = Has-filter of_import h.rows s there in
+    Has-filter_from of_import after.rows s (after_old h release s f.0) f.1)

@@ -1,0 +1,31 @@
+use Rattle.std.proofs.Common.{◌≡◌, ap, ◌∙◌, refl, List, [], ◌∷◌, Ok, Option, Some, None, MatchOption}
+use Rattle.std.proofs.lemmas.Result.{err_from_is_err_and}
+use Rattle.rf2_values.specs.Row.{RowValue}
+use Rattle.history_model.specs.History.{rows_at}
+use Rattle.history_model.specs.Queries.{get}
+use Rattle.line_commands.specs.Commands.{Get}
+use Rattle.line_server.specs.ReplyValue.{Rows, reply_value}
+use Rattle.line_server.specs.Replies.{found_row}
+use Rattle.line_server.proofs.Queried.{rows_found, rows_unfound, rows_untold}
+use Rattle.line_server.proofs.queries.answer_get.Goals as goal
+
+as_rows : (o : Option RowValue) (xs : List RowValue) → MatchOption o (xs ≡ []) (λ x. xs ≡ x ∷ []) → xs ≡ found_row o
+as_rows None xs h = h
+as_rows (Some x) xs h = h
+
+pub returns-in_err-found : goal.returns-in_err-found
+returns-in_err-found g c =
+    let p = err_from_is_err_and c.from_residual.result c.from_residual.ensures.1 in
+    let e = c.in_err-found.ensures in
+    rw (p.1, p.2) (rows_unfound g.D.Disk.is_honest g.D.Disk.moments g.D.Disk.failures (Get c.args.kind c.args.id c.args.time) c.args.pin c.args.store.now c.get.new.self tt c.in_err-found.field-0.0 e.query)
+
+pub returns-in_err-reply_rows : goal.returns-in_err-reply_rows
+returns-in_err-reply_rows g c =
+    let p = err_from_is_err_and c.from_residual-in_err-reply_rows.result c.from_residual-in_err-reply_rows.ensures.1 in
+    let e = c.in_ok-found.ensures in
+    rw (p.1, p.2) (rows_untold g.D.Disk.is_honest g.D.Disk.moments g.D.Disk.failures (Get c.args.kind c.args.id c.args.time) c.args.pin c.args.store.now c.get.new.self tt c.in_ok-found.found e.query)
+
+pub returns : goal.returns
+returns g c =
+    let e = c.in_ok-found.ensures in
+    rows_found g.D.Disk.is_honest g.D.Disk.moments g.D.Disk.failures (Get c.args.kind c.args.id c.args.time) c.args.pin c.args.store.now c.get.new.self tt c.in_ok-found.found (found_row c.in_ok-found.found) (found_row (get c.args.kind c.args.id c.args.time (rows_at c.args.pin c.args.store.now.history.rows))) c.in_ok-reply_rows.field-0 e.query refl (λ h. ap found_row (e.found h)) (c.in_ok-reply_rows.ensures ∙ ap (λ (xs : List RowValue). reply_value (Ok (Rows xs))) (as_rows c.in_ok-found.found c.as_slice.result.now c.as_slice.ensures))

@@ -1,0 +1,74 @@
+-- What is written for a line.
+use Rattle.std.specs.Prelude.{ℕ, List, [], ◌∷◌, ◌++◌, length, codes, decimal, Option, Some, None, Result, Ok, Err}
+use Rattle.std.specs.List.{flat_map}
+use Rattle.rf2_values.specs.Row.{RowValue, canonical}
+use Rattle.history_store.specs.declared.refusal.Refusal.TheVariants as store
+use Rattle.history_store.specs.Refusals.{refusal_number, refusal_name}
+use Rattle.line_commands.specs.Requests.{spaced, unread_number, unread_name}
+use Rattle.line_server.specs.declared.refusal.LineRefusal.{LineRefusal}
+use Rattle.line_server.specs.declared.refusal.LineRefusal.TheVariants as refusals
+
+-- what is answered where nothing is refused
+pub data Answer : Type 0 where
+  Rows : List RowValue → Answer
+  Ids : List ℕ → Answer
+  -- the words after `OK`
+  Done : List (List ℕ) → Answer
+
+-- the lines of a reply: those of rows or identifiers, and the last one
+pub record ReplyValue : Type 0 where
+  pub body : List ℕ
+  pub last : List ℕ
+
+abbrev pub line : List (List ℕ) → List ℕ
+line words = spaced words ++ 10 ∷ []
+
+abbrev pub number_of : LineRefusal → ℕ
+number_of (refusals.Unread reason) = unread_number reason
+number_of refusals.PinRange = 44
+number_of refusals.NoFolder = 45
+number_of (refusals.Store refusal) = refusal_number refusal
+
+abbrev pub name_of : LineRefusal → List ℕ
+name_of (refusals.Unread reason) = unread_name reason
+name_of refusals.PinRange = codes "PinRange"
+name_of refusals.NoFolder = codes "NoFolder"
+name_of (refusals.Store refusal) = refusal_name refusal
+
+-- the file and the line at which a release is refused
+abbrev pub place_of : LineRefusal → List (List ℕ)
+place_of (refusals.Store (store.Line file number fault)) = decimal file ∷ decimal number ∷ []
+place_of (refusals.Store (store.Contradiction file number)) = decimal file ∷ decimal number ∷ []
+place_of _ = []
+
+abbrev pub place_words : Option (ℕ × ℕ) → List (List ℕ)
+place_words None = []
+place_words (Some place) = decimal place.0 ∷ decimal place.1 ∷ []
+
+abbrev pub row_line : RowValue → List ℕ
+row_line row = line (codes "ROW" ∷ canonical row ∷ [])
+
+abbrev pub id_line : ℕ → List ℕ
+id_line id = line (codes "ID" ∷ decimal id ∷ [])
+
+-- one line for each row or identifier
+abbrev pub body_of : Result Answer LineRefusal → List ℕ
+body_of (Ok (Rows rows)) = flat_map row_line rows
+body_of (Ok (Ids ids)) = flat_map id_line ids
+body_of (Ok (Done words)) = []
+body_of (Err refusal) = []
+
+-- the number of these lines, what was done, or a refusal: its number, its name and its place
+abbrev pub last_of : Result Answer LineRefusal → List ℕ
+last_of (Ok (Rows rows)) = line (codes "END" ∷ decimal (length rows) ∷ [])
+last_of (Ok (Ids ids)) = line (codes "END" ∷ decimal (length ids) ∷ [])
+last_of (Ok (Done words)) = line (codes "OK" ∷ words)
+last_of (Err refusal) =
+    line (codes "ERR" ∷ decimal (number_of refusal) ∷ name_of refusal ∷ place_of refusal)
+
+abbrev pub reply_value : Result Answer LineRefusal → ReplyValue
+reply_value outcome = record { body = body_of outcome; last = last_of outcome }
+
+-- the bytes that are written
+abbrev pub bytes_of : ReplyValue → List ℕ
+bytes_of reply = reply.body ++ reply.last

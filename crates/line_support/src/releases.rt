@@ -1,0 +1,178 @@
+//! The releases that lines import by their names.
+
+use history_store::Refusal;
+use import_check::{Release, sample};
+use line_server::{Sample, Source, SourceFault};
+use rf2_rows::{Kind, column_names};
+use std::alloc::{AllocError, Global};
+use test_support::{of_bytes, one_file};
+
+/// The lines below the column names of a Concept file, by the release's name.
+fn concepts_of(name: &str) -> Option<&'static [&'static str]> {
+    let rows: &[&str] = match name {
+        "names" => &[],
+        "root" => &["138875005|20200131|1|CORE|PRIM"],
+        "root-of-another-module" => &["138875005|20200131|1|2000001|PRIM"],
+        "month-13" => &[
+            "1000004|20200131|1|CORE|PRIM",
+            "1000004|20200131|0|CORE|PRIM",
+            "2000001|20201301|1|CORE|PRIM",
+        ],
+        "twice" => &[
+            "1000004|20200131|1|CORE|PRIM",
+            "1000004|20200131|0|CORE|PRIM",
+        ],
+        "wrong-digit" => &["1000005|20200131|1|CORE|PRIM"],
+        "leading-zero" => &["01000004|20200131|1|CORE|PRIM"],
+        "a-description" => &["1000015|20200131|1|CORE|PRIM"],
+        "february-30" => &["1000004|20230230|1|CORE|PRIM"],
+        _ => return None,
+    };
+    Some(rows)
+}
+
+/// The kind of a release's one file, and its lines below the column names.
+type File = (Kind, &'static [&'static str]);
+
+/// The file of relationships with concrete values, or
+/// else of concepts, of a release by the release's name.
+fn values_of(name: &str) -> Option<File> {
+    let rows: &[&str] = match name {
+        "strength" => &["1000027|20210731|1|CORE|1000004|#5|0|3000005|INF|MOD"],
+        "no-value" => &["1000027|20210731|1|CORE|1000004||0|3000005|INF|MOD"],
+        "strength-of-a-concept" => &["1000004|20210731|1|CORE|1000004|#5|0|3000005|INF|MOD"],
+        "parent-as-a-value" => &["1000027|20210731|1|CORE|1000004|138875005|0|116680003|INF|MOD"],
+        _ => return Some((Kind::Concept, concepts_of(name)?)),
+    };
+    Some((Kind::Concrete, rows))
+}
+
+/// Descriptions of two concepts: one is retired later, one was
+/// never active, and one is moved from the first to the second.
+const STREETS: &[&str] = &[
+    "2000017|20210731|1|CORE|1000004|de|SYN|Strassenbahn|ECI",
+    "2000017|20220131|0|CORE|1000004|de|SYN|Strassenbahn|ECI",
+    "3000014|20210731|1|CORE|1000004|de|SYN|Straßenrand|ECI",
+    "4000016|20210731|1|CORE|2000001|de|SYN|STRASSE|ECI",
+    "5000012|20210731|0|CORE|1000004|de|SYN|Strasse|ECI",
+    "6000019|20210731|1|CORE|1000004|de|SYN|Weg|ECI",
+    "6000019|20220131|1|CORE|2000001|de|SYN|Weg|ECI",
+];
+
+/// The file of a release by the release's name.
+fn file_of(name: &str) -> Option<File> {
+    let file: File = match name {
+        "group-00" => (
+            Kind::Relationship,
+            &["1000027|20200131|1|CORE|1000004|138875005|00|116680003|INF|MOD"],
+        ),
+        "retired" => (
+            Kind::Relationship,
+            &["1000027|20210131|0|CORE|1000004|138875005|0|116680003|INF|MOD"],
+        ),
+        "streets" => (Kind::Description, STREETS),
+        "no-term" => (
+            Kind::Description,
+            &["1000015|20200131|1|CORE|1000004|de|SYN||ECI"],
+        ),
+        "short-member" => (
+            Kind::Association,
+            &[
+                "0b6a0c2e-5d0f-4c53-9f6e-8d9d2a7b1c0|20210131|1|CORE|900000000000527005|1000004|2000001",
+            ],
+        ),
+        _ => return values_of(name),
+    };
+    Some(file)
+}
+
+/// What stands before and behind the column names of a
+/// Concept file without rows, by the release's name.
+fn ends_of(name: &str) -> Option<(&'static str, &'static str)> {
+    match name {
+        "names-without-an-end" => Some(("", "")),
+        "names-with-lf" => Some(("", "\n")),
+        "names-after-a-mark" => Some(("\u{feff}", "\r\n")),
+        _ => None,
+    }
+}
+
+/// A Concept file of its column names between these.
+fn names_between(alloc: Global, front: &str, end: &str) -> Result<Release, AllocError> {
+    let mut text = front.as_bytes().to_vec(alloc)?;
+    text.extend_from_slice(column_names(Kind::Concept))?;
+    text.extend_from_slice(end.as_bytes())?;
+    of_bytes(alloc, Kind::Concept, text.as_slice())
+}
+
+/// By how many bytes the first sample's Concept file is cut short. Its last
+/// line ends in two columns of 18 digits, each behind a TAB, and CR LF.
+fn cut_of(name: &str) -> Option<usize> {
+    match name {
+        "cut-in-a-row" => Some(40),
+        "cut-before-the-end" => Some(2),
+        "cut-in-the-end" => Some(1),
+        _ => None,
+    }
+}
+
+/// The Concept file of the first sample without so many bytes at its end.
+fn cut_short(alloc: Global, bytes: usize) -> Result<Option<Release>, AllocError> {
+    let Some(mut release) = sample(alloc, "r1")? else {
+        return Ok(None);
+    };
+    release.files.truncate(1);
+    if let Some(file) = release.files.first_mut() {
+        let len = file.bytes.len().saturating_sub(bytes);
+        file.bytes.truncate(len);
+    }
+    Ok(Some(release))
+}
+
+/// A release of one row, of the last day of January of a year.
+fn new_in(alloc: Global, year: &str) -> Result<Release, AllocError> {
+    let row = format!(in alloc; "138875005|{year}0131|1|CORE|PRIM")?;
+    one_file(alloc, Kind::Concept, &[row.as_str()])
+}
+
+/// The example under a name, if there is one.
+fn example(alloc: Global, name: &str) -> Result<Option<Release>, AllocError> {
+    if let Some((kind, rows)) = file_of(name) {
+        return Ok(Some(one_file(alloc, kind, rows)?));
+    }
+    if let Some((front, end)) = ends_of(name) {
+        return Ok(Some(names_between(alloc, front, end)?));
+    }
+    if let Some(bytes) = cut_of(name) {
+        return cut_short(alloc, bytes);
+    }
+    if let Some(year) = name.strip_prefix("new-in-") {
+        return Ok(Some(new_in(alloc, year)?));
+    }
+    match name {
+        "no-bytes" => Ok(Some(of_bytes(alloc, Kind::Concept, b"")?)),
+        _ => Ok(None),
+    }
+}
+
+/// Has the example releases, each of one file, and the samples.
+#[derive(Clone, Copy)]
+pub struct Examples;
+
+impl Source for Examples {
+    ghost use Rattle.std.specs.Prelude.{None};
+
+    ghost is_honest = { λ _. ⊥ };
+
+    ghost releases = { λ _ _. None };
+
+    fn release(&mut self, alloc: Global, name: &str) -> Result<Release, SourceFault> {
+        match example(alloc, name) {
+            Ok(Some(release)) => Ok(release),
+            Ok(None) => Sample.release(alloc, name),
+            Err(_) => Err(SourceFault::OutOfMemory),
+        }
+    }
+
+    fn note_refusal(&mut self, _release: &Release, _refusal: Refusal) {}
+}

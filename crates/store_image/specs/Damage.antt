@@ -1,0 +1,102 @@
+-- Which part of a store is damaged.
+use Rattle.std.specs.Prelude.{◌≡◌, ℕ, ◌+◌, List, ◌∷◌, ◌++◌, length, All}
+use Rattle.std.specs.List.{AllByRecursion}
+use Rattle.blocks.specs.declared.slots.Current.{Current}
+use Rattle.blocks.specs.Slots.{IsCurrentWith}
+use Rattle.history_model.specs.declared.stamped.StampedRow.{StampedRow}
+use Rattle.history_model.specs.Lists.{AreLists}
+use Rattle.directory.specs.declared.entry.Entry.{Entry}
+use Rattle.directory.specs.Listings.{DirectoryValue}
+use Rattle.directory.specs.Content.{Lists}
+use Rattle.store_image.specs.declared.fault.Damage.{Damage}
+use Rattle.store_image.specs.declared.fault.Damage.TheVariants as damages
+use Rattle.store_image.specs.declared.fault.LoadFault.{LoadFault}
+use Rattle.store_image.specs.declared.fault.LoadFault.TheVariants as loading
+use Rattle.store_image.specs.declared.fault.RowsFault.{RowsFault}
+use Rattle.store_image.specs.declared.fault.RowsFault.TheVariants as faults
+use Rattle.store_image.specs.Stands.{HoldsAll}
+use Rattle.store_image.specs.Says.{AreOfLayout, AreSegments, pieces_of}
+use Rattle.store_image.specs.Images.{IsStore}
+use Rattle.store_image.specs.Reading.{AreNumbered, IsAt}
+
+-- the current slot's content lists the directory
+pub record HasDirectory (d : DirectoryValue) (file : List ℕ) : Type 0 where
+  pub current : Current
+  pub content : List ℕ
+  pub slot : IsCurrentWith current content file
+  pub lists_it : Lists content d
+
+-- at the place of each entry is the segment of these
+-- rows, and no number of an import is above this
+pub record AreThere (imports : ℕ) (entries : List Entry) (lists : List (List StampedRow))
+    (file : List ℕ) : Type 0 where
+  pub segments : AreSegments entries lists
+  pub numbered : AllByRecursion (AreNumbered imports) lists
+  pub held : HoldsAll (pieces_of entries lists) file
+
+-- at the place of the entry is the segment of no rows
+abbrev pub IsBroken : ℕ → Entry → List ℕ → Type 0
+IsBroken imports entry file =
+    (rows : List StampedRow) → IsAt file entry rows → AreNumbered imports rows → ⊥
+
+-- of the entries, counted from 1, this is the first one that is broken
+pub record IsFirstBroken (number imports : ℕ) (entries : List Entry)
+    (file : List ℕ) : Type 0 where
+  pub before : List Entry
+  pub entry : Entry
+  pub behind : List Entry
+  pub entries_are : entries ≡ before ++ entry ∷ behind
+  pub number_is : number ≡ length before + 1
+  pub lists : List (List StampedRow)
+  pub there : AreThere imports before lists file
+  pub broken : IsBroken imports entry file
+
+-- two segments share a key
+pub record ShareKey (imports : ℕ) (entries : List Entry) (file : List ℕ) : Type 0 where
+  pub lists : List (List StampedRow)
+  pub there : AreThere imports entries lists file
+  pub shared : ¬ (AreLists lists)
+
+-- no two share one, and there is a row of a kind that the version doesn't have
+pub record HasStrangeKind (d : DirectoryValue) (file : List ℕ) : Type 0 where
+  pub lists : List (List StampedRow)
+  pub there : AreThere d.imports d.entries lists file
+  pub apart : AreLists lists
+  pub strange : ¬ (All (AreOfLayout d.layout) lists)
+
+-- this part is damaged: no slot is the current one, or its content is no directory,
+-- or what the directory lists isn't so
+abbrev pub IsDamaged : Damage → List ℕ → Type 0
+IsDamaged damages.Slots file =
+    (current : Current) (content : List ℕ) → IsCurrentWith current content file → ⊥
+IsDamaged damages.Directory file = (current : Current) × (content : List ℕ)
+    × IsCurrentWith current content file × ((d : DirectoryValue) → Lists content d → ⊥)
+IsDamaged (damages.Segment number) file =
+    (d : DirectoryValue) × HasDirectory d file × IsFirstBroken number d.imports d.entries file
+IsDamaged damages.SharedKey file =
+    (d : DirectoryValue) × HasDirectory d file × ShareKey d.imports d.entries file
+IsDamaged damages.Kind file = (d : DirectoryValue) × HasDirectory d file × HasStrangeKind d file
+
+-- bytes that stand for something have no damaged part
+abbrev pub StandingIsUndamaged : Type 0
+StandingIsUndamaged = (file : List ℕ) (damage : Damage) → IsStore file → IsDamaged damage file → ⊥
+
+-- and others one at most
+abbrev pub OneDamage : Type 0
+OneDamage = (file : List ℕ) (damage other : Damage)
+    → IsDamaged damage file → IsDamaged other file → damage ≡ other
+
+-- why a segment isn't read, as why a store isn't
+abbrev pub in_segment : ℕ → RowsFault → LoadFault
+in_segment number faults.OutOfMemory = loading.OutOfMemory
+in_segment number faults.DiskFault = loading.DiskFault
+in_segment number faults.Damaged = loading.Damaged (damages.Segment number)
+
+-- why the segments of all entries aren't read
+abbrev pub AreNotRead : LoadFault → ℕ → List Entry → List ℕ → Type 0
+AreNotRead loading.OutOfMemory imports entries file = Unit {0}
+AreNotRead loading.DiskFault imports entries file = Unit {0}
+AreNotRead (loading.Damaged (damages.Segment number)) imports entries file =
+    IsFirstBroken number imports entries file
+AreNotRead (loading.Damaged damages.SharedKey) imports entries file = ShareKey imports entries file
+AreNotRead _ imports entries file = ⊥

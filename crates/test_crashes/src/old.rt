@@ -1,0 +1,195 @@
+//! Disks that `sctd` 1.0 wrote, and stores that are made anew by the same imports.
+
+use disk_model::MemDisk;
+use history_store::Refusal;
+use import_check::Release;
+use rf2_rows::Kind;
+use std::alloc::{AllocError, Global};
+use test_support::{Example, one_file};
+
+/// The stores that program left.
+#[derive(Clone, Copy, PartialEq, Eq)]
+pub enum Old {
+    /// After the sample releases r1, r2 and r3.
+    Three,
+    /// After 128 imports, each of the root concept in a year from 1901 on: it has
+    /// as many segments as version 1 could list.
+    Full,
+}
+
+/// How many imports, segments and rows a store has.
+pub type Counts = (u32, u32, u64);
+
+impl Old {
+    /// Its disk, byte for byte.
+    pub fn disk(self, alloc: Global) -> Result<MemDisk, AllocError> {
+        let bytes = match self {
+            Old::Three => after_three(alloc)?,
+            Old::Full => full(alloc)?,
+        };
+        Ok(MemDisk::from_bytes(alloc, bytes))
+    }
+
+    pub fn counts(self) -> Counts {
+        match self {
+            Old::Three => (3, 3, 12),
+            Old::Full => (128, 128, 128),
+        }
+    }
+
+    /// A new store after the same imports.
+    pub fn anew(self, alloc: Global) -> Result<Example, Refusal> {
+        match self {
+            Old::Three => Example::after(alloc, &["r1", "r2", "r3"]),
+            Old::Full => {
+                let mut store = Example::new(alloc)?;
+                for year in 1_901..2_029 {
+                    store.import(&of_year(alloc, year)?)?;
+                }
+                Ok(store)
+            }
+        }
+    }
+}
+
+/// A release of one row: the root concept on the last day of January of a year.
+pub fn of_year(alloc: Global, year: u32) -> Result<Release, AllocError> {
+    let row = format!(in alloc; "138875005|{year}0131|1|CORE|PRIM")?;
+    one_file(alloc, Kind::Concept, &[row.as_str()])
+}
+
+/// What that program left after the sample releases r1, r2 and r3, which have 6, 4 and 2 new rows:
+/// the gates, the directories and the segments, and where each begins. All else is zero.
+const AFTER_THREE: [(usize, &[u8]); 7] = [
+    (0, b"\xa5"),
+    (
+        4_096,
+        b"\x00\x00\x00\x00\x00\x00\x00\x03\x53\x43\x54\x48\x49\x53\x54\x31\x00\x00\x00\x02\
+        \x00\x00\x00\x02\x00\x00\x00\x00\x00\x00\x00\x00\x00\x00\x00\x04\x00\x00\x01\x79\
+        \x00\x00\x00\x06\x00\x00\x00\x00\x00\x00\x00\x05\x00\x00\x01\x05\x00\x00\x00\x04\
+        \x00\x00\x00\x00",
+    ),
+    (8_192, b"\xa5"),
+    (
+        12_288,
+        b"\x00\x00\x00\x00\x00\x00\x00\x04\x53\x43\x54\x48\x49\x53\x54\x31\x00\x00\x00\x03\
+        \x00\x00\x00\x03\x00\x00\x00\x00\x00\x00\x00\x00\x00\x00\x00\x04\x00\x00\x01\x79\
+        \x00\x00\x00\x06\x00\x00\x00\x00\x00\x00\x00\x05\x00\x00\x01\x05\x00\x00\x00\x04\
+        \x00\x00\x00\x00\x00\x00\x00\x06\x00\x00\x00\x5c\x00\x00\x00\x02\x00\x00\x00\x00",
+    ),
+    (
+        16_384,
+        b"\x00\x00\x00\x2e\x01\x00\x00\x00\x00\x00\x00\x00\x00\x00\x00\x00\x00\x00\x0f\x42\
+        \x44\x01\x34\x3a\xc3\x00\x00\x00\x01\x01\x0c\x7d\x71\x3b\x49\xdd\x28\xa0\x0c\x7d\
+        \x71\x3b\x49\xdb\x21\x18\x00\x00\x00\x2e\x01\x00\x00\x00\x00\x00\x00\x00\x00\x00\
+        \x00\x00\x00\x00\x1e\x84\x81\x01\x34\x3a\xc3\x00\x00\x00\x01\x01\x0c\x7d\x71\x3b\
+        \x49\xdd\x28\xa0\x0c\x7d\x71\x3b\x49\xdb\x21\x18\x00\x00\x00\x2e\x01\x00\x00\x00\
+        \x00\x00\x00\x00\x00\x00\x00\x00\x00\x08\x47\x10\x7d\x01\x34\x3a\xc3\x00\x00\x00\
+        \x01\x01\x0c\x7d\x71\x3b\x49\xdd\x28\xa0\x0c\x7d\x71\x3b\x49\xdb\x21\x18\x00\x00\
+        \x00\x4b\x02\x00\x00\x00\x00\x00\x00\x00\x00\x00\x00\x00\x00\x00\x0f\x42\x4f\x01\
+        \x34\x3a\xc3\x00\x00\x00\x01\x01\x0c\x7d\x71\x3b\x49\xdd\x28\xa0\x00\x00\x00\x00\
+        \x00\x0f\x42\x44\x0c\x7d\x71\x3b\x49\xda\x32\xd1\x0c\x7d\x71\x3b\x49\xe0\xd6\x09\
+        \x00\x02\x64\x65\x00\x07\x53\x74\x72\x61\xc3\x9f\x65\x00\x00\x00\x52\x03\x00\x00\
+        \x00\x00\x00\x00\x00\x00\x00\x00\x00\x00\x00\x0f\x42\x5b\x01\x34\x3a\xc3\x00\x00\
+        \x00\x01\x01\x0c\x7d\x71\x3b\x49\xdd\x28\xa0\x00\x00\x00\x00\x00\x0f\x42\x44\x00\
+        \x00\x00\x00\x08\x47\x10\x7d\x00\x00\x00\x00\x00\x00\x00\x00\x06\xf4\x65\x43\x0c\
+        \x7d\x71\x3b\x49\xda\x2a\xfe\x0c\x7d\x71\x3b\x49\xe0\xe1\xba\x00\x00\x00\x52\x03\
+        \x00\x00\x00\x00\x00\x00\x00\x00\x00\x00\x00\x00\x00\x1e\x84\x9d\x01\x34\x3a\xc3\
+        \x00\x00\x00\x01\x01\x0c\x7d\x71\x3b\x49\xdd\x28\xa0\x00\x00\x00\x00\x00\x0f\x42\
+        \x44\x00\x00\x00\x00\x08\x47\x10\x7d\x00\x00\x00\x00\x00\x00\x00\x00\x06\xf4\x65\
+        \x43\x0c\x7d\x71\x3b\x49\xda\x2a\xfe\x0c\x7d\x71\x3b\x49\xe0\xe1\xba",
+    ),
+    (
+        20_480,
+        b"\x00\x00\x00\x2e\x01\x00\x00\x00\x00\x00\x00\x00\x00\x00\x00\x00\x00\x00\x0f\x42\
+        \x44\x01\x34\x61\xd3\x00\x00\x00\x02\x00\x0c\x7d\x71\x3b\x49\xdd\x28\xa0\x0c\x7d\
+        \x71\x3b\x49\xdb\x21\x18\x00\x00\x00\x47\x02\x00\x00\x00\x00\x00\x00\x00\x00\x00\
+        \x00\x00\x00\x00\x0f\x42\x4f\x01\x34\x61\xd3\x00\x00\x00\x02\x01\x0c\x7d\x71\x3b\
+        \x49\xdd\x28\xa0\x00\x00\x00\x00\x00\x0f\x42\x44\x0c\x7d\x71\x3b\x49\xda\x32\xd1\
+        \x0c\x7d\x71\x3b\x49\xe0\xd6\x09\x00\x02\x64\x65\x00\x03\x57\x65\x67\x00\x00\x00\
+        \x52\x03\x00\x00\x00\x00\x00\x00\x00\x00\x00\x00\x00\x00\x00\x1e\x84\x9d\x01\x34\
+        \x61\xd3\x00\x00\x00\x02\x00\x0c\x7d\x71\x3b\x49\xdd\x28\xa0\x00\x00\x00\x00\x00\
+        \x0f\x42\x44\x00\x00\x00\x00\x08\x47\x10\x7d\x00\x00\x00\x00\x00\x00\x00\x00\x06\
+        \xf4\x65\x43\x0c\x7d\x71\x3b\x49\xda\x2a\xfe\x0c\x7d\x71\x3b\x49\xe0\xe1\xba\x00\
+        \x00\x00\x3e\x04\x0b\x6a\x0c\x2e\x5d\x0f\x4c\x53\x9f\x6e\x8d\x9d\x2a\x7b\x1c\x01\
+        \x01\x34\x61\xd3\x00\x00\x00\x02\x01\x0c\x7d\x71\x3b\x49\xdd\x28\xa0\x0c\x7d\x71\
+        \x3b\x49\xe2\x0a\x9d\x00\x00\x00\x00\x00\x0f\x42\x44\x00\x00\x00\x00\x00\x1e\x84\
+        \x81",
+    ),
+    (
+        24_576,
+        b"\x00\x00\x00\x2e\x01\x00\x00\x00\x00\x00\x00\x00\x00\x00\x00\x00\x00\x00\x0f\x42\
+        \x44\x01\x34\x3d\x1b\x00\x00\x00\x03\x00\x0c\x7d\x71\x3b\x49\xdd\x28\xa0\x0c\x7d\
+        \x71\x3b\x49\xdb\x21\x18\x00\x00\x00\x2e\x01\x00\x00\x00\x00\x00\x00\x00\x00\x00\
+        \x00\x00\x00\x00\x2d\xc6\xc5\x01\x34\x3a\xc3\x00\x00\x00\x03\x01\x0c\x7d\x71\x3b\
+        \x49\xdd\x28\xa0\x0c\x7d\x71\x3b\x49\xdb\x21\x18",
+    ),
+];
+
+/// The bytes of that disk.
+const LEN: usize = 24_668;
+
+/// Puts bytes in the place of those from a place on.
+pub fn put(image: &mut Vec<u8>, from: usize, bytes: &[u8]) {
+    for (behind, new) in bytes.iter().enumerate() {
+        if let Some(old) = image.get_mut(from.saturating_add(behind)) {
+            *old = *new;
+        }
+    }
+}
+
+/// The disk of three imports.
+fn after_three(alloc: Global) -> Result<Vec<u8>, AllocError> {
+    let mut image = vec![in alloc; 0; LEN]?;
+    for (from, bytes) in &AFTER_THREE {
+        put(&mut image, *from, *bytes);
+    }
+    Ok(image)
+}
+
+/// A directory of version 1: the epoch, the mark, the number of imports, the number of segments,
+/// eight zeros, and one entry for each segment: its block from 4 on, 46 bytes, one row, and zero.
+fn directory(alloc: Global, epoch: u64, segments: u32) -> Result<Vec<u8>, AllocError> {
+    let mut block = epoch.to_be_bytes().to_vec(alloc)?;
+    block.extend_from_slice(b"SCTHIST1")?;
+    block.extend_from_slice(&segments.to_be_bytes())?;
+    block.extend_from_slice(&segments.to_be_bytes())?;
+    block.extend_from_slice(&[0; 8])?;
+    for entry in 0..segments {
+        block.extend_from_slice(&entry.saturating_add(4).to_be_bytes())?;
+        block.extend_from_slice(b"\x00\x00\x00\x2e\x00\x00\x00\x01\x00\x00\x00\x00")?;
+    }
+    Ok(block)
+}
+
+/// The record of the root concept on the last day of January of a year, as an import brought it.
+fn root(alloc: Global, year: u32, import: u32) -> Result<Vec<u8>, AllocError> {
+    let mut record = b"\x00\x00\x00\x2e\x01".to_vec(alloc)?;
+    record.extend_from_slice(&138_875_005u128.to_be_bytes())?;
+    let date = year.saturating_mul(10_000).saturating_add(131);
+    record.extend_from_slice(&date.to_be_bytes())?;
+    record.extend_from_slice(&import.to_be_bytes())?;
+    record.push(1)?;
+    record.extend_from_slice(&900_000_000_000_207_008u64.to_be_bytes())?;
+    record.extend_from_slice(&900_000_000_000_074_008u64.to_be_bytes())?;
+    Ok(record)
+}
+
+/// The disk of 128 imports.
+fn full(alloc: Global) -> Result<Vec<u8>, AllocError> {
+    let mut image = vec![in alloc; 0; 131 * 4_096 + 46]?;
+    put(&mut image, 0, b"\xa5");
+    put(&mut image, 4_096, directory(alloc, 129, 128)?.as_slice());
+    put(&mut image, 8_192, b"\xa5");
+    put(&mut image, 12_288, directory(alloc, 128, 127)?.as_slice());
+    for number in 0..128u32 {
+        let record = root(
+            alloc,
+            number.saturating_add(1_901),
+            number.saturating_add(1),
+        )?;
+        let block = number.saturating_add(4) as usize;
+        put(&mut image, block.saturating_mul(4_096), record.as_slice());
+    }
+    Ok(image)
+}

@@ -1,0 +1,171 @@
+//! A row is read only where it is answered, and a read that fails is handed on at once.
+
+use crate::links::{Asked, CONCEPTS, instead};
+use crate::lists::{Indexed, index_all};
+use crate::releases::{example, lists_of};
+use crate::rows::{LAST_DAY, ROOT, STREET, day, sctid};
+use crate::subjects::{KINDS, rows_about};
+use crate::terms::{Search, found};
+use crate::watched::Watched;
+use crate::{links, subjects, terms};
+use as_of_index::ReadFault;
+use history_model::plain;
+use rf2_values::{EffectiveTime, Kind};
+use std::alloc::Global;
+use std::process::Abort;
+use std::test::Fail;
+
+/// What is asked.
+#[derive(Drop)]
+enum Question {
+    /// The concept at a date.
+    Pick(u64, EffectiveTime),
+    /// The concept's versions.
+    History(u64),
+    /// So many concepts at a date.
+    Page(EffectiveTime, u32),
+    /// So many descriptions at a date.
+    Descriptions(EffectiveTime, u32),
+    Replacements(Asked),
+    /// The rows of a kind that are about a component.
+    About(Kind, Asked),
+}
+
+/// How many rows are answered. What looks at the index alone
+/// is asked at the third import, and all else at the sixth.
+fn ask(
+    alloc: Global,
+    made: &Indexed,
+    reader: &mut Watched<'_>,
+    question: &Question,
+) -> Result<u64, ReadFault> {
+    let index = &made.index;
+    let rows = match question {
+        Question::Pick(id, time) => {
+            let found = index.get(reader, Kind::Concept, u128::from(*id), *time, 3)?;
+            return Ok(u64::from(found.is_some()));
+        }
+        Question::History(id) => index.history(reader, Kind::Concept, u128::from(*id), 3)?,
+        Question::Page(time, limit) => index.page(reader, Kind::Concept, *time, None, *limit, 3)?,
+        Question::Descriptions(time, limit) => {
+            let asked = Search {
+                prefix: "",
+                time: *time,
+                after: None,
+                limit: *limit,
+                pin: 6,
+            };
+            found(alloc, &made.terms, index, reader, asked)?
+        }
+        Question::Replacements(asked) => instead(alloc, &made.links, index, reader, asked)?,
+        Question::About(kind, asked) => rows_about(alloc, made, reader, *kind, asked)?,
+    };
+    Ok(rows.len() as u64)
+}
+
+/// Asks with one read that fails, and once more of the same reader.
+fn ask_twice(
+    rt: &impl Abort,
+    alloc: Global,
+    made: &Indexed,
+    question: &Question,
+    answered: u64,
+    (failing, fault): (u64, ReadFault),
+) -> Result<(), Fail> {
+    let mut reader = Watched::new(&made.lists, failing, fault);
+    let found = ask(alloc, made, &mut reader, question);
+    let fails = 1 <= failing && failing <= answered;
+    assert!(rt; found == if fails { Err(fault) } else { Ok(answered) });
+    assert_eq!(rt;
+        reader.counts(),
+        (
+            if fails { failing } else { answered },
+            u64::from(fails && fault == ReadFault::DiskFault),
+            u64::from(fails && fault == ReadFault::Damaged)
+        )
+    );
+    if fails {
+        assert!(rt; ask(alloc, made, &mut reader, question) == Ok(answered));
+    }
+    Ok(())
+}
+
+/// Lets each read of a question fail in each way; it reads as many rows as it answers.
+fn each_read_fails(
+    rt: &impl Abort,
+    alloc: Global,
+    made: &Indexed,
+    question: &Question,
+    answered: u64,
+) -> Result<(), Fail> {
+    for fault in [
+        ReadFault::OutOfMemory,
+        ReadFault::DiskFault,
+        ReadFault::Damaged,
+    ] {
+        for failing in 0..=answered.saturating_add(1) {
+            ask_twice(rt, alloc, made, question, answered, (failing, fault))?;
+        }
+    }
+    Ok(())
+}
+
+#[test]
+fn a_fault_of_the_reader_is_handed_on(rt: HostRuntime) -> Result<(), Fail> {
+    let alloc = rt.alloc();
+    let made = index_all(alloc, lists_of(alloc, &example(alloc)?, &[(1, 3)])?)?;
+    let time = day(20_210_131)?;
+    for (question, answered) in [
+        (Question::Pick(ROOT, time), 1),
+        (Question::History(STREET), 3),
+        (Question::Page(time, 3), 3),
+    ] {
+        each_read_fails(&rt, alloc, &made, &question, answered)?;
+    }
+    Ok(())
+}
+
+#[test]
+fn a_description_is_read_only_where_it_is_answered(rt: HostRuntime) -> Result<(), Fail> {
+    let alloc = rt.alloc();
+    let rows = terms::made_rows(alloc)?;
+    let made = index_all(alloc, lists_of(alloc, &rows, &[(1, 3), (4, 6)])?)?;
+    for limit in [0u32, 1, 5] {
+        let question = Question::Descriptions(day(20_210_131)?, limit);
+        each_read_fails(&rt, alloc, &made, &question, u64::from(limit))?;
+    }
+    Ok(())
+}
+
+#[test]
+fn an_association_is_read_only_where_it_is_answered(rt: HostRuntime) -> Result<(), Fail> {
+    let alloc = rt.alloc();
+    let rows = links::made_rows(alloc)?;
+    let made = index_all(alloc, lists_of(alloc, &rows, &[(1, 3), (4, 6)])?)?;
+    let shown = plain::rows_at(alloc, 6, &rows)?;
+    let there = plain::replacements(alloc, &shown, sctid(ROOT)?, day(LAST_DAY)?)?.len() as u64;
+    assert!(rt; there > 2, "{there} associations");
+    let question = Question::Replacements(Asked::of(ROOT, LAST_DAY, 6)?);
+    each_read_fails(&rt, alloc, &made, &question, there)
+}
+
+#[test]
+fn what_is_about_a_component_is_read_only_where_it_is_answered(
+    rt: HostRuntime,
+) -> Result<(), Fail> {
+    let alloc = rt.alloc();
+    let rows = subjects::made_rows(alloc)?;
+    let made = index_all(alloc, lists_of(alloc, &rows, &[(1, 3), (4, 6)])?)?;
+    let shown = plain::rows_at(alloc, 6, &rows)?;
+    let mut answered = 0u64;
+    for kind in KINDS {
+        for id in CONCEPTS {
+            let there = plain::about(alloc, &shown, kind, sctid(id)?, day(LAST_DAY)?)?.len() as u64;
+            let question = Question::About(kind, Asked::of(id, LAST_DAY, 6)?);
+            each_read_fails(&rt, alloc, &made, &question, there)?;
+            answered = answered.saturating_add(there);
+        }
+    }
+    assert!(rt; answered > 10, "{answered} rows");
+    Ok(())
+}

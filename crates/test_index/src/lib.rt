@@ -1,0 +1,23 @@
+//! Worked examples of what an index of places answers, and searches of the postings beside it, over
+//! rows in memory; made histories beside the plain program; readers that fail. It has no code of
+//! its own.
+#![tactic(auto)]
+
+#[cfg(test)]
+mod faults;
+#[cfg(test)]
+mod links;
+#[cfg(test)]
+mod lists;
+#[cfg(test)]
+mod picks;
+#[cfg(test)]
+mod releases;
+#[cfg(test)]
+mod rows;
+#[cfg(test)]
+mod subjects;
+#[cfg(test)]
+mod terms;
+#[cfg(test)]
+mod watched;

@@ -1,0 +1,122 @@
+//! Lists of rows: their places, an index of them, their postings, and a reader of their rows.
+
+use as_of_index::{Index, KeptRows, MAX_LISTS, PlaceList};
+use associations::Links;
+use history_model::StampedRow;
+use segment::RowPlace;
+use std::alloc::Global;
+use std::test::Fail;
+use term_prefix::Terms;
+
+/// Where the rows of a list stand.
+pub(crate) fn places_of(alloc: Global, rows: &[StampedRow]) -> Result<Vec<RowPlace>, Fail> {
+    let mut places = Vec::new(alloc);
+    let mut at = 0u32;
+    for stamped in rows {
+        let place = RowPlace::new(stamped, at);
+        at = at.saturating_add(place.bytes);
+        places.push(place)?;
+    }
+    Ok(places)
+}
+
+fn add_places(index: &mut Index, places: Vec<RowPlace>) -> Result<(), Fail> {
+    if !PlaceList::may_list(&places) {
+        return Err(Fail::from("not in order"));
+    }
+    let list = PlaceList::new(places);
+    if !index.may_add(&list) {
+        return Err(Fail::from("no room, or listed twice"));
+    }
+    index.add(list);
+    Ok(())
+}
+
+/// The index of some lists of rows.
+pub(crate) fn index_of(alloc: Global, lists: &[Vec<StampedRow>]) -> Result<Index, Fail> {
+    let mut index = Index::new(alloc)?;
+    for rows in lists {
+        add_places(&mut index, places_of(alloc, rows)?)?;
+    }
+    Ok(index)
+}
+
+/// The terms of a list of rows.
+pub(crate) fn posted_terms(
+    alloc: Global,
+    rows: &[StampedRow],
+) -> Result<term_prefix::Postings, Fail> {
+    let mut postings = term_prefix::Postings::new(alloc);
+    let places = places_of(alloc, rows)?;
+    for (stamped, place) in rows.iter().zip(places.iter()) {
+        postings.push(stamped, *place)?;
+    }
+    Ok(postings)
+}
+
+/// The terms of some lists of rows.
+pub(crate) fn terms_of(alloc: Global, lists: &[Vec<StampedRow>]) -> Result<Terms, Fail> {
+    let mut terms = Terms::new(alloc)?;
+    for rows in lists {
+        if terms.lists() >= MAX_LISTS {
+            return Err(Fail::from("no room"));
+        }
+        terms.add(posted_terms(alloc, rows)?.seal());
+    }
+    Ok(terms)
+}
+
+/// The links and references of a list of rows.
+pub(crate) fn posted_links(
+    alloc: Global,
+    rows: &[StampedRow],
+) -> Result<associations::Postings, Fail> {
+    let mut postings = associations::Postings::new(alloc);
+    let places = places_of(alloc, rows)?;
+    for (stamped, place) in rows.iter().zip(places.iter()) {
+        postings.push(stamped, *place)?;
+    }
+    Ok(postings)
+}
+
+/// The links and references of some lists of rows.
+pub(crate) fn links_of(alloc: Global, lists: &[Vec<StampedRow>]) -> Result<Links, Fail> {
+    let mut links = Links::new(alloc)?;
+    for rows in lists {
+        if links.lists() >= MAX_LISTS {
+            return Err(Fail::from("no room"));
+        }
+        links.add(posted_links(alloc, rows)?.seal());
+    }
+    Ok(links)
+}
+
+/// Lists of rows, with what is listed and posted of them.
+#[derive(Drop)]
+pub(crate) struct Indexed {
+    pub(crate) lists: Vec<Vec<StampedRow>>,
+    pub(crate) index: Index,
+    pub(crate) terms: Terms,
+    pub(crate) links: Links,
+}
+
+pub(crate) fn index_all(alloc: Global, lists: Vec<Vec<StampedRow>>) -> Result<Indexed, Fail> {
+    let index = index_of(alloc, &lists)?;
+    let terms = terms_of(alloc, &lists)?;
+    let links = links_of(alloc, &lists)?;
+    Ok(Indexed {
+        lists,
+        index,
+        terms,
+        links,
+    })
+}
+
+/// A reader of the rows.
+pub(crate) fn kept(lists: &[Vec<StampedRow>]) -> KeptRows<'_> {
+    KeptRows {
+        lists,
+        reads: 0,
+        damages: 0,
+    }
+}

@@ -1,0 +1,409 @@
+//! What an index of places answers: a component at a date, its versions, and pages;
+//! and how its lists change.
+
+use crate::lists::{index_of, kept, places_of};
+use crate::releases::{brought, example, lists_of, three_lists};
+use crate::rows::{
+    MEMBER, OTHER, ROOT, SAME_AS, STREET, THIRD, association, concept, day, is_same,
+};
+use as_of_index::{Chosen, Index, MAX_LISTS, PlaceList, ReadFault, RowReader, laws, read_all};
+use history_model::{StampedRow, plain};
+use rf2_values::{Kind, Row};
+use segment::RowPlace;
+use std::alloc::Global;
+use std::process::Abort;
+use std::test::Fail;
+
+/// The time of the concept's version at a date, and whether it is active.
+fn concept_at(
+    index: &Index,
+    lists: &[Vec<StampedRow>],
+    id: u64,
+    date: u32,
+    pin: u32,
+) -> Result<Option<(u32, bool)>, Fail> {
+    let mut reader = kept(lists);
+    let found = index.get(&mut reader, Kind::Concept, u128::from(id), day(date)?, pin)?;
+    Ok(found.map(|row| (row.time.value(), row.active)))
+}
+
+#[test]
+fn what_three_releases_say_at_a_date(rt: HostRuntime) -> Result<(), Fail> {
+    let alloc = rt.alloc();
+    let lists = three_lists(alloc)?;
+    let index = index_of(alloc, &lists)?;
+    for (pin, id, date, want) in [
+        (2, STREET, 20_210_130, Some((20_200_131, true))),
+        (2, STREET, 20_210_131, Some((20_210_131, false))),
+        (3, STREET, 20_200_831, Some((20_200_731, false))),
+        (1, STREET, 20_200_831, Some((20_200_131, true))),
+        (1, ROOT, 20_200_831, Some((20_200_131, true))),
+        (3, ROOT, 20_200_130, None),
+        (2, THIRD, 20_210_131, None),
+        (0, ROOT, 20_210_131, None),
+    ] {
+        let found = concept_at(&index, &lists, id, date, pin)?;
+        assert_eq!(rt; found, want, "{id} at {date}, pin {pin}");
+    }
+    Ok(())
+}
+
+#[test]
+fn versions_and_pages_of_three_releases(rt: HostRuntime) -> Result<(), Fail> {
+    let alloc = rt.alloc();
+    let lists = three_lists(alloc)?;
+    let index = index_of(alloc, &lists)?;
+    let mut reader = kept(&lists);
+    for (pin, times) in [
+        (0, [].as_slice()),
+        (1, [20_200_131].as_slice()),
+        (2, [20_200_131, 20_210_131].as_slice()),
+        (3, [20_200_131, 20_200_731, 20_210_131].as_slice()),
+    ] {
+        let found = index.history(&mut reader, Kind::Concept, u128::from(STREET), pin)?;
+        let found: Vec<u32> = found.iter().map(|row| row.time.value()).collect(alloc)?;
+        assert_eq!(rt; found.as_slice(), times, "{pin}");
+    }
+    let date = day(20_200_131)?;
+    for (pin, after, limit, ids) in [
+        (1, None, 2, [STREET, OTHER].as_slice()),
+        (1, Some(OTHER), 2, [ROOT].as_slice()),
+        (1, Some(ROOT), 2, [].as_slice()),
+        (1, None, 0, [].as_slice()),
+        (3, Some(STREET), 9, [OTHER, THIRD, ROOT].as_slice()),
+    ] {
+        let above = after.map(u128::from);
+        let found = index.page(&mut reader, Kind::Concept, date, above, limit, pin)?;
+        assert!(rt;
+            found
+                .iter()
+                .map(|row| row.id)
+                .eq(ids.iter().map(|id| u128::from(*id))),
+            "after {after:?}"
+        );
+    }
+    Ok(())
+}
+
+/// The first of the members that are made.
+const MADE: u128 = MEMBER + 16;
+
+const TIMES: [u32; 4] = [20_200_131, 20_200_731, 20_210_131, 20_210_731];
+
+/// Rows of five imports, in key order: twelve members with
+/// many versions, some of them inactive, and two concepts.
+fn made_rows(alloc: Global) -> Result<Vec<StampedRow>, Fail> {
+    let mut rows = Vec::new(alloc);
+    for (import, id) in [(3u32, STREET), (4, ROOT)] {
+        let row = concept(id, 20_200_731, import == 3)?;
+        rows.push(StampedRow { row, import })?;
+    }
+    for number in 0..12u32 {
+        for (i, time) in TIMES.iter().enumerate() {
+            let mixed = number * 7 + (i as u32) * 5;
+            if mixed % 3 != 0 {
+                let member = MADE + u128::from(number);
+                let row = association(member, *time, mixed % 4 != 0, SAME_AS, (STREET, OTHER))?;
+                let import = 1 + mixed % 5;
+                rows.push(StampedRow { row, import })?;
+            }
+        }
+    }
+    Ok(rows)
+}
+
+/// The rows whose places leave this rest, as a list.
+fn every(
+    alloc: Global,
+    rows: &[StampedRow],
+    step: usize,
+    rest: usize,
+) -> Result<Vec<StampedRow>, Fail> {
+    let mut list = Vec::new(alloc);
+    for (place, stamped) in rows.iter().enumerate() {
+        if place.checked_rem(step) == Some(rest) {
+            list.push(stamped.try_clone(alloc)?)?;
+        }
+    }
+    Ok(list)
+}
+
+/// The rows in so many lists, one after the other in turn.
+fn spread(alloc: Global, rows: &[StampedRow], lists: usize) -> Result<Vec<Vec<StampedRow>>, Fail> {
+    let mut spread = Vec::new(alloc);
+    for rest in 0..lists {
+        spread.push(every(alloc, rows, lists, rest)?)?;
+    }
+    Ok(spread)
+}
+
+/// Rows in lists, asked at a pin, and what the plain program looks at in their place.
+#[derive(Clone, Copy)]
+struct Pinned<'a> {
+    index: &'a Index,
+    lists: &'a [Vec<StampedRow>],
+    shown: &'a [Row],
+    pin: u32,
+}
+
+const DATES: [u32; 4] = [20_200_130, 20_200_731, 20_210_131, 20_220_131];
+
+/// Compares a component's row at each date with the plain program's.
+fn compare_picks(rt: &impl Abort, made: Pinned<'_>, kind: Kind, id: u128) -> Result<(), Fail> {
+    let mut reader = kept(made.lists);
+    for date in DATES {
+        let date = day(date)?;
+        let ours = made.index.get(&mut reader, kind, id, date, made.pin)?;
+        let same = match (&ours, plain::get(made.shown, kind, id, date)) {
+            (Some(ours), Some(theirs)) => ours.is_same(theirs),
+            (ours, theirs) => ours.is_none() && theirs.is_none(),
+        };
+        assert!(rt; same, "{id} at pin {}", made.pin);
+    }
+    assert_eq!(rt; reader.damages, 0);
+    Ok(())
+}
+
+/// How many versions some components have; each answer is that of the plain program.
+fn compare_components(rt: &impl Abort, alloc: Global, made: Pinned<'_>) -> Result<usize, Fail> {
+    let mut reader = kept(made.lists);
+    let mut answered = 0usize;
+    for (kind, id) in [
+        (Kind::Association, MADE),
+        (Kind::Association, MADE + 2),
+        (Kind::Association, MADE + 9),
+        (Kind::Concept, u128::from(STREET)),
+    ] {
+        compare_picks(rt, made, kind, id)?;
+        let versions = made.index.history(&mut reader, kind, id, made.pin)?;
+        assert!(rt; is_same(&versions, &plain::versions(alloc, made.shown, kind, id)?));
+        answered = answered.saturating_add(versions.len());
+    }
+    assert_eq!(rt; reader.damages, 0);
+    Ok(answered)
+}
+
+/// How many rows a page has at all dates together; each answer is that of the plain program.
+fn compare_pages(
+    rt: &impl Abort,
+    alloc: Global,
+    made: Pinned<'_>,
+    asked: (Kind, Option<u128>, u32),
+) -> Result<usize, Fail> {
+    let (kind, after, limit) = asked;
+    let mut reader = kept(made.lists);
+    let mut answered = 0usize;
+    for date in DATES {
+        let date = day(date)?;
+        let page = made
+            .index
+            .page(&mut reader, kind, date, after, limit, made.pin)?;
+        let wanted = plain::page(alloc, made.shown, kind, date, after, limit)?;
+        assert!(rt; is_same(&page, &wanted));
+        answered = answered.saturating_add(page.len());
+    }
+    assert_eq!(rt; reader.damages, 0);
+    Ok(answered)
+}
+
+/// How many rows were answered at a pin; each answer is that of the plain program.
+fn compare_at(rt: &impl Abort, alloc: Global, made: Pinned<'_>) -> Result<usize, Fail> {
+    let mut answered = compare_components(rt, alloc, made)?;
+    for asked in [
+        (Kind::Association, None, 100),
+        (Kind::Association, Some(MADE + 3), 4),
+        (Kind::Association, Some(MADE + 99), 4),
+        (Kind::Concept, None, 3),
+    ] {
+        answered = answered.saturating_add(compare_pages(rt, alloc, made, asked)?);
+    }
+    Ok(answered)
+}
+
+/// How many rows were answered; each answer is that of the plain program.
+fn compare(
+    rt: &impl Abort,
+    alloc: Global,
+    rows: &[StampedRow],
+    lists: &[Vec<StampedRow>],
+) -> Result<usize, Fail> {
+    let index = index_of(alloc, lists)?;
+    let mut answered = 0usize;
+    for pin in 0..6u32 {
+        let shown = plain::rows_at(alloc, pin, rows)?;
+        let made = Pinned {
+            index: &index,
+            lists,
+            shown: &shown,
+            pin,
+        };
+        answered = answered.saturating_add(compare_at(rt, alloc, made)?);
+    }
+    Ok(answered)
+}
+
+#[test]
+fn made_histories_in_one_list_and_in_many(rt: HostRuntime) -> Result<(), Fail> {
+    let alloc = rt.alloc();
+    let rows = made_rows(alloc)?;
+    let answered = compare(&rt, alloc, &rows, &spread(alloc, &rows, 1)?)?;
+    assert!(rt; answered > 100, "{answered} rows");
+    for lists in [3, 250] {
+        assert_eq!(rt;
+            compare(&rt, alloc, &rows, &spread(alloc, &rows, lists)?)?,
+            answered
+        );
+    }
+    Ok(())
+}
+
+#[test]
+fn lists_are_added(rt: HostRuntime) -> Result<(), Fail> {
+    let alloc = rt.alloc();
+    let rows = example(alloc)?;
+    let lists = lists_of(alloc, &rows, &[(1, 2), (3, 3)])?;
+    let index = index_of(alloc, &lists)?;
+    assert!(rt; lists.len() == 2 && index.lists() == 2);
+    let places = index.list(0);
+    assert_eq!(rt; places.len() + index.list(1).len(), rows.len());
+    let first = RowPlace::new(lists[0].first().ok_or("no row")?, 0);
+    assert_eq!(rt; places.first().copied(), Some(first));
+    assert_eq!(rt; places.get(1).map(|p| p.at), Some(first.bytes));
+
+    let again = PlaceList::new(vec![in alloc; first]?);
+    assert!(rt; !index.may_add(&again));
+    assert!(rt; index.may_add(&PlaceList::new(Vec::new(alloc))));
+    assert!(rt; !PlaceList::may_list(&[first, first]));
+    assert!(rt; PlaceList::may_list(places));
+    laws::places_of_lists();
+    laws::lists_more();
+    laws::lists_merged();
+    Ok(())
+}
+
+#[test]
+fn a_place_is_found_from_its_byte(rt: HostRuntime) -> Result<(), Fail> {
+    let alloc = rt.alloc();
+    let lists = three_lists(alloc)?;
+    let index = index_of(alloc, &lists)?;
+    for (segment, rows) in lists.iter().enumerate() {
+        let mut end = 0u32;
+        for place in places_of(alloc, rows)? {
+            assert_eq!(rt; index.place_from_byte(segment, place.at), Some(place));
+            let inside = place.at.saturating_add(1);
+            assert_eq!(rt; index.place_from_byte(segment, inside), None);
+            end = place.at.saturating_add(place.bytes);
+        }
+        assert!(rt; end > 0);
+        assert_eq!(rt; index.place_from_byte(segment, end), None);
+        assert_eq!(rt; index.place_from_byte(segment, u32::MAX), None);
+    }
+    assert_eq!(rt; index.place_from_byte(3, 0), None);
+    assert_eq!(rt; index.place_from_byte(usize::MAX, 0), None);
+    assert_eq!(rt; Index::new(alloc)?.place_from_byte(0, 0), None);
+    Ok(())
+}
+
+#[test]
+fn an_index_has_room_for_so_many_lists(rt: HostRuntime) -> Result<(), Fail> {
+    let alloc = rt.alloc();
+    let mut full = Index::new(alloc)?;
+    for _ in 0..MAX_LISTS {
+        let empty = PlaceList::new(Vec::new(alloc));
+        if full.may_add(&empty) {
+            full.add(empty);
+        }
+    }
+    assert_eq!(rt; full.lists(), MAX_LISTS);
+    assert!(rt; !full.may_add(&PlaceList::new(Vec::new(alloc))));
+    Ok(())
+}
+
+/// Puts a list in the place of two, where its keys are in none of the lists.
+fn put_in(index: &mut Index, i: usize, j: usize, list: PlaceList) -> Result<(), Fail> {
+    if i >= j {
+        return Err(Fail::from("not in order"));
+    }
+    if j >= index.lists() {
+        return Err(Fail::from("no such list"));
+    }
+    if !index.may_add(&list) {
+        return Err(Fail::from("no room, or listed twice"));
+    }
+    index.replace_two(i, j, list);
+    Ok(())
+}
+
+#[test]
+fn a_list_is_put_in_the_place_of_two(rt: HostRuntime) -> Result<(), Fail> {
+    let alloc = rt.alloc();
+    let lists = three_lists(alloc)?;
+    let date = day(20_210_731)?;
+    for (i, j, concept_at, member_at, left) in [
+        (0, 2, 1, 0, 20_210_131),
+        (0, 1, 1, 0, 20_200_731),
+        (1, 2, 0, 1, 20_200_131),
+    ] {
+        let mut index = index_of(alloc, &lists)?;
+        let members = brought(alloc, &made_rows(alloc)?, 1, 2)?;
+        let places = places_of(alloc, &members)?;
+        let count = places.len();
+        assert!(rt; PlaceList::may_list(&places));
+        put_in(&mut index, i, j, PlaceList::new(places))?;
+        assert_eq!(rt; index.lists(), 2);
+        assert!(rt; member_at < index.lists() && index.list(member_at).len() == count);
+        let (segment, at) = index
+            .place_at(Kind::Concept, u128::from(STREET), date, 3)
+            .ok_or("no concept")?;
+        assert_eq!(rt; (segment, at.key.time.value()), (concept_at, left));
+        let (segment, _) = index
+            .place_at(Kind::Association, MADE + 3, date, 3)
+            .ok_or("no member")?;
+        assert_eq!(rt; segment, member_at);
+    }
+    Ok(())
+}
+
+#[test]
+fn places_of_other_rows_get_an_answer(rt: HostRuntime) -> Result<(), Fail> {
+    let alloc = rt.alloc();
+    let index = index_of(alloc, &lists_of(alloc, &example(alloc)?, &[(1, 3)])?)?;
+    let date = day(20_210_131)?;
+    for those in [
+        spread(alloc, &[], 0)?,
+        spread(alloc, &made_rows(alloc)?, 1)?,
+    ] {
+        let mut reader = kept(&those);
+        let found = index.page(&mut reader, Kind::Concept, date, None, 9, 3);
+        assert_eq!(rt; found.err(), Some(ReadFault::Damaged));
+        assert_eq!(rt; reader.damages, 1);
+    }
+    Ok(())
+}
+
+#[test]
+fn a_place_is_current_and_its_row_is_read(rt: HostRuntime) -> Result<(), Fail> {
+    let alloc = rt.alloc();
+    let lists = lists_of(alloc, &example(alloc)?, &[(1, 3)])?;
+    let index = index_of(alloc, &lists)?;
+    let date = day(20_210_131)?;
+    let street = u128::from(STREET);
+    let (segment, at) = index
+        .place_at(Kind::Concept, street, date, 3)
+        .ok_or("no place")?;
+    assert!(rt; index.is_current(segment, at, date, 3));
+    assert!(rt; !index.is_current(segment, at, day(20_210_130)?, 3));
+    assert!(rt; !index.is_current(1, at, date, 3));
+    let chosen = Chosen {
+        segment,
+        at,
+        refset: 0,
+        target: 0,
+    };
+    let mut reader = kept(&lists);
+    let read = read_all(alloc, &mut reader, &[chosen, chosen])?;
+    assert!(rt; read.iter().all(|row| row.id == street && row.time == date));
+    assert_eq!(rt; read.len(), 2);
+    assert_eq!(rt; reader.row(alloc, 1, at).err(), Some(ReadFault::Damaged));
+    Ok(())
+}

@@ -1,0 +1,506 @@
+//! Descriptions by the beginning of their terms.
+
+ghost use Rattle.std.specs.Prelude.{◌<◌};
+
+use crate::lists::{Indexed, index_all, index_of, kept, posted_terms, terms_of};
+use crate::releases::{example, imported, lists_of, three_lists};
+use crate::rows::{LAST_DAY, STREET_NAME, day, description, description_id, is_same};
+use as_of_index::{Index, ReadFault, RowReader};
+use history_model::{StampedRow, plain};
+use rf2_values::{Body, EffectiveTime, Row};
+use std::alloc::Global;
+use std::process::Abort;
+use std::test::Fail;
+use term_prefix::{Postings, Terms, find};
+
+/// What is searched for, and of what is found at most so many, with ids above one.
+#[derive(Clone, Copy)]
+pub(crate) struct Search<'a> {
+    pub(crate) prefix: &'a str,
+    pub(crate) time: EffectiveTime,
+    pub(crate) after: Option<u128>,
+    pub(crate) limit: u32,
+    pub(crate) pin: u32,
+}
+
+/// The descriptions that are found.
+pub(crate) fn found<R: RowReader>(
+    alloc: Global,
+    terms: &Terms,
+    index: &Index,
+    reader: &mut R,
+    asked: Search<'_>,
+) -> Result<Vec<Row>, ReadFault> {
+    let Search {
+        prefix,
+        time,
+        after,
+        limit,
+        pin,
+    } = asked;
+    find(alloc, terms, index, reader, prefix, time, after, limit, pin)
+}
+
+/// The time of a description, and its term.
+fn version(row: &Row) -> (u32, &[u8]) {
+    match &row.body {
+        Body::Description(description) => (row.time.value(), description.term.as_bytes()),
+        _ => (row.time.value(), b""),
+    }
+}
+
+#[test]
+fn streets_by_the_beginning_of_their_names(rt: HostRuntime) -> Result<(), Fail> {
+    let alloc = rt.alloc();
+    let rows = example(alloc)?;
+    let lists = three_lists(alloc)?;
+    let index = index_of(alloc, &lists)?;
+    let posted = terms_of(alloc, &lists)?;
+    let none = Terms::new(alloc)?;
+    let street = Some((20_200_131, "Straße".as_bytes()));
+    let way = Some((20_210_131, b"Weg".as_slice()));
+    for (terms, pin, date, prefix, want) in [
+        (&posted, 1, 20_200_131, "straß", street),
+        (&posted, 1, 20_200_131, "STRASSE", street),
+        (&posted, 1, 20_200_131, "STRASS", street),
+        (&none, 1, 20_200_131, "STRASS", None),
+        (&posted, 1, 20_200_131, "", street),
+        (&posted, 1, 20_200_131, "ss", None),
+        (&posted, 1, 20_200_131, "strassen", None),
+        (&posted, 1, 20_200_130, "straß", None),
+        (&posted, 1, LAST_DAY, "we", None),
+        (&posted, 1, LAST_DAY, "straß", street),
+        (&posted, 2, 20_210_131, "we", way),
+        (&posted, 2, 20_210_130, "STRASS", street),
+        (&posted, 2, 20_210_131, "STRASS", None),
+        (&posted, 0, LAST_DAY, "", None),
+    ] {
+        let time = day(date)?;
+        let asked = Search {
+            prefix,
+            time,
+            after: None,
+            limit: 10,
+            pin,
+        };
+        let found = found(alloc, terms, &index, &mut kept(&lists), asked)?;
+        assert_eq!(rt;
+            found.first().map(version),
+            want,
+            "{prefix} at {date}, pin {pin}"
+        );
+        assert!(rt; found.len() <= 1 && found.iter().all(|row| row.id == STREET_NAME));
+        let shown = plain::rows_at(alloc, pin, &rows)?;
+        let plainly = plain::terms(alloc, &shown, prefix, time, 10)?;
+        assert!(rt; terms.lists() == 0 || plainly.len() == found.len());
+    }
+    Ok(())
+}
+
+const DAYS: [u32; 5] = [20_200_131, 20_200_731, 20_210_131, 20_210_731, 20_220_131];
+
+const NAMES: [&str; 8] = [
+    "Straße",
+    "STRASSE am Berg",
+    "strauß",
+    "Weg",
+    "weg zum Berg",
+    "Ähre",
+    "ähnlich",
+    "Σίσυφος",
+];
+
+const BEGINNINGS: [&str; 12] = [
+    "",
+    "s",
+    "STRASS",
+    "strau",
+    "we",
+    "WEG ",
+    "ä",
+    "ÄH",
+    "ähr",
+    "ΣΊΣΥΦΟΣ",
+    "z",
+    "strassf",
+];
+
+/// One of five that stand there, by a number.
+fn pick_day(number: u32) -> u32 {
+    match DAYS.get((number % 5) as usize) {
+        Some(day) => *day,
+        None => LAST_DAY,
+    }
+}
+
+/// One of the names, by a number.
+fn pick_name(number: u32) -> &'static str {
+    match NAMES.get((number % 8) as usize) {
+        Some(name) => *name,
+        None => "",
+    }
+}
+
+/// Versions of some of sixteen descriptions, not all of them active.
+fn made_release(alloc: Global, import: u32) -> Result<Vec<Row>, Fail>
+    requires { import < 7 }
+{
+    let mut release = Vec::new(alloc);
+    for number in 0..16u32 {
+        let mixed = number * 7 + import * import * 5;
+        if mixed % 3 != 0 {
+            let id = description_id(100 + number)?;
+            let time = pick_day(number + import * 3);
+            let active = (number + import * 3) % 4 != 0;
+            let term = pick_name(mixed / 3);
+            release.push(description(alloc, id, time, active, term)?)?;
+        }
+    }
+    Ok(release)
+}
+
+/// Rows of six imports, in key order: sixteen descriptions
+/// with many versions, some of them inactive.
+pub(crate) fn made_rows(alloc: Global) -> Result<Vec<StampedRow>, Fail> {
+    let mut releases = Vec::new(alloc);
+    for import in 1..7u32 {
+        releases.push(made_release(alloc, import)?)?;
+    }
+    imported(alloc, &releases)
+}
+
+/// How many rows are found, which are those of the plain program.
+fn compare_search(
+    rt: &impl Abort,
+    alloc: Global,
+    made: &Indexed,
+    shown: &[Row],
+    asked: Search<'_>,
+) -> Result<usize, Fail> {
+    let Search {
+        prefix,
+        time,
+        after,
+        limit,
+        pin,
+    } = asked;
+    let asked = Search {
+        prefix,
+        time,
+        after,
+        limit,
+        pin,
+    };
+    let mut reader = kept(&made.lists);
+    let found = found(alloc, &made.terms, &made.index, &mut reader, asked)?;
+    let wanted = plain::search_terms(alloc, shown, prefix, time, after, limit)?;
+    assert!(rt;
+        is_same(&found, &wanted),
+        "{prefix}, pin {pin}, after {after:?}, {limit}"
+    );
+    Ok(found.len())
+}
+
+/// How many rows are found by whatever prefix, at a date and a pin.
+fn compare_from(
+    rt: &impl Abort,
+    alloc: Global,
+    made: &Indexed,
+    shown: &[Row],
+    (time, pin): (EffectiveTime, u32),
+    (after, limit): (Option<u128>, u32),
+) -> Result<usize, Fail> {
+    let mut answered = 0usize;
+    for prefix in BEGINNINGS {
+        let asked = Search {
+            prefix,
+            time,
+            after,
+            limit,
+            pin,
+        };
+        let found = compare_search(rt, alloc, made, shown, asked)?;
+        answered = answered.saturating_add(found);
+    }
+    Ok(answered)
+}
+
+/// How many rows are found at a date and a pin; each answer is that of the plain program.
+fn compare_at(
+    rt: &impl Abort,
+    alloc: Global,
+    made: &Indexed,
+    shown: &[Row],
+    time: EffectiveTime,
+    pin: u32,
+) -> Result<usize, Fail> {
+    let mut answered = 0usize;
+    for asked in [
+        (None, 0u32),
+        (None, 1),
+        (None, 3),
+        (None, 100),
+        (Some(description_id(106)?), 3),
+        (Some(description_id(111)?.saturating_sub(1)), 100),
+        (Some(description_id(115)?), 100),
+    ] {
+        let found = compare_from(rt, alloc, made, shown, (time, pin), asked)?;
+        answered = answered.saturating_add(found);
+    }
+    Ok(answered)
+}
+
+/// How many rows are found; each answer is that of the plain program.
+fn compare(
+    rt: &impl Abort,
+    alloc: Global,
+    rows: &[StampedRow],
+    made: &Indexed,
+) -> Result<usize, Fail> {
+    let mut answered = 0usize;
+    for pin in 0..7u32 {
+        let shown = plain::rows_at(alloc, pin, rows)?;
+        for date in DAYS {
+            let found = compare_at(rt, alloc, made, &shown, day(date)?, pin)?;
+            answered = answered.saturating_add(found);
+        }
+    }
+    Ok(answered)
+}
+
+#[test]
+fn made_terms_in_several_lists(rt: HostRuntime) -> Result<(), Fail> {
+    let alloc = rt.alloc();
+    let rows = made_rows(alloc)?;
+    let one = index_all(alloc, lists_of(alloc, &rows, &[(1, 6)])?)?;
+    let some = lists_of(alloc, &rows, &[(1, 2), (7, 9), (3, 3), (4, 6)])?;
+    let some = index_all(alloc, some)?;
+    let answered = compare(&rt, alloc, &rows, &one)?;
+    assert!(rt; answered > 500, "{answered} answers");
+    assert_eq!(rt; compare(&rt, alloc, &rows, &some)?, answered);
+    Ok(())
+}
+
+/// The ids of what searches find that go on behind the last of the one before, until one finds
+/// fewer than the limit; and how many searches there were.
+fn found_in_pieces(
+    alloc: Global,
+    made: &Indexed,
+    prefix: &str,
+    time: EffectiveTime,
+    limit: u32,
+) -> Result<(Vec<u128>, usize), Fail> {
+    let mut ids = Vec::new(alloc);
+    for searches in 1..100usize {
+        let asked = Search {
+            prefix,
+            time,
+            after: ids.last().copied(),
+            limit,
+            pin: 6,
+        };
+        let mut reader = kept(&made.lists);
+        let found = found(alloc, &made.terms, &made.index, &mut reader, asked)?;
+        ids.extend(found.iter().map(|row| row.id))?;
+        if found.len() < limit as usize {
+            return Ok((ids, searches));
+        }
+    }
+    Err(Fail::from("no end"))
+}
+
+#[test]
+fn searches_that_go_on_find_all(rt: HostRuntime) -> Result<(), Fail> {
+    let alloc = rt.alloc();
+    let rows = made_rows(alloc)?;
+    let some = lists_of(alloc, &rows, &[(1, 2), (3, 3), (4, 6)])?;
+    let made = index_all(alloc, some)?;
+    let shown = plain::rows_at(alloc, 6, &rows)?;
+    let time = day(20_210_131)?;
+    let wanted = plain::terms(alloc, &shown, "s", time, 100)?;
+    let many = wanted.len();
+    assert!(rt; many > 3, "{many} terms");
+    for limit in [1u32, 2, 3, 100] {
+        let (ids, searches) = found_in_pieces(alloc, &made, "S", time, limit)?;
+        assert!(rt;
+            ids.iter().copied().eq(wanted.iter().map(|row| row.id)),
+            "{limit}"
+        );
+        let full = many.checked_div(limit as usize);
+        assert_eq!(rt; full, Some(searches.saturating_sub(1)), "{limit}");
+    }
+    Ok(())
+}
+
+#[test]
+fn a_search_goes_on_above_an_id(rt: HostRuntime) -> Result<(), Fail> {
+    let alloc = rt.alloc();
+    let made = index_all(alloc, vec![in alloc; named_rows(alloc)?]?)?;
+    let [first, second, third, last] = [
+        description_id(100)?,
+        description_id(101)?,
+        description_id(102)?,
+        description_id(104)?,
+    ];
+    for (prefix, after, limit, want) in [
+        ("STRASS", None, 2, [first, second].as_slice()),
+        ("STRASS", Some(0), 2, [first, second].as_slice()),
+        ("STRASS", Some(first), 2, [second, third].as_slice()),
+        (
+            "STRASS",
+            Some(first.saturating_sub(1)),
+            1,
+            [first].as_slice(),
+        ),
+        ("STRASS", Some(second), 2, [third, last].as_slice()),
+        ("STRASS", Some(third), 2, [last].as_slice()),
+        ("STRASS", Some(last), 2, [].as_slice()),
+        ("STRASS", Some(first), 0, [].as_slice()),
+        ("weg", Some(first), 2, [].as_slice()),
+    ] {
+        let asked = Search {
+            prefix,
+            time: day(LAST_DAY)?,
+            after,
+            limit,
+            pin: 1,
+        };
+        let mut reader = kept(&made.lists);
+        let found = found(alloc, &made.terms, &made.index, &mut reader, asked)?;
+        let ids: Vec<u128> = found.iter().map(|row| row.id).collect(alloc)?;
+        assert_eq!(rt; ids.as_slice(), want, "{prefix} after {after:?}");
+        assert_eq!(rt; reader.reads, want.len() as u64);
+    }
+    Ok(())
+}
+
+/// Four descriptions with one name, and one that is inactive.
+fn named_rows(alloc: Global) -> Result<Vec<StampedRow>, Fail> {
+    let mut rows = Vec::new(alloc);
+    for (number, active) in [
+        (100, true),
+        (101, true),
+        (102, true),
+        (103, false),
+        (104, true),
+    ] {
+        let id = description_id(number)?;
+        let row = description(alloc, id, 20_200_131, active, "Straße")?;
+        rows.push(StampedRow { row, import: 1 })?;
+    }
+    Ok(rows)
+}
+
+/// The ids of what is found at the last day.
+fn ids_found(
+    alloc: Global,
+    terms: &Terms,
+    lists: &[Vec<StampedRow>],
+    prefix: &str,
+) -> Result<Vec<u128>, Fail> {
+    let index = index_of(alloc, lists)?;
+    let asked = Search {
+        prefix,
+        time: day(LAST_DAY)?,
+        after: None,
+        limit: 100,
+        pin: 9,
+    };
+    let found = found(alloc, terms, &index, &mut kept(lists), asked)?;
+    Ok(found.iter().map(|row| row.id).collect(alloc)?)
+}
+
+#[test]
+fn terms_of_as_many_lists_as_may_be(rt: HostRuntime) -> Result<(), Fail> {
+    let alloc = rt.alloc();
+    let mut lists = Vec::new(alloc);
+    let mut ids = Vec::new(alloc);
+    for number in 0..250u32 {
+        let id = description_id(400 - number)?;
+        let row = description(alloc, id, 20_200_131, true, "Straße")?;
+        lists.push(vec![in alloc; StampedRow { row, import: 1 }]?)?;
+        ids.push(id)?;
+    }
+    ids.reverse();
+    let mut terms = terms_of(alloc, &lists)?;
+    assert_eq!(rt; terms.lists(), 250);
+    ids.truncate(100);
+    assert!(rt; ids_found(alloc, &terms, &lists, "strass")? == ids);
+
+    let moved = lists.pop().ok_or("no list")?;
+    let list = posted_terms(alloc, &moved)?.seal();
+    if let Some(place) = lists.get_mut(3) {
+        *place = moved;
+    }
+    terms.replace_two(3, 249, list);
+    assert_eq!(rt; terms.lists(), 249);
+    let left = ids_found(alloc, &terms, &lists, "STRASS")?;
+    assert!(rt; left.len() == 100 && left.first() == ids.first());
+    Ok(())
+}
+
+#[test]
+fn posted_terms_grow_and_are_cut(rt: HostRuntime) -> Result<(), Fail> {
+    let alloc = rt.alloc();
+    let mut rows = Vec::new(alloc);
+    for (number, active, term) in [
+        (100, true, "Straße"),
+        (101, false, "Strand"),
+        (102, true, "Strauß"),
+        (103, true, "Weg"),
+    ] {
+        let id = description_id(number)?;
+        let row = description(alloc, id, 20_200_131, active, term)?;
+        rows.push(StampedRow { row, import: 1 })?;
+    }
+    let mut postings = posted_terms(alloc, &rows)?;
+    let lists = vec![in alloc; rows]?;
+    assert_eq!(rt; postings.len(), 3);
+    postings.cut_to(4);
+    assert_eq!(rt; postings.len(), 3);
+    postings.cut_to(1);
+    assert_eq!(rt; postings.len(), 1);
+    let mut terms = Terms::new(alloc)?;
+    terms.add(postings.seal());
+    let first = description_id(100)?;
+    for (prefix, found) in [("str", 1), ("we", 0), ("", 1)] {
+        let ids = ids_found(alloc, &terms, &lists, prefix)?;
+        assert_eq!(rt; ids.len(), found, "{prefix}");
+        assert!(rt; ids.iter().all(|id| *id == first));
+    }
+    assert_eq!(rt; Postings::new(alloc).len(), 0);
+    Ok(())
+}
+
+#[test]
+fn terms_that_do_not_fit_are_answered_or_refused(rt: HostRuntime) -> Result<(), Fail> {
+    let alloc = rt.alloc();
+    let rows = example(alloc)?;
+    let lists = lists_of(alloc, &rows, &[(1, 1), (2, 2)])?;
+    let turned = lists_of(alloc, &rows, &[(2, 2), (1, 1)])?;
+    let first = lists_of(alloc, &rows, &[(1, 1)])?;
+    let index = index_of(alloc, &lists)?;
+    let terms = terms_of(alloc, &lists)?;
+    let others = terms_of(alloc, &turned)?;
+    for (terms, lists, want) in [
+        (&terms, lists.as_slice(), Ok(1)),
+        (&terms, turned.as_slice(), Err(ReadFault::Damaged)),
+        (&terms, first.as_slice(), Err(ReadFault::Damaged)),
+        (&terms, &[], Err(ReadFault::Damaged)),
+        (&others, lists.as_slice(), Ok(0)),
+        (&others, &[], Ok(0)),
+    ] {
+        let asked = Search {
+            prefix: "we",
+            time: day(LAST_DAY)?,
+            after: None,
+            limit: 10,
+            pin: 2,
+        };
+        let mut reader = kept(lists);
+        let found = found(alloc, terms, &index, &mut reader, asked);
+        assert!(rt; found.map(|rows| rows.len()) == want);
+        assert_eq!(rt; reader.damages, u64::from(want.is_err()));
+    }
+    Ok(())
+}

@@ -1,0 +1,81 @@
+//! A reader of which one read fails.
+
+use as_of_index::{ReadFault, RowReader};
+use fault_counts::raised;
+use history_model::StampedRow;
+use segment::RowPlace;
+use std::alloc::Global;
+
+/// Rows in memory that are counted as they are read, and with one read that fails.
+#[derive(Drop)]
+pub(crate) struct Watched<'a> {
+    lists: &'a [Vec<StampedRow>],
+    reads: u64,
+    /// From 1 on; 0 for none.
+    failing: u64,
+    fault: ReadFault,
+    disk_faults: u64,
+    damages: u64,
+}
+
+impl Watched<'_> {
+    pub(crate) fn new(lists: &[Vec<StampedRow>], failing: u64, fault: ReadFault) -> Watched<'_> {
+        Watched {
+            lists,
+            reads: 0,
+            failing,
+            fault,
+            disk_faults: 0,
+            damages: 0,
+        }
+    }
+
+    /// How often a row was asked for, the device failed, and a row was damaged.
+    pub(crate) fn counts(&self) -> (u64, u64, u64) {
+        (self.reads, self.disk_faults, self.damages)
+    }
+}
+
+impl RowReader for Watched<'_> {
+    ghost use Rattle.std.specs.Prelude.{◌≡◌, map, vec_items};
+    ghost use Rattle.std.proofs.Common.{refl, ◌∙◌};
+
+    ghost lists = { λ r. map vec_items r.lists.now };
+
+    ghost disk_faults = { λ r. r.disk_faults };
+
+    ghost damages = { λ r. r.damages };
+
+    ghost work = { λ r. r.reads };
+
+    ghost cost = { λ _. 1 };
+
+    ghost is_honest = { λ _. ⊥ };
+
+    ghost stays = { λ a b. b.lists ≡ a.lists };
+
+    ghost stays_still = { λ r. refl };
+
+    ghost stays_on = { λ a b c ab bc. bc ∙ ab };
+
+    fn row(
+        &mut self,
+        alloc: Global,
+        segment: usize,
+        at: RowPlace,
+    ) -> Result<StampedRow, ReadFault> {
+        self.reads = self.reads.saturating_add(1);
+        if self.reads != self.failing && segment < self.lists.len() {
+            let rows = &self.lists[segment];
+            if let Some(found) = rows.iter().find(|stamped| stamped.row.key() == at.key) {
+                return Ok(found.try_clone(alloc)?);
+            }
+        }
+        match self.fault {
+            ReadFault::OutOfMemory => {}
+            ReadFault::DiskFault => self.disk_faults = raised(self.disk_faults),
+            ReadFault::Damaged => self.damages = raised(self.damages),
+        }
+        Err(self.fault)
+    }
+}

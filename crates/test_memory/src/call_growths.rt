@@ -1,0 +1,263 @@
+//! Each call of the store with little memory.
+
+use crate::calls::{Answer, Call, Wanted, is_wanted, make};
+use disk_model::MemDisk;
+use history_store::Refusal;
+use import_check::Release;
+use rf2_rows::Kind;
+use std::alloc::{AllocError, Global};
+use std::test::Fail;
+use test_support::{Example, Scarcity, merged_disk, sampled};
+
+/// By how many bytes more a call finds each time.
+const STEP: usize = 16;
+
+/// How many times a call is tried.
+const TRIES: usize = 40_000;
+
+const STREET: u128 = 1_000_004;
+
+const ROOT: u64 = 138_875_005;
+
+/// Calls on a new store, what they answer, and how often each is
+/// refused first, at least. Where that is 0, it is never refused.
+const CALLS: [(Call, Wanted, u32); 25] = [
+    (
+        Call::Row(Kind::Concept, 138_875_005, 20_230_131, 0),
+        Wanted::Line(""),
+        0,
+    ),
+    (Call::Import(0), Wanted::Imported(1, 6, 0), 150),
+    (Call::Import(1), Wanted::Imported(2, 4, 0), 180),
+    (Call::MergeBegin, Wanted::Number(10), 0),
+    (Call::MergeAbandon, Wanted::Number(0), 0),
+    (Call::MergeBegin, Wanted::Number(10), 0),
+    (Call::MergeStep(1), Wanted::Number(9), 40),
+    (Call::Import(2), Wanted::Imported(3, 2, 1), 100),
+    (Call::MergeStep(100), Wanted::Number(0), 200),
+    (Call::MergePublish, Wanted::Number(0), 0),
+    (Call::Trim, Wanted::Number(0), 0),
+    (
+        Call::Row(Kind::Concept, STREET, 20_200_831, 3),
+        Wanted::Line("1000004|20200731|0|CORE|PRIM"),
+        40,
+    ),
+    (
+        Call::Row(Kind::Concept, STREET, 20_200_831, 1),
+        Wanted::Line("1000004|20200131|1|CORE|PRIM"),
+        40,
+    ),
+    (
+        Call::History(Kind::Concept, STREET, 3),
+        Wanted::Lines(&[
+            "1000004|20200131|1|CORE|PRIM",
+            "1000004|20200731|0|CORE|PRIM",
+            "1000004|20210131|0|CORE|PRIM",
+        ]),
+        40,
+    ),
+    (
+        Call::Page(Kind::Concept, 20_200_131, 2),
+        Wanted::Lines(&[
+            "1000004|20200131|1|CORE|PRIM",
+            "2000001|20200131|1|CORE|PRIM",
+        ]),
+        40,
+    ),
+    (
+        Call::About(Kind::Relationship, 1_000_004, 20_210_131),
+        Wanted::Lines(&["1000027|20200131|1|CORE|1000004|138875005|0|116680003|INF|MOD"]),
+        40,
+    ),
+    (
+        Call::Children(ROOT, 20_210_131),
+        Wanted::Ids(&[1_000_004]),
+        1,
+    ),
+    (
+        Call::Terms("STRASS", 20_200_131),
+        Wanted::Lines(&["1000015|20200131|1|CORE|1000004|de|SYN|Straße|ECI"]),
+        40,
+    ),
+    (Call::Terms("STRASS", 20_210_131), Wanted::Lines(&[]), 1),
+    (
+        Call::Replacements(1_000_004, 20_210_131),
+        Wanted::Lines(&[
+            "0b6a0c2e-5d0f-4c53-9f6e-8d9d2a7b1c01|20210131|1|CORE|900000000000527005|1000004|2000001",
+        ]),
+        40,
+    ),
+    // The releases once more: nothing of them is new.
+    (Call::Import(0), Wanted::Imported(4, 0, 6), 150),
+    (Call::MergeBegin, Wanted::Number(12), 0),
+    (Call::MergeStep(100), Wanted::Number(0), 200),
+    (Call::MergePublish, Wanted::Number(0), 0),
+    (Call::Trim, Wanted::Number(8_284), 0),
+];
+
+/// What the counts of a store are.
+type Counts = (u32, u64, u32, Option<u64>);
+
+fn counts(store: &Example) -> Counts {
+    (
+        store.imports(),
+        store.row_count(),
+        store.segments(),
+        store.merge_left(),
+    )
+}
+
+/// A disk that needs no memory for what the calls do.
+fn disk_with_room(alloc: Global, bytes: &[u8]) -> Result<MemDisk, AllocError> {
+    let mut disk = MemDisk::from_bytes(alloc, bytes.to_vec(alloc)?);
+    disk.reserve(1_048_576, 1_000)?;
+    Ok(disk)
+}
+
+/// Whether so many refusals are at least these, and none where these are none.
+fn is_as_often(refused: u32, least: u32) -> bool {
+    if least == 0 {
+        refused == 0
+    } else {
+        refused >= least
+    }
+}
+
+/// What came of a call.
+#[derive(Debug, Drop)]
+enum Outcome {
+    /// The answer, after so many refusals because memory ran out.
+    Answered(Answer, u32),
+    /// Another refusal.
+    Refused(Refusal),
+    /// It was refused because memory ran out, and the counts changed.
+    Changed,
+    /// It was refused with as much memory as there is.
+    Never,
+}
+
+/// Makes a call with more and more memory, until it isn't refused for want of it.
+fn tried(
+    scarcity: &mut Scarcity,
+    call: Call,
+    releases: &[Release],
+    store: &mut Example,
+) -> Result<Outcome, AllocError> {
+    let before = counts(store);
+    let mut refused = 0u32;
+    for number in 0..TRIES {
+        scarcity.leave(STEP * number)?;
+        let answer = make(call, releases, store);
+        scarcity.relax();
+        match answer {
+            Ok(answer) => return Ok(Outcome::Answered(answer, refused)),
+            Err(Refusal::OutOfMemory) => refused = refused.saturating_add(1),
+            Err(refusal) => return Ok(Outcome::Refused(refusal)),
+        }
+        if counts(store) != before {
+            return Ok(Outcome::Changed);
+        }
+    }
+    Ok(Outcome::Never)
+}
+
+/// A new store, made with more and more memory on the disk that comes back.
+fn created(alloc: Global, scarcity: &mut Scarcity) -> Result<(Example, u32), Fail> {
+    let mut disk = disk_with_room(alloc, b"")?;
+    let mut refused = 0u32;
+    for number in 0..TRIES {
+        scarcity.leave(STEP * number)?;
+        let made = Example::create(alloc, disk);
+        scarcity.relax();
+        match made {
+            Ok(store) => return Ok((store, refused)),
+            Err((Refusal::OutOfMemory, back)) => disk = back,
+            Err((refusal, _)) => return Err(Fail::from(refusal)),
+        }
+        if !disk.bytes().is_empty() {
+            return Err(Fail::from("a disk that was written"));
+        }
+        refused = refused.saturating_add(1);
+    }
+    Err(Fail::from("never made"))
+}
+
+/// The sample releases.
+fn samples(alloc: Global) -> Result<Vec<Release>, Refusal> {
+    let mut releases = Vec::with_capacity(alloc, 3)?;
+    for name in ["r1", "r2", "r3"] {
+        match releases.push(sampled(alloc, name)?) {
+            Ok(()) => {}
+            Err(_) => return Err(Refusal::OutOfMemory),
+        }
+    }
+    Ok(releases)
+}
+
+#[test]
+fn each_growth_of_a_call(rt: HostRuntime) -> Result<(), Fail> {
+    let releases = samples(rt.alloc())?;
+    let mut scarcity = Scarcity::new(rt.alloc())?;
+    let (mut store, refused) = created(rt.alloc(), &mut scarcity)?;
+    assert!(rt; refused >= 2_500, "making: {refused} refused");
+    for (call, wanted, least) in &CALLS {
+        match tried(&mut scarcity, *call, releases.as_slice(), &mut store)? {
+            Outcome::Answered(answer, refused) => {
+                assert!(rt;
+                    is_wanted(rt.alloc(), &answer, *wanted)?,
+                    "{call:?}: {answer:?}"
+                );
+                assert!(rt; is_as_often(refused, *least), "{call:?}: {refused} refused");
+            }
+            other => assert!(rt; false, "{call:?}: {other:?}"),
+        }
+    }
+    Ok(())
+}
+
+/// Whether the store is that of the merged disk.
+fn is_merged(store: &Example) -> bool {
+    counts(store) == (3, 12, 2, None)
+}
+
+/// Whether a disk with these bytes is opened with so much memory; none where something else came.
+fn opens(
+    alloc: Global,
+    scarcity: &mut Scarcity,
+    bytes: &[u8],
+    room: usize,
+) -> Result<Option<bool>, AllocError> {
+    let disk = disk_with_room(alloc, bytes)?;
+    scarcity.leave(room)?;
+    let opened = Example::open(alloc, disk);
+    scarcity.relax();
+    match opened {
+        Ok(store) => Ok(is_merged(&store).then_some(true)),
+        Err((Refusal::OutOfMemory, back)) => match Example::open(alloc, back) {
+            Ok(store) => Ok(is_merged(&store).then_some(false)),
+            Err(_) => Ok(None),
+        },
+        Err(_) => Ok(None),
+    }
+}
+
+#[test]
+fn each_growth_of_an_opening(rt: HostRuntime) -> Result<(), Fail> {
+    let disk = merged_disk(rt.alloc())?;
+    let mut scarcity = Scarcity::new(rt.alloc())?;
+    let mut is_opened = false;
+    let mut refused = 0u32;
+    for number in 0..TRIES {
+        match opens(rt.alloc(), &mut scarcity, disk.bytes(), STEP * number)? {
+            Some(true) => {
+                is_opened = true;
+                break;
+            }
+            Some(false) => refused = refused.saturating_add(1),
+            None => assert!(rt; false, "with {number} steps of memory"),
+        }
+    }
+    assert!(rt; is_opened);
+    assert!(rt; refused >= 5_000, "{refused} refused");
+    Ok(())
+}

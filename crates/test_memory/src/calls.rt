@@ -1,0 +1,110 @@
+//! Calls of the store, and what they answer.
+
+use history_store::{Receipt, Refusal};
+use import_check::Release;
+use rf2_rows::Kind;
+use std::alloc::{AllocError, Global};
+use test_support::{Example, line, lines};
+
+/// A call.
+#[derive(Clone, Copy, Debug)]
+pub enum Call {
+    /// The release at this place is imported.
+    Import(usize),
+    MergeBegin,
+    MergeStep(u32),
+    MergePublish,
+    MergeAbandon,
+    Trim,
+    /// The row of a component at a date, as the first so many imports show it.
+    Row(Kind, u128, u32, u32),
+    History(Kind, u128, u32),
+    Page(Kind, u32, u32),
+    About(Kind, u64, u32),
+    Terms(&'static str, u32),
+    Children(u64, u32),
+    Replacements(u64, u32),
+}
+
+/// What a call answers.
+#[derive(Debug, Drop)]
+pub enum Answer {
+    Imported(Receipt),
+    /// A number, 0 where the call answers none.
+    Number(u64),
+    /// The line of a row without an LF, no bytes where there is none.
+    Line(Vec<u8>),
+    /// Lines, each with an LF.
+    Lines(Vec<u8>),
+    Ids(Vec<u64>),
+}
+
+/// What a call is to answer.
+#[derive(Clone, Copy, Debug)]
+pub enum Wanted {
+    Imported(u32, u64, u64),
+    Number(u64),
+    Line(&'static str),
+    Lines(&'static [&'static str]),
+    Ids(&'static [u64]),
+}
+
+/// Makes a call that may change the store.
+fn change(call: Call, releases: &[Release], store: &mut Example) -> Result<Answer, Refusal> {
+    let number = match call {
+        Call::Import(place) => match releases.get(place) {
+            Some(release) => return Ok(Answer::Imported(store.import(release)?)),
+            None => 0,
+        },
+        Call::MergeBegin => store.merge_begin()?,
+        Call::MergeStep(rows) => store.merge_step(rows)?,
+        Call::MergePublish => {
+            store.merge_publish()?;
+            0
+        }
+        Call::MergeAbandon => {
+            store.merge_abandon()?;
+            0
+        }
+        _ => store.trim()?,
+    };
+    Ok(Answer::Number(number))
+}
+
+/// Makes a call.
+pub fn make(call: Call, releases: &[Release], store: &mut Example) -> Result<Answer, Refusal> {
+    let pin = store.imports();
+    match call {
+        Call::Row(kind, id, date, pin) => Ok(Answer::Line(store.line_at(kind, id, date, pin)?)),
+        Call::History(kind, id, pin) => Ok(Answer::Lines(store.history(kind, id, pin)?)),
+        Call::Page(kind, date, limit) => {
+            Ok(Answer::Lines(store.page(kind, date, None, limit, pin)?))
+        }
+        Call::About(kind, id, date) => Ok(Answer::Lines(store.about(kind, id, date, pin)?)),
+        Call::Terms(prefix, date) => Ok(Answer::Lines(store.terms(prefix, date, 10, pin)?)),
+        Call::Children(id, date) => Ok(Answer::Ids(store.children(id, date, pin)?)),
+        Call::Replacements(id, date) => Ok(Answer::Lines(store.replacements(id, date, pin)?)),
+        _ => change(call, releases, store),
+    }
+}
+
+/// Whether an answer is the wanted one.
+pub fn is_wanted(alloc: Global, answer: &Answer, wanted: Wanted) -> Result<bool, AllocError> {
+    match (answer, wanted) {
+        (Answer::Imported(receipt), Wanted::Imported(number, new, repeated)) => {
+            let want = Receipt {
+                number,
+                new,
+                repeated,
+            };
+            Ok(*receipt == want)
+        }
+        (Answer::Number(found), Wanted::Number(number)) => Ok(*found == number),
+        (Answer::Line(found), Wanted::Line(row)) => {
+            Ok(found.as_slice() == line(alloc, row)?.as_bytes())
+        }
+        (Answer::Lines(found), Wanted::Lines(rows)) => Ok(*found == lines(alloc, rows)?),
+        (Answer::Ids(found), Wanted::Ids(ids)) => Ok(found.as_slice() == ids),
+        _ => Ok(false),
+    }
+}

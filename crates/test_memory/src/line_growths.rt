@@ -1,0 +1,176 @@
+//! Lines answered one by one with little memory.
+
+ghost use Rattle.line_server.specs.Pins.{AreWithin};
+
+use crate::means::Means;
+use disk_model::MemDisk;
+use history_store::{Refusal, Store};
+use line_server::{Pins, Reply, Sample, answer};
+use line_support::{SCRIPT, Turn, roomy_disk, takes_none};
+use std::alloc::{AllocError, Global};
+use std::test::Fail;
+use test_support::lines;
+
+/// By how many bytes more each call of a run finds than those of the run before.
+const STEP: usize = 16;
+
+/// The same, once no line is refused and the making alone still is.
+const LONG_STEP: usize = 256;
+
+/// How many runs are tried.
+const RUNS: usize = 10_000;
+
+/// The last line of a reply that is refused because memory ran out.
+const OUT_OF_MEMORY: &[u8] = b"ERR 1 OutOfMemory\n";
+
+/// Answers a line.
+fn reply_to(alloc: Global, line: &str, pins: &mut Pins, store: &mut Store<MemDisk>) -> Reply
+    requires { AreWithin store.old.history.imports pins.old }
+    ensures { AreWithin store.new.history.imports pins.new }
+{
+    let mut source = Sample;
+    answer(alloc, line.as_bytes(), pins, &mut source, store)
+}
+
+/// Answers a line with little memory.
+fn reply_with_little(
+    means: &mut Means,
+    line: &str,
+    pins: &mut Pins,
+    store: &mut Store<MemDisk>,
+) -> Result<Reply, AllocError>
+    requires { AreWithin store.old.history.imports pins.old }
+    ensures { AreWithin store.new.history.imports pins.new }
+{
+    means.leave()?;
+    let reply = reply_to(means.alloc(), line, pins, store);
+    means.relax();
+    Ok(reply)
+}
+
+/// Whether a line is refused because memory ran out.
+fn is_refusal(reply: &Reply) -> bool {
+    reply.body().is_empty() && reply.last() == OUT_OF_MEMORY
+}
+
+/// Whether a reply is the script's, and the line wasn't refused first if it takes no memory.
+fn is_right(
+    alloc: Global,
+    turn: Turn,
+    reply: &Reply,
+    is_refused: bool,
+) -> Result<bool, AllocError> {
+    let (line, want) = turn;
+    if is_refused && takes_none(line) {
+        return Ok(false);
+    }
+    let want = lines(alloc, want)?;
+    let mut said = Vec::from_slice(alloc, reply.body())?;
+    said.extend_from_slice(reply.last())?;
+    Ok(said == want)
+}
+
+/// Answers a line with little memory, and again with all of it
+/// where it is refused because memory ran out, and tells if it was.
+fn last_reply(
+    means: &mut Means,
+    line: &str,
+    pins: &mut Pins,
+    store: &mut Store<MemDisk>,
+) -> Result<(Reply, bool), AllocError>
+    requires { AreWithin store.old.history.imports pins.old }
+    ensures { AreWithin store.new.history.imports pins.new }
+{
+    let first = reply_with_little(means, line, pins, store)?;
+    if !is_refusal(&first) {
+        return Ok((first, false));
+    }
+    Ok((reply_to(means.alloc(), line, pins, store), true))
+}
+
+/// Answers a line as its turn of the script has it, and tells if it was refused first.
+fn take_turn(
+    means: &mut Means,
+    turn: Turn,
+    pins: &mut Pins,
+    store: &mut Store<MemDisk>,
+) -> Result<bool, Fail>
+    requires { AreWithin store.old.history.imports pins.old }
+    ensures { AreWithin store.new.history.imports pins.new }
+{
+    let (reply, is_refused) = last_reply(means, turn.0, pins, store)?;
+    if !is_right(means.alloc(), turn, &reply, is_refused)? {
+        return Err(Fail::new(turn.0));
+    }
+    Ok(is_refused)
+}
+
+/// Answers all lines of a script, and tells how many were refused first.
+fn answer_all(
+    means: &mut Means,
+    script: &[Turn],
+    pins: &mut Pins,
+    store: &mut Store<MemDisk>,
+) -> Result<usize, Fail>
+    requires { AreWithin store.old.history.imports pins.old }
+{
+    let mut refused = 0usize;
+    for turn in script {
+        if take_turn(means, *turn, pins, store)? {
+            refused = refused.saturating_add(1);
+        }
+    }
+    Ok(refused)
+}
+
+/// A store that is made with little memory, and again on the
+/// disk that comes back where it is refused, and whether it was.
+fn made(means: &mut Means) -> Result<(Box<Store<MemDisk>>, bool), Refusal> {
+    let disk = roomy_disk(means.alloc())?;
+    means.leave()?;
+    let made = Store::create(means.alloc(), disk);
+    means.relax();
+    let (store, is_refused) = match made {
+        Ok(store) => (store, false),
+        Err((Refusal::OutOfMemory, back)) => match Store::create(means.alloc(), back) {
+            Ok(store) => (store, true),
+            Err((refusal, _)) => return Err(refusal),
+        },
+        Err((refusal, _)) => return Err(refusal),
+    };
+    match Box::new(means.alloc(), store) {
+        Ok(store) => Ok((store, is_refused)),
+        Err(_) => Err(Refusal::OutOfMemory),
+    }
+}
+
+/// What was refused in a run.
+#[derive(Clone, Copy, Debug, PartialEq, Eq)]
+struct Refused {
+    making: bool,
+    lines: usize,
+}
+
+/// Makes a store and answers the script, each with little memory first.
+fn run_script(means: &mut Means) -> Result<Refused, Fail> {
+    let (mut store, making) = made(means)?;
+    let mut pins = Pins::new();
+    let lines = answer_all(means, &SCRIPT, &mut pins, &mut store)?;
+    Ok(Refused { making, lines })
+}
+
+#[test]
+fn each_growth(rt: HostRuntime) -> Result<(), Fail> {
+    let mut means = Means::new(rt.alloc())?;
+    let least = run_script(&mut means)?;
+    assert!(rt; least.making && least.lines > 0, "{least:?}");
+    for _ in 0..RUNS {
+        let refused = run_script(&mut means)?;
+        if !refused.making && refused.lines == 0 {
+            return Ok(());
+        }
+        let step = if refused.lines > 0 { STEP } else { LONG_STEP };
+        means.room = means.room.saturating_add(step);
+    }
+    Err(Fail::new("never whole"))
+}

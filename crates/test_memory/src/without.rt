@@ -1,0 +1,209 @@
+//! What lines of the script are told where lines before them never came.
+
+/// The places of the lines of the script that change
+/// the store and may be refused because memory ran out.
+pub const FIRST: usize = 2;
+
+pub const SECOND: usize = 4;
+
+const STEP_1: usize = 6;
+
+pub const THIRD: usize = 7;
+
+const STEP_100: usize = 8;
+
+const OUT_OF_MEMORY: &[u8] = b"ERR 1 OutOfMemory\n";
+
+/// A line's place, the lines that came, those that didn't, and the reply then.
+type Variant = (
+    usize,
+    &'static [usize],
+    &'static [usize],
+    &'static [&'static str],
+);
+
+/// The replies that aren't those of the script. The third release brings a row that the
+/// first one has as well.
+const VARIANTS: [Variant; 50] = [
+    // 1 PIN
+    (3, &[], &[FIRST], &["OK 0"]),
+    // 0 IMPORT r2
+    (4, &[], &[FIRST], &["OK 1 4 0"]),
+    // 0 MERGE
+    (5, &[], &[FIRST], &["ERR 9 NothingToMerge"]),
+    (5, &[], &[SECOND], &["ERR 9 NothingToMerge"]),
+    // 0 STEP 1
+    (6, &[], &[FIRST], &["ERR 11 NoMerge"]),
+    (6, &[], &[SECOND], &["ERR 11 NoMerge"]),
+    // 0 STEP 100
+    (8, &[], &[FIRST], &["ERR 11 NoMerge"]),
+    (8, &[], &[SECOND], &["ERR 11 NoMerge"]),
+    // 0 PUBLISH
+    (9, &[], &[FIRST], &["ERR 11 NoMerge"]),
+    (9, &[], &[SECOND], &["ERR 11 NoMerge"]),
+    (9, &[], &[STEP_100], &["ERR 12 MergeUnfinished"]),
+    // 1 IMPORT r3
+    (7, &[FIRST], &[SECOND], &["OK 2 2 1"]),
+    (7, &[SECOND], &[FIRST], &["OK 2 3 0"]),
+    (7, &[], &[FIRST, SECOND], &["OK 1 3 0"]),
+    // 0 STATUS
+    (
+        10,
+        &[FIRST, SECOND, THIRD, STEP_1],
+        &[STEP_100],
+        &["OK 3 12 3 9"],
+    ),
+    (
+        10,
+        &[FIRST, SECOND, THIRD],
+        &[STEP_1, STEP_100],
+        &["OK 3 12 3 10"],
+    ),
+    (
+        10,
+        &[FIRST, SECOND, STEP_1],
+        &[THIRD, STEP_100],
+        &["OK 2 10 2 9"],
+    ),
+    (
+        10,
+        &[FIRST, SECOND],
+        &[THIRD, STEP_1, STEP_100],
+        &["OK 2 10 2 10"],
+    ),
+    (10, &[FIRST, SECOND, STEP_100], &[THIRD], &["OK 2 10 1 -"]),
+    (10, &[FIRST, THIRD], &[SECOND], &["OK 2 8 2 -"]),
+    (10, &[FIRST], &[SECOND, THIRD], &["OK 1 6 1 -"]),
+    (10, &[SECOND, THIRD], &[FIRST], &["OK 2 7 2 -"]),
+    (10, &[SECOND], &[FIRST, THIRD], &["OK 1 4 1 -"]),
+    (10, &[THIRD], &[FIRST, SECOND], &["OK 1 3 1 -"]),
+    (10, &[], &[FIRST, SECOND, THIRD], &["OK 0 0 0 -"]),
+    // 0 GET C 1000004 20200831
+    (
+        11,
+        &[FIRST],
+        &[THIRD],
+        &["ROW 1000004|20200131|1|CORE|PRIM", "END 1"],
+    ),
+    (11, &[], &[FIRST, THIRD], &["END 0"]),
+    // 1 GET C 1000004 20200831
+    (12, &[], &[FIRST], &["END 0"]),
+    // 0 HISTORY C 1000004
+    (
+        13,
+        &[FIRST, SECOND],
+        &[THIRD],
+        &[
+            "ROW 1000004|20200131|1|CORE|PRIM",
+            "ROW 1000004|20210131|0|CORE|PRIM",
+            "END 2",
+        ],
+    ),
+    (
+        13,
+        &[FIRST, THIRD],
+        &[SECOND],
+        &[
+            "ROW 1000004|20200131|1|CORE|PRIM",
+            "ROW 1000004|20200731|0|CORE|PRIM",
+            "END 2",
+        ],
+    ),
+    (
+        13,
+        &[SECOND, THIRD],
+        &[FIRST],
+        &[
+            "ROW 1000004|20200731|0|CORE|PRIM",
+            "ROW 1000004|20210131|0|CORE|PRIM",
+            "END 2",
+        ],
+    ),
+    (
+        13,
+        &[FIRST],
+        &[SECOND, THIRD],
+        &["ROW 1000004|20200131|1|CORE|PRIM", "END 1"],
+    ),
+    (
+        13,
+        &[SECOND],
+        &[FIRST, THIRD],
+        &["ROW 1000004|20210131|0|CORE|PRIM", "END 1"],
+    ),
+    (
+        13,
+        &[THIRD],
+        &[FIRST, SECOND],
+        &["ROW 1000004|20200731|0|CORE|PRIM", "END 1"],
+    ),
+    (13, &[], &[FIRST, SECOND, THIRD], &["END 0"]),
+    // 0 CHILDREN 138875005 20210131
+    (14, &[], &[FIRST], &["END 0"]),
+    // 0 TERMS 20200131 10 STRASS
+    (15, &[], &[FIRST], &["END 0"]),
+    // 0 TERMS 20210131 10 STRASS
+    (
+        16,
+        &[FIRST],
+        &[SECOND],
+        &[
+            "ROW 1000015|20200131|1|CORE|1000004|de|SYN|Straße|ECI",
+            "END 1",
+        ],
+    ),
+    // 0 REPLACED 1000004 20210131
+    (17, &[], &[SECOND], &["END 0"]),
+    // 0 ABANDON
+    (24, &[FIRST, SECOND], &[STEP_100], &["OK"]),
+    // 0 ABOUT D 1000004 20210131
+    (
+        26,
+        &[FIRST],
+        &[SECOND],
+        &[
+            "ROW 1000015|20200131|1|CORE|1000004|de|SYN|Straße|ECI",
+            "END 1",
+        ],
+    ),
+    (26, &[], &[FIRST, SECOND], &["END 0"]),
+    // 0 ABOUT R 1000004 20200131
+    (27, &[], &[FIRST], &["END 0"]),
+    // 0 ABOUT A 1000004 20210131
+    (28, &[], &[SECOND], &["END 0"]),
+    // 0 SEARCH 20200131 - 10 STRASS
+    (29, &[], &[FIRST], &["END 0"]),
+    // 0 RECEIPT 2
+    (30, &[FIRST, THIRD], &[SECOND], &["OK 2 2 20200731"]),
+    (30, &[SECOND, THIRD], &[FIRST], &["OK 2 3 20200731"]),
+    (30, &[], &[SECOND, THIRD], &["ERR 44 PinRange"]),
+    (30, &[], &[FIRST, THIRD], &["ERR 44 PinRange"]),
+    (30, &[], &[FIRST, SECOND], &["ERR 44 PinRange"]),
+];
+
+/// Whether the line at a place of the script wasn't refused because memory ran out.
+pub fn came(replies: &[Vec<u8>], place: usize) -> bool {
+    !matches!(replies.get(place), Some(said) if said.as_slice() == OUT_OF_MEMORY)
+}
+
+/// Whether the lines that a variant names came, and those that it says so of didn't.
+fn is_case(replies: &[Vec<u8>], variant: Variant) -> bool {
+    let (_, needs, lacks, _) = variant;
+    needs.iter().all(|place| came(replies, *place))
+        && !lacks.iter().any(|place| came(replies, *place))
+}
+
+/// What the line at a place has to be told, which is what the
+/// script has there where no variant is the case.
+pub fn wanted(
+    replies: &[Vec<u8>],
+    place: usize,
+    usual: &'static [&'static str],
+) -> &'static [&'static str] {
+    for variant in &VARIANTS {
+        if variant.0 == place && is_case(replies, *variant) {
+            return variant.3;
+        }
+    }
+    usual
+}

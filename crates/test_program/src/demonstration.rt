@@ -1,0 +1,30 @@
+//! The program's demonstration beside the script of the tests of lines:
+//! two texts, of which each has to say what the other does.
+
+use crate::shown::words_of;
+use command_line::{SCRIPT, run};
+use line_support::{demonstration, input_of, replies_of};
+use std::test::Fail;
+
+#[test]
+fn the_demonstration_is_the_script(rt: HostRuntime) -> Result<(), Fail> {
+    let alloc = rt.alloc();
+    let lines = input_of(alloc, demonstration())?;
+    assert!(rt; lines.as_slice() == SCRIPT);
+    let words = words_of(alloc, "sctd demo")?;
+    let mut input: &[u8] = b"";
+    let mut output = Vec::new(alloc);
+    let mut faults = Vec::new(alloc);
+    let (status, _) = run(
+        &rt,
+        alloc,
+        words.as_slice(),
+        &mut input,
+        &mut output,
+        &mut faults,
+    );
+    assert_eq!(rt; status, 0);
+    assert!(rt; output == replies_of(alloc, demonstration())?);
+    assert!(rt; faults.is_empty());
+    Ok(())
+}

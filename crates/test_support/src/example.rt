@@ -1,0 +1,137 @@
+//! A store whose calls have no clauses.
+
+use crate::releases::{root_release, sampled};
+use disk_model::MemDisk;
+use history_store::{Receipt, Refusal, Store};
+use import_check::Release;
+use std::alloc::Global;
+
+/// A store on a disk in memory. It is boxed, so that a test
+/// which lets it go is proved without what a store is made of.
+#[derive(Drop)]
+pub struct Example {
+    pub(crate) alloc: Global,
+    pub(crate) store: Box<Store<MemDisk>>,
+}
+
+/// The store in its box, or the disk back.
+fn boxed(alloc: Global, store: Store<MemDisk>) -> Result<Example, (Refusal, MemDisk)> {
+    match Box::new(alloc, store) {
+        Ok(store) => Ok(Example { alloc, store }),
+        Err(failed) => Err((Refusal::OutOfMemory, failed.value.close())),
+    }
+}
+
+impl Example {
+    /// A new store on an empty disk.
+    pub fn new(alloc: Global) -> Result<Example, Refusal> {
+        match Example::create(alloc, MemDisk::new(alloc)) {
+            Ok(example) => Ok(example),
+            Err((refusal, _)) => Err(refusal),
+        }
+    }
+
+    /// A new store on this disk, or the disk back.
+    pub fn create(alloc: Global, disk: MemDisk) -> Result<Example, (Refusal, MemDisk)> {
+        boxed(alloc, Store::create(alloc, disk)?)
+    }
+
+    /// The store that a disk stands for, or the disk back.
+    pub fn open(alloc: Global, disk: MemDisk) -> Result<Example, (Refusal, MemDisk)> {
+        boxed(alloc, Store::open(alloc, disk)?)
+    }
+
+    /// The store that a disk stands for.
+    pub fn opened(alloc: Global, disk: MemDisk) -> Result<Example, Refusal> {
+        match Example::open(alloc, disk) {
+            Ok(example) => Ok(example),
+            Err((refusal, _)) => Err(refusal),
+        }
+    }
+
+    /// The store that a disk of these bytes stands for.
+    pub fn of_bytes(alloc: Global, bytes: &[u8]) -> Result<Example, Refusal> {
+        Example::opened(alloc, MemDisk::from_bytes(alloc, bytes.to_vec(alloc)?))
+    }
+
+    /// A new store after these sample releases.
+    pub fn after(alloc: Global, names: &[&str]) -> Result<Example, Refusal> {
+        let mut example = Example::new(alloc)?;
+        for name in names {
+            example.import_sample(name)?;
+        }
+        Ok(example)
+    }
+
+    /// Adds a release.
+    pub fn import(&mut self, release: &Release) -> Result<Receipt, Refusal> {
+        self.store.import(release)
+    }
+
+    /// Adds the sample release of this name.
+    pub fn import_sample(&mut self, name: &str) -> Result<Receipt, Refusal> {
+        let release = sampled(self.alloc, name)?;
+        self.import(&release)
+    }
+
+    /// How many releases were imported.
+    pub fn imports(&self) -> u32 {
+        self.store.imports()
+    }
+
+    /// How many segments the directory lists.
+    pub fn segments(&self) -> u32 {
+        self.store.segments()
+    }
+
+    /// How many rows the store holds.
+    pub fn row_count(&self) -> u64 {
+        self.store.row_count()
+    }
+
+    /// How many blocks of the disk the store needs.
+    pub fn blocks_in_use(&self) -> u64 {
+        self.store.blocks_in_use()
+    }
+
+    /// The greatest effective time of a row, as a number of eight digits.
+    pub fn latest_time(&self) -> Option<u32> {
+        match self.store.latest_time() {
+            Some(time) => Some(time.value()),
+            None => None,
+        }
+    }
+
+    /// The version of the layout on the disk.
+    pub fn version(&self) -> u32 {
+        self.store.version()
+    }
+
+    /// Whether the store has to be opened again.
+    pub fn needs_reopen(&self) -> bool {
+        self.store.needs_reopen()
+    }
+
+    /// Gives the disk back.
+    pub fn close(self) -> MemDisk {
+        Box::into_inner(self.store).close()
+    }
+}
+
+/// The disk after the sample releases and a merge of the first two segments.
+pub fn merged_disk(alloc: Global) -> Result<MemDisk, Refusal> {
+    let mut example = Example::after(alloc, &["r1", "r2"])?;
+    example.merge_begin()?;
+    example.merge_step(1)?;
+    example.import_sample("r3")?;
+    example.merge_step(100)?;
+    example.merge_publish()?;
+    Ok(example.close())
+}
+
+/// The disk of a new store after a release of the root concept's first row.
+pub fn root_disk(alloc: Global) -> Result<MemDisk, Refusal> {
+    let mut example = Example::new(alloc)?;
+    example.import(&root_release(alloc)?)?;
+    Ok(example.close())
+}

@@ -1,0 +1,20 @@
+//! Stores, releases, rows and images of disks for tests, and memory that runs out. Nothing here
+//! has a clause: a test that calls the store through an `Example` is proved without what the
+//! store promises.
+#![tactic(auto)]
+
+mod disks;
+mod example;
+mod merging;
+mod queries;
+mod releases;
+mod samples;
+mod scarcity;
+mod text;
+
+pub use disks::{image_after, image_before_end, patched};
+pub use example::{Example, merged_disk, root_disk};
+pub use releases::{MISUSED, of_bytes, of_files, one_file, root_release, sampled};
+pub use samples::holds;
+pub use scarcity::Scarcity;
+pub use text::{line, line_of, lines, lines_of};

@@ -1,0 +1,158 @@
+//! The questions, as lines. A pin above the number of imports, a number of an import that
+//! there isn't, and one that isn't a date or an identifier, are mistakes of the test.
+
+ghost use Rattle.std.specs.Prelude.{◌≤◌};
+
+use crate::example::Example;
+use crate::releases::MISUSED;
+use crate::text::{line_of, lines_of};
+use disk_model::MemDisk;
+use history_store::{ImportReceipt, Refusal, Store};
+use rf2_rows::{EffectiveTime, Kind, Row, Sctid};
+
+/// The pin, or the number of imports where that is less.
+fn pinned(store: &Store<MemDisk>, pin: u32) -> u32
+    ensures { result ≤ store.now.history.imports }
+{
+    pin.min(store.imports())
+}
+
+/// The date that a number is.
+fn date_of(number: u32) -> Result<EffectiveTime, Refusal> {
+    EffectiveTime::of(number).ok_or(MISUSED)
+}
+
+/// The identifier that a number is.
+fn id_of(number: u64) -> Result<Sctid, Refusal> {
+    Sctid::of(number).ok_or(MISUSED)
+}
+
+/// What an import brought. Where there is none with this number, it is a mistake of the test.
+fn receipt_of(store: &Store<MemDisk>, number: u32) -> Result<ImportReceipt, Refusal> {
+    if number == 0 || number > store.imports() {
+        return Err(MISUSED);
+    }
+    store.receipt(number)
+}
+
+impl Example {
+    /// A pin that is shown.
+    fn check_pin(&self, pin: u32) -> Result<(), Refusal> {
+        if pin > self.imports() {
+            return Err(MISUSED);
+        }
+        Ok(())
+    }
+
+    /// The component's row at the date.
+    pub fn row(
+        &mut self,
+        kind: Kind,
+        id: u128,
+        date: u32,
+        pin: u32,
+    ) -> Result<Option<Row>, Refusal> {
+        let time = date_of(date)?;
+        self.check_pin(pin)?;
+        let pin = pinned(&self.store, pin);
+        self.store.get(kind, id, time, pin)
+    }
+
+    /// The line of the component's row at the date; no bytes where there is none.
+    pub fn line_at(
+        &mut self,
+        kind: Kind,
+        id: u128,
+        date: u32,
+        pin: u32,
+    ) -> Result<Vec<u8>, Refusal> {
+        let row = self.row(kind, id, date, pin)?;
+        Ok(line_of(self.alloc, row.as_ref())?)
+    }
+
+    /// The lines of the component's versions, each with an LF.
+    pub fn history(&mut self, kind: Kind, id: u128, pin: u32) -> Result<Vec<u8>, Refusal> {
+        self.check_pin(pin)?;
+        let pin = pinned(&self.store, pin);
+        let rows = self.store.history(kind, id, pin)?;
+        Ok(lines_of(self.alloc, &rows)?)
+    }
+
+    /// The lines of the first rows of a kind from above `after` on, each with an LF.
+    pub fn page(
+        &mut self,
+        kind: Kind,
+        date: u32,
+        after: Option<u128>,
+        limit: u32,
+        pin: u32,
+    ) -> Result<Vec<u8>, Refusal> {
+        let time = date_of(date)?;
+        self.check_pin(pin)?;
+        let pin = pinned(&self.store, pin);
+        let rows = self.store.page(kind, time, after, limit, pin)?;
+        Ok(lines_of(self.alloc, &rows)?)
+    }
+
+    /// The lines of descriptions whose term begins with the prefix, each with an LF.
+    pub fn terms(
+        &mut self,
+        prefix: &str,
+        date: u32,
+        limit: u32,
+        pin: u32,
+    ) -> Result<Vec<u8>, Refusal> {
+        let time = date_of(date)?;
+        self.check_pin(pin)?;
+        let pin = pinned(&self.store, pin);
+        let rows = self.store.terms(prefix, time, limit, pin)?;
+        Ok(lines_of(self.alloc, &rows)?)
+    }
+
+    /// The lines of such descriptions from above `after` on, each with an LF.
+    pub fn search(
+        &mut self,
+        prefix: &str,
+        date: u32,
+        after: Option<u128>,
+        limit: u32,
+        pin: u32,
+    ) -> Result<Vec<u8>, Refusal> {
+        let time = date_of(date)?;
+        self.check_pin(pin)?;
+        let pin = pinned(&self.store, pin);
+        let rows = self.store.search(prefix, time, after, limit, pin)?;
+        Ok(lines_of(self.alloc, &rows)?)
+    }
+
+    /// The lines of the rows of a kind that are about a component, each with an LF.
+    pub fn about(&mut self, kind: Kind, id: u64, date: u32, pin: u32) -> Result<Vec<u8>, Refusal> {
+        let (id, time) = (id_of(id)?, date_of(date)?);
+        self.check_pin(pin)?;
+        let pin = pinned(&self.store, pin);
+        let rows = self.store.about(kind, id, time, pin)?;
+        Ok(lines_of(self.alloc, &rows)?)
+    }
+
+    /// The identifiers of a concept's children.
+    pub fn children(&mut self, id: u64, date: u32, pin: u32) -> Result<Vec<u64>, Refusal> {
+        let (id, time) = (id_of(id)?, date_of(date)?);
+        self.check_pin(pin)?;
+        let pin = pinned(&self.store, pin);
+        self.store.children(id, time, pin)
+    }
+
+    /// The lines of a component's associations, each with an LF.
+    pub fn replacements(&mut self, id: u64, date: u32, pin: u32) -> Result<Vec<u8>, Refusal> {
+        let (id, time) = (id_of(id)?, date_of(date)?);
+        self.check_pin(pin)?;
+        let pin = pinned(&self.store, pin);
+        let rows = self.store.replacements(id, time, pin)?;
+        Ok(lines_of(self.alloc, &rows)?)
+    }
+
+    /// What an import brought.
+    pub fn receipt(&self, number: u32) -> Result<ImportReceipt, Refusal> {
+        receipt_of(&self.store, number)
+    }
+}

@@ -1,0 +1,68 @@
+//! Releases.
+
+use crate::text::line;
+use history_store::Refusal;
+use import_check::{Release, ReleaseFile, sample};
+use rf2_rows::{Kind, column_names};
+use std::alloc::{AllocError, Global};
+
+/// A file with these bytes.
+fn file(alloc: Global, kind: Kind, bytes: &[u8]) -> Result<ReleaseFile, AllocError> {
+    Ok(ReleaseFile {
+        name: String::from_str(alloc, "example.txt")?,
+        kind,
+        bytes: bytes.to_vec(alloc)?,
+    })
+}
+
+/// The column names and these lines, each with CR LF.
+fn file_text(alloc: Global, kind: Kind, lines: &[&str]) -> Result<Vec<u8>, AllocError> {
+    let mut text = column_names(kind).to_vec(alloc)?;
+    text.extend_from_slice(b"\r\n")?;
+    for row in lines {
+        let row = line(alloc, row)?;
+        text.extend_from_slice(row.as_bytes())?;
+        text.extend_from_slice(b"\r\n")?;
+    }
+    Ok(text)
+}
+
+/// A release of one file with these bytes.
+pub fn of_bytes(alloc: Global, kind: Kind, bytes: &[u8]) -> Result<Release, AllocError> {
+    let mut files = Vec::new(alloc);
+    files.push(file(alloc, kind, bytes)?)?;
+    Ok(Release { files })
+}
+
+/// A release of one file: the column names and these lines, each with CR LF.
+pub fn one_file(alloc: Global, kind: Kind, lines: &[&str]) -> Result<Release, AllocError> {
+    let text = file_text(alloc, kind, lines)?;
+    of_bytes(alloc, kind, text.as_slice())
+}
+
+/// A release of such files, in this order.
+pub fn of_files(alloc: Global, files: &[(Kind, &[&str])]) -> Result<Release, AllocError> {
+    let mut made = Vec::new(alloc);
+    for (kind, lines) in files {
+        let text = file_text(alloc, *kind, *lines)?;
+        made.push(file(alloc, *kind, text.as_slice())?)?;
+    }
+    Ok(Release { files: made })
+}
+
+/// A release of the root concept's first row.
+pub fn root_release(alloc: Global) -> Result<Release, AllocError> {
+    one_file(alloc, Kind::Concept, &["138875005|20200131|1|CORE|PRIM"])
+}
+
+/// What is answered where a test asks for a sample, a date, an identifier, a pin
+/// or an import that there isn't: no call on an open store is refused so.
+pub const MISUSED: Refusal = Refusal::NotAStore;
+
+/// The sample release of this name, r1, r2 or r3. Any other name is a mistake of the test.
+pub fn sampled(alloc: Global, name: &str) -> Result<Release, Refusal> {
+    match sample(alloc, name)? {
+        Some(release) => Ok(release),
+        None => Err(MISUSED),
+    }
+}
