@@ -90,7 +90,7 @@ FIGURES = [
     Figure(RELIABILITY, "and each of the {} calls, in turn", ALL_BREAKS),
     Figure(RELIABILITY, "its sync, each of its {} reads", OPENINGS),
     Figure(RELIABILITY, "all calls from each of these {} on", ALL_OPENINGS),
-    Figure(RELIABILITY, "| for each of {} calls, and for a making", MEMORY_CALLS),
+    Figure(RELIABILITY, "| for each of {} calls, and for `create`", MEMORY_CALLS),
     Figure(RELIABILITY, "test asks for {} refusals of `create`",
            asked_for(MEMORY, "refused", ", \"making")),
     Figure(RELIABILITY, "of `create`, and for {} of the calls", MEMORY_REFUSALS),

@@ -13,7 +13,7 @@ use Rattle.segment.specs.declared.place.RowPlace.{RowPlace}
 use Rattle.segment.specs.Standing.{record_len, row_place, with_places, places_of, StandsAt}
 use Rattle.segment.proofs.Posting.{between}
 use Rattle.segment.proofs.RecordLaws.{length-record}
-use Rattle.as_of_index.specs.Search.{byte_cmp, SplitsAt}
+use Rattle.as_of_index.specs.Private.Search.{byte_cmp, SplitsAt}
 use Rattle.as_of_index.proofs.First.{Falls}
 use Rattle.as_of_index.proofs.Paging.{less_from}
 

@@ -20,7 +20,8 @@ use Rattle.as_of_index.specs.declared.chosen.Chosen.{Chosen}
 use Rattle.segment.specs.Standing.{places_of, StandsAt}
 use Rattle.as_of_index.specs.Places.{ArePlaces}
 use Rattle.as_of_index.specs.Current.{IsCurrentAt}
-use Rattle.as_of_index.specs.Chosen.{chosen_cmp, StandAtAll}
+use Rattle.as_of_index.specs.Chosen.{StandAtAll}
+use Rattle.as_of_index.specs.Private.Chosen.{chosen_cmp}
 use Rattle.segment.proofs.Posting.{says, row_there}
 use Rattle.as_of_index.proofs.Standing.{are_lists}
 use Rattle.as_of_index.proofs.Among.{has_joined}

@@ -8,7 +8,7 @@ use Rattle.std.specs.declared.cmp.Ordering.{Ordering}
 use Rattle.std.specs.declared.cmp.Ordering.TheVariants.{Less, Equal, Greater}
 use Rattle.history_model.specs.InOrder.{Has, IsAscending, placed, put}
 use Rattle.history_model.proofs.InOrder.{Has-all, not_both, not_below_itself}
-use Rattle.as_of_index.specs.Search.{SplitsAt}
+use Rattle.as_of_index.specs.Private.Search.{SplitsAt}
 use Rattle.as_of_index.proofs.Ordered.{has_at}
 
 pub Has-take : {X : Type 0} (n : ℕ) (xs : List X) (x : X) → Has (take n xs) x → Has xs x

@@ -10,7 +10,7 @@ use Rattle.history_model.proofs.Filtered.{Has-map, Has-map_from}
 use Rattle.segment.specs.declared.place.RowPlace.{RowPlace}
 use Rattle.as_of_index.specs.declared.search.Start.{Start}
 use Rattle.as_of_index.specs.Places.{place_cmp}
-use Rattle.as_of_index.specs.Search.{in_segment, is_before, SplitsAt, IsLeastOf, IsNext, sooner_of}
+use Rattle.as_of_index.specs.Private.Search.{in_segment, is_before, SplitsAt, IsLeastOf, IsNext, sooner_of}
 use Rattle.as_of_index.proofs.Ordered.{places_total}
 
 in_one : (n : ℕ) (ps : List RowPlace) (x : ℕ × RowPlace) → Has (in_segment n ps) x → (p : RowPlace) × Has ps p × (x ≡ (n, p))

@@ -15,7 +15,7 @@ use Rattle.history_model.proofs.Searching.{IsDescending-reverse, Has-reverse_cas
 use Rattle.segment.specs.declared.place.RowPlace.{RowPlace}
 use Rattle.as_of_index.specs.declared.search.Start.TheVariants.{AfterVersion, Later}
 use Rattle.as_of_index.specs.Places.{place_cmp}
-use Rattle.as_of_index.specs.Search.{in_segment, all_places, is_of, is_candidate, is_before, SplitsAt, stops, IsLatestOf, IsPick, later_of}
+use Rattle.as_of_index.specs.Private.Search.{in_segment, all_places, is_of, is_candidate, is_before, SplitsAt, stops, IsLatestOf, IsPick, later_of}
 use Rattle.as_of_index.proofs.Ordered.{below, IsBelow, IsAscending-take}
 
 -- ---- tests on plain numbers

@@ -6,10 +6,11 @@ use Rattle.std.specs.Ordering.{is_lt}
 use Rattle.std.specs.Cmp.{tied_itself}
 use Rattle.std.specs.declared.cmp.Ordering.TheVariants.{Equal}
 use Rattle.rf2_values.specs.declared.key.Key.{Key}
-use Rattle.rf2_values.specs.Key.{key_of, key_cmp, keys_total}
+use Rattle.rf2_values.specs.Key.{key_of, key_cmp}
+use Rattle.rf2_values.specs.Private.{keys_total}
 use Rattle.history_model.specs.History.{stamped_cmp}
 use Rattle.history_model.proofs.InOrder.{Has-all}
-use Rattle.as_of_index.specs.Search.{is_under}
+use Rattle.as_of_index.specs.Private.Search.{is_under}
 use Rattle.as_of_index.proofs.Keyed.{has_got}
 use Rattle.history_model.specs.declared.stamped.StampedRow.{StampedRow}
 use Rattle.history_model.specs.InOrder.{IsAscending}
@@ -18,7 +19,7 @@ use Rattle.history_model.proofs.Filtered.{find_only}
 use Rattle.history_model.proofs.Snapshots.{listed_once}
 use Rattle.segment.specs.declared.place.RowPlace.{RowPlace}
 use Rattle.segment.specs.Standing.{StandsAt}
-use Rattle.as_of_index.specs.Reader.{is_row_at}
+use Rattle.as_of_index.specs.Private.Reader.{is_row_at}
 use Rattle.segment.proofs.Posting.{says, row_there}
 use Rattle.as_of_index.proofs.Among.{has_joined, key_from_test, key_test}
 

@@ -8,10 +8,11 @@ use Rattle.std.specs.Cmp.{tied_itself}
 use Rattle.std.specs.declared.cmp.Ordering.{Ordering}
 use Rattle.std.specs.declared.cmp.Ordering.TheVariants.{Less, Equal, Greater}
 use Rattle.rf2_values.specs.declared.key.Key.{Key}
-use Rattle.rf2_values.specs.Key.{key_cmp, keys_total}
+use Rattle.rf2_values.specs.Key.{key_cmp}
+use Rattle.rf2_values.specs.Private.{keys_total}
 use Rattle.history_model.specs.InOrder.{Has, IsAscending}
 use Rattle.history_model.proofs.InOrder.{Has-all}
-use Rattle.as_of_index.specs.Search.{is_under, SplitsAt}
+use Rattle.as_of_index.specs.Private.Search.{is_under, SplitsAt}
 use Rattle.as_of_index.proofs.First.{Falls, parted}
 
 pub less_than : (r : Ordering) → is_lt r ≡ true → r ≡ Less

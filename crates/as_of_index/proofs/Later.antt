@@ -23,7 +23,7 @@ use Rattle.segment.specs.declared.place.RowPlace.{RowPlace}
 use Rattle.as_of_index.specs.declared.search.Start.TheVariants.{Later}
 use Rattle.segment.specs.Standing.{places_of, StandsAt}
 use Rattle.as_of_index.specs.Places.{place_cmp}
-use Rattle.as_of_index.specs.Search.{all_places, is_of, IsNext, IsNextVersion, is_version_above}
+use Rattle.as_of_index.specs.Private.Search.{all_places, is_of, IsNext, IsNextVersion, is_version_above}
 use Rattle.segment.proofs.Posting.{Says}
 use Rattle.as_of_index.proofs.Standing.{place_of_row, row_of_place, stands_at}
 use Rattle.as_of_index.proofs.Among.{has_joined}

@@ -9,7 +9,7 @@ use Rattle.history_model.proofs.InOrder.{Has-append_left, Has-append_right, Has-
 use Rattle.segment.specs.declared.place.RowPlace.{RowPlace}
 use Rattle.as_of_index.specs.declared.search.Start.TheVariants.{Components}
 use Rattle.as_of_index.specs.Places.{place_cmp}
-use Rattle.as_of_index.specs.Search.{in_segment, is_before, SplitsAt, IsNext, IsNextId, id_of_kind, lesser_of}
+use Rattle.as_of_index.specs.Private.Search.{in_segment, is_before, SplitsAt, IsNext, IsNextId, id_of_kind, lesser_of}
 use Rattle.as_of_index.proofs.Following.{next_nothing, next_more, next_of_list}
 use Rattle.as_of_index.proofs.Paging.{next_id_is, next_id_other, next_id_none}
 

@@ -12,13 +12,13 @@ use Rattle.history_model.specs.InOrder.{Has}
 use Rattle.history_model.proofs.InOrder.{Has-all, Has-append_left, Has-append_right, Has-append_cases, tie_is_same}
 use Rattle.history_model.proofs.Filtered.{Has-map, Has-map_from}
 use Rattle.history_model.proofs.Keys.{same_kind}
-use Rattle.rf2_values.specs.Key.{keys_total}
+use Rattle.rf2_values.specs.Private.{keys_total}
 use Rattle.segment.specs.declared.place.RowPlace.{RowPlace}
 use Rattle.segment.specs.Standing.{with_places, places_of, StandsAt}
 use Rattle.segment.proofs.Posting.{says}
 use Rattle.as_of_index.specs.Places.{place_cmp, ShareNoKey, ArePlaces}
-use Rattle.as_of_index.specs.Search.{in_segment, all_places}
-use Rattle.as_of_index.specs.Current.{is_same_place}
+use Rattle.as_of_index.specs.Private.Search.{in_segment, all_places}
+use Rattle.as_of_index.specs.Private.Current.{is_same_place}
 use Rattle.as_of_index.proofs.Ordered.{places_total}
 
 in_one : (n : ℕ) (ps : List RowPlace) (x : ℕ × RowPlace) → Has (in_segment n ps) x → (p : RowPlace) × Has ps p × (x ≡ (n, p))

@@ -11,13 +11,13 @@ use Rattle.std.proofs.lemmas.Bool.Decides.{nat_tests}
 use Rattle.rf2_values.specs.Key.{kind_place}
 use Rattle.history_model.specs.InOrder.{Has, IsAscending}
 use Rattle.history_model.proofs.InOrder.{Has-all}
-use Rattle.rf2_values.specs.Key.{keys_total}
+use Rattle.rf2_values.specs.Private.{keys_total}
 use Rattle.history_model.proofs.Snapshots.{first_half}
 use Rattle.segment.specs.declared.place.RowPlace.{RowPlace}
 use Rattle.as_of_index.specs.declared.search.Start.{Start}
 use Rattle.as_of_index.specs.declared.search.Start.TheVariants.{AfterVersion, Later, Components}
 use Rattle.as_of_index.specs.Places.{place_cmp}
-use Rattle.as_of_index.specs.Search.{is_before, SplitsAt}
+use Rattle.as_of_index.specs.Private.Search.{is_before, SplitsAt}
 
 pub places_total : IsTotalOrder place_cmp
 places_total = on_total (λ p. p.key) keys_total

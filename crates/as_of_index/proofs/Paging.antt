@@ -24,7 +24,7 @@ use Rattle.segment.specs.declared.place.RowPlace.{RowPlace}
 use Rattle.as_of_index.specs.declared.search.Start.TheVariants.{Components}
 use Rattle.segment.specs.Standing.{places_of}
 use Rattle.as_of_index.specs.Places.{place_cmp}
-use Rattle.as_of_index.specs.Search.{all_places, is_of, IsNext, IsNextId, is_kind_above}
+use Rattle.as_of_index.specs.Private.Search.{all_places, is_of, IsNext, IsNextId, is_kind_above}
 use Rattle.as_of_index.proofs.Standing.{place_of_row}
 
 pub less_by_id : (a b : RowPlace) → kind_place a.key.kind ≡ kind_place b.key.kind → nat_cmp a.key.id b.key.id ≡ Less → place_cmp a b ≡ Less

@@ -23,7 +23,8 @@ use Rattle.segment.specs.declared.place.RowPlace.{RowPlace}
 use Rattle.segment.specs.Standing.{row_place, with_places, places_of, StandsAt}
 use Rattle.as_of_index.specs.Places.{place_cmp, ShareNoKey, EachApart, ArePlaces}
 use Rattle.segment.proofs.Posting.{Says, says_posted, says, placed, row_there}
-use Rattle.as_of_index.specs.Search.{in_segment, all_places, is_candidate, IsPick, IsPlaceOf}
+use Rattle.as_of_index.specs.Search.{IsPlaceOf}
+use Rattle.as_of_index.specs.Private.Search.{in_segment, all_places, is_candidate, IsPick}
 use Rattle.as_of_index.proofs.Found.{Picks, candidate, candidate_test}
 
 -- ---- the rows' lists are lists

@@ -12,7 +12,7 @@ use Rattle.segment.specs.declared.place.RowPlace.{RowPlace}
 use Rattle.as_of_index.specs.declared.search.Start.{Start}
 use Rattle.as_of_index.specs.declared.search.Start.TheVariants.{AfterVersion, Later, Components}
 use Rattle.as_of_index.specs.Places.{place_cmp}
-use Rattle.as_of_index.specs.Search.{is_before, SplitsAt, IsPassed, ArePassed, IsNextId}
+use Rattle.as_of_index.specs.Private.Search.{is_before, SplitsAt, IsPassed, ArePassed, IsNextId}
 use Rattle.as_of_index.proofs.Ordered.{before-falls}
 
 -- ---- where a cursor stops

@@ -16,12 +16,6 @@ use Rattle.segment.specs.Standing.{StandsAt}
 abbrev pub is_same_key : Key → Key → Bool
 is_same_key a b = kind_place a.kind == kind_place b.kind && a.id == b.id && a.time == b.time
 
--- the places are one
-abbrev pub is_same_place : ℕ → RowPlace → ℕ → RowPlace → Bool
-is_same_place n p m q =
-    n == m && kind_place p.key.kind == kind_place q.key.kind && p.key.id == q.key.id
-    && p.key.time == q.key.time && p.import == q.import && p.at == q.at && p.bytes == q.bytes
-
 -- the version is one of those with these keys
 abbrev pub is_among : List Key → RowValue → Bool
 is_among keys row = list_any (λ key. is_same_key key (key_of row)) keys

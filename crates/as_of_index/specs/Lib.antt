@@ -7,8 +7,8 @@ pub use Rattle.history_model.specs.Queries
 pub use Rattle.segment.specs.Standing
 pub use Rattle.fault_counts.specs.Counting
 pub mod Places
-pub mod Reader
 pub mod Search
 pub mod Current
 pub mod Chosen
 pub mod Postings
+pub mod Private

@@ -1,7 +1,7 @@
 //! One cursor a list: all that stands before it is passed over.
 
 ghost use Rattle.std.specs.Prelude.{IfOk, None};
-ghost use Rattle.as_of_index.specs.Search.{all_places, ArePassed, IsPick, IsNextId};
+ghost use Rattle.as_of_index.specs.Private.Search.{all_places, ArePassed, IsPick, IsNextId};
 ghost use Rattle.as_of_index.specs.declared.search.Start.TheVariants as starts;
 
 use crate::place_list::PlaceList;

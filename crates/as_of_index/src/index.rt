@@ -13,8 +13,10 @@ ghost use Rattle.segment.specs.Standing.{StandsAt};
 ghost use Rattle.segment.specs.declared.place.RowPlace.{RowPlace};
 ghost use Rattle.as_of_index.specs.Places.{max_lists, ArePlaces, Lists};
 ghost use Rattle.fault_counts.specs.Counting.{Counts, CountsDiskFault, CountsDamage};
-ghost use Rattle.as_of_index.specs.Current.{is_same_place, IsCurrentAt};
-ghost use Rattle.as_of_index.specs.Search.{all_places, IsPick, IsPlaceOf, IsNext, IsNextId, IsNextVersion};
+ghost use Rattle.as_of_index.specs.Current.{IsCurrentAt};
+ghost use Rattle.as_of_index.specs.Private.Current.{is_same_place};
+ghost use Rattle.as_of_index.specs.Search.{IsPlaceOf};
+ghost use Rattle.as_of_index.specs.Private.Search.{all_places, IsPick, IsNext, IsNextId, IsNextVersion};
 ghost use Rattle.fault_counts.specs.declared.fault.ReadFault.TheVariants as readfault;
 
 use crate::cursors::{cursors_at, latest_on, next_id};

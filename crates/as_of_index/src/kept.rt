@@ -8,8 +8,8 @@ ghost use Rattle.rf2_values.specs.Key.{key_of};
 ghost use Rattle.history_model.specs.InOrder.{IsAscending};
 ghost use Rattle.history_model.specs.History.{stamped_cmp};
 ghost use Rattle.history_model.specs.Lists.{AreLists};
-ghost use Rattle.as_of_index.specs.Search.{is_under, SplitsAt};
-ghost use Rattle.as_of_index.specs.Reader.{is_row_at};
+ghost use Rattle.as_of_index.specs.Private.Search.{is_under, SplitsAt};
+ghost use Rattle.as_of_index.specs.Private.Reader.{is_row_at};
 
 use crate::reader::RowReader;
 use fault_counts::{ReadFault, raised};

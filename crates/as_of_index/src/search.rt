@@ -8,7 +8,7 @@ ghost use Rattle.rf2_values.specs.Key.{kind_place, key_cmp};
 ghost use Rattle.history_model.specs.InOrder.{Has, IsAscending};
 ghost use Rattle.history_model.specs.Queries.{is_above};
 ghost use Rattle.as_of_index.specs.Places.{place_cmp, ShareNoKey};
-ghost use Rattle.as_of_index.specs.Search.{byte_cmp, is_under, is_of, is_before, SplitsAt, stops, IsPassed, IsPick, id_of_kind, later_of, lesser_of, IsNext, sooner_of};
+ghost use Rattle.as_of_index.specs.Private.Search.{byte_cmp, is_under, is_of, is_before, SplitsAt, stops, IsPassed, IsPick, id_of_kind, later_of, lesser_of, IsNext, sooner_of};
 ghost use Rattle.as_of_index.specs.declared.search.Start.TheVariants as starts;
 ghost use Rattle.segment.specs.declared.place.RowPlace.{RowPlace};
 

@@ -4,7 +4,7 @@ ghost use Rattle.std.specs.Prelude.{◌↔◌, IsTrue};
 ghost use Rattle.std.specs.List.{AllByRecursion};
 ghost use Rattle.history_model.specs.InOrder.{IsAscending};
 ghost use Rattle.as_of_index.specs.Places.{place_cmp, ShareNoKey};
-ghost use Rattle.as_of_index.specs.Search.{all_places, IsPick, IsNext, IsNextVersion};
+ghost use Rattle.as_of_index.specs.Private.Search.{all_places, IsPick, IsNext, IsNextVersion};
 
 use crate::place_list::PlaceList;
 use crate::search::{Start, is_of, later, latest_in, next_in, share_no_key, sooner};

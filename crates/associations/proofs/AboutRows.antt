@@ -19,16 +19,17 @@ use Rattle.history_model.proofs.Ascents.{about_is_all, about_ascends}
 use Rattle.segment.specs.Standing.{places_of, StandsAt}
 use Rattle.as_of_index.specs.declared.chosen.Chosen.{Chosen}
 use Rattle.as_of_index.specs.Places.{ArePlaces}
-use Rattle.as_of_index.specs.Chosen.{chosen, chosen_cmp, StandAtAll}
+use Rattle.as_of_index.specs.Chosen.{StandAtAll}
+use Rattle.as_of_index.specs.Private.Chosen.{chosen, chosen_cmp}
 use Rattle.as_of_index.specs.Postings.{numbered}
 use Rattle.as_of_index.proofs.Among.{looked_up}
 use Rattle.as_of_index.proofs.ByByte.{one_byte}
 use Rattle.as_of_index.proofs.Current.{standing_row, one_row, shown, current_where, AllCurrent, rows_for, stand_for, row_for, for_row, ascending_rows_for}
 use Rattle.as_of_index.proofs.Pushing.{stands_somewhere}
 use Rattle.associations.specs.declared.postings.Subject.{Subject}
-use Rattle.associations.specs.Edges.{Edges, subjects_in}
+use Rattle.associations.specs.Edges.{Edges}
+use Rattle.associations.specs.Private.{subjects_in, GivesRow, AreRows}
 use Rattle.associations.specs.Laws.{EachPosted}
-use Rattle.associations.specs.Collecting.{GivesRow, AreRows}
 use Rattle.associations.proofs.Posted.{subject_stands, each_subject_is_posted}
 
 ids_total : IsTotalOrder by_id

@@ -24,7 +24,7 @@ use Rattle.as_of_index.proofs.Current.{standing_row, one_row, shown, current_whe
 use Rattle.associations.specs.declared.postings.Link.{Link}
 use Rattle.associations.specs.Edges.{Edges, links_in}
 use Rattle.associations.specs.Children.{PostsLinks, link_keys, children_among}
-use Rattle.associations.specs.Collecting.{IsThere, AreSources}
+use Rattle.associations.specs.Private.{IsThere, AreSources}
 use Rattle.associations.proofs.Numbering.{has_numbered, number_of}
 
 eq_of : (m n : ℕ) → (m == n) ≡ true → m ≡ n

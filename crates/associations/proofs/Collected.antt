@@ -13,7 +13,7 @@ use Rattle.history_model.specs.InOrder.{Has, IsAscending}
 use Rattle.history_model.proofs.InOrder.{Has-append_left, Has-append_right, Has-append_cases}
 use Rattle.history_model.proofs.Filtered.{Has-map_from}
 use Rattle.as_of_index.proofs.Pushing.{Has-permuted}
-use Rattle.associations.specs.Collecting.{Takes, AreTaken, IsThere, AreOnce}
+use Rattle.associations.specs.Private.{Takes, AreTaken, IsThere, AreOnce}
 use Rattle.associations.proofs.Numbering.{in_list, one_of}
 
 module _ {X Y : Type 0} (Gives : X → Y → Type 0) where

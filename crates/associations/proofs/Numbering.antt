@@ -6,7 +6,7 @@ use Rattle.std.proofs.lemmas.List.{length-take, length-map}
 use Rattle.history_model.specs.InOrder.{Has, joined}
 use Rattle.history_model.proofs.InOrder.{Has-all, Has-append_left, Has-append_right, Has-append_cases}
 use Rattle.history_model.proofs.Filtered.{Has-map, Has-map_from}
-use Rattle.as_of_index.specs.Search.{SplitsAt}
+use Rattle.as_of_index.specs.Private.Search.{SplitsAt}
 use Rattle.as_of_index.specs.Postings.{numbered}
 use Rattle.as_of_index.proofs.Apart.{one_more}
 use Rattle.as_of_index.proofs.Current.{map-push}

@@ -21,7 +21,8 @@ use Rattle.as_of_index.proofs.Pushing.{stands, row_of_posting, posting_there, am
 use Rattle.associations.specs.declared.postings.Link.{Link}
 use Rattle.associations.specs.declared.postings.Reference.{Reference}
 use Rattle.associations.specs.declared.postings.Subject.{Subject}
-use Rattle.associations.specs.Edges.{Edges, links_in, references_in, subjects_in, link_of_body, reference_of_body, subject_at, posted_link, posted_reference, posted_subject}
+use Rattle.associations.specs.Edges.{Edges, links_in, references_in, link_of_body, reference_of_body, subject_at, posted_link, posted_reference, posted_subject}
+use Rattle.associations.specs.Private.{subjects_in}
 use Rattle.associations.specs.Children.{IsLinkOf, link_keys, children_among, EachChildIsPosted}
 use Rattle.associations.specs.Replacements.{IsReferenceOf, reference_keys, replacements_among, EachReplacementIsPosted}
 use Rattle.associations.specs.Laws.{EachPosted, ArePostingsOf, PushedOneByOne, PostedLinksStand, PostedReferencesStand, PostedLinksAreAll, PostedReferencesAreAll, EdgesMore, EdgesMerged}

@@ -8,7 +8,7 @@ use Rattle.std.proofs.lemmas.Cmp.{then_total}
 use Rattle.rf2_values.specs.Row.{RowValue}
 use Rattle.history_model.specs.Queries.{refset_of, target_of, replacement_cmp}
 use Rattle.as_of_index.specs.declared.chosen.Chosen.{Chosen}
-use Rattle.as_of_index.specs.Chosen.{ranked_cmp}
+use Rattle.as_of_index.specs.Private.Chosen.{ranked_cmp}
 
 pub ranked_total : IsTotalOrder ranked_cmp
 ranked_total = then_total (on_total (λ (k : Chosen). k.refset) nat_cmp_total) (then_total (on_total (λ (k : Chosen). k.target) nat_cmp_total) (on_total (λ (k : Chosen). k.at.key.id) nat_cmp_total))

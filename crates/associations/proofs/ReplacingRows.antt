@@ -20,7 +20,8 @@ use Rattle.segment.specs.declared.place.RowPlace.{RowPlace}
 use Rattle.segment.specs.Standing.{places_of, StandsAt}
 use Rattle.as_of_index.specs.declared.chosen.Chosen.{Chosen}
 use Rattle.as_of_index.specs.Places.{ArePlaces}
-use Rattle.as_of_index.specs.Chosen.{ranked_cmp, StandAtAll}
+use Rattle.as_of_index.specs.Chosen.{StandAtAll}
+use Rattle.as_of_index.specs.Private.Chosen.{ranked_cmp}
 use Rattle.as_of_index.specs.Current.{is_among, IsCurrentAt}
 use Rattle.as_of_index.specs.Postings.{numbered}
 use Rattle.as_of_index.proofs.Among.{among_from, among_has, looked_up}
@@ -28,7 +29,7 @@ use Rattle.as_of_index.proofs.Current.{standing_row, one_row, shown, current_whe
 use Rattle.associations.specs.declared.postings.Reference.{Reference}
 use Rattle.associations.specs.Edges.{Edges, references_in}
 use Rattle.associations.specs.Replacements.{PostsReferences, IsReferenceOf, reference_keys, replacements_among}
-use Rattle.associations.specs.Collecting.{ranked, AreRanked}
+use Rattle.associations.specs.Private.{ranked, AreRanked}
 use Rattle.associations.proofs.Numbering.{has_numbered, number_of}
 use Rattle.associations.proofs.Ranked.{one_id, one_row_id, replacements_total}
 

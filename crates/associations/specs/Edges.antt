@@ -72,9 +72,6 @@ links_in lists = map (λ e. e.links) lists
 abbrev pub references_in : List Edges → List (List Reference)
 references_in lists = map (λ e. e.references) lists
 
-abbrev pub subjects_in : List Edges → List (List Subject)
-subjects_in lists = map (λ e. e.subjects) lists
-
 -- a relationship's source and destination, and an association's columns, with a place
 abbrev pub link : Relationship → RowPlace → Link
 link r at = record { destination = r.destination; source = r.source; at = at }

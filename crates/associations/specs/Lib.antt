@@ -7,7 +7,6 @@ pub use Rattle.history_model.specs.Queries
 pub use Rattle.segment.specs.Standing
 pub use Rattle.fault_counts.specs.Counting
 pub use Rattle.as_of_index.specs.Places
-pub use Rattle.as_of_index.specs.Reader
 pub use Rattle.as_of_index.specs.Current
 pub use Rattle.as_of_index.specs.Chosen
 pub use Rattle.as_of_index.specs.Postings
@@ -15,4 +14,4 @@ pub mod Edges
 pub mod Children
 pub mod Replacements
 pub mod Laws
-pub mod Collecting
+pub mod Private

@@ -11,7 +11,7 @@ ghost use Rattle.as_of_index.specs.Places.{Lists};
 ghost use Rattle.as_of_index.specs.Postings.{numbered};
 ghost use Rattle.associations.specs.Edges.{links_in};
 ghost use Rattle.associations.specs.Children.{PostsLinks, link_keys, children_among};
-ghost use Rattle.associations.specs.Collecting.{GivesSource, Takes, AreOnce, AreSources};
+ghost use Rattle.associations.specs.Private.{GivesSource, Takes, AreOnce, AreSources};
 
 use crate::Links;
 use crate::postings::{Link, Sealed};

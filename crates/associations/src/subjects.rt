@@ -12,13 +12,13 @@ ghost use Rattle.history_model.specs.Lists.{listed};
 ghost use Rattle.history_model.specs.Queries.{about};
 ghost use Rattle.segment.specs.declared.place.RowPlace.{RowPlace};
 ghost use Rattle.as_of_index.specs.Places.{Lists};
-ghost use Rattle.as_of_index.specs.Chosen.{chosen, chosen_cmp};
+ghost use Rattle.as_of_index.specs.Private.Chosen.{chosen, chosen_cmp};
 ghost use Rattle.as_of_index.specs.Postings.{numbered};
 ghost use Rattle.fault_counts.specs.Counting.{Counts, CountsDiskFault, CountsDamage};
 ghost use Rattle.fault_counts.specs.declared.fault.ReadFault.TheVariants as readfault;
-ghost use Rattle.associations.specs.Edges.{subjects_in};
+ghost use Rattle.associations.specs.Private.{subjects_in};
 ghost use Rattle.associations.specs.Laws.{EachPosted};
-ghost use Rattle.associations.specs.Collecting.{IsCurrentFrom, GivesRow, Takes, AreOnce, AreRows};
+ghost use Rattle.associations.specs.Private.{IsCurrentFrom, GivesRow, Takes, AreOnce, AreRows};
 
 use crate::Links;
 use crate::postings::{Sealed, Subject};

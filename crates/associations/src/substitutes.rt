@@ -9,13 +9,13 @@ ghost use Rattle.history_model.specs.InOrder.{Has};
 ghost use Rattle.history_model.specs.History.{rows_at};
 ghost use Rattle.history_model.specs.Lists.{listed};
 ghost use Rattle.as_of_index.specs.Places.{Lists};
-ghost use Rattle.as_of_index.specs.Chosen.{ranked_cmp};
+ghost use Rattle.as_of_index.specs.Private.Chosen.{ranked_cmp};
 ghost use Rattle.as_of_index.specs.Postings.{numbered};
 ghost use Rattle.fault_counts.specs.Counting.{Counts, CountsDiskFault, CountsDamage};
 ghost use Rattle.fault_counts.specs.declared.fault.ReadFault.TheVariants as readfault;
 ghost use Rattle.associations.specs.Edges.{references_in};
 ghost use Rattle.associations.specs.Replacements.{PostsReferences, reference_keys, replacements_among};
-ghost use Rattle.associations.specs.Collecting.{ranked, GivesRanked, Takes, AreOnce, AreRanked};
+ghost use Rattle.associations.specs.Private.{ranked, GivesRanked, Takes, AreOnce, AreRanked};
 
 use crate::Links;
 use crate::postings::{Reference, Sealed};

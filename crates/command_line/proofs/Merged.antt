@@ -9,6 +9,7 @@ use Rattle.std.proofs.lemmas.List.{length-set, append_assoc}
 use Rattle.std.proofs.lemmas.List.Edits.{length-remove}
 use Rattle.disk_model.specs.Disk.{Moments}
 use Rattle.import_check.specs.declared.release.Release.{Release}
+use Rattle.import_check.specs.Sample.{files_of}
 use Rattle.history_store.specs.Catalog.{Catalog}
 use Rattle.history_store.specs.Merging.{IsBegun, IsStepped, IsPublished}
 use Rattle.history_store.specs.StoreValue.{StoreValue}
@@ -18,7 +19,7 @@ use Rattle.line_commands.specs.Requests.{Asks}
 use Rattle.line_commands.proofs.Readings.{one_reading}
 use Rattle.line_server.specs.declared.refusal.LineRefusal.{LineRefusal}
 use Rattle.line_server.specs.declared.refusal.LineRefusal.TheVariants as refusals
-use Rattle.line_server.specs.Sources.{Releases, files_of}
+use Rattle.line_server.specs.Sources.{Releases}
 use Rattle.line_server.specs.ReplyValue.{Answer, ReplyValue, reply_value}
 use Rattle.line_server.specs.declared.serving.ServeFault.{ServeFault}
 use Rattle.line_server.specs.Pins.{unpinned}

@@ -1,11 +1,23 @@
--- How parts of merging come out. Only private functions cite these words.
-use Rattle.std.specs.Prelude.{◌≡◌, ⊤, ℕ, ◌+◌, List, [], ◌∷◌, ◌++◌, Option, None, Result, Ok, Err, IsOk, IsErr}
+-- Words that private functions and proofs need, of this crate or of one above it.
+-- No public clause cites them.
+use Rattle.std.specs.Prelude.{◌≡◌, ⊤, ℕ, ◌+◌, List, None, Result, Ok, Err, IsOk, IsErr, [], ◌∷◌}
+use Rattle.std.specs.Prelude.{codes, decimal, Option, false}
 use Rattle.std.specs.List.{AllByRecursion}
+use Rattle.clap.specs.Walk.{Rule, rule_of}
+use Rattle.clap.specs.Simple.{App, app_of}
+use Rattle.clap.specs.declared.builder.command.Command.TheViews.{out-Command}
+use Rattle.clap.specs.declared.builder.arg.Arg.{Arg}
+use Rattle.clap.specs.declared.builder.command.Command.{Command}
 use Rattle.disk_model.specs.Disk.{Moments}
-use Rattle.line_server.specs.ReplyValue.{ReplyValue, reply_value}
+use Rattle.line_server.specs.declared.refusal.LineRefusal.{LineRefusal}
+use Rattle.line_server.specs.declared.serving.ServeFault.{ServeFault}
+use Rattle.line_server.specs.declared.serving.ServeFault.TheVariants as faults
+use Rattle.line_server.specs.ReplyValue.{ReplyValue, reply_value, Answer, line}
 use Rattle.line_server.specs.Replies.{Server}
 use Rattle.line_server.specs.Turns.{Turn, IsTurn, Run}
+use Rattle.command_line.specs.declared.endings.Ending.{Ending}
 use Rattle.command_line.specs.Merging.{IsMergeTurn, IsHaltedBy, IsMergedTo, segments_of}
+use Rattle.command_line.specs.Endings.{IsTold}
 
 -- the line was answered OK, or its reply, which is a refusal, comes back
 abbrev pub IsAsked : {D : Type 0} → (D → Type 0) → (D → Moments) → (D → ℕ) → List ℕ
@@ -54,3 +66,33 @@ IsTrimmedTo honest moments failures most (Ok done) old new =
     IsMergedTo honest moments failures most old new
 IsTrimmedTo honest moments failures most (Err reply) old new =
     IsHalted honest moments failures reply old new
+
+-- the number and the name of a fault of serving, by which the program ends
+abbrev pub fault_number : ServeFault → ℕ
+fault_number faults.OutOfMemory = 1
+fault_number faults.Read = 50
+fault_number faults.Write = 51
+fault_number faults.Reads = 52
+
+abbrev pub fault_name : ServeFault → List ℕ
+fault_name faults.OutOfMemory = codes "OutOfMemory"
+fault_name faults.Read = codes "Read"
+fault_name faults.Write = codes "Write"
+fault_name faults.Reads = codes "Reads"
+
+abbrev pub fault_line : ServeFault → List ℕ
+fault_line fault = line (codes "ERR" ∷ decimal (fault_number fault) ∷ fault_name fault ∷ [])
+
+-- something was told so
+abbrev pub Tells : Result Ending ServeFault → Option (List ℕ) → Option (List ℕ) → Type 0
+Tells result old new = (outcome : Result Answer LineRefusal) × IsTold result outcome old new
+
+-- the reply says an answer or a refusal
+abbrev pub IsReply : ReplyValue → Type 0
+IsReply reply = (outcome : Result Answer LineRefusal) × (reply ≡ reply_value outcome)
+
+abbrev pub IsArgument : Rule → Arg → Type 0
+IsArgument rule arg = (rule_of arg ≡ rule) × (arg.global ≡ false)
+
+abbrev pub IsCommand : App → Command → Type 0
+IsCommand app command = (app_of command ≡ app) × ((out-Command command).has_globals ≡ false)

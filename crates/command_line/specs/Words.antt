@@ -1,15 +1,12 @@
 -- What the words of the command line ask for. They are read as clap reads words by these commands.
 use Rattle.std.specs.Prelude.{◌≡◌, ◌↔◌, true, List, codes, Option, Some, None}
-use Rattle.clap.specs.Walk.{Text, Row, Rule, rule_of, first_of}
-use Rattle.clap.specs.Simple.{App, new_rule, new_app, with_rule, with_subcommand, app_of, subcommand_of}
+use Rattle.clap.specs.Walk.{Text, Row, Rule, first_of}
+use Rattle.clap.specs.Simple.{App, new_rule, new_app, with_rule, with_subcommand, subcommand_of}
 use Rattle.clap.specs.Kinds.{IsAmong}
 use Rattle.clap.specs.Faults.{fault_of}
 use Rattle.std.specs.Str.Parse.{digits_value, without_leading_plus}
 use Rattle.clap.specs.Values.{kind_of}
 use Rattle.clap.specs.declared.builder.value_parser.ValueParser.TheVariants.{Unsigned}
-use Rattle.clap.specs.declared.builder.command.Command.TheViews.{out-Command}
-use Rattle.clap.specs.declared.builder.arg.Arg.{Arg}
-use Rattle.clap.specs.declared.builder.command.Command.{Command}
 use Rattle.clap.specs.declared.builder.action.ArgAction.TheVariants.{Set, SetTrue}
 use Rattle.std.specs.Prelude.{[], ◌∷◌, false}
 use Rattle.command_line.specs.Paths.{IsNamed}
@@ -79,14 +76,6 @@ program =
     with_subcommand (with_subcommand (with_subcommand (with_subcommand (with_subcommand
     (with_subcommand empty_program init_command.top) import_command.top) serve_command.top)
     status_command.top) merge_command.top) demo_command.top
-
--- ---- what is built of them
-
-abbrev pub IsArgument : Rule → Arg → Type 0
-IsArgument rule arg = (rule_of arg ≡ rule) × (arg.global ≡ false)
-
-abbrev pub IsCommand : App → Command → Type 0
-IsCommand app command = (app_of command ≡ app) × ((out-Command command).has_globals ≡ false)
 
 -- ---- what is asked for
 

@@ -6,7 +6,8 @@ ghost use Rattle.line_server.specs.declared.refusal.LineRefusal.{LineRefusal};
 ghost use Rattle.line_server.specs.declared.refusal.LineRefusal.TheVariants.{Store};
 ghost use Rattle.line_server.specs.ReplyValue.{Answer, Done as AllDone, reply_value};
 ghost use Rattle.command_line.specs.declared.endings.Ending.TheVariants.{Done, Refused};
-ghost use Rattle.command_line.specs.Endings.{fault_number, fault_name, fault_line, IsTold};
+ghost use Rattle.command_line.specs.Endings.{IsTold};
+ghost use Rattle.command_line.specs.Private.{fault_number, fault_name, fault_line};
 
 use crate::telling::Told;
 use history_store::Refusal;

@@ -10,7 +10,7 @@ use Rattle.directory.specs.Places.{AreBeside, AreApart, extent_of, extents_of, t
 use Rattle.directory.specs.Listings.{IsEntry}
 use Rattle.directory.specs.Content.{entry_bytes}
 use Rattle.directory.specs.Fit.{meets}
-use Rattle.directory.specs.Tables.{IsTable}
+use Rattle.directory.specs.Private.{IsTable}
 use Rattle.directory.proofs.Spelled.{entries_before, entry_length, one_entry}
 use Rattle.directory.proofs.Fitting.{true_or_false, not_both, all_shared_none, none_met, beside_from_none, none_from_beside, none_where_not_found}
 

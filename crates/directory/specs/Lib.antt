@@ -1,7 +1,7 @@
 pub mod Places
 pub mod Listings
 pub mod Content
-pub mod Tables
 pub mod Fit
 pub mod Additions
+pub mod Private
 pub use Rattle.blocks.specs.Extents

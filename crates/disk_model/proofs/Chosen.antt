@@ -8,7 +8,7 @@ use Rattle.disk_model.specs.Change.{Change, Write, Cut, Sync, FailedWrite, Faile
 use Rattle.disk_model.specs.Choice.{IsChosen}
 use Rattle.disk_model.specs.declared.choice.Choice.{Choice}
 use Rattle.disk_model.specs.declared.choice.Choice.TheVariants.{Kept, Lost, Filled}
-use Rattle.disk_model.specs.Replayed.{memory_image}
+use Rattle.disk_model.specs.Private.Replayed.{memory_image}
 
 -- the durable bytes are enough to be cut to the least length
 durable_after_write : (s : DiskState) (at : ℕ) (bytes : List ℕ) → s.least ≤ length s.durable → (after_write s at bytes).least ≤ length (after_write s at bytes).durable

@@ -5,7 +5,8 @@ use Rattle.std.proofs.lemmas.List.{take-append-le, drop-append-le, map-append, t
 use Rattle.std.proofs.lemmas.List.Elements.{All-head, All-tail}
 use Rattle.std.proofs.Math.Seq.{drop-append_seam}
 use Rattle.disk_model.specs.Change.{Change, Write, FailedWrite}
-use Rattle.disk_model.specs.Entry.{change_of, IsWithin, IsRange}
+use Rattle.disk_model.specs.Entry.{change_of}
+use Rattle.disk_model.specs.Private.Entry.{IsWithin, IsRange}
 use Rattle.disk_model.specs.Faults.{written_as}
 use Rattle.disk_model.specs.declared.memory.faults.Fate.{Fate}
 use Rattle.disk_model.specs.declared.memory.faults.Fate.TheVariants.{Passes, Fails}

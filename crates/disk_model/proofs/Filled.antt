@@ -5,7 +5,7 @@ use Rattle.std.proofs.lemmas.Bool.{cases_lt}
 use Rattle.std.proofs.lemmas.List.{take_more, get_or_append_left}
 use Rattle.std.proofs.lemmas.List.Elements.{All-nil, All-push, All-contains, Contains-push}
 use Rattle.disk_model.specs.Disk.{IsOutside}
-use Rattle.disk_model.specs.Replay.{IsFilledIn}
+use Rattle.disk_model.specs.Private.Replay.{IsFilledIn}
 
 -- a position is outside a range or in it
 outside_or_in : (i : ℕ) (range : ℕ × ℕ) → IsOutside i range ⊎ ((range.0 ≤ i) × (i < range.1))

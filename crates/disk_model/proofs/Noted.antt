@@ -6,8 +6,9 @@ use Rattle.std.proofs.lemmas.Bool.Decides.{nat_tests}
 use Rattle.std.proofs.lemmas.List.{append-nil, take_all}
 use Rattle.disk_model.specs.Disk.{DiskState, IsImage, HasFailed, Fails, followed_by, settled, after_write, after_cut}
 use Rattle.disk_model.specs.Change.{Change, Sync, FailedWrite, FailedCut, after_change, replayed, made, written}
-use Rattle.disk_model.specs.Faults.{part_of, written_as, cut_as, synced_as}
-use Rattle.disk_model.specs.Replayed.{change_image, memory_image, now-after_cut}
+use Rattle.disk_model.specs.Faults.{written_as, cut_as, synced_as}
+use Rattle.disk_model.specs.Private.Faults.{part_of}
+use Rattle.disk_model.specs.Private.Replayed.{change_image, memory_image, now-after_cut}
 use Rattle.disk_model.proofs.Calls.{replayed-more, now-push, now-after_write, now-settled}
 use Rattle.disk_model.proofs.Pasted.{take_min}
 use Rattle.disk_model.specs.declared.memory.faults.Fate.{Fate}

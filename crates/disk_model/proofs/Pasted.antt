@@ -4,7 +4,7 @@ use Rattle.std.proofs.lemmas.List.{append-nil, ext_get_or, length-replicate, get
 use Rattle.std.proofs.lemmas.Bool.{cases_lt}
 use Rattle.disk_model.specs.Disk.{put}
 use Rattle.disk_model.specs.Change.{written}
-use Rattle.disk_model.specs.Put.{length-put, get_or-put_below, get_or-put_inside}
+use Rattle.disk_model.specs.Private.Put.{length-put, get_or-put_below, get_or-put_inside}
 
 -- within the file
 pasted : (file : List ℕ) (at : ℕ) (bytes : List ℕ) → at ≤ length file → take at file ++ bytes ++ drop (at + length bytes) file ≡ put file at bytes

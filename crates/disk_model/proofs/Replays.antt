@@ -7,11 +7,11 @@ use Rattle.std.proofs.lemmas.List.Elements.{All-nil, All-cons, All-head, All-tai
 use Rattle.disk_model.specs.Disk.{DiskState, Moments, IsOutside, settled, after_write, after_cut, reading}
 use Rattle.disk_model.specs.Change.{Change, written, after_change, replayed}
 use Rattle.disk_model.specs.Entry.{change_of}
-use Rattle.disk_model.specs.Replayed.{now-after_cut}
+use Rattle.disk_model.specs.Private.Replayed.{now-after_cut}
 use Rattle.disk_model.specs.declared.memory.record.Entry.{Entry}
 use Rattle.disk_model.specs.declared.memory.record.Entry.TheVariants.{Written, Shortened}
 use Rattle.disk_model.specs.Choice.{IsFilled}
-use Rattle.disk_model.specs.Replay.{Shows}
+use Rattle.disk_model.specs.Private.Replay.{Shows}
 use Rattle.disk_model.specs.declared.memory.replay.Replay.{Replay}
 use Rattle.disk_model.proofs.Calls.{replayed-more}
 use Rattle.disk_model.proofs.Filled.{All-front, All-last}

@@ -1,5 +1,5 @@
 -- The failures that a disk in memory was asked for, and what they make of a call.
-use Rattle.std.specs.Prelude.{ℕ, zero, suc, min, nat_lt, Bool, true, false, if◌then◌else◌, Option, Some, None, List, [], ◌∷◌}
+use Rattle.std.specs.Prelude.{ℕ, zero, suc, nat_lt, Bool, true, false, if◌then◌else◌, Option, Some, None, List, [], ◌∷◌}
 use Rattle.disk_model.specs.Change.{Change, Write, Cut, Sync, FailedWrite, FailedCut}
 use Rattle.disk_model.specs.declared.memory.faults.Faults.{Faults}
 use Rattle.disk_model.specs.declared.memory.faults.Fate.{Fate}
@@ -56,11 +56,6 @@ after_read_call f = record {
   change_break = f.change_break;
   read_break = if is_spent f.fuse then f.read_break else read_break_after f.read_break;
 }
-
--- how many of so many bytes are written
-abbrev pub part_of : Fate → ℕ → ℕ
-part_of Passes n = n
-part_of (Fails part) n = min n part
 
 -- what the record says of a call
 abbrev pub written_as : Fate → ℕ → List ℕ → Change

@@ -6,8 +6,6 @@ pub mod Entry
 pub mod Faults
 pub mod FileDisk
 pub mod MemDisk
-pub mod Put
 pub mod Record
-pub mod Replay
-pub mod Replayed
+pub mod Private
 pub use Rattle.fault_counts.specs.Counting

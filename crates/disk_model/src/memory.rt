@@ -6,7 +6,7 @@ ghost use Rattle.disk_model.specs.Change.{made, replayed};
 ghost use Rattle.disk_model.specs.Choice.{IsChosen};
 ghost use Rattle.disk_model.specs.Contents.{shown};
 ghost use Rattle.disk_model.specs.Record.{changes_in};
-ghost use Rattle.disk_model.specs.Replayed.{memory_image};
+ghost use Rattle.disk_model.specs.Private.Replayed.{memory_image};
 ghost use Rattle.disk_model.specs.declared.memory.faults.Fate.TheVariants.{Passes};
 
 mod contents;

@@ -11,7 +11,7 @@ use Rattle.history_model.specs.declared.stamped.StampedRow.{StampedRow}
 use Rattle.history_model.specs.InOrder.{Has}
 use Rattle.history_model.specs.History.{History, IsHistory, stamped_cmp, after_release, rows_at}
 use Rattle.history_model.specs.Brought.{brought_by, IsLatestDay}
-use Rattle.history_model.specs.Searches.{later}
+use Rattle.history_model.specs.Private.{later}
 use Rattle.history_model.specs.Laws.{ImportReceiptStays, EachImportHasAReceipt, OneReceiptForAnImport, BothReceiptsCountTheSame, ReceiptsCountWhatIsShown, ReceiptsCountTheRows}
 use Rattle.history_model.proofs.InOrder.{same_ascending, Has-append_left, Has-append_right, Has-append_cases}
 use Rattle.history_model.proofs.Keys.{stamped_total}

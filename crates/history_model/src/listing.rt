@@ -5,7 +5,7 @@ ghost use Rattle.std.specs.Option.{option_copied};
 ghost use Rattle.history_model.specs.InOrder.{IsAscending};
 ghost use Rattle.history_model.specs.History.{stamped_cmp, rows_at};
 ghost use Rattle.history_model.specs.Queries.{get};
-ghost use Rattle.history_model.specs.Searches.{is_shown_version};
+ghost use Rattle.history_model.specs.Private.{is_shown_version};
 
 use crate::component::is_version_of;
 use crate::stamped::StampedRow;

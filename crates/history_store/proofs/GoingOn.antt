@@ -28,9 +28,9 @@ use Rattle.store_image.proofs.Unlisted.{begins_elsewhere}
 use Rattle.history_store.specs.declared.merge_in_progress.MergeInProgress.{MergeInProgress}
 use Rattle.history_store.specs.Catalog.{reserved_by, catalog_of}
 use Rattle.history_store.specs.Merging.{GoesOn}
-use Rattle.history_store.specs.Reading.{MomentsStay}
+use Rattle.history_store.specs.Private.Reading.{MomentsStay}
 use Rattle.history_store.specs.MergeInProgress.{IsMergeOf, IsMergingOf, IsWritten, HasMerge, merge_of}
-use Rattle.history_store.specs.Prepared.{IsPlacedAt}
+use Rattle.history_store.specs.Private.Prepared.{IsPlacedAt}
 use Rattle.history_store.proofs.Alike.{alike_bytes}
 
 module _ (honest : Type 0) (d : DirectoryValue) (lists : List (List StampedRow)) (i j : ℕ) (entry : Entry) (places : MergeProgress) (rows : List StampedRow) (written : ℕ) (is : IsMergeOf honest d lists i j entry places rows written) where

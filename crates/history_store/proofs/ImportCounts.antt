@@ -11,8 +11,9 @@ use Rattle.directory.specs.declared.layout.Layout.TheVariants as layouts
 use Rattle.directory.specs.Listings.{DirectoryValue}
 use Rattle.history_store.specs.declared.preparing.Prepared.{Prepared}
 use Rattle.history_store.specs.Catalog.{Catalog, catalog_of}
-use Rattle.history_store.specs.StoreValue.{StoreValue, with_rows}
-use Rattle.history_store.specs.Prepared.{IsPreparedFor}
+use Rattle.history_store.specs.StoreValue.{StoreValue}
+use Rattle.history_store.specs.Private.StoreValue.{with_rows}
+use Rattle.history_store.specs.Private.Prepared.{IsPreparedFor}
 use Rattle.history_store.specs.Answers.{IsStill, IsCounted}
 use Rattle.history_store.proofs.NewSegment.{length-stamped}
 

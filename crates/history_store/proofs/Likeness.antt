@@ -12,7 +12,7 @@ use Rattle.segment.proofs.Posting.{says}
 use Rattle.merge.specs.declared.Taken.{Taken}
 use Rattle.merge.specs.Merged.{StandsTaken}
 use Rattle.history_store.specs.MergeInProgress.{IsLike}
-use Rattle.history_store.specs.Stepping.{StandsIn, IsReadAt}
+use Rattle.history_store.specs.Private.Stepping.{StandsIn, IsReadAt}
 
 pub likes_trans : (xs ys zs : List StampedRow) → AllZip IsLike xs ys → AllZip IsLike ys zs → AllZip IsLike xs zs
 likes_trans [] [] zs one two = two

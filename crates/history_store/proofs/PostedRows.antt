@@ -12,7 +12,7 @@ use Rattle.term_prefix.specs.Pushed.{posted_term}
 use Rattle.associations.specs.Edges.{Edges, no_edges, edges_of, joined_edges, posted_edges}
 use Rattle.associations.proofs.Posted.{pushed_one_by_one}
 use Rattle.history_store.specs.declared.merge_in_progress.MergeInProgress.{MergeInProgress}
-use Rattle.history_store.specs.Stepping.{IsLonger, Keeps}
+use Rattle.history_store.specs.Private.Stepping.{IsLonger, Keeps}
 use Rattle.history_store.proofs.Places.{places_push, taken_push, segment_within, posted_bytes}
 use Rattle.history_store.proofs.Taken.{terms_pushed}
 

@@ -10,7 +10,7 @@ use Rattle.fault_counts.specs.declared.fault.ReadFault.{ReadFault}
 use Rattle.fault_counts.specs.declared.fault.ReadFault.TheVariants as readfault
 use Rattle.history_store.specs.declared.refusal.Refusal.{Refusal}
 use Rattle.history_store.specs.declared.refusal.Refusal.TheVariants as refusals
-use Rattle.history_store.specs.Reading.{MomentsStay}
+use Rattle.history_store.specs.Private.Reading.{MomentsStay}
 use Rattle.history_store.specs.Refusals.{of_read}
 use Rattle.history_store.specs.StoreValue.{StoreValue, IsAcknowledged}
 use Rattle.history_store.specs.Answers.{Counts, IsRefused, IsReadingOf}

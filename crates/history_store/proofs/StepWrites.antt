@@ -25,7 +25,7 @@ use Rattle.store_image.specs.Says.{AreSegments, IsKept, pieces_of, history_of}
 use Rattle.store_image.specs.Ahead.{BeginsWith}
 use Rattle.history_store.specs.declared.merge_in_progress.MergeInProgress.{MergeInProgress}
 use Rattle.history_store.specs.Catalog.{Merge, Catalog, catalog_of}
-use Rattle.history_store.specs.Reading.{AreThere}
+use Rattle.history_store.specs.Private.Reading.{AreThere}
 use Rattle.history_store.specs.MergeInProgress.{IsMergeOf, merge_of}
 use Rattle.history_store.specs.Merging.{IsUnfinished}
 use Rattle.history_store.specs.Written.{HasRows, AreNext, WritesNext}

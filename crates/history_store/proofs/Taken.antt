@@ -11,7 +11,7 @@ use Rattle.term_prefix.proofs.Posted.{posted_terms_more}
 use Rattle.associations.specs.Edges.{Edges, AreSameEdges, posted_edges}
 use Rattle.associations.specs.Laws.{ArePostingsOf, EachPosted}
 use Rattle.associations.proofs.Posted.{edges_more}
-use Rattle.history_store.specs.Taken.{TermsTaken, EdgesTaken}
+use Rattle.history_store.specs.Private.Taken.{TermsTaken, EdgesTaken}
 
 pub terms_pushed : (rows : List (StampedRow × RowPlace)) (x : StampedRow × RowPlace) → posted_all posted_term (rows ++ x ∷ []) ≡ posted_all posted_term rows ++ posted_term x.0.row x.1
 terms_pushed [] x = append-nil (posted_term x.0.row x.1)

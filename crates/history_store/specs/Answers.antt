@@ -16,9 +16,7 @@ use Rattle.directory.specs.declared.entry.Entry.{Entry}
 use Rattle.directory.specs.Listings.{most_entries}
 use Rattle.import_check.specs.declared.release.Release.{Release}
 use Rattle.import_check.specs.Release.{IsReleaseOf, IsFaultOfRelease, HasContradiction}
-use Rattle.import_check.specs.declared.fault.ImportFault.{ImportFault}
-use Rattle.import_check.specs.NewRows.{IsRead, IsRefusal}
-use Rattle.history_store.specs.Refusals.{refusal_of}
+use Rattle.import_check.specs.NewRows.{IsRead}
 use Rattle.store_image.specs.Answers.{synced}
 use Rattle.store_image.specs.Damage.{IsDamaged}
 use Rattle.store_image.specs.Images.{Represents, StandsAs, IsStore}
@@ -207,14 +205,6 @@ pub record StandsWith (h : History) (release : Release) (c : List ℕ) : Type 0 
 abbrev pub IsBeforeOrAfter : Layout → History → Release → List ℕ → Type 0
 IsBeforeOrAfter layout h release c = StandsAs layout h c ⊎ StandsWith h release c
 
--- the store goes on to this history and catalog, or stays; memory may lack, or the device may fail
-abbrev pub IsStep : {D : Type 0} → Result (Unit {0}) Refusal → StoreValue D → StoreValue D → History
-    → Catalog → Type 0
-IsStep (Ok done) old new after next =
-    (new.history ≡ after) × (new.catalog ≡ next) × (new.needs_reopen ≡ false)
-IsStep (Err e) old new after next =
-    ((e ≡ refusals.OutOfMemory) ⊎ (e ≡ refusals.DiskFault)) × IsRefused e old new
-
 -- why a call that only reads is refused
 abbrev pub IsReadRefusal : {D : Type 0} → Refusal → StoreValue D → Type 0
 IsReadRefusal refusals.OutOfMemory s = s.needs_reopen ≡ false
@@ -234,12 +224,6 @@ pub record IsStill {D : Type 0} (old new : StoreValue D) : Type 0 where
 abbrev pub IsReadingOf : {T D : Type 0} → Result T Refusal → StoreValue D → StoreValue D → Type 0
 IsReadingOf (Ok x) old new = IsStill old new
 IsReadingOf (Err e) old new = IsReadRefusal e old × IsRefused e old new
-
--- why the new rows of a release are not had: a fault of the files
--- on every disk, a contradiction and no damage on an honest one
-abbrev pub IsNotFresh : Type 0 → Refusal → List RowValue → Release → Type 0
-IsNotFresh honest e known release =
-    (fault : ImportFault) × (e ≡ refusal_of fault) × IsRefusal honest known release fault
 
 -- Why an import is refused, on every disk: what the counts, the files and the directory say.
 -- Whether a row contradicts the known ones is said on an honest disk alone.

@@ -2,8 +2,6 @@ pub mod Reading
 pub mod Catalog
 pub mod MergeInProgress
 pub mod Merging
-pub mod Beginning
-pub mod Publishing
 pub mod StoreValue
 pub mod Prepared
 pub mod Answers
@@ -13,8 +11,6 @@ pub mod Calls
 pub mod MergeAnswers
 pub mod Refusals
 pub mod Laws
-pub mod Taken
-pub mod Stepping
 pub mod Private
 pub use Rattle.store_image.specs.Images
 pub use Rattle.history_model.specs.History

@@ -1,4 +1,12 @@
 -- Words that only this crate's private functions need of one another. No public clause cites them.
+pub mod Reading
+pub mod Beginning
+pub mod Publishing
+pub mod StoreValue
+pub mod Prepared
+pub mod Answers
+pub mod Taken
+pub mod Stepping
 use Rattle.std.specs.Prelude.{◌==◌, ◌≡◌, ℕ, ◌≤◌, max, List, [], length, Option, Some, None}
 use Rattle.std.specs.List.{filter}
 use Rattle.history_model.specs.declared.receipt.ImportReceipt.{ImportReceipt}

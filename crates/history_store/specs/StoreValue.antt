@@ -1,10 +1,9 @@
 -- A store as clauses see it.
-use Rattle.std.specs.Prelude.{◌≡◌, ℕ, ◌+◌, [], ◌∷◌, Bool, false, List}
+use Rattle.std.specs.Prelude.{◌≡◌, ℕ, [], Bool, false, List}
 use Rattle.disk_model.specs.Disk.{DiskState, Moments, EachImage}
 use Rattle.blocks.specs.declared.slots.Slot.{Slot}
 use Rattle.history_model.specs.declared.stamped.StampedRow.{StampedRow}
 use Rattle.history_model.specs.History.{History}
-use Rattle.history_model.specs.Lists.{listed}
 use Rattle.directory.specs.Listings.{DirectoryValue}
 use Rattle.store_image.specs.Says.{IsKept}
 use Rattle.store_image.specs.Images.{Represents}
@@ -55,7 +54,3 @@ last_import = 4294967295
 
 abbrev pub last_epoch : ℕ
 last_epoch = 18446744073709551615
-
--- the history with one import more, that brought these rows
-abbrev pub with_rows : History → List StampedRow → History
-with_rows h rows = record { imports = h.imports + 1; rows = listed (h.rows ∷ rows ∷ []) }

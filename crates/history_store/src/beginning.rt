@@ -3,7 +3,7 @@
 ghost use Rattle.std.specs.Prelude.{◌≡◌, ◌<◌, ◌≤◌, length, IfOk, IfErr, IfSome, IsNone, IsSome, nat_lt};
 ghost use Rattle.directory.specs.Listings.{IsListing};
 ghost use Rattle.history_store.specs.Merging.{AreFewest, rows_at_place};
-ghost use Rattle.history_store.specs.Beginning.{AreLong, IsNewMerge, IsUnbegun};
+ghost use Rattle.history_store.specs.Private.Beginning.{AreLong, IsNewMerge, IsUnbegun};
 
 use crate::merge_in_progress::MergeInProgress;
 use crate::refusal::Refusal;

@@ -45,7 +45,7 @@ impl RowSink for Posting {
     ghost use Rattle.as_of_index.specs.Postings.{posted_all};
     ghost use Rattle.term_prefix.specs.Pushed.{posted_term};
     ghost use Rattle.associations.specs.Edges.{posted_edges};
-    ghost use Rattle.history_store.specs.Taken.{TermsTaken, EdgesTaken};
+    ghost use Rattle.history_store.specs.Private.Taken.{TermsTaken, EdgesTaken};
 
     ghost has_taken = { λ s segments rows. (s.terms ≡ posted_all posted_term rows)
         × (s.edges ≡ posted_edges rows) × TermsTaken segments s.sealed_terms.items

@@ -80,8 +80,10 @@ impl<D: Disk> Store<D> {
     ghost use Rattle.import_check.specs.NewRows.{IsApart};
     ghost use Rattle.store_image.specs.Images.{Represents, StandsAs};
     ghost use Rattle.history_store.specs.Catalog.{catalog_of, blocks_in_use};
-    ghost use Rattle.history_store.specs.StoreValue.{IsAcknowledged, with_rows, no_blocks};
-    ghost use Rattle.history_store.specs.Prepared.{IsNotSpent, IsPreparedFor};
+    ghost use Rattle.history_store.specs.StoreValue.{IsAcknowledged, no_blocks};
+    ghost use Rattle.history_store.specs.Private.StoreValue.{with_rows};
+    ghost use Rattle.history_store.specs.Prepared.{IsNotSpent};
+    ghost use Rattle.history_store.specs.Private.Prepared.{IsPreparedFor};
     ghost use Rattle.blocks.specs.Calls.{MakesCalls};
     ghost use Rattle.blocks.specs.Outside.{SameOutside, StemsWithin};
     ghost use Rattle.blocks.specs.Slots.{slots_range, slots_read};
@@ -89,10 +91,11 @@ impl<D: Disk> Store<D> {
     ghost use Rattle.store_image.specs.Answers.{IsNewStore};
     ghost use Rattle.history_store.specs.Written.{added_ranges};
     ghost use Rattle.history_store.specs.Calls.{MakesImportCalls};
-    ghost use Rattle.history_store.specs.Answers.{Counts, IsStep, device_of, CountsOpening};
+    ghost use Rattle.history_store.specs.Answers.{Counts, device_of, CountsOpening};
+    ghost use Rattle.history_store.specs.Private.Answers.{IsStep, IsNotFresh};
     ghost use Rattle.history_store.specs.Answers.{IsNew, IsReady, IsMakingOf, IsMakingCause, IsOpeningOf, IsOpeningCause, SyncsOnce, HandsBack};
     ghost use Rattle.history_store.specs.Answers.{IsStill, IsRefused};
-    ghost use Rattle.history_store.specs.Answers.{IsCounted, IsNotFresh, IsImportOf, IsImportOnAnyDisk};
+    ghost use Rattle.history_store.specs.Answers.{IsCounted, IsImportOf, IsImportOnAnyDisk};
     ghost use Rattle.history_store.specs.Answers.{IsBeforeOrAfter, KeepsMoments};
     ghost use Rattle.blocks.specs.Cache.{LooksUpSome};
 

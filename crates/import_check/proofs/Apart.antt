@@ -16,7 +16,7 @@ use Rattle.history_model.proofs.Keys.{rows_total}
 use Rattle.import_check.specs.declared.release.PlacedLine.{PlacedLine}
 use Rattle.import_check.specs.declared.sweep.Sweep.{Sweep}
 use Rattle.import_check.specs.Known.{IsUnknown}
-use Rattle.import_check.specs.Sweep.{rank_cmp, IsRising, standing_row, standing_of, IsOwn, IsOutcome}
+use Rattle.import_check.specs.Private.Sweep.{rank_cmp, IsRising, standing_row, standing_of, IsOwn, IsOutcome}
 use Rattle.import_check.specs.NewRows.{IsApart}
 use Rattle.import_check.proofs.Sweeping.{rank_split, ascending-push, last_pushed}
 

@@ -10,7 +10,8 @@ use Rattle.rf2_values.specs.declared.key.Key.{Key}
 use Rattle.rf2_values.specs.declared.row.Body.{Body}
 use Rattle.rf2_values.specs.declared.row.Body.TheVariants as body
 use Rattle.rf2_values.specs.Row.{RowValue, version}
-use Rattle.rf2_values.specs.Key.{key_of, key_cmp, keys_total}
+use Rattle.rf2_values.specs.Key.{key_of, key_cmp}
+use Rattle.rf2_values.specs.Private.{keys_total}
 use Rattle.rf2_rows.specs.declared.fault.LineFault.{LineFault}
 use Rattle.rf2_rows.specs.File.{IsFaultOfFile}
 use Rattle.rf2_rows.specs.Laws.{FileOrFault}

@@ -4,7 +4,7 @@ use Rattle.std.proofs.lemmas.List.{map_push, map_more}
 use Rattle.rf2_values.specs.declared.row.Kind.{Kind}
 use Rattle.import_check.specs.declared.release.ReleaseFile.{ReleaseFile}
 use Rattle.import_check.specs.declared.samples.SampleFile.{SampleFile}
-use Rattle.import_check.specs.SampleFiles.{texts_of}
+use Rattle.import_check.specs.Private.SampleFiles.{texts_of}
 
 abbrev pub texts_in : List ReleaseFile → List (Kind × List ℕ)
 texts_in files = map (λ file. (file.kind, file.bytes.items)) files

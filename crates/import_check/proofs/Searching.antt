@@ -4,7 +4,8 @@ use Rattle.std.specs.Cmp.{tied_itself}
 use Rattle.std.specs.declared.cmp.Ordering.{Ordering}
 use Rattle.std.specs.declared.cmp.Ordering.TheVariants.{Less, Equal, Greater}
 use Rattle.rf2_values.specs.declared.key.Key.{Key}
-use Rattle.rf2_values.specs.Key.{key_of, key_cmp, keys_total}
+use Rattle.rf2_values.specs.Key.{key_of, key_cmp}
+use Rattle.rf2_values.specs.Private.{keys_total}
 use Rattle.history_model.specs.declared.stamped.StampedRow.{StampedRow}
 use Rattle.history_model.specs.InOrder.{Has, IsAscending}
 use Rattle.history_model.specs.History.{stamped_cmp}
@@ -16,7 +17,7 @@ use Rattle.history_model.proofs.InOrder.{Has-all, all_from_has, Has-append_cases
 use Rattle.history_model.proofs.Filtered.{Has-map, Has-map_from}
 use Rattle.history_model.proofs.Keys.{same_key}
 use Rattle.import_check.specs.Known.{IsUnknown}
-use Rattle.import_check.specs.Search.{NoneBefore, NoneFrom, StandsAtKey}
+use Rattle.import_check.specs.Private.Search.{NoneBefore, NoneFrom, StandsAtKey}
 use Rattle.import_check.proofs.Stamped.{has_at, order_to, no_row}
 
 module _ {X : Type 0} (cmp : X → X → Ordering) where

@@ -2,7 +2,7 @@
 
 ghost use Rattle.std.specs.Prelude.{◌≡◌, ◌≤◌, length, IsTrue};
 ghost use Rattle.rf2_values.specs.Key.{key_of, key_cmp};
-ghost use Rattle.import_check.specs.Search.{NoneBefore, NoneFrom, IsPlaceOf};
+ghost use Rattle.import_check.specs.Private.Search.{NoneBefore, NoneFrom, IsPlaceOf};
 
 use history_model::StampedRow;
 use rf2_values::Key;

@@ -9,8 +9,8 @@ ghost use Rattle.import_check.specs.declared.release.PlacedLine.{PlacedLine};
 ghost use Rattle.fault_counts.specs.Counting.{Counts};
 ghost use Rattle.import_check.specs.NewRows.{IsTaken, IsApart, CountsAnyDiskFault, CountsAnyDamage};
 ghost use Rattle.import_check.specs.Release.{rows_of};
-ghost use Rattle.import_check.specs.Sweep.{StandsBy, IsEarlierOf, IsVerdict, standing_of, IsSwept, TakesLine, IsOutcome};
-ghost use Rattle.import_check.specs.Sweep.{KeepsApart, IsCutShort, IsRefusalOf, IsRising, place_cmp, rank_cmp};
+ghost use Rattle.import_check.specs.Private.Sweep.{StandsBy, IsEarlierOf, IsVerdict, standing_of, IsSwept, TakesLine, IsOutcome};
+ghost use Rattle.import_check.specs.Private.Sweep.{KeepsApart, IsCutShort, IsRefusalOf, IsRising, place_cmp, rank_cmp};
 
 use crate::fault::ImportFault;
 use crate::found::NewRows;

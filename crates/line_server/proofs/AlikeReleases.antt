@@ -12,12 +12,12 @@ use Rattle.history_model.specs.History.{History}
 use Rattle.import_check.specs.declared.release.ReleaseFile.{ReleaseFile}
 use Rattle.import_check.specs.declared.release.Release.{Release}
 use Rattle.import_check.specs.Release.{SpellFiles, IsReleaseOf, IsFaultOfRelease, HasContradiction}
+use Rattle.import_check.specs.Sample.{files_of}
 use Rattle.history_store.specs.declared.refusal.Refusal.{Refusal}
 use Rattle.history_store.specs.declared.refusal.Refusal.TheVariants as store
 use Rattle.history_store.specs.Catalog.{Catalog}
 use Rattle.history_store.specs.StoreValue.{StoreValue}
 use Rattle.history_store.specs.Answers.{IsTaken, WouldBeTakenBut, IsImportOf}
-use Rattle.line_server.specs.Sources.{files_of}
 use Rattle.line_server.specs.Laws.{IsSureImport}
 
 abbrev FileBytes : Type 0

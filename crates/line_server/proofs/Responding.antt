@@ -1,6 +1,6 @@
 -- Commands that ask for no rows, as responses.
 use Rattle.std.proofs.Common.{◌≡◌, ◌≢◌, ◌⊎◌, ℕ, ◌≤◌, ◌<◌, length, Bool, true, false, List, [], ◌∷◌, refl, sym, ap, subst, ◌∙◌, get_or, IfSome, Result, Ok, Err, inl, inr, Option, Some, None, arith}
-use Rattle.std.specs.Prelude.{decimal, slice_set}
+use Rattle.std.specs.Prelude.{decimal, slice_set, unwrap_or}
 use Rattle.std.proofs.lemmas.Bool.{false≢true}
 use Rattle.std.specs.List.{AllByRecursion}
 use Rattle.std.proofs.lemmas.List.Elements.{All-set}
@@ -19,12 +19,12 @@ use Rattle.line_commands.specs.Requests.{Asks, IsUnread}
 use Rattle.line_commands.proofs.Readings.{one_reading, asked_is_read}
 use Rattle.line_server.specs.declared.refusal.LineRefusal.{LineRefusal}
 use Rattle.line_server.specs.declared.refusal.LineRefusal.TheVariants as refusals
-use Rattle.line_server.specs.Pins.{AreWithin, pin_of, or_all}
+use Rattle.line_server.specs.Pins.{AreWithin, pin_of}
 use Rattle.line_server.specs.Sources.{Releases}
 use Rattle.line_server.specs.ReplyValue.{Answer, Ids, Done, ReplyValue, reply_value}
 use Rattle.line_server.specs.Replies.{Server, IsAnswer, IsClosed, IsLacking, receipt_of, status_of, server}
 use Rattle.line_server.specs.Turns.{GoesBy, IsAnswered, LeavesDisk, IsAskedFor}
-use Rattle.line_server.specs.Responses.{ComesOut, IsNamed, IsResponse, IsQueried, IsCarriedOut}
+use Rattle.line_server.specs.Private.{ComesOut, IsNamed, IsResponse, IsQueried, IsCarriedOut}
 use Rattle.line_server.proofs.Imported.{none_imported}
 use Rattle.line_server.proofs.Queried.{responded}
 
@@ -103,12 +103,12 @@ module _ {D : Type 0} (hs : Type 0) (has : Releases) (honest : D → Type 0) (mo
 -- ---- PIN
 
 module _ {D : Type 0} (honest : D → Type 0) (moments : D → Moments) (failures : D → ℕ) (session : ℕ) (pins : List (Option ℕ)) (s : StoreValue D) (number : Option ℕ) (has : Releases) where
-  pub pinned : (pin : ℕ) (reply : ReplyValue) → (pin ≤ s.history.imports) × (pin ≡ or_all number s.history.imports) → reply ≡ reply_value (Ok (Done (decimal pin ∷ [])))
+  pub pinned : (pin : ℕ) (reply : ReplyValue) → (pin ≤ s.history.imports) × (pin ≡ unwrap_or number s.history.imports) → reply ≡ reply_value (Ok (Done (decimal pin ∷ [])))
       → IsResponse (Ok reply) (Unit {0}) has honest moments failures session (Pin number) (server pins s) (server (slice_set pins session (Some pin)) s)
   pinned pin reply h told =
       responded honest moments failures (Ok reply) has session (Pin number) (Ok (Done (decimal pin ∷ []))) (server pins s) (server (slice_set pins session (Some pin)) s) told
       (answered_so number h) (none_imported honest moments s) refl (λ h. refl) (omega arith) where
-        answered_so : (number : Option ℕ) → (pin ≤ s.history.imports) × (pin ≡ or_all number s.history.imports)
+        answered_so : (number : Option ℕ) → (pin ≤ s.history.imports) × (pin ≡ unwrap_or number s.history.imports)
             → IsAnswer (honest s.disk) has session (Pin number) (Done (decimal pin ∷ [])) (server pins s) (server (slice_set pins session (Some pin)) s)
         answered_so None h = (ap (λ (k : ℕ). server (slice_set pins session (Some k)) s) h.1, ap (λ (k : ℕ). Done (decimal k ∷ [])) h.1)
         answered_so (Some n) h = (subst (λ (k : ℕ). k ≤ s.history.imports) h.1 h.0, ap (λ (k : ℕ). server (slice_set pins session (Some k)) s) h.1, ap (λ (k : ℕ). Done (decimal k ∷ [])) h.1)
@@ -154,7 +154,7 @@ within_more imports more pins le within k d lt = grown (get_or pins k d) (within
 -- the pin of a session is no more than the imports
 pub pin_within : (imports : ℕ) (pins : List (Option ℕ)) (session : ℕ) → session < length pins → AreWithin imports pins → pin_of pins session imports ≤ imports
 pin_within imports pins session lt within = below (get_or pins session None) (within session None lt) where
-  below : (o : Option ℕ) → IfSome o (λ number. number ≤ imports) → or_all o imports ≤ imports
+  below : (o : Option ℕ) → IfSome o (λ number. number ≤ imports) → unwrap_or o imports ≤ imports
   below None h = omega arith
   below (Some number) h = h
 

@@ -1,6 +1,7 @@
 -- What holds of every run of lines, on an honest disk.
 use Rattle.std.specs.Prelude.{◌≡◌, ◌⊎◌, ℕ, ◌++◌, false, ◌+◌, ◌≤◌, List, [], ◌∷◌, length, Option, Some, Result, Ok, Err, MatchResult, slice_index_or, None}
 use Rattle.std.specs.List.{AllByRecursion}
+use Rattle.std.specs.Option.{option_or}
 use Rattle.disk_model.specs.Disk.{Moments, EachImage, LeavesOnly}
 use Rattle.history_model.specs.History.{History, rows_at}
 use Rattle.history_model.specs.Brought.{brought_by, ImportReceiptOf}
@@ -19,7 +20,7 @@ use Rattle.line_server.specs.Sources.{Releases}
 use Rattle.line_server.specs.ReplyValue.{Answer, Done}
 use Rattle.line_server.specs.Replies.{Server, Replies, Same, found, shown, imports_seen, receipt_of, server}
 use Rattle.line_server.specs.Imports.{Imports, IsFront, TakesAll, RepresentsSome, RepresentsAll}
-use Rattle.line_server.specs.Turns.{Turn, IsTurn, Run, imported, failed_in, or_else}
+use Rattle.line_server.specs.Turns.{Turn, IsTurn, Run, imported, failed_in}
 use Rattle.line_server.specs.Pinning.{IsPinnedTo, LeavesPin, StaysPinned}
 use Rattle.line_server.specs.Life.{Stage, IsStage, IsLife, AreKept, IsSubsequence, acknowledged}
 
@@ -75,7 +76,7 @@ abbrev pub ImportsCompose : (D : Type 0) → (D → Type 0) → (D → Moments) 
 ImportsCompose D honest moments =
     (a b c : StoreValue D) (releases others : List Release) (failed more : Option Release)
     → Imports honest moments a b releases failed → Imports honest moments b c others more
-    → Imports honest moments a c (releases ++ others) (or_else failed more)
+    → Imports honest moments a c (releases ++ others) (option_or failed more)
 
 abbrev pub IsSureImport : Result Receipt Refusal → Type 0
 IsSureImport (Err store.OutOfMemory) = ⊥

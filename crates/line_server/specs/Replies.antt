@@ -1,11 +1,12 @@
 -- When a line is answered so, and what comes after.
-use Rattle.std.specs.Prelude.{◌≡◌, ◌≢◌, ℕ, ◌≤◌, ◌<◌, ◌⊎◌, true, false, List, [], ◌∷◌, length, codes, decimal, slice_set, option_map, Option, Some, None, Result, Ok, Err}
+use Rattle.std.specs.Prelude.{◌≡◌, ◌≢◌, ℕ, ◌≤◌, ◌<◌, ◌⊎◌, true, false, List, [], ◌∷◌, length, codes, decimal, slice_set, option_map, Option, Some, None, Result, Ok, Err, option_to_list}
 use Rattle.rf2_values.specs.Row.{RowValue}
 use Rattle.history_model.specs.declared.receipt.Receipt.{Receipt}
 use Rattle.history_model.specs.History.{rows_at}
 use Rattle.history_model.specs.Brought.{ImportReceiptOf}
 use Rattle.history_model.specs.Queries.{get, versions, page, terms, search_terms, children, replacements, about}
 use Rattle.import_check.specs.declared.release.Release.{Release}
+use Rattle.import_check.specs.Sample.{files_of}
 use Rattle.history_store.specs.declared.refusal.Refusal.{Refusal}
 use Rattle.history_store.specs.declared.refusal.Refusal.TheVariants as store
 use Rattle.history_store.specs.Catalog.{Merge as CatalogMerge}
@@ -18,7 +19,7 @@ use Rattle.line_commands.specs.Requests.{Asks, IsUnread}
 use Rattle.line_server.specs.declared.refusal.LineRefusal.{LineRefusal}
 use Rattle.line_server.specs.declared.refusal.LineRefusal.TheVariants as refusals
 use Rattle.line_server.specs.Pins.{pin_of}
-use Rattle.line_server.specs.Sources.{Releases, files_of}
+use Rattle.line_server.specs.Sources.{Releases}
 use Rattle.line_server.specs.ReplyValue.{Answer, Rows, Ids, Done}
 
 -- what a reply rests on: what sessions are pinned to, and the store
@@ -49,13 +50,9 @@ imports_seen server session = pin_of server.pins session server.store.history.im
 abbrev pub shown : {D : Type 0} → Server D → ℕ → List RowValue
 shown server session = rows_at (imports_seen server session) server.store.history.rows
 
-abbrev pub found_row : Option RowValue → List RowValue
-found_row None = []
-found_row (Some row) = row ∷ []
-
 -- what a query finds in the rows that are shown; the other commands ask for none of them
 abbrev pub found : Command → List RowValue → Option Answer
-found (Get kind id date) rows = Some (Rows (found_row (get kind id date rows)))
+found (Get kind id date) rows = Some (Rows (option_to_list (get kind id date rows)))
 found (History kind id) rows = Some (Rows (versions kind id rows))
 found (Children concept date) rows = Some (Ids (children concept date rows))
 found (Terms date limit prefix) rows = Some (Rows (terms prefix date limit rows))

@@ -1,13 +1,10 @@
 -- Where releases come from.
-use Rattle.std.specs.Prelude.{◌≡◌, ℕ, List, map, Option, Some, None, Result, Ok, Err}
+use Rattle.std.specs.Prelude.{◌≡◌, ℕ, List, Option, Some, None, Result, Ok, Err}
 use Rattle.rf2_values.specs.declared.row.Kind.{Kind}
 use Rattle.import_check.specs.declared.release.Release.{Release}
+use Rattle.import_check.specs.Sample.{files_of}
 use Rattle.line_server.specs.declared.source.SourceFault.{SourceFault}
 use Rattle.line_server.specs.declared.source.SourceFault.TheVariants as faults
-
--- what is read of a release: each file's kind and bytes
-abbrev pub files_of : Release → List (Kind × List ℕ)
-files_of release = map (λ file. (file.kind, file.bytes.items)) release.files.items
 
 -- the files of the release under each name that has one
 abbrev pub Releases : Type 0

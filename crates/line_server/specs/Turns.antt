@@ -1,8 +1,10 @@
 -- Lines that are answered one after the other.
 use Rattle.std.specs.Prelude.{◌≡◌, ℕ, ◌≤◌, List, [], ◌∷◌, length, map, take, Option, Some, None, IfSome, Result, Ok, Err, OnOk}
 use Rattle.std.specs.List.{flat_map, AllByRecursion}
+use Rattle.std.specs.Option.{option_or}
 use Rattle.disk_model.specs.Disk.{Moments}
 use Rattle.import_check.specs.declared.release.Release.{Release}
+use Rattle.import_check.specs.Sample.{files_of}
 use Rattle.history_store.specs.declared.refusal.Refusal.TheVariants as store
 use Rattle.history_store.specs.StoreValue.{StoreValue}
 use Rattle.history_store.specs.Answers.{CountsRefusal}
@@ -11,7 +13,7 @@ use Rattle.line_commands.specs.Commands.{Command, Import, Step, Publish, Trim}
 use Rattle.line_commands.specs.Requests.{Asks}
 use Rattle.line_server.specs.declared.refusal.LineRefusal.{LineRefusal}
 use Rattle.line_server.specs.declared.refusal.LineRefusal.TheVariants as refusals
-use Rattle.line_server.specs.Sources.{Releases, files_of}
+use Rattle.line_server.specs.Sources.{Releases}
 use Rattle.line_server.specs.ReplyValue.{Answer, ReplyValue, reply_value, bytes_of}
 use Rattle.line_server.specs.Replies.{Server, Replies, server}
 use Rattle.line_server.specs.Imports.{Imports}
@@ -111,12 +113,7 @@ replies turns = flat_map (λ turn. bytes_of (reply_value turn.outcome)) turns
 abbrev pub imported : List Turn → List Release
 imported turns = flat_map (λ turn. turn.releases) turns
 
--- one, or else the other
-abbrev pub or_else : {X : Type 0} → Option X → Option X → Option X
-or_else None other = other
-or_else (Some x) other = Some x
-
 -- the release in whose import the device failed, if it did
 abbrev pub failed_in : List Turn → Option Release
 failed_in [] = None
-failed_in (turn ∷ turns) = or_else turn.failed (failed_in turns)
+failed_in (turn ∷ turns) = option_or turn.failed (failed_in turns)

@@ -3,7 +3,8 @@
 ghost use Rattle.std.specs.Prelude.{◌≡◌, ℕ, List};
 ghost use Rattle.line_server.specs.Pins.{AreWithin};
 ghost use Rattle.line_server.specs.Replies.{server};
-ghost use Rattle.line_server.specs.Steps.{kept, IsLineServed};
+ghost use Rattle.line_server.specs.Steps.{kept};
+ghost use Rattle.line_server.specs.Private.{IsLineServed};
 ghost use Rattle.line_server.specs.Feeding.{IsUnended, IsFed};
 
 use crate::answering::answer;

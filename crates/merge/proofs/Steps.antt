@@ -17,7 +17,7 @@ use Rattle.segment.specs.declared.place.RowPlace.{RowPlace}
 use Rattle.segment.specs.Standing.{record_len, row_place, with_places, places_of}
 use Rattle.merge.specs.declared.Taken.{Taken}
 use Rattle.merge.specs.Merged.{StandsTaken, taken_of_a, taken_of_b}
-use Rattle.merge.specs.Turns.{of_a, of_b, next_place}
+use Rattle.merge.specs.Private.{of_a, of_b, next_place}
 
 -- both ascend, and no key is in both
 record AreApart (xs ys : List StampedRow) : Type 0 where

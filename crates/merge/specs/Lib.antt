@@ -3,4 +3,4 @@ pub use Rattle.history_model.specs.History
 pub use Rattle.history_model.specs.Lists
 pub use Rattle.segment.specs.Standing
 pub mod Merged
-pub mod Turns
+pub mod Private

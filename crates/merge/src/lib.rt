@@ -2,7 +2,7 @@
 #![tactic(auto)]
 
 ghost use Rattle.std.specs.Prelude.{◌≡◌, ◌+◌, ◌-◌, ◌<◌, ◌≤◌, ◌^◌, ◌↔◌, ◌++◌, ◌∷◌, [], List, IsTrue, IfOk, length, take, drop, min};
-ghost use Rattle.merge.specs.Turns.{next_place};
+ghost use Rattle.merge.specs.Private.{next_place};
 
 use segment::RowPlace;
 use std::alloc::{AllocError, Global};

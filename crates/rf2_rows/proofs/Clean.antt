@@ -14,7 +14,8 @@ use Rattle.rf2_values.specs.declared.row.Kind.TheVariants as kind
 use Rattle.rf2_values.specs.Time.{IsTime}
 use Rattle.rf2_values.specs.Row.{line_of}
 use Rattle.rf2_values.specs.Member.{IsMemberByte}
-use Rattle.rf2_rows.specs.Line.{Column, Identifier, Time, Active, ConceptReference, ComponentReference, Number, Text, MayStand, AllStand}
+use Rattle.rf2_rows.specs.Line.{Column, Identifier, Time, Active, ConceptReference, ComponentReference, Number, Text, MayStand}
+use Rattle.rf2_rows.specs.Private.{AllStand}
 use Rattle.rf2_values.proofs.Decimals.{own, decimal_is_utf8}
 use Rattle.rf2_rows.proofs.Splits.{IsFree}
 

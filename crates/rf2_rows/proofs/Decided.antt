@@ -29,7 +29,8 @@ use Rattle.rf2_values.proofs.Decimals.{decimal_is_plain}
 use Rattle.rf2_values.proofs.Lengths.{length-line}
 use Rattle.rf2_rows.specs.declared.fault.LineFault.{LineFault}
 use Rattle.rf2_rows.specs.declared.fault.LineFault.TheVariants as fault
-use Rattle.rf2_rows.specs.Line.{Column, Identifier, Time, Active, ConceptReference, ComponentReference, Number, Text, SpellsSome, MayStand, HasClassFault, HasFault, AllStand, FirstFault, columns, columns_in, own_layout, columns_of, header, IsFaultOf}
+use Rattle.rf2_rows.specs.Line.{Column, Identifier, Time, Active, ConceptReference, ComponentReference, Number, Text, SpellsSome, MayStand, HasClassFault, HasFault, FirstFault, columns, columns_in, own_layout, columns_of, header, IsFaultOf}
+use Rattle.rf2_rows.specs.Private.{AllStand}
 use Rattle.rf2_rows.specs.File.{SpellsEach, IsReleaseFile, IsFirstLineFault, IsFaultOfRows, IsFaultOfLines, IsFaultOfFile, lines_in, without_mark}
 use Rattle.rf2_rows.proofs.Faults.{id_length}
 use Rattle.rf2_rows.proofs.Files.{is_release_file}

@@ -9,7 +9,8 @@ use Rattle.rf2_rows.specs.declared.fault.LineFault.{LineFault}
 use Rattle.rf2_rows.specs.declared.fault.RowFault.{RowFault}
 use Rattle.rf2_rows.specs.declared.fault.RowFault.TheVariants as rowfault
 use Rattle.rf2_values.specs.Row.{RowValue, version, IsVersion, IsIdOf, IsBody, IsConcept, SpellsId, SpellsColumns, kind_of, kind_of_body, line_limit, line_of, id_text, later_columns, body_columns, flag}
-use Rattle.rf2_rows.specs.Line.{Column, MayStand, HasFault, AllStand, FirstFault, columns as columns_of_kind, columns_in, common_layout, own_layout, columns_of, IsFaultOfColumns, IsLineFaultThat}
+use Rattle.rf2_rows.specs.Line.{Column, MayStand, HasFault, FirstFault, columns as columns_of_kind, columns_in, common_layout, own_layout, columns_of, IsFaultOfColumns, IsLineFaultThat}
+use Rattle.rf2_rows.specs.Private.{AllStand}
 use Rattle.rf2_rows.specs.Private.{texts, IsLineReading}
 use Rattle.rf2_values.specs.Time.{IsTime}
 use Rattle.rf2_values.specs.declared.row.Body.{Body}

@@ -10,7 +10,8 @@ use Rattle.rf2_values.specs.declared.row.Body.TheVariants as body
 use Rattle.rf2_rows.specs.declared.fault.LineFault.{LineFault}
 use Rattle.rf2_values.specs.Time.{IsTime}
 use Rattle.rf2_values.specs.Row.{RowValue, IsVersion, IsBody, IsConcept, IsComponent, IsIdOf, Spells, SpellsColumns, SpellsId, id_text, canonical, later_columns, body_columns, kind_of, kind_of_body, flag, line_of}
-use Rattle.rf2_rows.specs.Line.{Column, Identifier, Time, Active, ConceptReference, ComponentReference, Number, Text, MayStand, HasFault, AllStand, FirstFault, columns, columns_in, own_layout, columns_of, IsFaultOf}
+use Rattle.rf2_rows.specs.Line.{Column, Identifier, Time, Active, ConceptReference, ComponentReference, Number, Text, MayStand, HasFault, FirstFault, columns, columns_in, own_layout, columns_of, IsFaultOf}
+use Rattle.rf2_rows.specs.Private.{AllStand}
 use Rattle.std.specs.Int.{from_be_bytes, w128}
 use Rattle.rf2_values.proofs.Members.{member_text_spells}
 use Rattle.rf2_rows.proofs.Splits.{split-joined}

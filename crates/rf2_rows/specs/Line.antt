@@ -1,6 +1,6 @@
 -- What is wrong with a line.
 use Rattle.std.specs.Prelude.{◌≡◌, ◌≢◌, ℕ, ◌≤◌, ◌<◌, ◌^◌, ◌==◌, ◌⊎◌, Bool, List, [], ◌∷◌, ◌++◌, length, map, decimal, codes}
-use Rattle.std.specs.List.{slice_split, AllZip}
+use Rattle.std.specs.List.{slice_split}
 use Rattle.std.specs.Str.{IsUtf8}
 use Rattle.rf2_values.specs.declared.sctid.Class.{Class}
 use Rattle.rf2_values.specs.declared.sctid.Class.TheVariants as class
@@ -118,10 +118,6 @@ HasFault ConceptReference text f = ¬ (MayStand ConceptReference text) × (f ≡
 HasFault ComponentReference text f = ¬ (MayStand ComponentReference text) × (f ≡ fault.Reference)
 HasFault Number text f = ¬ (MayStand Number text) × (f ≡ fault.Number)
 HasFault Text text f = ¬ (MayStand Text text) × (f ≡ fault.EmptyText)
-
--- each text may stand in its column
-abbrev pub AllStand : List Column → List (List ℕ) → Type 0
-AllStand columns texts = AllZip MayStand columns texts
 
 -- the fault of the first text, from the left, that may not stand in its column
 unfoldable pub FirstFault : List Column → List (List ℕ) → LineFault → Type 0

@@ -1,7 +1,8 @@
 //! Lines: writing a row.
 
 ghost use Rattle.std.specs.Prelude.{◌≡◌, ◌++◌, ◌∷◌, IfOk, OnOk, OnErr, decimal};
-ghost use Rattle.rf2_values.specs.Row.{canonical, flag, id_text, body_columns, tabbed};
+ghost use Rattle.rf2_values.specs.Row.{canonical, flag, id_text, body_columns};
+ghost use Rattle.rf2_values.specs.Private.{tabbed};
 
 use itoa::Buffer;
 use rf2_values::{Body, Kind, Member, Row, Text};

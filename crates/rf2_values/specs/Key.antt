@@ -1,7 +1,6 @@
 -- What names a row, and the order of those names.
 use Rattle.std.specs.Prelude.{ℕ}
 use Rattle.std.specs.Ordering.{nat_cmp, ordering_then}
-use Rattle.std.specs.Cmp.{IsTotalOrder, nat_cmp_total, on_total, then_total}
 use Rattle.std.specs.declared.cmp.Ordering.{Ordering}
 use Rattle.rf2_values.specs.declared.row.Kind.{Kind}
 use Rattle.rf2_values.specs.declared.row.Kind.TheVariants as kind
@@ -25,8 +24,3 @@ abbrev pub key_cmp : Key → Key → Ordering
 key_cmp a b =
     ordering_then (nat_cmp (kind_place a.kind) (kind_place b.kind))
     (ordering_then (nat_cmp a.id b.id) (nat_cmp a.time b.time))
-
--- which is one order of all keys
-pub keys_total : IsTotalOrder key_cmp
-keys_total = then_total (on_total (λ k. kind_place k.kind) nat_cmp_total)
-    (then_total (on_total (λ k. k.id) nat_cmp_total) (on_total (λ k. k.time) nat_cmp_total))

@@ -1,6 +1,6 @@
 -- What a row is, and how a line spells it.
 use Rattle.std.specs.Prelude.{◌≡◌, ℕ, ◌≤◌, ◌<◌, ◌^◌, Bool, true, false, List, [], ◌∷◌, length, Some, IsSome, decimal}
-use Rattle.std.specs.List.{join_with_byte, flat_map}
+use Rattle.std.specs.List.{join_with_byte}
 use Rattle.rf2_values.specs.declared.sctid.Class.{Class}
 use Rattle.rf2_values.specs.declared.sctid.Class.TheVariants as class
 use Rattle.rf2_values.specs.declared.row.Kind.{Kind}
@@ -112,10 +112,6 @@ later_columns v =
 -- the columns joined by TAB
 abbrev pub line_of : List (List ℕ) → List ℕ
 line_of columns = join_with_byte 9 columns
-
--- the columns, each after a TAB
-abbrev pub tabbed : List (List ℕ) → List ℕ
-tabbed columns = flat_map (λ column. 9 ∷ column) columns
 
 -- the canonical spelling
 abbrev pub canonical : RowValue → List ℕ

@@ -5,7 +5,8 @@ ghost use Rattle.std.proofs.Common.{rules};
 ghost use Rattle.std.specs.Cmp.{partial_order_from_agreeing_total};
 ghost use Rattle.std.specs.Cmp.Rules.{comparing};
 ghost use Rattle.std.specs.Ordering.{as_partial_cmp};
-ghost use Rattle.rf2_values.specs.Key.{key_cmp, keys_total};
+ghost use Rattle.rf2_values.specs.Key.{key_cmp};
+ghost use Rattle.rf2_values.specs.Private.{keys_total};
 
 use crate::row::Kind;
 use crate::time::EffectiveTime;

@@ -10,7 +10,7 @@ use Rattle.history_model.specs.History.{stamped_cmp}
 use Rattle.segment.specs.declared.fault.SegmentFault.{SegmentFault}
 use Rattle.segment.specs.declared.fault.SegmentFault.TheVariants as faults
 use Rattle.segment.specs.Records.{record_of, segment_of, IsStamped, IsSegment, IsRecordAt}
-use Rattle.segment.specs.Finding.{FindsRecord}
+use Rattle.segment.specs.Private.Finding.{FindsRecord}
 use Rattle.segment.proofs.RecordLaws.{same_records, length-record}
 use Rattle.segment.proofs.SegmentLaws.{goes_on, same_segment, segment_push}
 use Rattle.segment.proofs.Ascending.{ascends_front}

@@ -5,7 +5,7 @@ use Rattle.std.specs.Int.{Width, w16, w32, byte_len, from_be_bytes, to_be_bytes}
 use Rattle.std.proofs.lemmas.Bool.{ltb-false, le-ltb, eqb-true}
 use Rattle.std.proofs.lemmas.List.{take_at, drop_at, take-append-drop, length-append, length-take, append-nil, nil_from_length}
 use Rattle.segment.specs.Records.{Field, Number, Text, field_bytes, spelled}
-use Rattle.segment.specs.Reading.{Form, Wide, Counted, form_of, Fits, ◌>>=◌, cut_at, number_at, text_at, field_at, fields_at, all_at, record_bytes_at}
+use Rattle.segment.specs.Private.Reading.{Form, Wide, Counted, form_of, Fits, ◌>>=◌, cut_at, number_at, text_at, field_at, fields_at, all_at, record_bytes_at}
 use Rattle.segment.proofs.Numbers.{IsBytes, IsBytes-take, IsBytes-drop, limit, number_length, number_back, number_again}
 
 -- the value of a step that gave one

@@ -11,8 +11,8 @@ use Rattle.rf2_values.specs.Row.{kind_of}
 use Rattle.history_model.specs.declared.stamped.StampedRow.{StampedRow}
 use Rattle.segment.specs.declared.raw.RawCommon.{RawCommon}
 use Rattle.segment.specs.Records.{Field, Number, field_bytes, spelled, kind_code, active_code, common_fields, body_fields, fields_of, record_of, IsStamped}
-use Rattle.segment.specs.Reading.{fields_at, all_at, common_forms, body_forms, raw_common_fields, record_bytes_at}
-use Rattle.segment.specs.Finding.{Finds, IsBodyIn, IsRowIn, FindsRecord}
+use Rattle.segment.specs.Private.Reading.{fields_at, all_at, common_forms, body_forms, raw_common_fields, record_bytes_at}
+use Rattle.segment.specs.Private.Finding.{Finds, IsBodyIn, IsRowIn, FindsRecord}
 use Rattle.segment.proofs.Numbers.{IsBytes}
 use Rattle.segment.proofs.FieldLaws.{fields_some, all_some, record_bytes_some}
 use Rattle.segment.proofs.RecordLaws.{body_again, common_again, parts_are, row_fits, same_bodies, some_fields, record_again}

@@ -14,7 +14,7 @@ use Rattle.rf2_values.specs.Time.{IsTime}
 use Rattle.rf2_values.proofs.Lengths.{length-line}
 use Rattle.history_model.specs.declared.stamped.StampedRow.{StampedRow}
 use Rattle.segment.specs.Records.{Field, Number, Text, field_bytes, spelled, kind_code, active_code, common_fields, body_fields, fields_of, record_of, IsStamped}
-use Rattle.segment.specs.Reading.{form_of, Fits, fields_at, all_at, common_forms, body_forms, record_bytes_at, fixed_len, texts_len}
+use Rattle.segment.specs.Private.Reading.{form_of, Fits, fields_at, all_at, common_forms, body_forms, record_bytes_at, fixed_len, texts_len}
 use Rattle.segment.proofs.Numbers.{number_length}
 use Rattle.segment.proofs.FieldLaws.{fields_again, all_again, record_bytes_again}
 

@@ -2,5 +2,4 @@ pub use Rattle.history_model.specs.InOrder
 pub use Rattle.history_model.specs.History
 pub mod Records
 pub mod Standing
-pub mod Reading
-pub mod Finding
+pub mod Private

@@ -6,7 +6,7 @@ ghost use Rattle.history_model.specs.InOrder.{IsAscending};
 ghost use Rattle.history_model.specs.History.{stamped_cmp};
 ghost use Rattle.segment.specs.declared.fault.SegmentFault.TheVariants as faults;
 ghost use Rattle.segment.specs.Records.{IsSegment, IsRecordAt};
-ghost use Rattle.segment.specs.Finding.{FindsRecord};
+ghost use Rattle.segment.specs.Private.Finding.{FindsRecord};
 
 use crate::fault::SegmentFault;
 use crate::fields::read_record_bytes;

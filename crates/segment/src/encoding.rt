@@ -8,7 +8,7 @@ ghost use Rattle.rf2_values.specs.Row.{line_limit};
 ghost use Rattle.history_model.specs.InOrder.{IsAscending};
 ghost use Rattle.history_model.specs.History.{stamped_cmp};
 ghost use Rattle.segment.specs.Records.{spelled, kind_code, active_code, body_fields, record_of, segment_of, IsStamped, IsSegment};
-ghost use Rattle.segment.specs.Reading.{Fits, fixed_len, texts_len};
+ghost use Rattle.segment.specs.Private.Reading.{Fits, fixed_len, texts_len};
 
 use crate::writing::{put_text, put_u8, put_u32, put_u64, put_u128};
 use history_model::StampedRow;

@@ -4,7 +4,7 @@ ghost use Rattle.std.specs.Prelude.{◌≡◌, ⊤, ◌≤◌};
 ghost use Rattle.rf2_values.specs.Time.{IsTime};
 ghost use Rattle.rf2_values.specs.Row.{IsVersion, IsBody, version};
 ghost use Rattle.segment.specs.Records.{kind_code, active_code, IsStamped};
-ghost use Rattle.segment.specs.Finding.{Finds, IsBodyIn, IsRowIn};
+ghost use Rattle.segment.specs.Private.Finding.{Finds, IsBodyIn, IsRowIn};
 
 use crate::columns::{
     association_of, concept_of, concrete_of, description_of, relationship_of, sctid,

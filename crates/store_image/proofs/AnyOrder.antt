@@ -6,7 +6,7 @@ use Rattle.std.proofs.lemmas.Bool.{cases_eq}
 use Rattle.std.proofs.lemmas.List.Edits.{Swapped, swapped_from_swap, length-swap}
 use Rattle.std.proofs.lemmas.List.Sorted.{IsPermutation-keeps}
 use Rattle.rf2_values.specs.declared.key.Key.{Key}
-use Rattle.store_image.specs.Keys.{AreDisjoint, EachKeyOnce}
+use Rattle.store_image.specs.Private.Keys.{AreDisjoint, EachKeyOnce}
 
 pub turned : (ks ls : List Key) → AreDisjoint ks ls → AreDisjoint ls ks
 turned ks ls apart = λ key h k. apart key k h

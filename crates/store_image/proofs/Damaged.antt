@@ -28,8 +28,10 @@ use Rattle.store_image.specs.declared.fault.RowsFault.TheVariants as faults
 use Rattle.store_image.specs.Stands.{HoldsAll}
 use Rattle.store_image.specs.Says.{AreOfLayout, AreSegments, pieces_of}
 use Rattle.store_image.specs.Images.{IsStore}
-use Rattle.store_image.specs.Reading.{AreRead, IsAt, IsNotReadAt}
-use Rattle.store_image.specs.Damage.{HasDirectory, AreThere, IsFirstBroken, ShareKey, HasStrangeKind, IsDamaged, StandingIsUndamaged, OneDamage, in_segment, AreNotRead}
+use Rattle.store_image.specs.Reading.{IsAt}
+use Rattle.store_image.specs.Private.Reading.{AreRead, IsNotReadAt}
+use Rattle.store_image.specs.Damage.{HasDirectory, AreThere, IsFirstBroken, ShareKey, HasStrangeKind, IsDamaged, StandingIsUndamaged, OneDamage}
+use Rattle.store_image.specs.Private.Damage.{in_segment, AreNotRead}
 use Rattle.store_image.specs.Answers.{IsNotOpened, CountsLoading, of_slot, of_directory}
 use Rattle.store_image.proofs.Segments.{entry_there}
 use Rattle.store_image.proofs.Standing.{same_segments}

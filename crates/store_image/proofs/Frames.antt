@@ -2,7 +2,7 @@
 use Rattle.std.specs.Prelude.{All}
 use Rattle.std.proofs.Common.{◌≡◌, ◌⊎◌, inl, inr, ⊎_elim, ℕ, ◌+◌, ◌<◌, ◌≤◌, List, length, get_or, take, drop, refl, ◌∙◌, ap, subst, arith}
 use Rattle.disk_model.specs.Disk.{DiskState, IsImage, EachImage, SameBut, after_write, settled}
-use Rattle.disk_model.specs.Put.{length-put}
+use Rattle.disk_model.specs.Private.Put.{length-put}
 use Rattle.disk_model.proofs.Images.{write_frame, settled_only}
 use Rattle.blocks.specs.declared.slots.Slot.{Slot}
 use Rattle.blocks.specs.declared.slots.Slot.TheVariants.{A, B}

@@ -13,7 +13,7 @@ use Rattle.directory.specs.declared.entry.Entry.{Entry}
 use Rattle.segment.specs.declared.place.RowPlace.{RowPlace}
 use Rattle.segment.specs.Standing.{places_of}
 use Rattle.store_image.specs.Says.{AreSegments}
-use Rattle.store_image.specs.Keys.{keys_of, AreDisjoint, EachKeyOnce}
+use Rattle.store_image.specs.Private.Keys.{keys_of, AreDisjoint, EachKeyOnce}
 use Rattle.store_image.proofs.RowsRead.{keys_from}
 
 abbrev row_keys : List StampedRow → List Key

@@ -11,13 +11,14 @@ use Rattle.std.proofs.lemmas.List.{append-nil, drop_more, get_or-map, length-map
 use Rattle.std.proofs.lemmas.List.Elements.{All-cons, All-head, All-tail, recursion_from_All}
 use Rattle.std.proofs.lemmas.List.Sorted.{All-permutation, IsPermutation-append_left, IsPermutation-map, IsPermutation-middle, IsPermutation-sym, sum_by_pushed, sum_by_popped}
 use Rattle.rf2_values.specs.declared.key.Key.{Key}
-use Rattle.rf2_values.specs.Key.{key_cmp, keys_total}
+use Rattle.rf2_values.specs.Key.{key_cmp}
+use Rattle.rf2_values.specs.Private.{keys_total}
 use Rattle.history_model.specs.InOrder.{Has, IsAscending}
 use Rattle.history_model.proofs.InOrder.{Has-all, all_from_has, Has-append_cases, Has-append_right, above}
 use Rattle.history_model.proofs.Keys.{same_key}
 use Rattle.segment.specs.declared.place.RowPlace.{RowPlace}
 use Rattle.store_image.specs.declared.apart.Rest.{Rest}
-use Rattle.store_image.specs.Keys.{keys_of, AreDisjoint, EachKeyOnce, keys_in, keys_left, first_cmp, AreOpen, Opens, IsBehind}
+use Rattle.store_image.specs.Private.Keys.{keys_of, AreDisjoint, EachKeyOnce, keys_in, keys_left, first_cmp, AreOpen, Opens, IsBehind}
 use Rattle.store_image.proofs.AnyOrder.{once_permuted}
 
 -- ---- lists of places

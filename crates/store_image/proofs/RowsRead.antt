@@ -18,7 +18,7 @@ use Rattle.segment.proofs.RecordLaws.{same_records}
 use Rattle.segment.proofs.SegmentLaws.{segment_push, all_push, no_rows, goes_on}
 use Rattle.store_image.specs.declared.fault.RowsFault.{RowsFault}
 use Rattle.store_image.specs.declared.fault.RowsFault.TheVariants as faults
-use Rattle.store_image.specs.Reading.{HasRecord, IsNoRecord, AreReadTo, BeginsWith, IsNotNext}
+use Rattle.store_image.specs.Private.Reading.{HasRecord, IsNoRecord, AreReadTo, BeginsWith, IsNotNext}
 
 -- ---- places
 

@@ -17,7 +17,8 @@ use Rattle.store_image.specs.declared.fault.RowsFault.{RowsFault}
 use Rattle.store_image.specs.declared.fault.RowsFault.TheVariants as faults
 use Rattle.store_image.specs.Stands.{Holds, HoldsAll}
 use Rattle.store_image.specs.Says.{IsSegmentOf, AreSegments, bytes_listed, pieces_of}
-use Rattle.store_image.specs.Reading.{AreReadTo, AreNumbered, BeginsWith, IsNotNext, IsAt, IsNotReadAt}
+use Rattle.store_image.specs.Reading.{AreNumbered, IsAt}
+use Rattle.store_image.specs.Private.Reading.{AreReadTo, BeginsWith, IsNotNext, IsNotReadAt}
 use Rattle.store_image.proofs.Added.{AreSegments-push, pieces_of-push}
 use Rattle.store_image.proofs.Windowed.{record_least}
 

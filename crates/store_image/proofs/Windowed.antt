@@ -13,11 +13,11 @@ use Rattle.blocks.specs.Extents.{bytes_of}
 use Rattle.segment.specs.declared.fault.SegmentFault.{SegmentFault}
 use Rattle.segment.specs.declared.fault.SegmentFault.TheVariants as segments
 use Rattle.segment.specs.Records.{record_of, IsStamped, IsRecordAt}
-use Rattle.segment.specs.Reading.{fixed_len}
+use Rattle.segment.specs.Private.Reading.{fixed_len}
 use Rattle.segment.proofs.RecordLaws.{record_size, row_room, length-record}
 use Rattle.store_image.specs.declared.window.Window.{Window}
-use Rattle.store_image.specs.Reading.{of_segment}
-use Rattle.store_image.specs.Reading.{HasRecord, HasNoRecord, IsNoRecord, Sees, IsFull, bytes_in}
+use Rattle.store_image.specs.Private.Reading.{of_segment}
+use Rattle.store_image.specs.Private.Reading.{HasRecord, HasNoRecord, IsNoRecord, Sees, IsFull, bytes_in}
 
 -- ---- how long a record is
 

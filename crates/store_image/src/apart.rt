@@ -8,7 +8,7 @@ ghost use Rattle.std.specs.Ordering.{as_partial_cmp, eq_by_cmp};
 ghost use Rattle.std.specs.declared.cmp.Ordering.TheVariants.{Less};
 ghost use Rattle.history_model.specs.InOrder.{IsAscending};
 ghost use Rattle.rf2_values.specs.Key.{key_cmp};
-ghost use Rattle.store_image.specs.Keys.{keys_of, keys_in, keys_left, first_cmp, firsts_total, EachKeyOnce, AreOpen, Opens, IsBehind, StartsFrom};
+ghost use Rattle.store_image.specs.Private.Keys.{keys_of, keys_in, keys_left, first_cmp, firsts_total, EachKeyOnce, AreOpen, Opens, IsBehind, StartsFrom};
 
 use rf2_values::Key;
 use segment::RowPlace;

@@ -59,7 +59,7 @@ pub(crate) enum RowsFault {
 
 impl RowsFault {
     ghost use Rattle.std.specs.Prelude.{◌≡◌};
-    ghost use Rattle.store_image.specs.Damage.{in_segment};
+    ghost use Rattle.store_image.specs.Private.Damage.{in_segment};
 
     /// The fault of the segment with this number, counted from 1.
     pub(crate) fn in_segment(self, number: usize) -> LoadFault
@@ -192,7 +192,7 @@ impl From<DiskFault> for RowsFault {
 
 impl From<SegmentFault> for RowsFault {
     ghost use Rattle.std.specs.Prelude.{◌≡◌};
-    ghost use Rattle.store_image.specs.Reading.{of_segment};
+    ghost use Rattle.store_image.specs.Private.Reading.{of_segment};
 
     ghost from_gives = { λ fault e. e ≡ of_segment fault };
 

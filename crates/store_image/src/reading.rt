@@ -14,8 +14,9 @@ ghost use Rattle.segment.specs.declared.place.RowPlace.{RowPlace};
 ghost use Rattle.segment.specs.Standing.{row_place, places_of, with_places};
 ghost use Rattle.store_image.specs.Stands.{HoldsAll};
 ghost use Rattle.store_image.specs.Says.{IsSegmentOf, bytes_listed, pieces_of};
-ghost use Rattle.store_image.specs.Reading.{CountsFault, Sees, AreReadTo, BeginsWith, IsNotNext, AreNumbered, IsAt, IsNotReadAt, AreRead};
-ghost use Rattle.store_image.specs.Damage.{AreNotRead};
+ghost use Rattle.store_image.specs.Reading.{AreNumbered, IsAt};
+ghost use Rattle.store_image.specs.Private.Reading.{CountsFault, Sees, AreReadTo, BeginsWith, IsNotNext, IsNotReadAt, AreRead};
+ghost use Rattle.store_image.specs.Private.Damage.{AreNotRead};
 ghost use Rattle.store_image.specs.Answers.{CountsLoading};
 
 use crate::apart::{are_apart, is_below};

@@ -32,7 +32,7 @@ impl Window {
     ghost use Rattle.fault_counts.specs.Counting.{CountsEach};
     ghost use Rattle.blocks.specs.Extents.{bytes_of};
     ghost use Rattle.segment.specs.Records.{record_of, IsStamped};
-    ghost use Rattle.store_image.specs.Reading.{CountsFault, bytes_in, HasRecord, HasNoRecord, IsNoRecord, Sees, IsFull};
+    ghost use Rattle.store_image.specs.Private.Reading.{CountsFault, bytes_in, HasRecord, HasNoRecord, IsNoRecord, Sees, IsFull};
 
     /// A window on a segment of no bytes.
     pub(crate) fn new(alloc: Global) -> Result<Window, AllocError> {

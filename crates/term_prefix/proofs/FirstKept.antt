@@ -9,13 +9,13 @@ use Rattle.std.proofs.lemmas.Bool.Decides.{nat_tests}
 use Rattle.std.proofs.lemmas.List.{take_more, length-take-le}
 use Rattle.history_model.specs.declared.stamped.StampedRow.{StampedRow}
 use Rattle.history_model.specs.InOrder.{Has, IsAscending, put}
-use Rattle.history_model.specs.Searches.{IsPlace}
+use Rattle.history_model.specs.Private.{IsPlace}
 use Rattle.history_model.proofs.InOrder.{Has-all, all_from_has, Has-append_left, Has-append_right, Has-append_cases, Has-put_cases, Has-put_old, Has-put_new, IsAscending-put}
 use Rattle.as_of_index.specs.declared.chosen.Chosen.{Chosen}
-use Rattle.as_of_index.specs.Chosen.{chosen_cmp}
-use Rattle.term_prefix.specs.Keeping.{IsTaken, Counts, AreKept, SaysTaken, SaysWanted}
+use Rattle.as_of_index.specs.Private.Chosen.{chosen_cmp}
+use Rattle.term_prefix.specs.Private.{IsTaken, Counts, AreKept, SaysTaken, SaysWanted}
 use Rattle.as_of_index.proofs.Ordered.{IsAscending-take}
-use Rattle.as_of_index.specs.Search.{SplitsAt}
+use Rattle.as_of_index.specs.Private.Search.{SplitsAt}
 use Rattle.as_of_index.proofs.Paging.{less_from}
 use Rattle.as_of_index.proofs.First.{Has-take, taken_or_above, length-put, put_there, put_new}
 use Rattle.as_of_index.proofs.First.{Falls}

@@ -20,7 +20,8 @@ use Rattle.segment.specs.declared.place.RowPlace.{RowPlace}
 use Rattle.term_prefix.specs.declared.text.Term.{Term}
 use Rattle.term_prefix.specs.Terms.{TermAt, TextsRise}
 use Rattle.term_prefix.specs.Pushed.{posted_term, term_of_body}
-use Rattle.term_prefix.specs.Laid.{term_at, terms_at, AreLaid, AddsTerm, IsCut}
+use Rattle.term_prefix.specs.Laid.{term_at, terms_at, AreLaid}
+use Rattle.term_prefix.specs.Private.{AddsTerm, IsCut}
 use Rattle.rf2_values.specs.declared.row.Body.TheVariants as body
 use Rattle.rf2_values.specs.declared.row.Description.{Description}
 use Rattle.rf2_values.specs.Row.{RowValue}

@@ -15,10 +15,10 @@ use Rattle.history_model.proofs.InOrder.{Has-all, Has-append_left, Has-append_ri
 use Rattle.history_model.proofs.Filtered.{both, Has-map, Has-map_from, Has-filter, Has-filter_from}
 use Rattle.segment.specs.declared.place.RowPlace.{RowPlace}
 use Rattle.term_prefix.specs.declared.text.Term.{Term}
-use Rattle.as_of_index.specs.Search.{SplitsAt}
+use Rattle.as_of_index.specs.Private.Search.{SplitsAt}
 use Rattle.term_prefix.specs.Terms.{TermAt, TextsRise}
 use Rattle.term_prefix.specs.Laid.{term_at, terms_at}
-use Rattle.term_prefix.specs.Keeping.{begins}
+use Rattle.term_prefix.specs.Private.{begins}
 use Rattle.as_of_index.proofs.First.{Falls}
 
 -- what begins with a prefix isn't below it

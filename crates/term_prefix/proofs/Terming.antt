@@ -25,11 +25,12 @@ use Rattle.as_of_index.specs.declared.chosen.Chosen.{Chosen}
 use Rattle.term_prefix.specs.declared.text.Term.{Term}
 use Rattle.segment.specs.Standing.{places_of, StandsAt}
 use Rattle.as_of_index.specs.Places.{ArePlaces}
-use Rattle.as_of_index.specs.Chosen.{chosen, chosen_cmp, StandAtAll}
+use Rattle.as_of_index.specs.Chosen.{StandAtAll}
+use Rattle.as_of_index.specs.Private.Chosen.{chosen, chosen_cmp}
 use Rattle.as_of_index.specs.Current.{is_among}
 use Rattle.as_of_index.specs.Postings.{numbered}
 use Rattle.term_prefix.specs.Terms.{TermAt, HasFolded, IsTermOf, PostsTerms, term_keys, terms_among}
-use Rattle.term_prefix.specs.Keeping.{begins, begun, AreKept}
+use Rattle.term_prefix.specs.Private.{begins, begun, AreKept}
 use Rattle.as_of_index.proofs.Paging.{less_from}
 use Rattle.as_of_index.proofs.Among.{among_from, among_has, looked_up}
 use Rattle.as_of_index.proofs.First.{same_first}

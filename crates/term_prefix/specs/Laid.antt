@@ -1,7 +1,5 @@
--- How the folded terms of a list stand in one text: words of the types' own invariants, and of
--- private functions.
-use Rattle.std.specs.Prelude.{◌≡◌, ℕ, ◌+◌, List, [], ◌∷◌, ◌++◌, length, map, take, drop}
-use Rattle.segment.specs.declared.place.RowPlace.{RowPlace}
+-- How the folded terms of a list stand in one text: words of the types' own invariants.
+use Rattle.std.specs.Prelude.{◌≡◌, ℕ, ◌+◌, List, [], ◌∷◌, map, take, drop}
 use Rattle.term_prefix.specs.declared.text.Term.{Term}
 use Rattle.term_prefix.specs.Terms.{TermAt}
 
@@ -16,15 +14,3 @@ terms_at text ts = map (term_at text) ts
 abbrev pub AreLaid : ℕ → List Term → ℕ → Type 0
 AreLaid from [] end = from ≡ end
 AreLaid from (t ∷ ts) end = (t.start ≡ from) × AreLaid (from + t.len) ts end
-
--- a term was added, its folding at the end of the text
-pub record AddsTerm (text : List ℕ) (ts : List Term) (folded : List ℕ) (at : RowPlace)
-    (text' : List ℕ) (ts' : List Term) : Type 0 where
-  pub texts : text' ≡ text ++ folded
-  pub terms : ts' ≡ ts ++ record { at = at; start = length text; len = length folded } ∷ []
-
--- the first n terms are left, and no more text than theirs
-pub record IsCut (text : List ℕ) (ts : List Term) (n : ℕ) (text' : List ℕ) (ts' : List Term)
-    : Type 0 where
-  pub laid : AreLaid 0 ts' (length text')
-  pub same : terms_at text' ts' ≡ take n (terms_at text ts)

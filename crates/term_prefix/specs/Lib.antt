@@ -7,4 +7,4 @@ pub use Rattle.as_of_index.specs.Postings
 pub mod Terms
 pub mod Pushed
 pub mod Laid
-pub mod Keeping
+pub mod Private

@@ -8,7 +8,8 @@ ghost use Rattle.std.specs.Cmp.Lexicographic.{slice_cmp};
 ghost use Rattle.history_model.specs.Queries.{folded};
 ghost use Rattle.term_prefix.specs.Terms.{TextsRise};
 ghost use Rattle.term_prefix.specs.Pushed.{posted_term};
-ghost use Rattle.term_prefix.specs.Laid.{term_at, terms_at, AreLaid, AddsTerm, IsCut};
+ghost use Rattle.term_prefix.specs.Laid.{term_at, terms_at, AreLaid};
+ghost use Rattle.term_prefix.specs.Private.{AddsTerm, IsCut};
 
 use crate::sealed::Sealed;
 use crate::text::{Term, piece};

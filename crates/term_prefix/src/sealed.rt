@@ -7,7 +7,7 @@ ghost use Rattle.std.specs.Cmp.Lexicographic.{slice_cmp};
 ghost use Rattle.history_model.specs.InOrder.{Has};
 ghost use Rattle.term_prefix.specs.Terms.{TextsRise};
 ghost use Rattle.term_prefix.specs.Laid.{term_at, terms_at};
-ghost use Rattle.term_prefix.specs.Keeping.{begins};
+ghost use Rattle.term_prefix.specs.Private.{begins};
 
 use crate::text::{Term, piece};
 use segment::RowPlace;

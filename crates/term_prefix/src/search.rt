@@ -4,17 +4,17 @@ ghost use Rattle.std.specs.Prelude.{◌≡◌, ◌≢◌, ◌≤◌, ◌+◌, �
 ghost use Rattle.std.specs.List.{sum_by};
 ghost use Rattle.history_model.specs.declared.stamped.StampedRow.{StampedRow};
 ghost use Rattle.history_model.specs.InOrder.{IsAscending, put};
-ghost use Rattle.history_model.specs.Searches.{IsPlace};
+ghost use Rattle.history_model.specs.Private.{IsPlace};
 ghost use Rattle.history_model.specs.Queries.{is_above};
 ghost use Rattle.history_model.specs.History.{rows_at};
 ghost use Rattle.history_model.specs.Lists.{listed};
 ghost use Rattle.as_of_index.specs.Places.{Lists};
 ghost use Rattle.fault_counts.specs.Counting.{Counts, CountsDiskFault, CountsDamage};
-ghost use Rattle.as_of_index.specs.Chosen.{chosen, chosen_cmp};
+ghost use Rattle.as_of_index.specs.Private.Chosen.{chosen, chosen_cmp};
 ghost use Rattle.as_of_index.specs.Postings.{numbered};
 ghost use Rattle.fault_counts.specs.declared.fault.ReadFault.TheVariants as readfault;
 ghost use Rattle.term_prefix.specs.Terms.{PostsTerms, term_keys, terms_among};
-ghost use Rattle.term_prefix.specs.Keeping.{begun, SaysTaken, SaysWanted, AreKept};
+ghost use Rattle.term_prefix.specs.Private.{begun, SaysTaken, SaysWanted, AreKept};
 
 use crate::Terms;
 use crate::sealed::Sealed;

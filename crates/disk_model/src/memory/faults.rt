@@ -9,7 +9,7 @@ pub(crate) enum Fate {
 }
 
 impl Fate {
-    ghost use Rattle.disk_model.specs.Faults.{part_of};
+    ghost use Rattle.disk_model.specs.Private.Faults.{part_of};
 
     /// How many of so many bytes are written.
     pub(crate) fn part_of(self, bytes: usize) -> usize

@@ -1,10 +1,11 @@
 ghost use Rattle.std.specs.Prelude.{◌≡◌, ℕ, ◌⊎◌, ◌+◌, ◌<◌, ◌≤◌, length, slice_index, take, min, if◌then◌else◌, All, IfOk, OnOk};
 ghost use Rattle.disk_model.specs.Disk.{DiskState, IsOutside, settled, after_write, after_cut, reading};
 ghost use Rattle.disk_model.specs.Change.{written, after_change, replayed, made};
-ghost use Rattle.disk_model.specs.Entry.{IsWithin, change_of};
+ghost use Rattle.disk_model.specs.Entry.{change_of};
+ghost use Rattle.disk_model.specs.Private.Entry.{IsWithin};
 ghost use Rattle.disk_model.specs.Choice.{IsChosen};
 ghost use Rattle.disk_model.specs.Record.{changes_in};
-ghost use Rattle.disk_model.specs.Replay.{Shows, IsFilledIn};
+ghost use Rattle.disk_model.specs.Private.Replay.{Shows, IsFilledIn};
 
 use crate::memory::contents::overwrite;
 use crate::memory::record::{Entry, Record};

@@ -1,6 +1,6 @@
 use Rattle.std.proofs.Common.{None, sym, subst, take, take_all, get_or, arith}
 use Rattle.as_of_index.specs.declared.search.Start.TheVariants.{Later}
-use Rattle.as_of_index.specs.Search.{all_places, IsPassed}
+use Rattle.as_of_index.specs.Private.Search.{all_places, IsPassed}
 use Rattle.as_of_index.proofs.Found.{Picks, pick_nothing, pick_more, places-more}
 use Rattle.as_of_index.proofs.Walking.{passed_len, passed_at}
 use Rattle.as_of_index.proofs.cursors.latest_on.Goals as goal

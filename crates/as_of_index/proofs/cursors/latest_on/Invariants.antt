@@ -1,5 +1,5 @@
 use Rattle.std.proofs.Common.{take}
-use Rattle.as_of_index.specs.Search.{all_places, IsPick}
+use Rattle.as_of_index.specs.Private.Search.{all_places, IsPick}
 use Rattle.as_of_index.proofs.cursors.latest_on.Given as goal
 
 abbrev pub invariant-loop-segment : goal.invariant-loop-segment

@@ -3,7 +3,7 @@ use Rattle.std.specs.List.{AllByRecursion}
 use Rattle.history_model.specs.InOrder.{IsAscending}
 use Rattle.segment.specs.declared.place.RowPlace.{RowPlace}
 use Rattle.as_of_index.specs.Places.{place_cmp}
-use Rattle.as_of_index.specs.Search.{all_places, in_segment, is_before, SplitsAt, IsPassed}
+use Rattle.as_of_index.specs.Private.Search.{all_places, in_segment, is_before, SplitsAt, IsPassed}
 use Rattle.as_of_index.proofs.Found.{places-more}
 use Rattle.as_of_index.specs.declared.search.Start.TheVariants.{Components}
 use Rattle.as_of_index.proofs.LeastIds.{NextIds, id_nothing, id_of_list, id_more}

@@ -1,6 +1,6 @@
 use Rattle.std.proofs.Common.{take}
 use Rattle.as_of_index.specs.declared.search.Start.TheVariants.{Components}
-use Rattle.as_of_index.specs.Search.{all_places, ArePassed, IsNextId}
+use Rattle.as_of_index.specs.Private.Search.{all_places, ArePassed, IsNextId}
 use Rattle.as_of_index.proofs.cursors.next_id.Given as goal
 
 abbrev pub invariant-loop-segment : goal.invariant-loop-segment

@@ -2,7 +2,7 @@ use Rattle.std.proofs.Common.{rules}
 use Rattle.std.proofs.lemmas.List.Sorted.{IsPartitionPoint-from_clause}
 use Rattle.rf2_values.specs.Key.{key_of}
 use Rattle.history_model.specs.declared.stamped.StampedRow.{StampedRow}
-use Rattle.as_of_index.specs.Search.{is_under}
+use Rattle.as_of_index.specs.Private.Search.{is_under}
 use Rattle.as_of_index.proofs.Ordered.{splits}
 use Rattle.as_of_index.proofs.Keyed.{under_parted}
 use Rattle.as_of_index.proofs.kept.place_of_key.Goals as goal

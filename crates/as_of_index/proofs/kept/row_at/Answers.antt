@@ -1,7 +1,7 @@
 use Rattle.std.proofs.Common.{◌-◌, ◌≤◌, length, drop, take_all, ap, ◌∙◌, arith}
 use Rattle.std.specs.List.{find}
 use Rattle.std.proofs.lemmas.List.{length-drop}
-use Rattle.as_of_index.specs.Reader.{is_row_at}
+use Rattle.as_of_index.specs.Private.Reader.{is_row_at}
 use Rattle.as_of_index.proofs.Keeping.{find_drop}
 use Rattle.as_of_index.proofs.kept.row_at.Goals as goal
 

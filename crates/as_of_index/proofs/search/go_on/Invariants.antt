@@ -1,6 +1,6 @@
 use Rattle.std.proofs.Common.{◌≡◌, ◌-◌, ◌≤◌, true, length, take}
 use Rattle.std.specs.List.{AllByRecursion}
-use Rattle.as_of_index.specs.Search.{is_before}
+use Rattle.as_of_index.specs.Private.Search.{is_before}
 use Rattle.as_of_index.proofs.search.go_on.Given as goal
 
 abbrev pub invariant-loop-p : goal.invariant-loop-p

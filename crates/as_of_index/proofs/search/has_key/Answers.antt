@@ -3,7 +3,8 @@ use Rattle.std.specs.Prelude.{Some, None}
 use Rattle.std.specs.Cmp.{tied_itself}
 use Rattle.std.specs.declared.cmp.Ordering.TheVariants.{Equal}
 use Rattle.rf2_values.specs.declared.key.Key.{Key}
-use Rattle.rf2_values.specs.Key.{key_cmp, keys_total}
+use Rattle.rf2_values.specs.Key.{key_cmp}
+use Rattle.rf2_values.specs.Private.{keys_total}
 use Rattle.history_model.proofs.Keys.{same_key}
 use Rattle.segment.specs.declared.place.RowPlace.{RowPlace}
 use Rattle.as_of_index.proofs.Keyed.{found_at, has_got}

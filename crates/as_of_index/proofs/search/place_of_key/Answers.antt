@@ -1,7 +1,7 @@
 use Rattle.std.proofs.Common.{rules}
 use Rattle.std.proofs.lemmas.List.Sorted.{IsPartitionPoint-from_clause}
 use Rattle.segment.specs.declared.place.RowPlace.{RowPlace}
-use Rattle.as_of_index.specs.Search.{is_under}
+use Rattle.as_of_index.specs.Private.Search.{is_under}
 use Rattle.as_of_index.proofs.Ordered.{splits}
 use Rattle.as_of_index.proofs.Keyed.{under_parted}
 use Rattle.as_of_index.proofs.search.place_of_key.Goals as goal

@@ -1,5 +1,5 @@
 use Rattle.std.proofs.Common.{subst, take, take_all}
-use Rattle.as_of_index.specs.Search.{all_places}
+use Rattle.as_of_index.specs.Private.Search.{all_places}
 use Rattle.as_of_index.proofs.Found.{Picks, pick_nothing, pick_more, places-more}
 use Rattle.as_of_index.proofs.several.latest.Goals as goal
 

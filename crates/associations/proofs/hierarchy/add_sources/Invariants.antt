@@ -1,7 +1,7 @@
 use Rattle.std.proofs.Common.{List, take}
 use Rattle.history_model.specs.declared.stamped.StampedRow.{StampedRow}
 use Rattle.as_of_index.specs.Places.{Lists}
-use Rattle.associations.specs.Collecting.{GivesSource, Takes}
+use Rattle.associations.specs.Private.{GivesSource, Takes}
 use Rattle.associations.proofs.hierarchy.add_sources.Given as goal
 
 abbrev pub invariant-loop-link : goal.invariant-loop-link

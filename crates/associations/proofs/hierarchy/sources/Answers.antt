@@ -2,7 +2,7 @@ use Rattle.std.proofs.Common.{subst, take, take_all}
 use Rattle.as_of_index.specs.Postings.{numbered}
 use Rattle.associations.specs.declared.postings.Link.{Link}
 use Rattle.associations.specs.Edges.{Edges, links_in}
-use Rattle.associations.specs.Collecting.{GivesSource, AreSourcesTaken}
+use Rattle.associations.specs.Private.{GivesSource, AreSourcesTaken}
 use Rattle.associations.proofs.Numbering.{numbered-more}
 use Rattle.associations.proofs.Collected.{none_taken, more_taken}
 use Rattle.associations.proofs.hierarchy.sources.Goals as goal

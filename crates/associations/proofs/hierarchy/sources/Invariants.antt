@@ -3,7 +3,7 @@ use Rattle.history_model.specs.declared.stamped.StampedRow.{StampedRow}
 use Rattle.as_of_index.specs.Places.{Lists}
 use Rattle.as_of_index.specs.Postings.{numbered}
 use Rattle.associations.specs.Edges.{links_in}
-use Rattle.associations.specs.Collecting.{AreSourcesTaken}
+use Rattle.associations.specs.Private.{AreSourcesTaken}
 use Rattle.associations.proofs.hierarchy.sources.Given as goal
 
 abbrev pub invariant-loop-segment : goal.invariant-loop-segment

@@ -1,9 +1,9 @@
 use Rattle.std.proofs.Common.{◌≡◌, Some, None, [], ◌∷◌, ◌++◌, get_or, refl, sym, ap, subst, ◌∙◌, take, take_all}
 use Rattle.std.proofs.lemmas.List.{take_more}
 use Rattle.segment.specs.declared.place.RowPlace.{RowPlace}
-use Rattle.as_of_index.specs.Chosen.{chosen}
+use Rattle.as_of_index.specs.Private.Chosen.{chosen}
 use Rattle.associations.specs.declared.postings.Subject.{Subject}
-use Rattle.associations.specs.Collecting.{GivesRow, Takes}
+use Rattle.associations.specs.Private.{GivesRow, Takes}
 use Rattle.associations.proofs.Collected.{takes_nothing, takes_one, takes_none}
 use Rattle.associations.proofs.subjects.add_current.Goals as goal
 use Rattle.associations.proofs.subjects.add_current.Goals.{in-Some+in_ok-push, in_default}

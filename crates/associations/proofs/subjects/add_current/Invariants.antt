@@ -1,7 +1,7 @@
 use Rattle.std.proofs.Common.{List, take}
 use Rattle.history_model.specs.declared.stamped.StampedRow.{StampedRow}
 use Rattle.as_of_index.specs.Places.{Lists}
-use Rattle.associations.specs.Collecting.{GivesRow, Takes}
+use Rattle.associations.specs.Private.{GivesRow, Takes}
 use Rattle.associations.proofs.subjects.add_current.Given as goal
 
 abbrev pub invariant-loop-x : goal.invariant-loop-x

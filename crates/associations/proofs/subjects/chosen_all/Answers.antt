@@ -1,8 +1,8 @@
 use Rattle.std.proofs.Common.{subst, take, take_all}
 use Rattle.as_of_index.specs.Postings.{numbered}
 use Rattle.associations.specs.declared.postings.Subject.{Subject}
-use Rattle.associations.specs.Edges.{Edges, subjects_in}
-use Rattle.associations.specs.Collecting.{GivesRow, AreRowsTaken}
+use Rattle.associations.specs.Edges.{Edges}
+use Rattle.associations.specs.Private.{subjects_in, GivesRow, AreRowsTaken}
 use Rattle.associations.proofs.Numbering.{numbered-more}
 use Rattle.associations.proofs.Collected.{none_taken, more_taken}
 use Rattle.associations.proofs.subjects.chosen_all.Goals as goal

@@ -2,8 +2,7 @@ use Rattle.std.proofs.Common.{List, take}
 use Rattle.history_model.specs.declared.stamped.StampedRow.{StampedRow}
 use Rattle.as_of_index.specs.Places.{Lists}
 use Rattle.as_of_index.specs.Postings.{numbered}
-use Rattle.associations.specs.Edges.{subjects_in}
-use Rattle.associations.specs.Collecting.{AreRowsTaken}
+use Rattle.associations.specs.Private.{subjects_in, AreRowsTaken}
 use Rattle.associations.proofs.subjects.chosen_all.Given as goal
 
 abbrev pub invariant-loop-segment : goal.invariant-loop-segment

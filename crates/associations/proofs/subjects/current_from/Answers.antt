@@ -5,7 +5,7 @@ use Rattle.rf2_values.specs.Key.{kind_place}
 use Rattle.history_model.proofs.Keys.{same_kind}
 use Rattle.segment.specs.declared.place.RowPlace.{RowPlace}
 use Rattle.as_of_index.specs.Current.{IsCurrentAt}
-use Rattle.associations.specs.Collecting.{IsCurrentFrom}
+use Rattle.associations.specs.Private.{IsCurrentFrom}
 use Rattle.associations.proofs.subjects.current_from.Goals as goal
 use Rattle.associations.proofs.subjects.current_from.Goals.{else-is_kind-via-then-is_kind+else-is_current, else-is_kind-via-else-is_kind}
 

@@ -1,5 +1,5 @@
 use Rattle.std.proofs.Common.{[], ◌∷◌, ◌++◌, refl, sym, ap, subst, ◌∙◌, take, take_all}
-use Rattle.associations.specs.Collecting.{ranked, GivesRanked, Takes}
+use Rattle.associations.specs.Private.{ranked, GivesRanked, Takes}
 use Rattle.as_of_index.proofs.Apart.{one_more}
 use Rattle.associations.proofs.Collected.{takes_nothing, takes_one, takes_none}
 use Rattle.associations.proofs.substitutes.add_references.Goals as goal

@@ -1,7 +1,7 @@
 use Rattle.std.proofs.Common.{List, take}
 use Rattle.history_model.specs.declared.stamped.StampedRow.{StampedRow}
 use Rattle.as_of_index.specs.Places.{Lists}
-use Rattle.associations.specs.Collecting.{GivesRanked, Takes}
+use Rattle.associations.specs.Private.{GivesRanked, Takes}
 use Rattle.associations.proofs.substitutes.add_references.Given as goal
 
 abbrev pub invariant-loop-r : goal.invariant-loop-r

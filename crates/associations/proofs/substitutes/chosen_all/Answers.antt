@@ -2,7 +2,7 @@ use Rattle.std.proofs.Common.{subst, take, take_all}
 use Rattle.as_of_index.specs.Postings.{numbered}
 use Rattle.associations.specs.declared.postings.Reference.{Reference}
 use Rattle.associations.specs.Edges.{Edges, references_in}
-use Rattle.associations.specs.Collecting.{GivesRanked, AreRankedTaken}
+use Rattle.associations.specs.Private.{GivesRanked, AreRankedTaken}
 use Rattle.associations.proofs.Numbering.{numbered-more}
 use Rattle.associations.proofs.Collected.{none_taken, more_taken}
 use Rattle.associations.proofs.substitutes.chosen_all.Goals as goal

@@ -3,7 +3,7 @@ use Rattle.std.specs.Ordering.{eq_by_cmp, is_lt}
 use Rattle.std.proofs.lemmas.Fn.{dedup_same}
 use Rattle.std.proofs.lemmas.List.Sorted.{answers_always, ranks_by}
 use Rattle.as_of_index.specs.declared.chosen.Chosen.{Chosen}
-use Rattle.as_of_index.specs.Chosen.{ranked_cmp}
+use Rattle.as_of_index.specs.Private.Chosen.{ranked_cmp}
 use Rattle.associations.proofs.Ranked.{ranked_total}
 use Rattle.associations.proofs.Collected.{sorted_once}
 use Rattle.associations.proofs.substitutes.sort_once.Goals as goal

@@ -3,7 +3,8 @@ use Rattle.std.proofs.lemmas.Result.{IfOk-weaker}
 use Rattle.clap.specs.Simple.{App, with_subcommand}
 use Rattle.clap.specs.Built.{AddsSubcommand}
 use Rattle.clap.specs.declared.builder.command.Command.{Command}
-use Rattle.command_line.specs.Words.{IsCommand, empty_program, init_command, import_command, serve_command, status_command, merge_command, demo_command}
+use Rattle.command_line.specs.Words.{empty_program, init_command, import_command, serve_command, status_command, merge_command, demo_command}
+use Rattle.command_line.specs.Private.{IsCommand}
 use Rattle.command_line.proofs.words.commands.Goals as goal
 
 added : (old sub new : Command) (a b : App) → IsCommand a old → IsCommand b sub → AddsSubcommand old sub new → IsCommand (with_subcommand a b.top) new

@@ -1,7 +1,7 @@
 use Rattle.std.proofs.Common.{◌≡◌, ◌≢◌, Some, refl, sym, ap, ◌∙◌}
 use Rattle.history_model.specs.declared.stamped.StampedRow.{StampedRow}
 use Rattle.history_model.specs.Brought.{brought_by}
-use Rattle.history_model.specs.Searches.{later}
+use Rattle.history_model.specs.Private.{later}
 use Rattle.history_model.proofs.Brought.{latest_more, latest_same}
 use Rattle.history_model.proofs.plain.latest_brought.Goals as goal
 use Rattle.history_model.proofs.plain.latest_brought.Goals.{then-s-number, else-s-number}

@@ -5,7 +5,7 @@ use Rattle.history_model.specs.InOrder.{IsAscending}
 use Rattle.history_model.specs.History.{stamped, stamped_cmp}
 use Rattle.segment.specs.Records.{IsSegment, segment_of}
 use Rattle.history_store.specs.MergeInProgress.{merge_of}
-use Rattle.history_store.specs.Prepared.{IsPlacedAt}
+use Rattle.history_store.specs.Private.Prepared.{IsPlacedAt}
 use Rattle.segment.specs.Standing.{with_places, places_of}
 use Rattle.std.specs.List.Sorted.{IsPermutation}
 use Rattle.as_of_index.specs.Postings.{posted_all}

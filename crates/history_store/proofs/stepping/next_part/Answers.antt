@@ -7,7 +7,7 @@ use Rattle.history_model.proofs.Listings.{two_lists}
 use Rattle.segment.specs.Records.{segment_of}
 use Rattle.merge.specs.declared.Taken.{Taken}
 use Rattle.merge.specs.Merged.{StandsTaken, rows_left}
-use Rattle.history_store.specs.Stepping.{IsReadAt}
+use Rattle.history_store.specs.Private.Stepping.{IsReadAt}
 use Rattle.history_store.proofs.Held.{lent_honest}
 use Rattle.history_store.proofs.Refusing.{read_undamaged}
 use Rattle.history_store.proofs.Alike.{alike_ascends}

@@ -1,6 +1,6 @@
 use Rattle.std.proofs.Common.{◌≡◌, ◌++◌, length, take}
 use Rattle.segment.specs.Records.{segment_of}
-use Rattle.history_store.specs.Stepping.{IsLonger, Keeps}
+use Rattle.history_store.specs.Private.Stepping.{IsLonger, Keeps}
 use Rattle.history_store.proofs.stepping.post_all.Given as goal
 
 abbrev pub invariant-loop-row : goal.invariant-loop-row

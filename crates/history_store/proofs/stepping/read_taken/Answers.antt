@@ -8,8 +8,8 @@ use Rattle.merge.proofs.Steps.{zip_push}
 use Rattle.blocks.specs.Cache.{AgreesWith}
 use Rattle.blocks.proofs.Looked.{some_more}
 use Rattle.disk_model.specs.Disk.{Moments}
-use Rattle.history_store.specs.Reading.{AreThere}
-use Rattle.history_store.specs.Stepping.{StandsIn, IsReadAt}
+use Rattle.history_store.specs.Private.Reading.{AreThere}
+use Rattle.history_store.specs.Private.Stepping.{StandsIn, IsReadAt}
 use Rattle.history_store.proofs.Likeness.{zip_at, zip_end}
 use Rattle.history_store.proofs.stepping.read_taken.Goals as goal
 

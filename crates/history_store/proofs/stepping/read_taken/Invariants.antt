@@ -2,8 +2,8 @@ use Rattle.std.specs.List.{AllZip}
 use Rattle.std.proofs.Common.{◌≡◌, ◌↔◌, List, take}
 use Rattle.history_model.specs.declared.stamped.StampedRow.{StampedRow}
 use Rattle.blocks.specs.Cache.{AgreesWith, LooksUpSome}
-use Rattle.history_store.specs.Reading.{AreThere}
-use Rattle.history_store.specs.Stepping.{StandsIn, IsReadAt}
+use Rattle.history_store.specs.Private.Reading.{AreThere}
+use Rattle.history_store.specs.Private.Stepping.{StandsIn, IsReadAt}
 use Rattle.history_store.proofs.stepping.read_taken.Given as goal
 
 abbrev pub invariant-loop-t : goal.invariant-loop-t

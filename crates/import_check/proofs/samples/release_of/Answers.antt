@@ -1,6 +1,6 @@
 use Rattle.std.proofs.Common.{refl, ap, ◌∙◌}
 use Rattle.std.proofs.lemmas.List.{take_all}
-use Rattle.import_check.specs.SampleFiles.{texts_of}
+use Rattle.import_check.specs.Private.SampleFiles.{texts_of}
 use Rattle.import_check.proofs.MadeFiles.{one_more}
 use Rattle.import_check.proofs.samples.release_of.Goals as goal
 

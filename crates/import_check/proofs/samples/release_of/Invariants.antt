@@ -1,5 +1,5 @@
 use Rattle.std.proofs.Common.{◌≡◌, map, take}
-use Rattle.import_check.specs.SampleFiles.{texts_of}
+use Rattle.import_check.specs.Private.SampleFiles.{texts_of}
 use Rattle.import_check.proofs.samples.release_of.Given as goal
 
 abbrev pub invariant-loop-sample : goal.invariant-loop-sample

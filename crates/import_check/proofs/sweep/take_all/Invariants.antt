@@ -1,6 +1,6 @@
 use Rattle.std.proofs.Common.{◌≡◌, ◌+◌, ◌≤◌, length, List, ◌++◌}
 use Rattle.import_check.specs.declared.release.PlacedLine.{PlacedLine}
-use Rattle.import_check.specs.Sweep.{IsSwept, IsOwn, IsRising, rank_cmp}
+use Rattle.import_check.specs.Private.Sweep.{IsSwept, IsOwn, IsRising, rank_cmp}
 use Rattle.import_check.proofs.sweep.take_all.Given as goal
 
 abbrev pub invariant-loop-line : goal.invariant-loop-line

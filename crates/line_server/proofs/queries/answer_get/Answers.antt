@@ -5,11 +5,11 @@ use Rattle.history_model.specs.History.{rows_at}
 use Rattle.history_model.specs.Queries.{get}
 use Rattle.line_commands.specs.Commands.{Get}
 use Rattle.line_server.specs.ReplyValue.{Rows, reply_value}
-use Rattle.line_server.specs.Replies.{found_row}
+use Rattle.std.specs.Prelude.{option_to_list}
 use Rattle.line_server.proofs.Queried.{rows_found, rows_unfound, rows_untold}
 use Rattle.line_server.proofs.queries.answer_get.Goals as goal
 
-as_rows : (o : Option RowValue) (xs : List RowValue) → MatchOption o (xs ≡ []) (λ x. xs ≡ x ∷ []) → xs ≡ found_row o
+as_rows : (o : Option RowValue) (xs : List RowValue) → MatchOption o (xs ≡ []) (λ x. xs ≡ x ∷ []) → xs ≡ option_to_list o
 as_rows None xs h = h
 as_rows (Some x) xs h = h
 
@@ -28,4 +28,4 @@ returns-in_err-reply_rows g c =
 pub returns : goal.returns
 returns g c =
     let e = c.in_ok-found.ensures in
-    rows_found g.D.Disk.is_honest g.D.Disk.moments g.D.Disk.failures (Get c.args.kind c.args.id c.args.time) c.args.pin c.args.store.now c.get.new.self tt c.in_ok-found.found (found_row c.in_ok-found.found) (found_row (get c.args.kind c.args.id c.args.time (rows_at c.args.pin c.args.store.now.history.rows))) c.in_ok-reply_rows.field-0 e.query refl (λ h. ap found_row (e.found h)) (c.in_ok-reply_rows.ensures ∙ ap (λ (xs : List RowValue). reply_value (Ok (Rows xs))) (as_rows c.in_ok-found.found c.as_slice.result.now c.as_slice.ensures))
+    rows_found g.D.Disk.is_honest g.D.Disk.moments g.D.Disk.failures (Get c.args.kind c.args.id c.args.time) c.args.pin c.args.store.now c.get.new.self tt c.in_ok-found.found (option_to_list c.in_ok-found.found) (option_to_list (get c.args.kind c.args.id c.args.time (rows_at c.args.pin c.args.store.now.history.rows))) c.in_ok-reply_rows.field-0 e.query refl (λ h. ap option_to_list (e.found h)) (c.in_ok-reply_rows.ensures ∙ ap (λ (xs : List RowValue). reply_value (Ok (Rows xs))) (as_rows c.in_ok-found.found c.as_slice.result.now c.as_slice.ensures))

@@ -1,6 +1,6 @@
 use Rattle.std.proofs.Common.{ℕ, ◌-◌, List, length, Err, subst, sym, ◌∙◌, arith}
 use Rattle.std.proofs.lemmas.Result.{err_from_is_err_and}
-use Rattle.segment.specs.Finding.{FindsRecord}
+use Rattle.segment.specs.Private.Finding.{FindsRecord}
 use Rattle.segment.proofs.Places.{within, one_record, place_found}
 use Rattle.segment.proofs.Decoded.{only_memory, record_stands}
 use Rattle.segment.proofs.decoding.record_at.Goals as goal

@@ -7,8 +7,8 @@ use Rattle.rf2_values.specs.Sctid.{IsSctid}
 use Rattle.rf2_values.specs.Time.{IsTime}
 use Rattle.history_model.specs.declared.stamped.StampedRow.{StampedRow}
 use Rattle.segment.specs.Records.{IsStamped, kind_code, active_code}
-use Rattle.segment.specs.Finding.{IsBodyIn, IsRowIn}
-use Rattle.segment.specs.Reading.{common_forms, raw_common_fields}
+use Rattle.segment.specs.Private.Finding.{IsBodyIn, IsRowIn}
+use Rattle.segment.specs.Private.Reading.{common_forms, raw_common_fields}
 use Rattle.segment.proofs.Numbers.{IsBytes}
 use Rattle.segment.proofs.FieldLaws.{fields_some}
 use Rattle.segment.proofs.RecordLaws.{code_kind, code_flag}

@@ -4,7 +4,7 @@ use Rattle.std.proofs.Common.{List, [], map, sym, subst}
 use Rattle.history_model.specs.InOrder.{IsAscending}
 use Rattle.rf2_values.specs.declared.key.Key.{Key}
 use Rattle.rf2_values.specs.Key.{key_cmp}
-use Rattle.store_image.specs.Keys.{Opens, keys_of, keys_in}
+use Rattle.store_image.specs.Private.Keys.{Opens, keys_of, keys_in}
 use Rattle.store_image.proofs.AnyOrder.{all_get}
 use Rattle.store_image.proofs.KeysOnce.{as_many_lists, list_keys, list_opens}
 use Rattle.store_image.proofs.apart.are_apart.Goals as goal

@@ -1,7 +1,7 @@
 use Rattle.std.specs.Prelude.{vec_items}
 use Rattle.std.specs.BinaryHeap.{heap_items}
 use Rattle.std.proofs.Common.{◌↔◌, ◌++◌, map, drop}
-use Rattle.store_image.specs.Keys.{AreOpen, EachKeyOnce, keys_in, keys_of}
+use Rattle.store_image.specs.Private.Keys.{AreOpen, EachKeyOnce, keys_in, keys_of}
 use Rattle.store_image.proofs.apart.are_apart.Given as goal
 
 -- what is open, with what is to come, tells

@@ -5,7 +5,7 @@ use Rattle.history_model.specs.InOrder.{IsAscending}
 use Rattle.rf2_values.specs.Key.{key_cmp}
 use Rattle.segment.specs.declared.place.RowPlace.{RowPlace}
 use Rattle.store_image.specs.declared.apart.Rest.{Rest}
-use Rattle.store_image.specs.Keys.{keys_of, keys_in}
+use Rattle.store_image.specs.Private.Keys.{keys_of, keys_in}
 use Rattle.store_image.proofs.KeysOnce.{no_keys, opens_none, opens_put, open_still, left_put}
 use Rattle.store_image.proofs.apart.put_in.Goals as goal
 

@@ -1,6 +1,6 @@
 use Rattle.std.proofs.Common.{◌<◌, length, map, rules}
 use Rattle.std.specs.BinaryHeap.{heap_items}
-use Rattle.store_image.specs.Keys.{keys_in}
+use Rattle.store_image.specs.Private.Keys.{keys_in}
 use Rattle.store_image.proofs.KeysOnce.{round_open, round_ascends, round_ties, round_tells, round_shrinks}
 use Rattle.store_image.proofs.apart.run_out.Goals as goal
 

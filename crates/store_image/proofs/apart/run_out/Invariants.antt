@@ -1,6 +1,6 @@
 use Rattle.std.specs.BinaryHeap.{heap_items}
 use Rattle.std.proofs.Common.{◌↔◌, map}
-use Rattle.store_image.specs.Keys.{AreOpen, EachKeyOnce, keys_in, keys_left}
+use Rattle.store_image.specs.Private.Keys.{AreOpen, EachKeyOnce, keys_in, keys_left}
 use Rattle.store_image.proofs.apart.run_out.Given as goal
 
 -- what is left tells

@@ -1,5 +1,5 @@
 use Rattle.std.proofs.Common.{length}
-use Rattle.store_image.specs.Keys.{IsBehind}
+use Rattle.store_image.specs.Private.Keys.{IsBehind}
 use Rattle.store_image.proofs.apart.skip_below.Given as goal
 
 -- those before are below the key

@@ -6,7 +6,7 @@ use Rattle.blocks.specs.Extents.{bytes_of}
 use Rattle.directory.specs.Places.{extent_of}
 use Rattle.history_model.specs.declared.stamped.StampedRow.{StampedRow}
 use Rattle.segment.specs.Standing.{with_places}
-use Rattle.store_image.specs.Reading.{Sees, BeginsWith, IsNotNext}
+use Rattle.store_image.specs.Private.Reading.{Sees, BeginsWith, IsNotNext}
 use Rattle.store_image.proofs.Segments.{none_read, none_begins, not_next, wrong_end}
 use Rattle.store_image.proofs.reading.read_rows.Goals as goal
 

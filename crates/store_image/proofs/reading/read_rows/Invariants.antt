@@ -4,7 +4,7 @@ use Rattle.directory.specs.Places.{extent_of}
 use Rattle.history_model.specs.declared.stamped.StampedRow.{StampedRow}
 use Rattle.segment.specs.declared.place.RowPlace.{RowPlace}
 use Rattle.segment.specs.Standing.{with_places}
-use Rattle.store_image.specs.Reading.{Sees, AreReadTo, BeginsWith}
+use Rattle.store_image.specs.Private.Reading.{Sees, AreReadTo, BeginsWith}
 use Rattle.store_image.proofs.reading.read_rows.Given as goal
 
 -- so many rows are read, and the segment's bytes begin with their records

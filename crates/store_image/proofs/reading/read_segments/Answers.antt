@@ -11,9 +11,10 @@ use Rattle.segment.specs.declared.place.RowPlace.{RowPlace}
 use Rattle.segment.specs.Standing.{places_of, with_places}
 use Rattle.store_image.specs.Stands.{HoldsAll}
 use Rattle.store_image.specs.Says.{AreSegments, pieces_of}
-use Rattle.store_image.specs.Reading.{IsAt, IsNotReadAt}
+use Rattle.store_image.specs.Reading.{IsAt}
+use Rattle.store_image.specs.Private.Reading.{IsNotReadAt}
 use Rattle.store_image.specs.Damage.{AreThere}
-use Rattle.store_image.specs.Keys.{keys_of, EachKeyOnce}
+use Rattle.store_image.specs.Private.Keys.{keys_of, EachKeyOnce}
 use Rattle.store_image.proofs.Segments.{bytes_more, bytes_up_to, bytes_within, map-push, more_segments, more_numbered, more_held, more_segments_taken}
 use Rattle.store_image.proofs.Damaged.{not_read_at, number_of}
 use Rattle.store_image.proofs.KeyLists.{ascending_keys, lists_from_once, once_from_lists}

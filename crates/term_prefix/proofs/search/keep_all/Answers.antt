@@ -1,9 +1,9 @@
 use Rattle.std.proofs.Common.{◌++◌, map, subst, take}
 use Rattle.segment.specs.declared.place.RowPlace.{RowPlace}
 use Rattle.term_prefix.specs.declared.text.Term.{Term}
-use Rattle.as_of_index.specs.Chosen.{chosen}
+use Rattle.as_of_index.specs.Private.Chosen.{chosen}
 use Rattle.as_of_index.specs.Postings.{numbered}
-use Rattle.term_prefix.specs.Keeping.{begun, AreKept}
+use Rattle.term_prefix.specs.Private.{begun, AreKept}
 use Rattle.term_prefix.proofs.FirstKept.{kept_same}
 use Rattle.term_prefix.proofs.Terming.{terms-more, begun_more, map_twice}
 use Rattle.term_prefix.proofs.search.keep_all.Goals as goal

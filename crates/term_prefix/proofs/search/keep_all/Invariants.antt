@@ -2,7 +2,7 @@ use Rattle.std.proofs.Common.{List, take}
 use Rattle.history_model.specs.declared.stamped.StampedRow.{StampedRow}
 use Rattle.as_of_index.specs.Places.{Lists}
 use Rattle.as_of_index.specs.Postings.{numbered}
-use Rattle.term_prefix.specs.Keeping.{AreKept, begun}
+use Rattle.term_prefix.specs.Private.{AreKept, begun}
 use Rattle.term_prefix.proofs.search.keep_all.Given as goal
 
 abbrev pub invariant-loop-segment : goal.invariant-loop-segment

@@ -1,7 +1,7 @@
 use Rattle.std.proofs.Common.{[], ◌∷◌, ◌++◌, sym, ap, subst, ◌∙◌, take, map, take_all}
 use Rattle.term_prefix.specs.declared.text.Term.{Term}
-use Rattle.as_of_index.specs.Chosen.{chosen}
-use Rattle.term_prefix.specs.Keeping.{AreKept, SaysWanted}
+use Rattle.as_of_index.specs.Private.Chosen.{chosen}
+use Rattle.term_prefix.specs.Private.{AreKept, SaysWanted}
 use Rattle.term_prefix.proofs.FirstKept.{kept_more, kept_other, one_more}
 use Rattle.term_prefix.proofs.search.keep_current.Goals as goal
 use Rattle.term_prefix.proofs.search.keep_current.Goals.{then-is_wanted+in_ok-keep, else-is_wanted}

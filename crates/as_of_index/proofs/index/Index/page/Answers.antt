@@ -4,7 +4,7 @@ use Rattle.std.proofs.lemmas.List.Sums.{sum_by_push}
 use Rattle.history_model.specs.declared.stamped.StampedRow.{StampedRow}
 use Rattle.segment.specs.Standing.{StandsAt}
 use Rattle.as_of_index.specs.declared.search.Start.TheVariants.{Components}
-use Rattle.as_of_index.specs.Search.{ArePassed}
+use Rattle.as_of_index.specs.Private.Search.{ArePassed}
 use Rattle.as_of_index.proofs.Standing.{are_lists, get_from_pick}
 use Rattle.as_of_index.proofs.Walking.{id_above, versions_ahead, others_ahead}
 use Rattle.as_of_index.proofs.Paging.{page_more, page_same, page_done, page_full, fewer_left}

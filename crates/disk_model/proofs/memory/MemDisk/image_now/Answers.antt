@@ -2,7 +2,7 @@ use Rattle.std.proofs.Common.{◌≤◌, ℕ, List, take, length, subst, arith}
 use Rattle.std.proofs.lemmas.List.{take_all}
 use Rattle.disk_model.specs.Change.{Change, replayed, made}
 use Rattle.disk_model.specs.MemDisk.{first_bytes, record_of, memory_moments}
-use Rattle.disk_model.specs.Replay.{Shows}
+use Rattle.disk_model.specs.Private.Replay.{Shows}
 use Rattle.disk_model.proofs.Chosen.{chosen_image}
 use Rattle.disk_model.proofs.memory.MemDisk.image_now.Goals as goal
 

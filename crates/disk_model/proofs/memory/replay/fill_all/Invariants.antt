@@ -1,5 +1,5 @@
 use Rattle.std.proofs.Common.{take}
-use Rattle.disk_model.specs.Replay.{IsFilledIn}
+use Rattle.disk_model.specs.Private.Replay.{IsFilledIn}
 use Rattle.disk_model.proofs.memory.replay.fill_all.Given as goal
 
 abbrev pub invariant-loop-range : goal.invariant-loop-range

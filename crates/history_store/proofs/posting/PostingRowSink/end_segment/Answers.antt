@@ -2,7 +2,7 @@ use Rattle.std.proofs.Common.{◌++◌, ◌∷◌, [], List, sym, subst, ◌∙�
 use Rattle.std.specs.List.Sorted.{IsPermutation}
 use Rattle.term_prefix.specs.Terms.{TermAt}
 use Rattle.associations.specs.Edges.{Edges, AreSameEdges}
-use Rattle.history_store.specs.Taken.{TermsTaken, EdgesTaken}
+use Rattle.history_store.specs.Private.Taken.{TermsTaken, EdgesTaken}
 use Rattle.history_store.proofs.Taken.{terms_sealed, edges_sealed}
 use Rattle.history_store.proofs.posting.PostingRowSink.end_segment.Goals as goal
 

@@ -2,7 +2,7 @@ use Rattle.std.proofs.Common.{◌≡◌, false, sym, subst}
 use Rattle.import_check.specs.NewRows.{IsAcceptedAs, IsRefusal}
 use Rattle.import_check.specs.NewRows.{IsApart}
 use Rattle.history_store.specs.StoreValue.{StoreValue}
-use Rattle.history_store.specs.Reading.{rows_of}
+use Rattle.history_store.specs.Private.Reading.{rows_of}
 use Rattle.history_store.proofs.Refusing.{refused_less}
 use Rattle.history_store.proofs.GoingOn.{merge_read}
 use Rattle.history_store.proofs.Held.{held_read, lent_honest, lent_sound}

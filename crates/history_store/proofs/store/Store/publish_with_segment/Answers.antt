@@ -9,7 +9,7 @@ use Rattle.segment.specs.Records.{segment_of}
 use Rattle.as_of_index.specs.Places.{ArePlaces}
 use Rattle.segment.specs.Standing.{places_of}
 use Rattle.history_store.specs.StoreValue.{StoreValue}
-use Rattle.history_store.specs.Prepared.{IsPreparedFor}
+use Rattle.history_store.specs.Private.Prepared.{IsPreparedFor}
 use Rattle.history_store.proofs.GoingOn.{merge_added}
 use Rattle.history_store.proofs.WrittenWhere.{one_added}
 use Rattle.history_store.proofs.Held.{held_added, held_stands, leaves_added, is_added, lists_count, with_more}

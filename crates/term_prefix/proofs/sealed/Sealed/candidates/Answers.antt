@@ -3,7 +3,7 @@ use Rattle.std.specs.List.{filter}
 use Rattle.history_model.specs.InOrder.{Has}
 use Rattle.term_prefix.specs.declared.text.Term.{Term}
 use Rattle.term_prefix.specs.Terms.{TermAt}
-use Rattle.term_prefix.specs.Keeping.{begins}
+use Rattle.term_prefix.specs.Private.{begins}
 use Rattle.term_prefix.proofs.Prefixed.{places_from}
 use Rattle.term_prefix.proofs.sealed.Sealed.candidates.Goals as goal
 

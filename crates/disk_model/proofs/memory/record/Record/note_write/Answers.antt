@@ -1,7 +1,8 @@
 use Rattle.std.specs.Prelude.{All, vec_len}
 use Rattle.std.proofs.Common.{◌≡◌, ◌+◌, ◌++◌, ◌∷◌, [], length, ◌∙◌, ap, subst, arith}
 use Rattle.disk_model.specs.Change.{Change}
-use Rattle.disk_model.specs.Entry.{change_of, IsWithin}
+use Rattle.disk_model.specs.Entry.{change_of}
+use Rattle.disk_model.specs.Private.Entry.{IsWithin}
 use Rattle.disk_model.specs.Faults.{written_as}
 use Rattle.disk_model.specs.Record.{changes_in}
 use Rattle.disk_model.proofs.Entries.{changes_more, written_new, failed_new}

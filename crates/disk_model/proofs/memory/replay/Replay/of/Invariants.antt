@@ -2,7 +2,7 @@ use Rattle.std.specs.Prelude.{map}
 use Rattle.std.proofs.Common.{take}
 use Rattle.disk_model.specs.Change.{replayed, made}
 use Rattle.disk_model.specs.Entry.{change_of}
-use Rattle.disk_model.specs.Replay.{Shows}
+use Rattle.disk_model.specs.Private.Replay.{Shows}
 use Rattle.disk_model.proofs.memory.replay.Replay.of.Given as goal
 
 abbrev pub invariant-loop-entry : goal.invariant-loop-entry

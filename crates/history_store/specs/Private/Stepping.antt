@@ -18,7 +18,7 @@ use Rattle.history_store.specs.declared.refusal.Refusal.TheVariants as refusals
 use Rattle.history_store.specs.declared.merge_in_progress.MergeInProgress.{MergeInProgress}
 use Rattle.history_store.specs.declared.stepping.Part.{Part}
 use Rattle.history_store.specs.declared.stepping.Lengths.{Lengths}
-use Rattle.history_store.specs.Reading.{IsOfPlace}
+use Rattle.history_store.specs.Private.Reading.{IsOfPlace}
 use Rattle.history_store.specs.StoreValue.{IsHeld}
 use Rattle.history_store.specs.MergeInProgress.{IsLike, AreTaken, HasMerge}
 

@@ -1,17 +1,33 @@
--- How a command comes out. Only private functions cite these words.
-use Rattle.std.specs.Prelude.{◌≡◌, ℕ, ◌≤◌, List, length, Option, Some, IfSome, Result, Ok, Err}
+-- Words that private functions and proofs need, of this crate or of one above it.
+-- No public clause cites them.
+use Rattle.std.specs.Prelude.{ℕ, List, Option, Result, ◌≡◌, ◌≤◌, length, Some, IfSome, Ok, Err}
 use Rattle.std.specs.List.{AllByRecursion}
-use Rattle.disk_model.specs.Disk.{Moments}
 use Rattle.import_check.specs.declared.release.Release.{Release}
+use Rattle.import_check.specs.Sample.{files_of}
+use Rattle.disk_model.specs.Disk.{Moments}
 use Rattle.history_store.specs.StoreValue.{StoreValue}
 use Rattle.line_commands.specs.Commands.{Command, Import, SpellsArguments}
 use Rattle.line_server.specs.declared.refusal.LineRefusal.{LineRefusal}
+use Rattle.line_server.specs.Sources.{Releases}
+use Rattle.line_server.specs.ReplyValue.{Answer, reply_value, bytes_of, ReplyValue}
+use Rattle.line_server.specs.Replies.{server, Server, IsOutcome}
+use Rattle.line_server.specs.Turns.{IsTurn, CountsOutcome, LeavesDisk}
+use Rattle.line_server.specs.Streams.{IsPut}
 use Rattle.line_server.specs.Pins.{pin_of}
-use Rattle.line_server.specs.Sources.{Releases, files_of}
-use Rattle.line_server.specs.ReplyValue.{Answer, ReplyValue, reply_value}
-use Rattle.line_server.specs.Replies.{Server, IsOutcome, server}
 use Rattle.line_server.specs.Imports.{Imports}
-use Rattle.line_server.specs.Turns.{CountsOutcome, LeavesDisk}
+
+-- one line was answered, and its reply was written
+pub record IsLineServed {D T E : Type 0} (result : Result T E) (honest_source : Type 0)
+    (has : Releases) (honest : D → Type 0) (moments : D → Moments) (failures : D → ℕ)
+    (line : List ℕ) (pins : List (Option ℕ)) (store : StoreValue D) (pins_after : List (Option ℕ))
+    (store_after : StoreValue D) (old new : Option (List ℕ)) : Type 0 where
+  pub outcome : Result Answer LineRefusal
+  pub releases : List Release
+  pub failed : Option Release
+  pub turn : IsTurn honest_source has honest moments failures (server pins store)
+      (record { line = line; outcome = outcome; releases = releases; failed = failed })
+      (server pins_after store_after)
+  pub put : IsPut result old new (bytes_of (reply_value outcome))
 
 -- some line asks the command
 abbrev pub CanBeAsked : Command → Type 0

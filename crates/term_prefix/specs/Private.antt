@@ -1,13 +1,18 @@
--- The first places by id that are kept while postings are gone through: words of private functions.
-use Rattle.std.specs.Prelude.{◌≡◌, ◌⊎◌, ◌≤◌, ◌<◌, ℕ, Bool, true, false, List, length, map, nat_eq, Option}
+-- Words that private functions and proofs need, of this crate or of one above it.
+-- No public clause cites them.
+use Rattle.std.specs.Prelude.{◌≡◌, ◌⊎◌, ◌≤◌, ◌<◌, ℕ, Bool, true, false, List, length, map, nat_eq}
+use Rattle.std.specs.Prelude.{Option, [], ◌∷◌, ◌++◌, take}
 use Rattle.std.specs.List.{filter, starts_with}
 use Rattle.history_model.specs.declared.stamped.StampedRow.{StampedRow}
 use Rattle.history_model.specs.InOrder.{Has, IsAscending}
 use Rattle.history_model.specs.Queries.{is_above}
+use Rattle.segment.specs.declared.place.RowPlace.{RowPlace}
 use Rattle.as_of_index.specs.declared.chosen.Chosen.{Chosen}
-use Rattle.as_of_index.specs.Chosen.{chosen, chosen_cmp}
+use Rattle.as_of_index.specs.Private.Chosen.{chosen, chosen_cmp}
 use Rattle.as_of_index.specs.Current.{IsCurrentAt}
+use Rattle.term_prefix.specs.declared.text.Term.{Term}
 use Rattle.term_prefix.specs.Terms.{TermAt}
+use Rattle.term_prefix.specs.Laid.{terms_at, AreLaid}
 
 -- the folding begins with a text
 abbrev pub begins : List ℕ → TermAt → Bool
@@ -53,3 +58,15 @@ pub record AreKept (lists : List (List StampedRow)) (date : ℕ) (after : Option
   pub all : (k : Chosen) → Has seen k → Counts lists date after pin k
       → IsTaken limit kept k.at.key.id
   pub only : (k : Chosen) → Has kept k → Has seen k × Counts lists date after pin k
+
+-- a term was added, its folding at the end of the text
+pub record AddsTerm (text : List ℕ) (ts : List Term) (folded : List ℕ) (at : RowPlace)
+    (text' : List ℕ) (ts' : List Term) : Type 0 where
+  pub texts : text' ≡ text ++ folded
+  pub terms : ts' ≡ ts ++ record { at = at; start = length text; len = length folded } ∷ []
+
+-- the first n terms are left, and no more text than theirs
+pub record IsCut (text : List ℕ) (ts : List Term) (n : ℕ) (text' : List ℕ) (ts' : List Term)
+    : Type 0 where
+  pub laid : AreLaid 0 ts' (length text')
+  pub same : terms_at text' ts' ≡ take n (terms_at text ts)

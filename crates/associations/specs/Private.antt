@@ -1,5 +1,6 @@
--- What the steps say that collect an answer from postings. Private functions alone cite these.
-use Rattle.std.specs.Prelude.{◌≡◌, ◌⊎◌, ℕ, List}
+-- Words that private functions and proofs need, of this crate or of one above it.
+-- No public clause cites them.
+use Rattle.std.specs.Prelude.{List, map, ◌≡◌, ◌⊎◌, ℕ}
 use Rattle.std.specs.Ordering.{nat_cmp}
 use Rattle.std.specs.declared.cmp.Ordering.{Ordering}
 use Rattle.std.specs.declared.cmp.Ordering.TheVariants.{Equal}
@@ -8,11 +9,15 @@ use Rattle.history_model.specs.declared.stamped.StampedRow.{StampedRow}
 use Rattle.history_model.specs.InOrder.{Has, IsAscending}
 use Rattle.segment.specs.declared.place.RowPlace.{RowPlace}
 use Rattle.as_of_index.specs.declared.chosen.Chosen.{Chosen}
-use Rattle.as_of_index.specs.Chosen.{chosen, chosen_cmp, ranked_cmp}
+use Rattle.as_of_index.specs.Private.Chosen.{chosen, chosen_cmp, ranked_cmp}
 use Rattle.as_of_index.specs.Current.{IsCurrentAt}
+use Rattle.associations.specs.declared.postings.Subject.{Subject}
 use Rattle.associations.specs.declared.postings.Link.{Link}
 use Rattle.associations.specs.declared.postings.Reference.{Reference}
-use Rattle.associations.specs.declared.postings.Subject.{Subject}
+use Rattle.associations.specs.Edges.{Edges}
+
+abbrev pub subjects_in : List Edges → List (List Subject)
+subjects_in lists = map (λ e. e.subjects) lists
 
 -- what the postings give is taken, and nothing else
 pub record Takes {X Y : Type 0} (Gives : X → Y → Type 0) (xs : List X) (old new : List Y)

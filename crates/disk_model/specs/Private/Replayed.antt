@@ -6,7 +6,7 @@ use Rattle.std.proofs.Common.{true, false, refl, sym, ◌∙◌, subst, arith, l
 use Rattle.std.proofs.lemmas.List.{get_or-take, take_all}
 use Rattle.std.proofs.lemmas.List.Elements.{All-head, All-tail}
 use Rattle.disk_model.specs.Disk.{DiskState, IsImage, IsOutside, Moments, followed_by, settled, after_write, after_cut, reading}
-use Rattle.disk_model.specs.Put.{length-put, get_or-put_below, get_or-put_above}
+use Rattle.disk_model.specs.Private.Put.{length-put, get_or-put_below, get_or-put_above}
 use Rattle.disk_model.specs.Change.{Change, Write, Cut, Sync, FailedWrite, FailedCut, after_change, replayed, made, written}
 
 settled_image : (bytes : List ℕ) → IsImage (settled bytes) (settled bytes).now

@@ -5,7 +5,7 @@ use Rattle.rf2_values.specs.declared.row.Body.{Body}
 use Rattle.rf2_values.specs.declared.row.Kind.{Kind}
 use Rattle.rf2_values.specs.Row.{kind_of_body}
 use Rattle.std.specs.Borrow.{Bor}
-use Rattle.segment.specs.Reading.{all_at, body_forms}
+use Rattle.segment.specs.Private.Reading.{all_at, body_forms}
 use Rattle.history_model.specs.declared.stamped.StampedRow.{StampedRow}
 use Rattle.segment.specs.declared.fault.SegmentFault.{SegmentFault}
 use Rattle.segment.specs.declared.fault.SegmentFault.TheVariants as faults

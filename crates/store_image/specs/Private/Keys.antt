@@ -6,7 +6,8 @@ use Rattle.std.specs.List.{AllByRecursion}
 use Rattle.std.specs.declared.cmp.Ordering.{Ordering}
 use Rattle.std.specs.declared.cmp.Ordering.TheVariants.{Less}
 use Rattle.rf2_values.specs.declared.key.Key.{Key}
-use Rattle.rf2_values.specs.Key.{key_cmp, keys_total}
+use Rattle.rf2_values.specs.Key.{key_cmp}
+use Rattle.rf2_values.specs.Private.{keys_total}
 use Rattle.history_model.specs.InOrder.{Has, IsAscending}
 use Rattle.segment.specs.declared.place.RowPlace.{RowPlace}
 use Rattle.store_image.specs.declared.apart.Rest.{Rest}

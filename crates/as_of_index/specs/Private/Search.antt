@@ -1,0 +1,160 @@
+-- What is searched for among places in the order of their keys.
+use Rattle.std.specs.Prelude.{◌≡◌, ℕ, ◌+◌, ◌≤◌, Bool, true, false, ◌&&◌, ◌||◌, ◌==◌, not, List, []}
+use Rattle.std.specs.Prelude.{◌∷◌, ◌++◌, nat_le, nat_lt, length, map, take, drop, Option, Some}
+use Rattle.std.specs.Prelude.{None}
+use Rattle.std.specs.List.{AllByRecursion}
+use Rattle.std.specs.Ordering.{nat_cmp, is_lt}
+use Rattle.std.specs.declared.cmp.Ordering.{Ordering}
+use Rattle.std.specs.declared.cmp.Ordering.TheVariants.{Less, Equal, Greater}
+use Rattle.rf2_values.specs.declared.row.Kind.{Kind}
+use Rattle.rf2_values.specs.declared.key.Key.{Key}
+use Rattle.rf2_values.specs.Key.{kind_place, key_cmp}
+use Rattle.history_model.specs.InOrder.{Has}
+use Rattle.history_model.specs.Queries.{is_above}
+use Rattle.segment.specs.declared.place.RowPlace.{RowPlace}
+use Rattle.as_of_index.specs.declared.search.Start.{Start}
+use Rattle.as_of_index.specs.declared.search.Start.TheVariants as start
+use Rattle.as_of_index.specs.Places.{place_cmp}
+
+-- all that stand in the first lists, each with the number of its list
+abbrev pub in_segment : ℕ → List RowPlace → List (ℕ × RowPlace)
+in_segment n places = map (λ p. (n, p)) places
+
+abbrev pub all_places : ℕ → List (List RowPlace) → List (ℕ × RowPlace)
+all_places n [] = []
+all_places n (places ∷ index) = in_segment n places ++ all_places (n + 1) index
+
+abbrev pub is_of : Kind → ℕ → RowPlace → Bool
+is_of kind id p = kind_place p.key.kind == kind_place kind && p.key.id == id
+
+-- a version of the component up to the date, which the pin shows
+abbrev pub is_candidate : Kind → ℕ → ℕ → ℕ → RowPlace → Bool
+is_candidate kind id date pin p = is_of kind id p && nat_le p.key.time date && nat_le p.import pin
+
+-- whether a search that begins here passes over the key
+abbrev pub is_before : Start → RowPlace → Bool
+is_before (start.AfterVersion kind id time) p = nat_lt (kind_place p.key.kind) (kind_place kind)
+    || (kind_place p.key.kind == kind_place kind
+    && (nat_lt p.key.id id || (p.key.id == id && nat_le p.key.time time)))
+is_before (start.Later kind id after) p = nat_lt (kind_place p.key.kind) (kind_place kind)
+    || (kind_place p.key.kind == kind_place kind
+    && (nat_lt p.key.id id || (p.key.id == id && not (is_above after p.key.time))))
+is_before (start.Components kind after) p = nat_lt (kind_place p.key.kind) (kind_place kind)
+    || (kind_place p.key.kind == kind_place kind && not (is_above after p.key.id))
+
+-- what has a key below another
+abbrev pub is_under : {X : Type 0} → (X → Key) → Key → X → Bool
+is_under key k x = is_lt (key_cmp (key x) k)
+
+-- by the byte at which the record begins
+abbrev pub byte_cmp : RowPlace → RowPlace → Ordering
+byte_cmp a b = nat_cmp a.at b.at
+
+-- those before the place pass, and those from it on don't
+pub record SplitsAt {X : Type 0} (p : X → Bool) (places : List X) (i : ℕ) : Type 0 where
+  pub before : AllByRecursion (λ x. p x ≡ true) (take i places)
+  pub rest : AllByRecursion (λ x. p x ≡ false) (drop i places)
+
+-- all that stands before a place of a list is passed over
+pub record IsPassed (start : Start) (places : List RowPlace) (cursor : ℕ) : Type 0 where
+  pub within : cursor ≤ length places
+  pub before : AllByRecursion (λ p. is_before start p ≡ true) (take cursor places)
+
+-- one cursor a list
+abbrev pub ArePassed : Start → List (List RowPlace) → List ℕ → Type 0
+ArePassed start [] [] = Unit {0}
+ArePassed start [] (cursor ∷ cursors) = ⊥
+ArePassed start (places ∷ lists) [] = ⊥
+ArePassed start (places ∷ lists) (cursor ∷ cursors) =
+    IsPassed start places cursor × ArePassed start lists cursors
+
+-- going back over the versions of a component: at one that
+-- the pin shows it stops, and where there are no more
+abbrev pub stops : Kind → ℕ → ℕ → RowPlace → Bool
+stops kind id pin p = not (is_of kind id p) || nat_le p.import pin
+
+-- the latest candidate of some
+pub record IsLatestOf (kind : Kind) (id date pin : ℕ) {X : Type 0} (place : X → RowPlace)
+    (xs : List X) (b : X) : Type 0 where
+  pub there : Has xs b
+  pub passes : is_candidate kind id date pin (place b) ≡ true
+  pub latest : (x : X) → Has xs x → is_candidate kind id date pin (place x) ≡ true
+      → (place x).key.time ≤ (place b).key.time
+
+unfoldable pub IsPick : Kind → ℕ → ℕ → ℕ → {X : Type 0} → (X → RowPlace) → List X → Option X
+    → Type 0
+IsPick kind id date pin place xs None =
+    (x : _) → Has xs x → is_candidate kind id date pin (place x) ≡ true → ⊥
+IsPick kind id date pin place xs (Some b) = IsLatestOf kind id date pin place xs b
+
+-- the later of two, the first where they tie
+abbrev pub later_of : Option (ℕ × RowPlace) → ℕ → Option RowPlace → Option (ℕ × RowPlace)
+later_of best n None = best
+later_of None n (Some p) = Some (n, p)
+later_of (Some b) n (Some p) =
+    elim (nat_lt b.1.key.time p.key.time) [ true ↦ Some (n, p) | false ↦ Some b ]
+
+-- of some, the least that a search from here doesn't pass over
+pub record IsLeastOf (start : Start) {X : Type 0} (place : X → RowPlace) (xs : List X)
+    (b : X) : Type 0 where
+  pub there : Has xs b
+  pub passes : is_before start (place b) ≡ false
+  pub least : (x : X) → Has xs x → is_before start (place x) ≡ false
+      → place_cmp (place x) (place b) ≡ Less → ⊥
+
+unfoldable pub IsNext : Start → {X : Type 0} → (X → RowPlace) → List X → Option X → Type 0
+IsNext start place xs None = (x : _) → Has xs x → is_before start (place x) ≡ true
+IsNext start place xs (Some b) = IsLeastOf start place xs b
+
+-- the one with the lower key of two, the first where they tie
+abbrev pub sooner_of : Option (ℕ × RowPlace) → ℕ → Option RowPlace → Option (ℕ × RowPlace)
+sooner_of best n None = best
+sooner_of None n (Some p) = Some (n, p)
+sooner_of (Some b) n (Some p) =
+    elim (place_cmp p b.1) [ Less ↦ Some (n, p) | Equal ↦ Some b | Greater ↦ Some b ]
+
+-- the place of a version of some component of the kind, with an id above `after`
+abbrev pub is_kind_above : Kind → Option ℕ → RowPlace → Bool
+is_kind_above kind after p = kind_place p.key.kind == kind_place kind && is_above after p.key.id
+
+-- the least id of a kind above `after`
+pub record IsLeastId (kind : Kind) (after : Option ℕ) (xs : List (ℕ × RowPlace))
+    (id : ℕ) : Type 0 where
+  pub above : is_above after id ≡ true
+  pub there : (x : ℕ × RowPlace) × Has xs x × (is_of kind id x.1 ≡ true)
+  pub least : (x : ℕ × RowPlace) → Has xs x → is_kind_above kind after x.1 ≡ true → id ≤ x.1.key.id
+
+unfoldable pub IsNextId : Kind → Option ℕ → List (ℕ × RowPlace) → Option ℕ → Type 0
+IsNextId kind after xs None = (x : ℕ × RowPlace) → Has xs x → is_kind_above kind after x.1 ≡ true
+    → ⊥
+IsNextId kind after xs (Some id) = IsLeastId kind after xs id
+
+-- the id of a place of the kind
+abbrev pub id_of_kind : Kind → Option RowPlace → Option ℕ
+id_of_kind kind None = None
+id_of_kind kind (Some p) =
+    elim (kind_place p.key.kind == kind_place kind) [ true ↦ Some p.key.id | false ↦ None ]
+
+-- the lesser of two ids, if they are given
+abbrev pub lesser_of : Option ℕ → Option ℕ → Option ℕ
+lesser_of best None = best
+lesser_of None (Some id) = Some id
+lesser_of (Some least) (Some id) = elim (nat_lt id least) [ true ↦ Some id | false ↦ Some least ]
+
+-- the place of a version of the component after a time, if one is given
+abbrev pub is_version_above : Kind → ℕ → Option ℕ → RowPlace → Bool
+is_version_above kind id after p = is_of kind id p && is_above after p.key.time
+
+-- the first version of the component after a time
+pub record IsFirstVersion (kind : Kind) (id : ℕ) (after : Option ℕ) (xs : List (ℕ × RowPlace))
+    (b : ℕ × RowPlace) : Type 0 where
+  pub there : Has xs b
+  pub version : is_version_above kind id after b.1 ≡ true
+  pub first : (x : ℕ × RowPlace) → Has xs x → is_version_above kind id after x.1 ≡ true
+      → b.1.key.time ≤ x.1.key.time
+
+unfoldable pub IsNextVersion : Kind → ℕ → Option ℕ → List (ℕ × RowPlace) → Option (ℕ × RowPlace)
+    → Type 0
+IsNextVersion kind id after xs None =
+    (x : ℕ × RowPlace) → Has xs x → is_version_above kind id after x.1 ≡ true → ⊥
+IsNextVersion kind id after xs (Some b) = IsFirstVersion kind id after xs b

@@ -1,0 +1,27 @@
+-- Words beside those of `Answers` that no public clause cites.
+use Rattle.std.specs.Prelude.{◌≡◌, ◌⊎◌, false, List, Result, Ok, Err}
+use Rattle.rf2_values.specs.Row.{RowValue}
+use Rattle.history_model.specs.History.{History}
+use Rattle.import_check.specs.declared.release.Release.{Release}
+use Rattle.import_check.specs.declared.fault.ImportFault.{ImportFault}
+use Rattle.import_check.specs.NewRows.{IsRefusal}
+use Rattle.history_store.specs.declared.refusal.Refusal.{Refusal}
+use Rattle.history_store.specs.declared.refusal.Refusal.TheVariants as refusals
+use Rattle.history_store.specs.Refusals.{refusal_of}
+use Rattle.history_store.specs.Catalog.{Catalog}
+use Rattle.history_store.specs.StoreValue.{StoreValue}
+use Rattle.history_store.specs.Answers.{IsRefused}
+
+-- the store goes on to this history and catalog, or stays; memory may lack, or the device may fail
+abbrev pub IsStep : {D : Type 0} → Result (Unit {0}) Refusal → StoreValue D → StoreValue D → History
+    → Catalog → Type 0
+IsStep (Ok done) old new after next =
+    (new.history ≡ after) × (new.catalog ≡ next) × (new.needs_reopen ≡ false)
+IsStep (Err e) old new after next =
+    ((e ≡ refusals.OutOfMemory) ⊎ (e ≡ refusals.DiskFault)) × IsRefused e old new
+
+-- why the new rows of a release are not had: a fault of the files
+-- on every disk, a contradiction and no damage on an honest one
+abbrev pub IsNotFresh : Type 0 → Refusal → List RowValue → Release → Type 0
+IsNotFresh honest e known release =
+    (fault : ImportFault) × (e ≡ refusal_of fault) × IsRefusal honest known release fault

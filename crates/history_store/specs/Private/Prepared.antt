@@ -1,0 +1,68 @@
+-- Words beside those of `Prepared` that no public clause cites.
+use Rattle.std.specs.Prelude.{◌≡◌, ◌+◌, ◌^◌, ◌<◌, Option, Some, List, [], ◌∷◌, ◌++◌, length}
+use Rattle.history_model.specs.declared.stamped.StampedRow.{StampedRow}
+use Rattle.history_model.specs.History.{IsHistory}
+use Rattle.history_model.specs.Lists.{AreLists}
+use Rattle.directory.specs.declared.entry.Entry.{Entry}
+use Rattle.directory.specs.declared.layout.Layout.TheVariants as layouts
+use Rattle.directory.specs.Listings.{DirectoryValue, IsListing, IsEntry, most_entries}
+use Rattle.segment.specs.Records.{segment_of}
+use Rattle.segment.specs.Standing.{places_of}
+use Rattle.store_image.specs.Says.{IsSegmentOf}
+use Rattle.term_prefix.specs.Pushed.{IsPosted}
+use Rattle.associations.specs.Laws.{ArePostingsOf}
+use Rattle.history_store.specs.declared.refusal.Refusal.{Refusal}
+use Rattle.history_store.specs.declared.refusal.Refusal.TheVariants as refusals
+use Rattle.history_store.specs.declared.preparing.Prepared.{Prepared}
+use Rattle.history_store.specs.Catalog.{Merge, Catalog, IsPlaced, HasNoEntry, HasNoPlace}
+use Rattle.history_store.specs.Catalog.{catalog_of, entry_at, place_for}
+use Rattle.history_store.specs.StoreValue.{StoreValue}
+use Rattle.history_store.specs.Private.StoreValue.{with_rows}
+
+-- the entry of a segment of these rows, at the first place where it finds room
+pub record IsPlacedAt (d : DirectoryValue) (merge : Option Merge) (rows : List StampedRow)
+    (entry : Entry) : Type 0 where
+  pub few : length d.entries < most_entries d.layout
+  pub short : length (segment_of rows) < 2 ^ 32
+  pub place : place_for rows (catalog_of d merge) ≡ Some entry.first
+  pub entry_is : entry ≡ entry_at entry.first rows
+
+-- the segment of these rows, and the directory with it
+pub record IsPrepared (d : DirectoryValue) (merge : Option Merge) (rows : List StampedRow)
+    (p : Prepared) : Type 0 where
+  pub shown_is : p.shown ≡ rows
+  pub places_are : p.places ≡ places_of rows
+  pub terms_are : IsPosted rows p.terms
+  pub edges_are : ArePostingsOf rows p.edges
+  pub bytes_are : p.bytes.items ≡ segment_of rows
+  pub entry_is : IsEntry p.entry
+  pub segment : IsSegmentOf p.entry rows
+  pub listing : IsListing p.directory
+  pub directory_is : p.directory ≡ record {
+    layout = layouts.Two;
+    epoch = d.epoch + 1;
+    imports = d.imports + 1;
+    entries = d.entries ++ p.entry ∷ [];
+  }
+  pub placed : IsPlaced rows (catalog_of d merge) (catalog_of p.directory merge)
+  pub at_fit : IsPlacedAt d merge rows p.entry
+
+-- why there is no such segment
+abbrev pub IsUnprepared : Refusal → List StampedRow → Catalog → Type 0
+IsUnprepared refusals.OutOfMemory rows catalog = Unit {0}
+IsUnprepared refusals.TooManySegments rows catalog = HasNoEntry rows catalog
+IsUnprepared refusals.Full rows catalog = HasNoPlace rows catalog
+IsUnprepared _ rows catalog = ⊥
+
+-- what is prepared goes with the store
+pub record IsPreparedFor {D : Type 0} (s : StoreValue D) (p : Prepared) : Type 0 where
+  pub apart : AreLists (s.history.rows ∷ p.shown ∷ [])
+  pub history : IsHistory (with_rows s.history p.shown)
+  pub prepared : IsPrepared
+      (record {
+        layout = s.catalog.layout;
+        epoch = s.catalog.epoch;
+        imports = s.history.imports;
+        entries = s.catalog.entries;
+      })
+      s.catalog.merge p.shown p

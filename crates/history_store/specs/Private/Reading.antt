@@ -1,0 +1,62 @@
+-- Rows that stand on a disk, and what reading them leaves as it is.
+use Rattle.std.specs.Prelude.{◌≡◌, ◌↔◌, ℕ, ◌+◌, ◌^◌, ◌≤◌, List, length, map, take, drop}
+use Rattle.std.specs.List.{AllByRecursion}
+use Rattle.std.proofs.Common.{refl, ◌∙◌}
+use Rattle.rf2_values.specs.Key.{key_of}
+use Rattle.rf2_values.specs.Row.{RowValue}
+use Rattle.history_model.specs.declared.stamped.StampedRow.{StampedRow}
+use Rattle.history_model.specs.Lists.{listed}
+use Rattle.disk_model.specs.Disk.{Moments}
+use Rattle.directory.specs.declared.entry.Entry.{Entry}
+use Rattle.directory.specs.Listings.{IsEntry}
+use Rattle.segment.specs.declared.place.RowPlace.{RowPlace}
+use Rattle.segment.specs.Records.{record_of, IsStamped}
+use Rattle.segment.specs.Standing.{record_len}
+use Rattle.store_image.specs.Stands.{HoldsAll}
+use Rattle.store_image.specs.Says.{AreSegments, pieces_of}
+
+-- an honest disk stays one, and its moments stay
+abbrev pub MomentsStay : Type 0 → Type 0 → Moments → Moments → Type 0
+MomentsStay was is old new = (was ↔ is) × (was → new ≡ old)
+
+pub stay_still : (was : Type 0) (old : Moments) → MomentsStay was was old old
+stay_still was old = ((λ up. up, λ up. up), λ up. refl)
+
+pub stay_on : (first second third : Type 0) (a b c : Moments)
+    → MomentsStay first second a b → MomentsStay second third b c → MomentsStay first third a c
+stay_on first second third a b c ab bc =
+    ((λ up. bc.0.0 (ab.0.0 up), λ down. ab.0.1 (bc.0.1 down)), λ up. bc.1 (ab.0.0 up) ∙ ab.1 up)
+
+-- the rows are those of the segments that are listed, and the file has these
+pub record AreThere (entries : List Entry) (lists : List (List StampedRow))
+    (file : List ℕ) : Type 0 where
+  pub entries_are : AllByRecursion IsEntry entries
+  pub segments : AreSegments entries lists
+  pub pieces : HoldsAll (pieces_of entries lists) file
+
+-- the row's record is in the file at this byte, and this is what is listed of it
+pub record IsThere (from : ℕ) (s : StampedRow) (p : RowPlace) (file : List ℕ) : Type 0 where
+  pub below : from + p.bytes ≤ 2 ^ 34
+  pub whole : length (take p.bytes (drop from file)) ≡ p.bytes
+  pub is : take p.bytes (drop from file) ≡ record_of s
+  pub stamped : IsStamped s
+  pub key : key_of s.row ≡ p.key
+  pub import : s.import ≡ p.import
+
+-- the row is that of the place
+abbrev pub IsRowOf : StampedRow → RowPlace → Type 0
+IsRowOf s p = (key_of s.row ≡ p.key) × (s.import ≡ p.import)
+
+-- the row may be written, and has the key, the number and the length of the place
+pub record IsOfPlace (s : StampedRow) (p : RowPlace) : Type 0 where
+  pub stamped : IsStamped s
+  pub is : IsRowOf s p
+  pub bytes : record_len s ≡ p.bytes
+
+-- the rows of the lists
+abbrev pub rows_of : List (List StampedRow) → List RowValue
+rows_of lists = map (λ (s : StampedRow). s.row) (listed lists)
+
+-- no row was brought after so many imports
+abbrev pub Early : ℕ → List (List StampedRow) → Type 0
+Early pin lists = AllByRecursion (λ (s : StampedRow). s.import ≤ pin) (listed lists)

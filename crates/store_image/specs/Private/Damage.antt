@@ -1,0 +1,24 @@
+-- Words beside those of `Damage` that no public clause cites.
+use Rattle.std.specs.Prelude.{ℕ, List}
+use Rattle.directory.specs.declared.entry.Entry.{Entry}
+use Rattle.store_image.specs.declared.fault.Damage.TheVariants as damages
+use Rattle.store_image.specs.declared.fault.LoadFault.{LoadFault}
+use Rattle.store_image.specs.declared.fault.LoadFault.TheVariants as loading
+use Rattle.store_image.specs.declared.fault.RowsFault.{RowsFault}
+use Rattle.store_image.specs.declared.fault.RowsFault.TheVariants as faults
+use Rattle.store_image.specs.Damage.{IsFirstBroken, ShareKey}
+
+-- why a segment isn't read, as why a store isn't
+abbrev pub in_segment : ℕ → RowsFault → LoadFault
+in_segment number faults.OutOfMemory = loading.OutOfMemory
+in_segment number faults.DiskFault = loading.DiskFault
+in_segment number faults.Damaged = loading.Damaged (damages.Segment number)
+
+-- why the segments of all entries aren't read
+abbrev pub AreNotRead : LoadFault → ℕ → List Entry → List ℕ → Type 0
+AreNotRead loading.OutOfMemory imports entries file = Unit {0}
+AreNotRead loading.DiskFault imports entries file = Unit {0}
+AreNotRead (loading.Damaged (damages.Segment number)) imports entries file =
+    IsFirstBroken number imports entries file
+AreNotRead (loading.Damaged damages.SharedKey) imports entries file = ShareKey imports entries file
+AreNotRead _ imports entries file = ⊥

@@ -1,0 +1,108 @@
+-- What the reading of segments gives: words of the functions that `load` is made of.
+use Rattle.std.specs.Prelude.{◌≡◌, ◌⊎◌, ℕ, ◌+◌, ◌<◌, ◌≤◌, List, ◌++◌, length, take, drop, All}
+use Rattle.std.specs.Prelude.{Result, Ok, Err}
+use Rattle.std.specs.List.{AllByRecursion}
+use Rattle.fault_counts.specs.Counting.{HasRisen}
+use Rattle.history_model.specs.declared.stamped.StampedRow.{StampedRow}
+use Rattle.history_model.specs.InOrder.{IsAscending}
+use Rattle.history_model.specs.History.{stamped_cmp}
+use Rattle.history_model.specs.Lists.{AreLists}
+use Rattle.blocks.specs.Extents.{bytes_of}
+use Rattle.directory.specs.declared.entry.Entry.{Entry}
+use Rattle.directory.specs.declared.layout.Layout.{Layout}
+use Rattle.segment.specs.declared.fault.SegmentFault.{SegmentFault}
+use Rattle.segment.specs.declared.fault.SegmentFault.TheVariants as segments
+use Rattle.segment.specs.declared.place.RowPlace.{RowPlace}
+use Rattle.segment.specs.Records.{record_of, segment_of, IsStamped, IsSegment}
+use Rattle.segment.specs.Standing.{places_of}
+use Rattle.store_image.specs.declared.fault.RowsFault.{RowsFault}
+use Rattle.store_image.specs.declared.fault.RowsFault.TheVariants as faults
+use Rattle.store_image.specs.declared.window.Window.{Window}
+use Rattle.store_image.specs.Says.{HasKind, AreSegments}
+use Rattle.store_image.specs.Reading.{AreNumbered, IsAt}
+
+-- the count of failures rises where the device failed, and else stays
+abbrev pub CountsFault : {T : Type 0} → Result T RowsFault → ℕ → ℕ → Type 0
+CountsFault (Ok done) old new = new ≡ old
+CountsFault (Err faults.OutOfMemory) old new = new ≡ old
+CountsFault (Err faults.DiskFault) old new = HasRisen old new
+CountsFault (Err faults.Damaged) old new = new ≡ old
+
+-- why bytes in memory are no record, as why they aren't read
+abbrev pub of_segment : SegmentFault → RowsFault
+of_segment segments.OutOfMemory = faults.OutOfMemory
+of_segment segments.BadSegment = faults.Damaged
+
+-- ---- records
+
+-- the row's record begins at the place
+abbrev pub HasRecord : List ℕ → ℕ → StampedRow → Type 0
+HasRecord bytes at s = IsStamped s × (take (length (record_of s)) (drop at bytes) ≡ record_of s)
+
+-- why no record was read of bytes in memory
+abbrev pub HasNoRecord : SegmentFault → List ℕ → ℕ → Type 0
+HasNoRecord segments.OutOfMemory bytes at = Unit {0}
+HasNoRecord segments.BadSegment bytes at = (s : StampedRow) → HasRecord bytes at s → ⊥
+
+-- and of bytes on a disk
+abbrev pub IsNoRecord : RowsFault → List ℕ → ℕ → Type 0
+IsNoRecord faults.OutOfMemory bytes at = Unit {0}
+IsNoRecord faults.DiskFault bytes at = Unit {0}
+IsNoRecord faults.Damaged bytes at = (s : StampedRow) → HasRecord bytes at s → ⊥
+
+-- the bytes that a window has
+abbrev pub bytes_in : Window → List ℕ
+bytes_in w = take w.len w.bytes.items
+
+-- they are the segment's there, and where fewer were read than were asked for, the file ends
+pub record Sees (w : Window) (file : List ℕ) : Type 0 where
+  pub bytes : bytes_in w ≡ take w.len (drop w.from (bytes_of w.extent file))
+  pub ended : w.from + w.len < w.asked → length (bytes_of w.extent file) ≤ w.from + w.len
+
+-- it reaches to the segment's end, or as far as a window reaches
+abbrev pub IsFull : Window → List ℕ → Type 0
+IsFull w file = (length (drop w.from (bytes_of w.extent file)) ≤ w.len) ⊎ (131072 ≤ w.len)
+
+-- ---- the rows of one segment
+
+-- these rows have these places, in key order, and their records end at this byte
+pub record AreReadTo (at imports : ℕ) (places : List RowPlace) (rows : List StampedRow)
+    : Type 0 where
+  pub places_are : places ≡ places_of rows
+  pub at_is : at ≡ length (segment_of rows)
+  pub each : AllByRecursion IsStamped rows
+  pub ascending : IsAscending stamped_cmp rows
+  pub numbered : AreNumbered imports rows
+
+-- the bytes begin with their records
+abbrev pub BeginsWith : List StampedRow → List ℕ → Type 0
+BeginsWith rows bytes = (rest : List ℕ) × (bytes ≡ segment_of rows ++ rest)
+
+-- why no row is read behind these: no segment of more rows has these bytes
+abbrev pub IsNotNext : RowsFault → ℕ → List StampedRow → List ℕ → Type 0
+IsNotNext faults.OutOfMemory imports rows bytes = Unit {0}
+IsNotNext faults.DiskFault imports rows bytes = Unit {0}
+IsNotNext faults.Damaged imports rows bytes = BeginsWith rows bytes → (others : List StampedRow)
+    → IsSegment others bytes → AreNumbered imports others → length rows < length others → ⊥
+
+-- why the room of an entry isn't there, or why its segment isn't read
+abbrev pub IsNotReadAt : RowsFault → ℕ → Entry → List ℕ → Type 0
+IsNotReadAt faults.OutOfMemory imports entry file = Unit {0}
+IsNotReadAt faults.DiskFault imports entry file = Unit {0}
+IsNotReadAt faults.Damaged imports entry file =
+    (rows : List StampedRow) → IsAt file entry rows → AreNumbered imports rows → ⊥
+
+-- ---- the kinds of rows
+
+-- these are places of rows of kinds that the version has
+abbrev pub AreOfKinds : Layout → List RowPlace → Type 0
+AreOfKinds layout places = All (λ (p : RowPlace). HasKind layout p.key.kind) places
+
+-- ---- the rows of all segments
+
+-- segments of these rows, as a store wants them
+pub record AreRead (imports : ℕ) (entries : List Entry)
+    (lists : List (List StampedRow)) : Type 0 where
+  pub segments : AreSegments entries lists
+  pub apart : AreLists lists
+  pub numbered : AllByRecursion (AreNumbered imports) lists
