@@ -12,11 +12,11 @@ use Rattle.history_model.specs.Queries.{get}
 use Rattle.segment.specs.declared.place.RowPlace.{RowPlace}
 use Rattle.segment.specs.Standing.{StandsAt}
 
--- the keys are one
+-- the two keys are equal
 abbrev pub is_same_key : Key → Key → Bool
 is_same_key a b = kind_place a.kind == kind_place b.kind && a.id == b.id && a.time == b.time
 
--- the version is one of those with these keys
+-- the version's key is one of these
 abbrev pub is_among : List Key → RowValue → Bool
 is_among keys row = list_any (λ key. is_same_key key (key_of row)) keys
 

@@ -12,7 +12,7 @@ abbrev pub posted_all : {X : Type 0} → (RowValue → RowPlace → List X) → 
 posted_all posted [] = []
 posted_all posted (x ∷ xs) = posted x.0.row x.1 ++ posted_all posted xs
 
--- each with the number of its list
+-- the items of all lists, each with the number of its list
 abbrev pub numbered : {X : Type 0} → ℕ → List (List X) → List (ℕ × X)
 numbered n [] = []
 numbered n (xs ∷ lists) = map (λ x. (n, x)) xs ++ numbered (n + 1) lists

@@ -16,10 +16,13 @@ use std::alloc::Global;
 /// A row that is to be read: the number of its list, from 0 on, and where it stands.
 #[derive(Clone, Copy, Debug)]
 pub struct Chosen {
+    /// The number of its list, from 0 on.
     pub segment: usize,
+    /// Where it stands in the list.
     pub at: RowPlace,
-    /// The refset and the target of an association; else 0.
+    /// The reference set of an association, by its SCTID; else 0.
     pub refset: u64,
+    /// The target of an association, by its SCTID; else 0.
     pub target: u64,
 }
 

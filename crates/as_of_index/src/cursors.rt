@@ -10,7 +10,7 @@ use rf2_values::{EffectiveTime, Kind};
 use segment::RowPlace;
 use std::alloc::{AllocError, Global};
 
-/// Each at the first place of its list that isn't passed over.
+/// A cursor for each list, at the first place of it that isn't passed over.
 pub(crate) fn cursors_at(
     alloc: Global,
     lists: &[PlaceList],

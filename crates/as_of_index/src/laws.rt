@@ -2,7 +2,7 @@
 
 ghost use Rattle.as_of_index.specs.Places.{PlacesOfLists, ListsMore, ListsMerged};
 
-/// The places of lists of rows, of which each ascends and no two share a key, are such.
+/// If each of some lists of rows ascends and no two share a key, this holds of their places too.
 pub fn places_of_lists()
     ensures { PlacesOfLists }
 {}
@@ -12,7 +12,8 @@ pub fn lists_more()
     ensures { ListsMore }
 {}
 
-/// The same where one is put in the place of two.
+/// Where a list of rows is put in the place of two, and the list of its places in the place of
+/// theirs, the index lists the places still.
 pub fn lists_merged()
     ensures { ListsMerged }
 {}

@@ -33,7 +33,7 @@ children_among keys concept date rows =
     in_order nat_cmp (map (λ row. source_of row.body)
     (filter (λ row. is_child_of concept row && is_among keys row) (snapshot rows date)))
 
--- where each version that says a child is among them, these are the children
+-- if the keys have each version that says a child, the children drawn from these versions are all
 abbrev pub EachChildIsPosted : Type 0
 EachChildIsPosted = (keys : List Key) (concept date : ℕ) (rows : List RowValue)
     → ((row : RowValue) → Has (snapshot rows date) row → is_child_of concept row ≡ true

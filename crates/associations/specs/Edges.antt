@@ -26,7 +26,7 @@ pub record Edges : Type 0 where
 abbrev pub no_edges : Edges
 no_edges = record { links = []; references = []; subjects = [] }
 
--- those of one, and after them those of the other
+-- the links, references and subjects of one, each followed by those of the other
 abbrev pub joined_edges : Edges → Edges → Edges
 joined_edges a b =
     record {
@@ -35,7 +35,7 @@ joined_edges a b =
       subjects = a.subjects ++ b.subjects;
     }
 
--- how many of each
+-- how many links, references and subjects there are
 abbrev pub count_of : Edges → EdgeCount
 count_of e =
     record {
@@ -44,7 +44,7 @@ count_of e =
       subjects = length e.subjects;
     }
 
--- the first so many of each
+-- the first so many links, references and subjects
 abbrev pub first_edges : EdgeCount → Edges → Edges
 first_edges n e =
     record {
@@ -53,33 +53,34 @@ first_edges n e =
       subjects = take n.subjects e.subjects;
     }
 
--- the same, in whatever order
+-- the same links, references and subjects, in whatever order
 pub record AreSameEdges (a b : Edges) : Type 0 where
   pub links : IsPermutation a.links b.links
   pub references : IsPermutation a.references b.references
   pub subjects : IsPermutation a.subjects b.subjects
 
--- the links ascend by destination, the references by what they refer to, and the subjects
+-- the links ascend by destination, the references by what they refer to, and the subjects by what
+-- the rows are about
 pub record IsSealed (e : Edges) : Type 0 where
   pub by_destination : IsNonDecreasingBy (λ l. l.destination) e.links
   pub by_referenced : IsNonDecreasingBy (λ r. r.referenced) e.references
   pub by_subject : IsNonDecreasingBy (λ x. x.subject) e.subjects
 
--- the links of each list, the references, and the subjects
+-- the links of each list, and the references of each list
 abbrev pub links_in : List Edges → List (List Link)
 links_in lists = map (λ e. e.links) lists
 
 abbrev pub references_in : List Edges → List (List Reference)
 references_in lists = map (λ e. e.references) lists
 
--- a relationship's source and destination, and an association's columns, with a place
+-- the link of a relationship at a place, and the reference of an association
 abbrev pub link : Relationship → RowPlace → Link
 link r at = record { destination = r.destination; source = r.source; at = at }
 
 abbrev pub reference : Association → RowPlace → Reference
 reference a at = record { referenced = a.referenced; refset = a.refset; target = a.target; at = at }
 
--- what a body says that stands at a place: a relationship of the type "is a" is a link
+-- what the body of the row at a place says: a relationship of the type "is a" is a link
 abbrev pub link_of_body : Body → RowPlace → List Link
 link_of_body (body.Concept c) at = []
 link_of_body (body.Description d) at = []
@@ -87,7 +88,7 @@ link_of_body (body.Relationship r) at = if r.type_id == is_a then link r at ∷ 
 link_of_body (body.Association a) at = []
 link_of_body (body.Concrete c) at = []
 
--- an association is a reference
+-- what the body of the row at a place says: an association is a reference
 abbrev pub reference_of_body : Body → RowPlace → List Reference
 reference_of_body (body.Concept c) at = []
 reference_of_body (body.Description d) at = []
@@ -118,7 +119,7 @@ edges_of row at =
       subjects = posted_subject row at;
     }
 
--- and of rows with their places
+-- what is posted of rows, each with its place
 abbrev pub posted_edges : List (StampedRow × RowPlace) → Edges
 posted_edges rows =
     record {

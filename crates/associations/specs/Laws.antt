@@ -14,19 +14,20 @@ use Rattle.associations.specs.Replacements.{PostsReferences, reference_keys, rep
 abbrev pub ArePostingsOf : List StampedRow → Edges → Type 0
 ArePostingsOf rows edges = AreSameEdges (posted_edges (with_places 0 rows)) edges
 
--- as many lists of postings as of rows, each those of its rows
+-- there is one list of postings for each list of rows, and it has the postings of these rows
 abbrev pub EachPosted : List (List StampedRow) → List Edges → Type 0
 EachPosted [] [] = Unit {0}
 EachPosted [] (e ∷ edges) = ⊥
 EachPosted (rows ∷ lists) [] = ⊥
 EachPosted (rows ∷ lists) (e ∷ edges) = ArePostingsOf rows e × EachPosted lists edges
 
--- one row more
+-- what is posted of rows and of one row more is what is posted of them, and then of that one
 abbrev pub PushedOneByOne : Type 0
 PushedOneByOne = (rows : List (StampedRow × RowPlace)) (row : StampedRow × RowPlace)
     → posted_edges (rows ++ row ∷ []) ≡ joined_edges (posted_edges rows) (edges_of row.0.row row.1)
 
--- such lists post rows of their own lists
+-- if each list has the postings of its rows, each link is of a row of its list, at its own place,
+-- and so is each reference
 abbrev pub PostedLinksStand : Type 0
 PostedLinksStand = (lists : List (List StampedRow)) (edges : List Edges)
     → EachPosted lists edges → PostsLinks lists edges
@@ -35,7 +36,7 @@ abbrev pub PostedReferencesStand : Type 0
 PostedReferencesStand = (lists : List (List StampedRow)) (edges : List Edges)
     → EachPosted lists edges → PostsReferences lists edges
 
--- and nothing is left out
+-- if each list has the postings of its rows, no child is left out, and no replacement
 abbrev pub PostedLinksAreAll : Type 0
 PostedLinksAreAll = (lists : List (List StampedRow)) (edges : List Edges) (concept date pin : ℕ)
     → EachPosted lists edges
@@ -48,14 +49,14 @@ PostedReferencesAreAll = (lists : List (List StampedRow)) (edges : List Edges) (
     → replacements_among (reference_keys edges) id date (rows_at pin (listed lists))
     ≡ replacements id date (rows_at pin (listed lists))
 
--- they stay such where a list is added
+-- each list has the postings of its rows still after a list and its postings are added
 abbrev pub EdgesMore : Type 0
 EdgesMore =
     (lists : List (List StampedRow)) (edges : List Edges) (rows : List StampedRow) (e : Edges)
     → EachPosted lists edges → ArePostingsOf rows e
     → EachPosted (lists ++ rows ∷ []) (edges ++ e ∷ [])
 
--- and where one is put in the place of two
+-- each list has the postings of its rows still after one is put in the place of two
 abbrev pub EdgesMerged : Type 0
 EdgesMerged = (lists : List (List StampedRow)) (edges : List Edges) (i j : ℕ)
     (rows : List StampedRow) (e : Edges)

@@ -19,26 +19,26 @@ use Rattle.associations.specs.Edges.{Edges}
 abbrev pub subjects_in : List Edges → List (List Subject)
 subjects_in lists = map (λ e. e.subjects) lists
 
--- what the postings give is taken, and nothing else
+-- the new list has what the old one had and what the postings give, and nothing else
 pub record Takes {X Y : Type 0} (Gives : X → Y → Type 0) (xs : List X) (old new : List Y)
     : Type 0 where
   pub kept : (y : Y) → Has old y → Has new y
   pub taken : (x : X) (y : Y) → Has xs x → Gives x y → Has new y
   pub only : (y : Y) → Has new y → Has old y ⊎ ((x : X) × Has xs x × Gives x y)
 
--- of some postings, each with the number of its list, what those of component d give is taken, and
--- nothing else
+-- the list has what those of the postings give that are of component d, and nothing else; with each
+-- posting is the number of its list
 pub record AreTaken {X Y : Type 0} (Gives : ℕ → X → Y → Type 0) (of : X → ℕ) (d : ℕ)
     (xs : List (ℕ × X)) (ys : List Y) : Type 0 where
   pub taken : (x : ℕ × X) (y : Y) → Has xs x → of x.1 ≡ d → Gives x.0 x.1 y → Has ys y
   pub only : (y : Y) → Has ys y
       → (x : ℕ × X) × Has xs x × (of x.1 ≡ d) × Gives x.0 x.1 y
 
--- one that ties with it is there
+-- the list has one that ties with it
 abbrev pub IsThere : {Y : Type 0} → (Y → Y → Ordering) → List Y → Y → Type 0
 IsThere cmp ys y = (z : _) × Has ys z × (cmp y z ≡ Equal)
 
--- in ascending order, and of those that tie one
+-- the list ascends, and has one of those that tie
 pub record AreOnce {Y : Type 0} (cmp : Y → Y → Ordering) (all once : List Y) : Type 0 where
   pub ascending : IsAscending cmp once
   pub there : (y : Y) → Has all y → IsThere cmp once y
@@ -50,7 +50,7 @@ pub record GivesAnswer {X Y : Type 0} (place : X → RowPlace) (answer : ℕ →
   pub current : IsCurrentAt lists date pin n (place x)
   pub answer_is : answer n x ≡ y
 
--- a link its source
+-- a link that is current gives its source
 abbrev pub GivesSource : List (List StampedRow) → ℕ → ℕ → ℕ → Link → ℕ → Type 0
 GivesSource = GivesAnswer (λ l. l.at) (λ n l. l.source)
 
@@ -61,7 +61,8 @@ abbrev pub AreSources : List (List StampedRow) → ℕ → ℕ → ℕ → List 
 AreSources lists date pin d xs ids =
     (all : List ℕ) × AreSourcesTaken lists date pin d xs all × AreOnce nat_cmp all ids
 
--- a reference what is to be read, with its rank
+-- what is to be read for a reference of list n: its place, with refset and target, by which the
+-- answer is ordered
 abbrev pub ranked : ℕ → Reference → Chosen
 ranked n r = record { segment = n; at = r.at; refset = r.refset; target = r.target }
 

@@ -33,7 +33,8 @@ replacements_among keys id date rows =
     in_order replacement_cmp
     (filter (λ row. is_replacement_of id row && is_among keys row) (snapshot rows date))
 
--- where each of them is among the keys, these are the replacements
+-- if the keys have each active association of the component, those drawn from these versions are
+-- all
 abbrev pub EachReplacementIsPosted : Type 0
 EachReplacementIsPosted = (keys : List Key) (id date : ℕ) (rows : List RowValue)
     → ((row : RowValue) → Has (snapshot rows date) row → is_replacement_of id row ≡ true

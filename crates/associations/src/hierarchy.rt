@@ -19,7 +19,7 @@ use as_of_index::Index;
 use rf2_values::{EffectiveTime, Sctid};
 use std::alloc::{AllocError, Global};
 
-/// Those of the links that lead to a destination.
+/// The links to a destination.
 fn links_to(list: &[Link], destination: u64) -> &[Link]
     ensures { IsNonDecreasingBy (λ l. l.destination) list.now →
         (l : _) → Has result.now l ↔ (Has list.now l × (l.destination ≡ destination)) }
@@ -50,7 +50,7 @@ fn add_sources(
     Ok(())
 }
 
-/// Each number once, ascending. It takes no memory.
+/// Sorts the numbers, and keeps each once. It takes no memory.
 fn sort_once(ids: &mut Vec<u64>)
     ensures { AreOnce nat_cmp ids.old.items ids.new.items }
 {
@@ -97,7 +97,7 @@ pub fn children(
         → ids.items ≡ children_among (link_keys links.now) concept time
         (rows_at pin (listed lists))) }
 {
-    // It says that no key is listed twice.
+    // Its contract says that no key is listed twice.
     let _listed = index.lists();
     sources(alloc, links.as_slice(), index, concept.value(), time, pin)
 }

@@ -19,12 +19,13 @@ pub fn pushed_one_by_one()
     ensures { PushedOneByOne }
 {}
 
-/// Links that were pushed each with its own place stand for rows of their lists.
+/// If each list has the postings of its rows, each link is of a row of its list, at its own place.
 pub fn posted_links_stand()
     ensures { PostedLinksStand }
 {}
 
-/// The same of references.
+/// If each list has the postings of its rows, each reference is of a row of its list, at its own
+/// place.
 pub fn posted_references_stand()
     ensures { PostedReferencesStand }
 {}
@@ -34,17 +35,17 @@ pub fn posted_links_are_all()
     ensures { PostedLinksAreAll }
 {}
 
-/// The same of references and replacements.
+/// Where all rows' references are posted, the replacements drawn from the postings are all.
 pub fn posted_references_are_all()
     ensures { PostedReferencesAreAll }
 {}
 
-/// The lists are postings of their rows still where a list is added.
+/// The lists are postings of their rows still after a list is added.
 pub fn edges_more()
     ensures { EdgesMore }
 {}
 
-/// And where one is put in the place of two.
+/// The lists are postings of their rows still after one is put in the place of two.
 pub fn edges_merged()
     ensures { EdgesMerged }
 {}

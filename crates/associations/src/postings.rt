@@ -19,6 +19,7 @@ pub struct Link {
     pub destination: u64,
     /// The child: the SCTID of a concept.
     pub source: u64,
+    /// The row's place.
     pub at: RowPlace,
 }
 
@@ -31,6 +32,7 @@ pub struct Reference {
     pub refset: u64,
     /// The component that it leads to, by its SCTID.
     pub target: u64,
+    /// The row's place.
     pub at: RowPlace,
 }
 
@@ -186,7 +188,7 @@ fn sort_subjects(subjects: &mut Vec<Subject>)
 }
 
 impl Postings {
-    /// None. It takes no memory; later calls take theirs from `alloc`.
+    /// No postings. It takes no memory; later calls take theirs from `alloc`.
     pub fn new(alloc: Global) -> Postings
         ensures { result ≡ no_edges }
     {
@@ -209,7 +211,7 @@ impl Postings {
         Ok(())
     }
 
-    /// How many there are, for `cut_to`.
+    /// How many links, references and subjects there are, for `cut_to`.
     pub fn len(&self) -> EdgeCount
         ensures { result ≡ count_of self.now }
     {
@@ -229,7 +231,7 @@ impl Postings {
         self.subjects.truncate(len.subjects);
     }
 
-    /// Each in order. It takes no memory.
+    /// The links, references and subjects, each in order. It takes no memory.
     pub fn seal(self) -> Sealed
         ensures same { AreSameEdges self result }
         ensures rising { IsSealed result }

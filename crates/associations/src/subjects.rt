@@ -28,7 +28,7 @@ use segment::RowPlace;
 use std::alloc::{AllocError, Global};
 use std::cmp::Ordering;
 
-/// Those of a component.
+/// The subjects that are a component.
 fn subjects_of(list: &[Subject], id: u64) -> &[Subject]
     ensures { IsNonDecreasingBy (λ x. x.subject) list.now →
         (x : _) → Has result.now x ↔ (Has list.now x × (x.subject ≡ id)) }
@@ -50,7 +50,7 @@ fn chosen(segment: usize, at: RowPlace) -> Chosen
     }
 }
 
-/// By id.
+/// The order of the answer: by id.
 fn compare(a: &Chosen, b: &Chosen) -> Ordering
     ensures { result ≡ chosen_cmp a.now b.now }
 {
@@ -63,7 +63,7 @@ fn is_same_id(a: &Chosen, b: &Chosen) -> bool
     compare(a, b).is_eq()
 }
 
-/// One of each id, ascending. It takes no memory.
+/// Sorts the rows by id, and keeps one of each id. It takes no memory.
 fn sort_once(kept: &mut Vec<Chosen>)
     ensures { AreOnce chosen_cmp kept.old.items kept.new.items }
 {
@@ -102,7 +102,7 @@ fn current_from(
     }
 }
 
-/// Adds those that are of the kind and current.
+/// Adds what is to be read for those of the subjects whose rows are of the kind and current.
 fn add_current(
     kept: &mut Vec<Chosen>,
     subjects: &[Subject],
@@ -176,7 +176,7 @@ pub fn about<R: RowReader>(
         (R.disk_faults reader.old) (R.disk_faults reader.new) }
     ensures damages { Counts CountsDamage result (R.damages reader.old) (R.damages reader.new) }
 {
-    // It says that no key is listed twice.
+    // Its contract says that no key is listed twice.
     let _listed = index.lists();
     let kept = chosen_all(alloc, links.as_slice(), index, kind, id.value(), time, pin)?;
     read_all(alloc, reader, kept.as_slice())

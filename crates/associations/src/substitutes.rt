@@ -24,7 +24,7 @@ use rf2_values::{EffectiveTime, Row, Sctid};
 use std::alloc::{AllocError, Global};
 use std::cmp::Ordering;
 
-/// Those that refer to a component.
+/// The references to a component.
 fn references_to(list: &[Reference], referenced: u64) -> &[Reference]
     ensures { IsNonDecreasingBy (λ r. r.referenced) list.now →
         (r : _) → Has result.now r ↔ (Has list.now r × (r.referenced ≡ referenced)) }
@@ -46,7 +46,7 @@ fn chosen(segment: usize, r: &Reference) -> Chosen
     }
 }
 
-/// By refset, then by target, then by member.
+/// The order of the answer: by refset, then by target, then by member.
 fn rank(a: &Chosen, b: &Chosen) -> Ordering
     ensures { result ≡ ranked_cmp a.now b.now }
 {
@@ -59,7 +59,7 @@ fn is_same_rank(a: &Chosen, b: &Chosen) -> bool
     rank(a, b).is_eq()
 }
 
-/// One of each rank, ascending. It takes no memory.
+/// Sorts the rows in this order, and keeps one of those that tie. It takes no memory.
 fn sort_once(kept: &mut Vec<Chosen>)
     ensures { AreOnce ranked_cmp kept.old.items kept.new.items }
 {
@@ -67,7 +67,7 @@ fn sort_once(kept: &mut Vec<Chosen>)
     kept.dedup_by(|a, b| is_same_rank(a, b));
 }
 
-/// Adds those that are current.
+/// Adds what is to be read for those of the references that are current.
 fn add_references(
     kept: &mut Vec<Chosen>,
     references: &[Reference],
@@ -138,7 +138,7 @@ pub fn replacements<R: RowReader>(
         (R.disk_faults reader.old) (R.disk_faults reader.new) }
     ensures damages { Counts CountsDamage result (R.damages reader.old) (R.damages reader.new) }
 {
-    // It says that no key is listed twice.
+    // Its contract says that no key is listed twice.
     let _listed = index.lists();
     let kept = chosen_all(alloc, links.as_slice(), index, component.value(), time, pin)?;
     read_all(alloc, reader, kept.as_slice())

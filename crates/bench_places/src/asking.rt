@@ -60,7 +60,7 @@ pub(crate) fn one_row() -> io::Result<OneRow> {
 }
 
 /// Some number below `size`.
-pub(crate) fn scrambled(n: u64, size: u64) -> u64 {
+pub(crate) fn scramble(n: u64, size: u64) -> u64 {
     let x = n
         .wrapping_mul(6_364_136_223_846_793_005)
         .wrapping_add(1_442_695_040_888_963_407);
@@ -78,7 +78,7 @@ pub(crate) fn picks(
     let watch = Watch::start(rt)?;
     let mut found = 0u64;
     for n in 0..size / 20 {
-        let id = u128::from(scrambled(n, size / 2));
+        let id = u128::from(scramble(n, size / 2));
         let row = index.get(reader, Kind::Association, id, date, 1);
         if let Ok(Some(_row)) = row {
             found = found.wrapping_add(1);
@@ -102,7 +102,7 @@ pub(crate) fn pages(
     let watch = Watch::start(rt)?;
     let mut rows = 0u64;
     for n in 0..100u64 {
-        let after = Some(u128::from(scrambled(n, size / 4)));
+        let after = Some(u128::from(scramble(n, size / 4)));
         if let Ok(page) = index.page(reader, Kind::Association, date, after, limit, 1) {
             rows = rows.wrapping_add(page.len() as u64);
         }

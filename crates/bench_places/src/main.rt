@@ -8,7 +8,7 @@ mod making;
 mod watch;
 
 use asking::{OneRow, ask_about, ask_children, one_row, pages, picks, searches};
-use making::{Made, Order, made_lists};
+use making::{Made, Order, make_lists};
 use std::rt::HostRuntime;
 use std::{env, io};
 
@@ -26,12 +26,12 @@ fn questions(rt: &HostRuntime, made: &Made, reader: &mut OneRow, quiet: bool) ->
 
 fn run(rt: &HostRuntime, size: u64, lists: u64, quiet: bool) -> io::Result<()> {
     let mut reader = one_row()?;
-    let made = made_lists(rt.alloc(), size, lists, Order::Mixed)?;
+    let made = make_lists(rt.alloc(), size, lists, Order::Mixed)?;
     picks(rt, &made.index, &mut reader, size, quiet)?;
     pages(rt, &made.index, &mut reader, size, 10, quiet)?;
     pages(rt, &made.index, &mut reader, size, 1000, quiet)?;
     questions(rt, &made, &mut reader, quiet)?;
-    let worst = made_lists(rt.alloc(), size, lists, Order::Falling)?;
+    let worst = make_lists(rt.alloc(), size, lists, Order::Falling)?;
     questions(rt, &worst, &mut reader, quiet)
 }
 

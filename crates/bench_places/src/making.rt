@@ -1,6 +1,6 @@
 //! Made rows, and lists of their places and postings.
 
-use crate::asking::scrambled;
+use crate::asking::scramble;
 use as_of_index::{Index, MAX_LISTS, PlaceList, RowPlace};
 use associations::Links;
 use history_model::{IS_A, StampedRow};
@@ -79,7 +79,7 @@ fn numbered(item: u64, partition: u64) -> io::Result<Sctid> {
     Err(other("no check digit"))
 }
 
-fn stamped(id: u128, body: Body) -> io::Result<StampedRow> {
+fn stamp(id: u128, body: Body) -> io::Result<StampedRow> {
     let row = Row::of(id, day(20_200_131)?, true, sctid(CORE)?, body).ok_or(other("no row"))?;
     Ok(StampedRow { row, import: 1 })
 }
@@ -90,7 +90,7 @@ pub(crate) fn one_association() -> io::Result<StampedRow> {
         referenced: sctid(1_000_004)?,
         target: sctid(2_000_001)?,
     });
-    stamped(1, body)
+    stamp(1, body)
 }
 
 fn text(alloc: Global, value: &str) -> io::Result<Text> {
@@ -107,7 +107,7 @@ fn description(alloc: Global, item: u64, number: u64) -> io::Result<StampedRow> 
         term: text(alloc, term.as_str())?,
         case_significance: sctid(CASE_INSENSITIVE)?,
     });
-    stamped(u128::from(numbered(item, 1)?.value()), body)
+    stamp(u128::from(numbered(item, 1)?.value()), body)
 }
 
 /// A relationship that says that a concept is a child of the root.
@@ -120,13 +120,13 @@ fn relationship(item: u64) -> io::Result<StampedRow> {
         characteristic_type: sctid(INFERRED)?,
         modifier: sctid(MODIFIER)?,
     });
-    stamped(u128::from(numbered(item, 2)?.value()), body)
+    stamp(u128::from(numbered(item, 2)?.value()), body)
 }
 
 /// The number in an item's term, of six digits where there are fewer than 900,000.
 fn number_of(item: u64, count: u64, order: Order) -> u64 {
     match order {
-        Order::Mixed => scrambled(item, 900_000).wrapping_add(100_000),
+        Order::Mixed => scramble(item, 900_000).wrapping_add(100_000),
         Order::Falling => count.wrapping_sub(item).wrapping_add(100_000),
     }
 }
@@ -244,7 +244,7 @@ impl Made {
 
 /// The last list has half of the associations, and the others a second version of each of them; of
 /// descriptions and relationships each list has as many.
-pub(crate) fn made_lists(alloc: Global, size: u64, lists: u64, order: Order) -> io::Result<Made> {
+pub(crate) fn make_lists(alloc: Global, size: u64, lists: u64, order: Order) -> io::Result<Made> {
     let mut made = Made::new(alloc)?;
     let large = size / 2;
     let more = if lists < 2 { 1 } else { lists - 1 };

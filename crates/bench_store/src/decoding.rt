@@ -1,7 +1,7 @@
 //! An opening, and beside it the decoding of the same bytes with no store round it.
 
-use crate::opened;
-use crate::watch::started;
+use crate::open_store;
+use crate::watch::start_watch;
 use blocks::{BLOCK, read_current};
 use directory::{Directory, Entry};
 use disk_model::FileDisk;
@@ -18,7 +18,7 @@ fn segment_in<'a>(bytes: &'a [u8], entry: &Entry) -> Option<&'a [u8]> {
 }
 
 /// The directory of the store in a file.
-fn listed(rt: &HostRuntime, path: &str) -> Option<Directory> {
+fn read_directory(rt: &HostRuntime, path: &str) -> Option<Directory> {
     let mut disk = FileDisk::open(rt, path).ok()?;
     let mut content = [0; 4096];
     let _current = read_current(&mut disk, &mut content).ok()?;
@@ -27,15 +27,15 @@ fn listed(rt: &HostRuntime, path: &str) -> Option<Directory> {
 
 /// Opens the store and decodes its segments, and says what each took. How many rows were decoded.
 pub(crate) fn open_and_decode(rt: &HostRuntime, path: &str) -> Option<u64> {
-    let reading = started(rt)?;
+    let reading = start_watch(rt)?;
     let bytes = fs::read(rt, path).ok()?;
     reading.tell(rt, "read the file")?;
-    let opening = started(rt)?;
-    let store = opened(rt, path)?;
+    let opening = start_watch(rt)?;
+    let store = open_store(rt, path)?;
     opening.tell(rt, "open")?;
     drop(store);
-    let directory = listed(rt, path)?;
-    let decoding = started(rt)?;
+    let directory = read_directory(rt, path)?;
+    let decoding = start_watch(rt)?;
     let mut rows: u64 = 0;
     for entry in directory.entries() {
         let found = decode(rt.alloc(), segment_in(&bytes, entry)?).ok()?;

@@ -21,7 +21,7 @@ use std::{env, fs};
 
 /// The store in a file. It is boxed, so that a function which
 /// lets it go is proved without what a store is made of.
-fn opened(rt: &HostRuntime, path: &str) -> Option<Box<Store<FileDisk>>> {
+fn open_store(rt: &HostRuntime, path: &str) -> Option<Box<Store<FileDisk>>> {
     let disk = FileDisk::open(rt, path).ok()?;
     match Store::open(rt.alloc(), disk) {
         Ok(store) => Box::new(rt.alloc(), store).ok(),
@@ -40,7 +40,7 @@ fn make(rt: &HostRuntime, path: &str) -> Option<u64> {
 
 /// Imports a release of a folder. How many rows are new.
 fn import(rt: &HostRuntime, path: &str, folder: &str, name: &str) -> Option<u64> {
-    let mut store = opened(rt, path)?;
+    let mut store = open_store(rt, path)?;
     let release = read_folder(rt, rt.alloc(), folder, name).ok()?;
     match store.import(&release) {
         Ok(receipt) => Some(receipt.new),
@@ -50,7 +50,7 @@ fn import(rt: &HostRuntime, path: &str, folder: &str, name: &str) -> Option<u64>
 
 /// Searches for ten descriptions by each prefix of a file. How many rows that are.
 fn search_terms(rt: &HostRuntime, path: &str, prefixes: &str) -> Option<u64> {
-    let mut store = opened(rt, path)?;
+    let mut store = open_store(rt, path)?;
     let prefixes = fs::read(rt, prefixes).ok()?;
     let time = EffectiveTime::of(20_251_231)?;
     let pin = store.imports();
@@ -69,7 +69,7 @@ fn search_terms(rt: &HostRuntime, path: &str, prefixes: &str) -> Option<u64> {
 
 /// Asks of each concept of a file what the word says. How many rows or ids are found.
 fn ask_each(rt: &HostRuntime, what: &str, path: &str, ids: &str) -> Option<u64> {
-    let mut store = opened(rt, path)?;
+    let mut store = open_store(rt, path)?;
     let ids = concepts(rt.alloc(), &fs::read(rt, ids).ok()?).ok()?;
     match what {
         "lookups" => look_up(&mut *store, &ids),
@@ -94,7 +94,7 @@ fn run(rt: &HostRuntime) -> Option<()> {
             words.next()?.as_str(),
             words.next()?.as_str(),
         )?,
-        "open" => opened(rt, path.as_str())?.row_count(),
+        "open" => open_store(rt, path.as_str())?.row_count(),
         "decode" => decoding::open_and_decode(rt, path.as_str())?,
         "lookups" | "pages" | "children" => {
             ask_each(rt, what.as_str(), path.as_str(), words.next()?.as_str())?

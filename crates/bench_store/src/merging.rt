@@ -1,7 +1,7 @@
 //! Merges of the two smallest segments, and what they are to be held against.
 
 use crate::asking::{concepts, look_up};
-use crate::opened;
+use crate::open_store;
 use disk_model::{Disk, FileDisk, MAX_END};
 use history_store::Store;
 use rf2_rows::{EffectiveTime, Kind};
@@ -33,7 +33,7 @@ fn take_all(store: &mut Store<FileDisk>) -> Option<u64> {
 
 /// Merges two segments and publishes the output. How many steps that were.
 pub fn merge(rt: &HostRuntime, path: &str) -> Option<u64> {
-    let mut store = opened(rt, path)?;
+    let mut store = open_store(rt, path)?;
     let steps = take_all(&mut *store)?;
     store.merge_publish().ok()?;
     Some(steps)
@@ -49,7 +49,7 @@ enum Between {
 }
 
 /// Begins a merge, where the way of the lookups asks for one.
-fn prepared(store: &mut Store<FileDisk>, way: &str) -> Option<Between> {
+fn prepare(store: &mut Store<FileDisk>, way: &str) -> Option<Between> {
     match way {
         "none" => Some(Between::Nothing),
         "half" => {
@@ -98,9 +98,9 @@ fn go_between(
 /// a page before each group (`pages`). Says what the lookups, and what goes before the groups, took
 /// of the processor. How many are found.
 pub fn look_up_in_groups(rt: &HostRuntime, path: &str, ids: &str, way: &str) -> Option<u64> {
-    let mut store = opened(rt, path)?;
+    let mut store = open_store(rt, path)?;
     let ids = concepts(rt.alloc(), &fs::read(rt, ids).ok()?).ok()?;
-    let between = prepared(&mut *store, way)?;
+    let between = prepare(&mut *store, way)?;
     let mut after = None;
     let mut found: u64 = 0;
     let mut asked: u128 = 0;

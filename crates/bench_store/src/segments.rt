@@ -1,8 +1,8 @@
 //! What a store costs whose rows lie in many segments.
 
 use crate::asking::{concepts, look_up, turn_pages};
-use crate::opened;
-use crate::watch::started;
+use crate::open_store;
+use crate::watch::start_watch;
 use std::fs;
 use std::rt::HostRuntime;
 
@@ -13,8 +13,8 @@ const PAGES: usize = 1_000;
 fn open_often(rt: &HostRuntime, path: &str, times: u32) -> Option<u32> {
     let mut segments = 0;
     for _ in 0..times {
-        let opening = started(rt)?;
-        let store = opened(rt, path)?;
+        let opening = start_watch(rt)?;
+        let store = open_store(rt, path)?;
         opening.tell(rt, "open")?;
         segments = store.segments();
     }
@@ -27,12 +27,12 @@ fn open_often(rt: &HostRuntime, path: &str, times: u32) -> Option<u32> {
 pub(crate) fn open_and_ask(rt: &HostRuntime, path: &str, ids: &str, times: &str) -> Option<u64> {
     let segments = open_often(rt, path, times.parse::<u32>().ok()?)?;
     let ids = concepts(rt.alloc(), &fs::read(rt, ids).ok()?).ok()?;
-    let mut store = opened(rt, path)?;
-    let looking = started(rt)?;
+    let mut store = open_store(rt, path)?;
+    let looking = start_watch(rt)?;
     let found = look_up(&mut *store, &ids)?;
     looking.tell(rt, "lookups")?;
     println!(rt; "{found} found").ok()?;
-    let turning = started(rt)?;
+    let turning = start_watch(rt)?;
     let found = turn_pages(&mut *store, ids.get(..PAGES)?)?;
     turning.tell(rt, "pages")?;
     println!(rt; "{found} found").ok()?;

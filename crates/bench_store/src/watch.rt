@@ -10,7 +10,7 @@ pub(crate) struct Watch {
     processor: u128,
 }
 
-pub(crate) fn started(rt: &HostRuntime) -> Option<Watch> {
+pub(crate) fn start_watch(rt: &HostRuntime) -> Option<Watch> {
     let processor = rt.process_cpu_time().ok()?.as_micros();
     Some(Watch {
         wall: Instant::now(rt).ok()?,

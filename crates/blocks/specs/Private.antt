@@ -3,7 +3,7 @@
 use Rattle.std.specs.Prelude.{◌≡◌, ℕ, ◌<◌, ◌≤◌, List, length, slice_index, ◌≢◌, ◌⊎◌, [], ◌∷◌, ◌&&◌}
 use Rattle.std.specs.Prelude.{Bool, nat_le, nat_lt, Option, Some, None}
 
--- n bytes at its head, all zero
+-- the file begins with n bytes that are all zero
 pub record BeginsWithZeros (n : ℕ) (file : List ℕ) : Type 0 where
   pub long : n ≤ length file
   pub zeros : (i : ℕ) → i < n → slice_index file i ≡ 0
@@ -14,7 +14,7 @@ abbrev pub Closes : ℕ → List ℕ → List ℕ → Type 0
 Closes at now bytes =
     ((bytes ≡ []) × (slice_index now at ≢ 165)) ⊎ ((bytes ≡ 0 ∷ []) × (slice_index now at ≡ 165))
 
--- a block from one on, and before another where there is one
+-- the block is not below the first one, and below the end if one is given
 abbrev pub is_within : ℕ → Option ℕ → ℕ → Bool
 is_within from None block = nat_le from block
 is_within from (Some end) block = nat_le from block && nat_lt block end

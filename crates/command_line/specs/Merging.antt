@@ -20,7 +20,7 @@ IsMergeLine line =
 abbrev pub trim_line : List ℕ
 trim_line = codes "0 TRIM"
 
--- such a line was answered OK
+-- a line that begins, carries on or publishes a merge was answered OK
 abbrev pub IsMergeTurn : Turn → Type 0
 IsMergeTurn turn = IsMergeLine turn.line × IsOk turn.outcome
 

@@ -43,7 +43,7 @@ pub record HaveMerged {D : Type 0} (honest : D → Type 0) (moments : D → Mome
   pub merges : AllByRecursion IsMergeTurn turns
   pub run : Run ⊤ (λ _. None) honest moments failures old turns new
 
--- rows were taken, of as many segments
+-- all rows of the merge were taken, and there are as many segments as before
 abbrev pub MergesRows : {D : Type 0} → (D → Type 0) → (D → Moments) → (D → ℕ)
     → Result (Unit {0}) ReplyValue → Server D → Server D → Type 0
 MergesRows honest moments failures (Ok done) old new =
@@ -59,7 +59,7 @@ IsOneLess honest moments failures (Ok done) old new =
 IsOneLess honest moments failures (Err reply) old new =
     IsHalted honest moments failures reply old new
 
--- segments were merged until so many stood
+-- segments were merged until so many were left, and the disk was trimmed
 abbrev pub IsTrimmedTo : {D : Type 0} → (D → Type 0) → (D → Moments) → (D → ℕ) → ℕ
     → Result (Unit {0}) ReplyValue → Server D → Server D → Type 0
 IsTrimmedTo honest moments failures most (Ok done) old new =
@@ -83,11 +83,11 @@ fault_name faults.Reads = codes "Reads"
 abbrev pub fault_line : ServeFault → List ℕ
 fault_line fault = line (codes "ERR" ∷ decimal (fault_number fault) ∷ fault_name fault ∷ [])
 
--- something was told so
+-- some outcome was told, and the task ended accordingly
 abbrev pub Tells : Result Ending ServeFault → Option (List ℕ) → Option (List ℕ) → Type 0
 Tells result old new = (outcome : Result Answer LineRefusal) × IsTold result outcome old new
 
--- the reply says an answer or a refusal
+-- the reply is that of some answer or refusal
 abbrev pub IsReply : ReplyValue → Type 0
 IsReply reply = (outcome : Result Answer LineRefusal) × (reply ≡ reply_value outcome)
 

@@ -28,7 +28,7 @@ use Rattle.command_line.specs.Tasks.{IsMade, IsImport, IsStatus, IsServing, IsSe
 abbrev pub IsMissing : Result Ending ServeFault → Option (List ℕ) → Option (List ℕ) → Type 0
 IsMissing ended old new = IsTold ended (Err (Store DiskFault)) old new
 
--- it was done on what stands under a name, which was left so; or that can't be had
+-- the task was done on what is under a name, which was left so; or that can't be had
 abbrev pub IsDoneAt : {D : Type 0} → (D → Type 0) → (D → D → Type 0) → Type 0 → Option D → Type 0
 IsDoneAt {D} had done missing left =
     ((device : D) × (after : D) × had device × done device after × (left ≡ Some after))
@@ -45,9 +45,9 @@ pub record IsDemonstrated (script : List ℕ) (ended : Result Ending ServeFault)
   pub serving : IsServingNew ⊤ sample_files
       (λ _. Unit {0}) memory_moments failure_count disk left ended (Some script) rest old new
 
--- the task was done so, and the device that it was done on was left so: a store is made on what
--- was made under its name and keeps it, and all else is done on what stood under its name;
--- only a server reads, and the demonstration is done on none
+-- how each task is done, and how its device is left: a store is made on what was made under its
+-- name and keeps it, and all else is done on what was under its name; only a server reads, and the
+-- demonstration has no device
 abbrev pub Does : {D : Type 0} → (List ℕ → D → Type 0) → (List ℕ → Type 0)
     → (List ℕ → D → Type 0) → (List ℕ → Type 0) → (List ℕ → Type 0)
     → Type 0 → (List ℕ → Releases) → (D → Type 0) → (D → Moments) → (D → ℕ) → List ℕ

@@ -22,7 +22,7 @@ use Rattle.command_line.specs.declared.endings.Ending.{Ending}
 use Rattle.command_line.specs.declared.endings.Ending.TheVariants.{Done}
 use Rattle.command_line.specs.Endings.{IsTold}
 
--- a store, or why there is none, and its device
+-- a store, or why there is none, and then its device
 abbrev pub StoreOr : Type 0 → Type 0
 StoreOr D = Result (StoreValue D) (Refusal × D)
 
@@ -56,7 +56,7 @@ pub record IsOpening {D : Type 0} (honest : D → Type 0) (moments : D → Momen
 
 -- ---- init
 
--- that a store was made, or why not
+-- what is told of the making of a store: that it was made, or why not
 abbrev pub making_told : {D : Type 0} → StoreOr D → Result Answer LineRefusal
 making_told (Ok store) = Ok (AllDone [])
 making_told (Err e) = Err (Store e.0)
@@ -85,14 +85,14 @@ pub record IsLineTold {D : Type 0} (honest_source : Type 0) (has : Releases) (ho
   pub told : IsTold ended turn.outcome old new
   pub left_so : left ≡ after.disk
 
--- it was done on the store; or it was told why there is none, and
--- the device was left as the opening left it
+-- the task was done on the store; or it was told why there is none, and the device was left as the
+-- opening left it
 abbrev pub OnStore : {D : Type 0} → (StoreValue D → Type 0) → StoreOr D → D
     → Result Ending ServeFault → Option (List ℕ) → Option (List ℕ) → Type 0
 OnStore done (Ok store) left ended old new = done store
 OnStore done (Err e) left ended old new = IsTold ended (Err (Store e.0)) old new × (left ≡ e.1)
 
--- the store was opened from this device, and it was done on it
+-- the store was opened from this device, and the task was done on it
 pub record IsOnOpened {D : Type 0} (honest : D → Type 0) (moments : D → Moments) (failures : D → ℕ)
     (done : StoreValue D → Type 0) (device left : D)
     (ended : Result Ending ServeFault) (old new : Option (List ℕ)) : Type 0 where
@@ -106,7 +106,7 @@ pub record IsOnOpened {D : Type 0} (honest : D → Type 0) (moments : D → Mome
 abbrev pub import_line : List ℕ → List ℕ
 import_line name = codes "0 IMPORT " ++ name
 
--- the line that imports the release was answered, or memory lacked for it
+-- the line that imports the release was answered, or memory ran out for the line
 abbrev pub Imports : {D : Type 0} → Type 0 → Releases → (D → Type 0) → (D → Moments) → (D → ℕ)
     → List ℕ → D → Result Ending ServeFault → Option (List ℕ) → Option (List ℕ) → StoreValue D
     → Type 0
@@ -128,7 +128,7 @@ IsImport honest_source has honest moments failures name device left ended old ne
 abbrev pub status_line : List ℕ
 status_line = codes "0 STATUS"
 
--- the line that asks for the status was answered, where there is no release
+-- the line that asks for the status was answered, from a source without releases
 abbrev pub TellsStatus : {D : Type 0} → (D → Type 0) → (D → Moments) → (D → ℕ) → D
     → Result Ending ServeFault → Option (List ℕ) → Option (List ℕ) → StoreValue D → Type 0
 TellsStatus honest moments failures left ended old new store =

@@ -17,19 +17,19 @@ use Rattle.command_line.specs.declared.words.Refused.TheVariants as refusals
 
 -- ---- the commands
 
--- a value that has to be given
+-- an argument that has to be given
 abbrev pub wanted : Text → Rule
 wanted id = record (new_rule id) { value_names = 1; action = Some Set; required = true }
 
--- behind `--` and its name
+-- an option that has to be given: a value behind `--` and the name
 abbrev pub option : Text → Rule
 option id = record (wanted id) { long = Some id }
 
--- the same, if it is given
+-- an option that may be given
 abbrev pub optional : Text → Rule
 optional id = record (option id) { required = false }
 
--- true where `--` and its name stand
+-- a flag: true where `--` and the name are given
 abbrev pub flag : Text → Rule
 flag id = record (new_rule id) { long = Some id; action = Some SetTrue }
 
@@ -49,7 +49,7 @@ import_command = with_rule (with_rule
 abbrev pub status_command : App
 status_command = with_rule (new_app (codes "status")) (option (codes "store"))
 
--- from 1 to 250, and 1 if it isn't given
+-- the option `--segments`: from 1 to 250, and 1 if it isn't given
 abbrev pub segments_option : Rule
 segments_option = record (option (codes "segments")) {
   parser = Some (Unsigned 1 250);
@@ -110,7 +110,7 @@ Reads (Some read) tasks.Demo = read.0 ≡ codes "demo"
 abbrev pub AskFor : List Text → Task → Type 0
 AskFor words task = (fault_of program words ≡ []) × Reads (subcommand_of program words) task
 
--- why they ask for none; memory may lack
+-- why the words ask for no task; memory may run out
 abbrev pub AskForNone : List Text → Refused → Type 0
 AskForNone words refusals.OutOfMemory = Unit {0}
 AskForNone words (refusals.Words error) = IsAmong (kind_of error) (fault_of program words)

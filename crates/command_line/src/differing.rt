@@ -3,7 +3,8 @@
 use import_check::ReleaseFile;
 
 /// Looks in a release for the first row of the same kind, id and date that differs from a refused
-/// one, of which the file and the line are given, both from 1: so is the answer.
+/// one. The refused row is given by its file and its line, both counted from 1, and the answer is
+/// the same pair of the other row.
 pub(crate) fn find_other(
     files: &[ReleaseFile],
     file: usize,

@@ -23,7 +23,7 @@ pub enum Ending {
     Refused,
 }
 
-/// Sees that all that was written goes out. The status.
+/// Flushes what was written, and answers the status.
 pub(crate) fn finish<O: Write, E: Write>(
     ended: Result<Ending, ServeFault>,
     output: &mut O,
@@ -42,7 +42,7 @@ pub(crate) fn finish<O: Write, E: Write>(
     }
 }
 
-/// Writes a fault of a stream or of the memory, if that can be had. The status.
+/// Writes that a stream failed or that memory ran out, if it can, and answers the status.
 pub(crate) fn fail<E: Write>(fault: ServeFault, faults: &mut E) -> u8
     ensures { result ≡ 1 }
 {

@@ -9,7 +9,7 @@ use line_server::{Source, SourceFault};
 use std::alloc::Global;
 use std::io::Write;
 
-/// Has the releases in the folders below one.
+/// The releases in the folders below one folder.
 #[derive(Drop)]
 pub struct FolderSource<'a, P: Places, E: Write> {
     pub places: &'a P,

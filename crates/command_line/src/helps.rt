@@ -1,6 +1,6 @@
 //! What stands at the end of each help: examples, and where the guide is.
 
-/// Of the program.
+/// The end of the program's own help.
 pub(crate) const PROGRAM: &str = "Examples:
   sctd demo
   sctd init --store terms.store
@@ -19,7 +19,7 @@ pub(crate) const IMPORT: &str = "Examples:
 
 The guide tells more: docs/GUIDE.md, \"Importing a release\"";
 
-/// Has an example of each command of a line.
+/// The end of the help of `serve`, with an example of each command of a line.
 pub(crate) const SERVE: &str =
     "A line is the number of a session, 0 to 1023, a command and its arguments, with
 single spaces between them. A date is eight digits. A kind is C (concepts),

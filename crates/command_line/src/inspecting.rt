@@ -16,7 +16,7 @@ use std::io::Write;
 /// The line that asks for the status.
 pub(crate) const STATUS: &[u8] = b"0 STATUS";
 
-/// Has no release.
+/// A source without releases.
 #[derive(Clone, Copy)]
 pub(crate) struct NoReleases;
 

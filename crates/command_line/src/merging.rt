@@ -22,7 +22,7 @@ const PUBLISH: &[u8] = b"0 PUBLISH";
 
 const TRIM: &[u8] = b"0 TRIM";
 
-/// Answers a line; its reply, where it is refused.
+/// Answers a line, and gives the reply back where it is refused.
 fn ask<D: Disk>(
     alloc: Global,
     line: &[u8],

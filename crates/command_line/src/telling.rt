@@ -92,7 +92,9 @@ pub(crate) fn meaning(code: usize) -> &'static str {
 /// name, and what the system said of its file.
 #[derive(Clone, Copy)]
 pub(crate) struct Scene<'a> {
+    /// The name of the store: the path of its file.
     pub store: &'a str,
+    /// What the system said of the call on the file that failed last.
     pub said: Option<io::Error>,
 }
 
@@ -105,8 +107,11 @@ pub(crate) fn tell_why<E: Write>(told: Told, scene: &Scene<'_>, faults: &mut E) 
 /// many blocks it needs, and the greatest effective time of a row.
 #[derive(Clone, Copy)]
 pub(crate) struct Figures {
+    /// The version of the layout: 1 or 2.
     pub layout: u32,
+    /// How many blocks of 4,096 bytes the store needs.
     pub blocks: u64,
+    /// The greatest effective time of a row, if there is a row.
     pub latest: Option<EffectiveTime>,
 }
 
@@ -122,7 +127,7 @@ pub(crate) fn tell_figures<E: Write>(
     }
 }
 
-/// Writes the line.
+/// Writes these figures as a line.
 fn write_figures<E: Write>(
     store: &str,
     figures: Figures,
@@ -146,7 +151,7 @@ pub(crate) fn tell_segments<E: Write>(store: &str, segments: u32, faults: &mut E
     let _ = writeln!(faults, "sctd: {store}: segments left: {segments}");
 }
 
-/// Writes the line.
+/// Writes why a task was refused, as a line.
 fn write_why<E: Write>(told: Told, scene: &Scene<'_>, faults: &mut E) -> io::Result<()> {
     let store = scene.store;
     if let Some(error) = scene.said {

@@ -58,7 +58,7 @@ pub enum Task<'a> {
 #[derive(Drop)]
 pub enum Refused {
     OutOfMemory,
-    /// The words are none of a command, or ask for help.
+    /// The words are no command, or ask for help.
     Words(Error),
 }
 
@@ -115,7 +115,8 @@ fn releases<'a>(alloc: Global) -> Arg<'a>
         .action(ArgAction::Set)
 }
 
-/// The same, where the name of a release may be a path.
+/// The option that names the folder of releases, of a command in which the name of a release may be
+/// a path instead.
 fn releases_if_given<'a>(alloc: Global) -> Arg<'a>
     ensures { IsArgument (optional (codes "releases")) result }
 {
@@ -126,7 +127,7 @@ fn releases_if_given<'a>(alloc: Global) -> Arg<'a>
         .action(ArgAction::Set)
 }
 
-/// The option that leaves warnings and refusals alone.
+/// The option with which people are told of warnings and refusals alone.
 fn quiet<'a>(alloc: Global) -> Arg<'a>
     ensures { IsArgument (flag (codes "quiet")) result }
 {

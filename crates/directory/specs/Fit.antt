@@ -6,7 +6,7 @@ use Rattle.blocks.specs.declared.extent.Extent.{Extent}
 use Rattle.directory.specs.declared.entry.Entry.{Entry}
 use Rattle.directory.specs.Places.{SharesNoBlock, SharesNoByte, AreBeside, end_block, taken}
 
--- some block is one of the so many from first on and one of the extent's
+-- one of the so many blocks from first on is one of the extent's
 abbrev pub meets : ℕ → ℕ → Extent → Bool
 meets first blocks extent =
     nat_lt (max first extent.first) (min (first + blocks) (end_block extent))
@@ -20,7 +20,8 @@ is_free limit blocks extents first =
 unfoldable pub fit_below : ℕ → ℕ → List Extent → Option ℕ
 fit_below limit blocks extents = find (is_free limit blocks extents) (range_with_len 4 (limit - 4))
 
--- the same below the block above which no extent ends
+-- the first place behind the slots where so many blocks are free of the listed segments and of the
+-- reserved extent, below the block above which no extent ends
 unfoldable pub fit : ℕ → List Entry → Option Extent → Option ℕ
 fit blocks live reserved = fit_below block_limit blocks (taken live reserved)
 

@@ -19,11 +19,11 @@ abbrev pub SharesNoBlock : ℕ → ℕ → Extent → Type 0
 SharesNoBlock first blocks extent =
     (block : ℕ) → first ≤ block → block < first + blocks → Covers extent block → ⊥
 
--- they share no block
+-- the two extents share no block
 abbrev pub AreBeside : Extent → Extent → Type 0
 AreBeside a b = (block : ℕ) → Covers a block → Covers b block → ⊥
 
--- no two of them share a block
+-- no two of the extents share a block
 abbrev pub AreApart : List Extent → Type 0
 AreApart [] = Unit {0}
 AreApart (extent ∷ extents) = AllByRecursion (AreBeside extent) extents × AreApart extents
@@ -32,7 +32,7 @@ AreApart (extent ∷ extents) = AllByRecursion (AreBeside extent) extents × Are
 abbrev pub CoversByte : Extent → ℕ → Type 0
 CoversByte extent place = (start_of extent ≤ place) × (place < start_of extent + extent.bytes)
 
--- they share no byte of the disk
+-- the two extents share no byte of the disk
 abbrev pub SharesNoByte : Extent → Extent → Type 0
 SharesNoByte a b = (place : ℕ) → CoversByte a place → CoversByte b place → ⊥
 

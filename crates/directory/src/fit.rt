@@ -7,7 +7,7 @@ use crate::entry::{DATA_START, Entry};
 use blocks::{BLOCK_LIMIT, Extent};
 use thiserror::Error;
 
-/// There is no room.
+/// No run of free blocks is long enough.
 #[derive(Clone, Copy, Debug, PartialEq, Eq, Error)]
 #[error("no run of free blocks is long enough")]
 pub struct Full;

@@ -1,10 +1,10 @@
--- What a disk in memory has on record, and the moments that this stands for.
+-- What a disk in memory has on record, and the moments that follow from it.
 use Rattle.std.specs.Prelude.{ℕ, zero, suc, ◌+◌, Bool, true, false, List, [], ◌∷◌, take, if◌then◌else◌, count_by}
 use Rattle.disk_model.specs.Disk.{DiskState, Moments, followed_by, settled, put, after_write, after_cut, reading}
 
 -- a call that changed the disk, or that failed where it may have changed it
 pub data Change : Type 0 where
-  -- at an offset
+  -- a write of bytes at an offset
   Write : (at : ℕ) (bytes : List ℕ) → Change
   Cut : (len : ℕ) → Change
   Sync : Change
@@ -13,13 +13,13 @@ pub data Change : Type 0 where
   -- a cut that failed, and was made or wasn't
   FailedCut : (len : ℕ) (is_made : Bool) → Change
 
--- a write to a file; of no bytes it changes nothing
+-- a file after a write; a write of no bytes changes nothing
 abbrev pub written : List ℕ → ℕ → List ℕ → List ℕ
 written file at [] = file
 written file at (byte ∷ bytes) = put file at (byte ∷ bytes)
 
--- after one call; one that failed counts for what a
--- stop may leave, whatever it made of what a read gives
+-- the state after one call; a call that failed counts as made for what a stop may leave, whatever a
+-- read gives after it
 abbrev pub after_change : DiskState → Change → DiskState
 after_change s (Write at bytes) = after_write s at bytes
 after_change s (Cut len) = after_cut s len
@@ -34,7 +34,7 @@ abbrev pub replayed : Moments → List Change → Moments
 replayed m [] = m
 replayed m (change ∷ changes) = replayed (followed_by m (after_change m.state change)) changes
 
--- a disk that was just made
+-- the moments of a disk that was just made
 abbrev pub made : List ℕ → Moments
 made bytes = record { state = settled bytes; past = [] }
 

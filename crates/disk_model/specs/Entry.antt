@@ -1,4 +1,4 @@
--- What an entry of a record stands for: the bytes of all writes lie in one list.
+-- Which change an entry of a record is: the bytes of all writes lie in one list.
 use Rattle.std.specs.Prelude.{ℕ, List, slice_range}
 use Rattle.disk_model.specs.Change.{Change, Write, Cut, Sync, FailedWrite, FailedCut}
 use Rattle.disk_model.specs.declared.memory.record.Entry.{Entry}

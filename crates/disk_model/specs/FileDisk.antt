@@ -10,6 +10,6 @@ failures_of d = d.failures
 abbrev pub fault_of : FileDisk → Option Error
 fault_of d = d.last
 
--- its member `bytes_read`
+-- how many bytes the reads of a file's disk were asked for
 abbrev pub bytes_read_of : FileDisk → ℕ
 bytes_read_of d = d.bytes_read

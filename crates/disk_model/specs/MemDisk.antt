@@ -16,7 +16,7 @@ first_bytes d = d.contents.first.items
 abbrev pub record_of : MemDisk → List Change
 record_of d = changes_in d.calls
 
--- its member `moments`
+-- the moments of a disk in memory, as its record says
 abbrev pub memory_moments : MemDisk → Moments
 memory_moments d = replayed (made (first_bytes d)) (record_of d)
 

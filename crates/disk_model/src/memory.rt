@@ -23,8 +23,8 @@ use replay::Replay;
 use std::alloc::{AllocError, Global};
 
 /// A disk in memory. It keeps each call that changed it on record, so that it can give the images
-/// of each moment. Want of memory for a call or its record is a failure of the device, and changes
-/// nothing.
+/// of each moment. If memory runs out for a call or its record, this is a failure of the device,
+/// and nothing changes.
 #[derive(Drop)]
 pub struct MemDisk {
     alloc: Global,
@@ -120,7 +120,7 @@ impl MemDisk {
         ensures failures { failure_count self.new ≡ failure_count self.old }
         ensures bytes_read { bytes_read_of self.new ≡ bytes_read_of self.old }
         ensures faults { faults_of self.new ≡ faults_of self.old }
-        // Whatever it answers.
+        // Whatever it answers, what needed no memory before needs none after.
         ensures keeps { KeepsRoom self.old self.new }
     {
         let len = bytes as usize;
@@ -340,7 +340,7 @@ impl Disk for MemDisk {
         ensures succeeds { HasRoomFor self.old (at + length bytes.now) 1 (length bytes.now)
             → fate_of (faults_of self.old) ≡ Passes → IsOk result }
         ensures first { first_bytes self.new ≡ first_bytes self.old }
-        // Want of memory leaves the record as it was, and with it what a stop may leave.
+        // If memory runs out, the record stays as it was, and with it what a stop may leave.
         ensures unmade { fate_of (faults_of self.old) ≡ Passes
             → OnErr result (record_of self.new ≡ record_of self.old) }
         ensures noted { OnOk result
@@ -371,7 +371,7 @@ impl Disk for MemDisk {
         ensures succeeds { HasRoomFor self.old 0 1 0
             → fate_of (faults_of self.old) ≡ Passes → IsOk result }
         ensures first { first_bytes self.new ≡ first_bytes self.old }
-        // Want of memory leaves the record as it was, and with it what a stop may leave.
+        // If memory runs out, the record stays as it was, and with it what a stop may leave.
         ensures unmade { fate_of (faults_of self.old) ≡ Passes
             → OnErr result (record_of self.new ≡ record_of self.old) }
         ensures noted { OnOk result (record_of self.new ≡ record_of self.old ++ Cut len ∷ []) }

@@ -3,7 +3,7 @@ use Rattle.std.specs.Prelude.{◌≡◌, ℕ, ◌+◌, ◌-◌, ◌^◌, ◌≤�
 use Rattle.fault_counts.specs.declared.fault.ReadFault.{ReadFault}
 use Rattle.fault_counts.specs.declared.fault.ReadFault.TheVariants as readfault
 
--- a count of 64 bits has gone up; at its last value it stays, and that counts
+-- a count of 64 bits has gone up by one or more; at its last value it may stay
 abbrev pub HasRisen : ℕ → ℕ → Type 0
 HasRisen old new = (old ≤ new) × (min (old + 1) (2 ^ 64 - 1) ≤ new)
 

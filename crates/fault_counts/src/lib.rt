@@ -1,5 +1,5 @@
-//! Counts of faults: one word for how they rise, for every crate whose calls count theirs, and
-//! the one fault of reading a row.
+//! Counts of faults: how they rise, defined once for every crate whose calls count theirs; and why
+//! a row could not be read.
 #![tactic(auto)]
 
 ghost use Rattle.std.specs.Prelude.{◌≡◌, ◌+◌, ◌-◌, ◌^◌, min};

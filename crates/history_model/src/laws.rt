@@ -63,7 +63,7 @@ pub fn new_rows_are_unknown()
     ensures { NewRowsAreUnknown }
 {}
 
-/// A receipt says how many those are.
+/// The receipt of a release says how many rows the history lacked.
 pub fn receipt_counts_the_unknown()
     ensures { ReceiptCountsTheUnknown }
 {}
@@ -73,7 +73,7 @@ pub fn release_is_one_list()
     ensures { ReleaseIsOneList }
 {}
 
-/// A merge leaves what is listed.
+/// With two lists replaced by one of the rows of both, the rows of all lists are the same.
 pub fn merge_leaves_listed()
     ensures { MergeLeavesListed }
 {}
@@ -119,7 +119,7 @@ pub fn pages_are_all()
     ensures { PagesAreAll }
 {}
 
-/// Such pages come to an end.
+/// Pages of any limit, one after the other, come to an end.
 pub fn pages_end()
     ensures { PagesEnd }
 {}
@@ -144,7 +144,7 @@ pub fn search_ascends()
     ensures { SearchAscends }
 {}
 
-/// From the first id on a search is the terms.
+/// A search from the first id on finds what `terms` finds.
 pub fn search_from_the_first()
     ensures { SearchFromTheFirst }
 {}
@@ -165,12 +165,12 @@ pub fn searches_are_all()
     ensures { SearchesAreAll }
 {}
 
-/// From the first id on these are the terms without a limit.
+/// Searches from the first id on, one after the other, find what `terms` finds without a limit.
 pub fn searches_are_terms()
     ensures { SearchesAreTerms }
 {}
 
-/// Such searches come to an end.
+/// Searches of any limit, one after the other, come to an end.
 pub fn searches_end()
     ensures { SearchesEnd }
 {}

@@ -18,7 +18,7 @@ fn is_shown_version(s: &StampedRow, kind: Kind, id: u128, time: EffectiveTime, p
     is_version_of(&s.row, kind, id) && s.row.time <= time && s.import <= pin
 }
 
-/// The last such row.
+/// The last version of the component up to the date that the pin shows.
 fn last_shown_version(
     rows: &[StampedRow],
     kind: Kind,

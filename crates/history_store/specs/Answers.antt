@@ -26,7 +26,7 @@ use Rattle.history_store.specs.Catalog.{Catalog, IsCatalogAfter, HasNoEntry, Has
 use Rattle.history_store.specs.StoreValue.{StoreValue, last_import, last_epoch}
 use Rattle.history_store.specs.Prepared.{IsNotSpent}
 
--- where the device is, whatever was answered
+-- the device, which comes back with a store or with a refusal
 abbrev pub device_of : {D : Type 0} → Result (StoreValue D) (Refusal × D) → D
 device_of (Ok store) = store.disk
 device_of (Err e) = e.1
@@ -51,7 +51,7 @@ IsNotMade refusals.DiskFault bytes = Unit {0}
 IsNotMade refusals.NotEmpty bytes = 1 ≤ length bytes
 IsNotMade _ bytes = ⊥
 
--- with what a making is refused, whatever disk it is tried on
+-- the refusals of `create`, on any disk
 abbrev pub IsMakingCause : Refusal → Type 0
 IsMakingCause refusals.OutOfMemory = Unit {0}
 IsMakingCause refusals.DiskFault = Unit {0}
@@ -83,7 +83,7 @@ IsMakingOf (Ok store) bytes = (length bytes ≡ 0) × IsNew store
 IsMakingOf (Err e) bytes = IsNotMade e.0 bytes
 
 -- Why no store is opened: the bytes are no store where no gate is open, and
--- damaged where one is open and they stand for nothing, since a part is damaged.
+-- damaged where one is open and they represent nothing, since a part is damaged.
 abbrev pub IsNotOpened : Refusal → List ℕ → Type 0
 IsNotOpened refusals.OutOfMemory bytes = IsOpen A bytes ⊎ IsOpen B bytes
 IsNotOpened refusals.DiskFault bytes = Unit {0}
@@ -92,7 +92,7 @@ IsNotOpened (refusals.Unreadable damage) bytes =
     (IsOpen A bytes ⊎ IsOpen B bytes) × IsDamaged damage bytes × ¬ (IsStore bytes)
 IsNotOpened _ bytes = ⊥
 
--- with what an opening is refused, whatever disk it is tried on
+-- the refusals of `open`, on any disk
 abbrev pub IsOpeningCause : Refusal → Type 0
 IsOpeningCause refusals.OutOfMemory = Unit {0}
 IsOpeningCause refusals.DiskFault = Unit {0}
@@ -100,7 +100,7 @@ IsOpeningCause refusals.NotAStore = Unit {0}
 IsOpeningCause (refusals.Unreadable damage) = Unit {0}
 IsOpeningCause _ = ⊥
 
--- the store holds what the bytes stand for
+-- the store holds what the bytes represent
 pub record IsOpened {D : Type 0} (s : StoreValue D) (bytes : List ℕ) : Type 0 where
   pub stands : Represents bytes s.history s.catalog.layout s.catalog.epoch s.catalog.entries
   pub no_merge : s.catalog.merge ≡ None
@@ -112,7 +112,8 @@ pub record IsReady {D : Type 0} (s : StoreValue D) : Type 0 where
   pub no_merge : s.catalog.merge ≡ None
   pub open_still : s.needs_reopen ≡ false
 
--- a store is opened exactly where the bytes stand for a history, unless memory or the device fails
+-- a store is opened exactly where the bytes represent a history, unless memory runs out or the
+-- device fails
 abbrev pub IsOpeningOf : {D : Type 0} → Result (StoreValue D) (Refusal × D) → List ℕ → Type 0
 IsOpeningOf (Ok store) bytes = IsOpened store bytes
 IsOpeningOf (Err e) bytes = IsNotOpened e.0 bytes
@@ -193,7 +194,7 @@ IsImportOf (Ok receipt) old new release =
     × (old.needs_reopen ≡ false) × (new.needs_reopen ≡ false)
 IsImportOf (Err e) old new release = IsImportRefusal e old release × IsRefused e old new
 
--- the bytes stand for the history with an accepted release, in version 2
+-- the bytes represent the history with an accepted release, in version 2
 pub record StandsWith (h : History) (release : Release) (c : List ℕ) : Type 0 where
   pub rows : List RowValue
   pub is_release : IsReleaseOf release rows

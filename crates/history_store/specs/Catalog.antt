@@ -25,7 +25,7 @@ pub record Catalog : Type 0 where
   pub entries : List Entry
   pub merge : Option Merge
 
--- of a directory, and the merge that goes on
+-- the catalog of a directory and of the merge that goes on
 abbrev pub catalog_of : DirectoryValue → Option Merge → Catalog
 catalog_of d merge =
     record { layout = d.layout; epoch = d.epoch; entries = d.entries; merge = merge }

@@ -22,7 +22,7 @@ use Rattle.store_image.specs.Ahead.{BeginsWith}
 use Rattle.history_store.specs.declared.merge_in_progress.MergeInProgress.{MergeInProgress}
 use Rattle.history_store.specs.Catalog.{Merge}
 
--- what the catalog shows of it
+-- what the catalog shows of a merge that goes on
 abbrev pub merge_of : Option MergeInProgress → Option Merge
 merge_of None = None
 merge_of (Some m) =
@@ -62,7 +62,7 @@ pub record AreTaken (rows : List StampedRow) (listed : List RowPlace) (terms : L
   pub terms_are : terms ≡ posted_all posted_term (with_places 0 rows)
   pub edges_are : edges ≡ posted_edges (with_places 0 rows)
 
--- it is one of two of the segments that are listed
+-- a merge that goes on is of two of the segments that are listed
 abbrev pub IsMergingOf : Type 0 → DirectoryValue → List (List StampedRow) → Option MergeInProgress
     → Type 0
 IsMergingOf honest d lists None = Unit {0}

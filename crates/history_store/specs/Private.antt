@@ -14,7 +14,7 @@ use Rattle.history_model.specs.declared.stamped.StampedRow.{StampedRow}
 use Rattle.history_model.specs.InOrder.{Has}
 use Rattle.segment.specs.declared.place.RowPlace.{RowPlace}
 
--- one of them is of this day, and none of a later one; or there is none
+-- one of the items is of this day, and none of a later one; or there is no item
 abbrev pub IsLatest : {X : Type 0} → (X → ℕ) → Option ℕ → List X → Type 0
 IsLatest time_of None xs = xs ≡ []
 IsLatest {X} time_of (Some day) xs =

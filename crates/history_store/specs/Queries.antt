@@ -10,7 +10,7 @@ use Rattle.history_store.specs.Answers.{Counts, IsReadingOf}
 -- Whatever is answered, history and catalog stay, and a failed device alone closes the store. A
 -- store that has to be opened again leaves everything as it is. Of the cache nothing is used but
 -- that blocks are looked up. On an honest disk nothing is damaged, what a stop may leave stays, and
--- as long as no call has failed it stands for what the store holds.
+-- as long as no call has failed it represents what the store holds.
 pub record IsQuery {T D : Type 0} (result : Result T Refusal) (is_honest : D → Type 0)
     (moments_of : D → Moments) (failures_of : D → ℕ)
     (old new : StoreValue D) : Type 0 where

@@ -31,7 +31,7 @@ cache_blocks = 1024
 abbrev pub no_blocks : LruCache ℕ (List ℕ)
 no_blocks = lru_cache [] cache_blocks
 
--- no call has failed, and whatever a stop leaves stands for what the store holds
+-- no call has failed, and whatever a stop leaves represents what the store holds
 pub record IsAcknowledged {D : Type 0} (moments : D → Moments) (s : StoreValue D) : Type 0 where
   pub open_still : s.needs_reopen ≡ false
   pub each : EachImage (moments s.disk).state
@@ -48,7 +48,7 @@ pub record IsHeld (honest : Type 0) (state : DiskState) (cache : LruCache ℕ (L
   pub on_disk : honest → needs_reopen ≡ false → IsOnDisk state slot d lists
   pub agrees : honest → needs_reopen ≡ false → AgreesWith cache state.now
 
--- no import and no epoch goes past these
+-- the greatest number of an import, and the greatest epoch
 abbrev pub last_import : ℕ
 last_import = 4294967295
 

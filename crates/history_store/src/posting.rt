@@ -17,10 +17,10 @@ use term_prefix::Terms;
 #[derive(Drop)]
 pub(crate) struct Posting {
     alloc: Global,
-    /// Of the segment that is being taken.
+    /// What is posted of the segment that is being taken.
     pub(crate) terms: term_prefix::Postings,
     pub(crate) edges: associations::Postings,
-    /// Of those that ended, in their order.
+    /// What is posted of the segments that ended, in their order.
     pub(crate) sealed_terms: Vec<term_prefix::Sealed>,
     pub(crate) sealed_edges: Vec<associations::Sealed>,
 }

@@ -224,7 +224,8 @@ impl<D: Disk> Store<D> {
         self.answered(read)
     }
 
-    /// Such descriptions from the first id on, at most `limit`.
+    /// Active descriptions whose term begins with the prefix, whatever the case, ascending by id
+    /// from the first on, at most `limit`.
     pub fn terms(
         &mut self,
         prefix: &str,

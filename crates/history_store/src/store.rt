@@ -123,7 +123,7 @@ impl<D: Disk> Store<D> {
         // A read of a new store gives its two slots, and nothing behind them.
         ensures bytes { D.is_honest disk
             → IfOk result (λ s. IsNewStore (D.moments s.disk).state.now) }
-        // Whatever a stop leaves from now on stands for the empty history.
+        // Whatever a stop leaves from now on represents the empty history.
         ensures acknowledged { D.is_honest disk → IfOk result (IsAcknowledged D.moments) }
         // On every disk the store begins with no block in memory.
         ensures cache { IfOk result (λ s. s.cache ≡ no_blocks) }
@@ -158,7 +158,7 @@ impl<D: Disk> Store<D> {
         }
     }
 
-    /// Opens the store that a disk stands for. The disk is read,
+    /// Opens the store that a disk represents. The disk is read,
     /// after one sync, and is given back with every refusal.
     pub fn open(alloc: Global, disk: D) -> Result<Store<D>, (Refusal, D)>
         ensures exact { D.is_honest disk → IsOpeningOf result (D.moments disk).state.now }
@@ -479,7 +479,7 @@ impl<D: Disk> Store<D> {
     /// Gives the disk back, without a call on it.
     pub fn close(self) -> D
         ensures disk { result ≡ self.disk }
-        // Whatever a stop leaves of it stands for what the store held.
+        // Whatever a stop leaves of it represents what the store held.
         ensures stands { D.is_honest result → self.needs_reopen ≡ false
             → EachImage (D.moments result).state
             (λ c. Represents c self.history self.catalog.layout self.catalog.epoch

@@ -61,7 +61,7 @@ CountsAnyDiskFault (importfault.Known fault) old new = CountsDiskFault fault old
 CountsAnyDiskFault (importfault.Row file line fault) old new = new ≡ old
 CountsAnyDiskFault (importfault.Contradiction file line key) old new = new ≡ old
 
--- and likewise that of its answers `Damaged`
+-- the count of answers `Damaged` of what is known goes up with that answer, and else stays
 abbrev pub CountsAnyDamage : ImportFault → ℕ → ℕ → Type 0
 CountsAnyDamage importfault.OutOfMemory old new = new ≡ old
 CountsAnyDamage (importfault.Known fault) old new = CountsDamage fault old new

@@ -39,7 +39,7 @@ pub trait Known {
     /// The known row with this key.
     fn row(&mut self, alloc: Global, key: &Key) -> Result<Option<Row>, ReadFault>
         ensures found { is_honest self.old → IfOk result (IsRowAt (rows self.old) key.now) }
-        // Then only the device or memory keeps a row from being had.
+        // If it is honest, only the device or memory keeps a row from being had.
         ensures undamaged { is_honest self.old → IfErr result (λ e. e ≢ readfault.Damaged) }
         // A key for which it gives no row is that of no row that is known.
         ensures absent { is_sound self.old

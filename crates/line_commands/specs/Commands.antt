@@ -27,7 +27,7 @@ pub data Command : Type 0 where
   Trim : Command
   Status : Command
 
--- the word that stands for a command
+-- the word of a command
 abbrev pub word_of : Command → List ℕ
 word_of (Import name) = codes "IMPORT"
 word_of (Get kind id date) = codes "GET"
@@ -52,7 +52,7 @@ word_of Status = codes "STATUS"
 abbrev pub most_rows : ℕ
 most_rows = 1000
 
--- the letter that stands for a kind
+-- the letter of a kind
 abbrev pub letter : Kind → List ℕ
 letter kinds.Concept = codes "C"
 letter kinds.Description = codes "D"

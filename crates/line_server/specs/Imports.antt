@@ -15,20 +15,21 @@ TakesAll h [] after = after ≡ h
 TakesAll h (release ∷ releases) after = (rows : List RowValue) × IsReleaseOf release rows
     × Accepts h rows × TakesAll (after_release h rows) releases after
 
--- a front part of a list
+-- the first list is a front part of the second
 abbrev pub IsFront : {X : Type 0} → List X → List X → Type 0
 IsFront {X} front whole = (rest : List X) × (whole ≡ front ++ rest)
 
--- the bytes stand for the history with these releases
+-- the bytes represent the history with these releases
 abbrev pub StandsAfter : History → List Release → List ℕ → Type 0
 StandsAfter h releases c = (after : History) × TakesAll h releases after × RepresentsHistory after c
 
--- for the history with the first so many of them
+-- the bytes represent the history with the first so many of these releases
 abbrev pub RepresentsFront : History → List Release → List ℕ → Type 0
 RepresentsFront h releases c =
     (front : List Release) × IsFront front releases × StandsAfter h front c
 
--- for the history with all of them and one more, in whose import the device failed
+-- the bytes represent the history with all of these releases and one more, in whose import the
+-- device failed
 abbrev pub StandsWithFailed : History → List Release → Option Release → List ℕ → Type 0
 StandsWithFailed h releases None c = ⊥
 StandsWithFailed h releases (Some release) c =

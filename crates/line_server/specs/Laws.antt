@@ -24,7 +24,7 @@ use Rattle.line_server.specs.Turns.{Turn, IsTurn, Run, imported, failed_in}
 use Rattle.line_server.specs.Pinning.{IsPinnedTo, LeavesPin, StaysPinned}
 use Rattle.line_server.specs.Life.{Stage, IsStage, IsLife, AreKept, IsSubsequence, acknowledged}
 
--- neither that memory lacked nor that the device failed is said
+-- the outcome is neither that memory ran out nor that the device failed
 abbrev pub IsSure : Result Answer LineRefusal → Type 0
 IsSure (Err (refusals.Store store.OutOfMemory)) = ⊥
 IsSure (Err (refusals.Store store.DiskFault)) = ⊥
@@ -50,7 +50,7 @@ PinnedIsUndisturbed D honest = (releases others : Releases) (a b after next : Se
     → Replies (honest b.store.disk) others line two b next
     → IsSure one → IsSure two → one ≡ two
 
--- the import brought the same rows
+-- the import brought the same rows to both histories
 abbrev pub BroughtAlike : ℕ → History → History → Type 0
 BroughtAlike number h g = brought_by number h.rows ≡ brought_by number g.rows
 
@@ -65,13 +65,13 @@ PinnedReceiptIsUndisturbed D honest = (releases others : Releases) (a b after ne
     → Replies (honest a.store.disk) releases line one a after
     → Replies (honest b.store.disk) others line two b next → one ≡ two
 
--- what turns import, their run imports
+-- a run imports what its turns import
 abbrev pub TurnsImport : (D : Type 0) → (D → Type 0) → (D → Moments) → (D → ℕ) → Type 0
 TurnsImport D honest moments failures = (has : Releases) (old new : Server D) (turns : List Turn)
     → Run ⊥ has honest moments failures old turns new
     → Imports honest moments old.store new.store (imported turns) (failed_in turns)
 
--- what is imported one after the other
+-- what is imported by calls and then by others is imported by all of them together
 abbrev pub ImportsCompose : (D : Type 0) → (D → Type 0) → (D → Moments) → Type 0
 ImportsCompose D honest moments =
     (a b c : StoreValue D) (releases others : List Release) (failed more : Option Release)
@@ -102,7 +102,7 @@ OneReply D honest = (releases : Releases) (line : List ℕ) (one two : Result An
     → (one ≡ two) × Same after next
 
 -- Imports that were acknowledged stay: lines were answered, and one more is. Whatever a stop leaves
--- before, within or after that one stands for the history from before with all releases that the
+-- before, within or after that one represents the history from before with all releases that the
 -- lines before it imported, and perhaps with the first of its own, or the one in whose import the
 -- device failed.
 abbrev pub AcknowledgedImportsStay : (D : Type 0) → (D → Type 0) → (D → Moments) → (D → ℕ) → Type 0
@@ -130,7 +130,8 @@ OpensWith D h releases failed bytes =
     → MatchResult result (λ s. TakesSome h releases failed s.history)
     (λ e. (e.0 ≡ store.OutOfMemory) ⊎ (e.0 ≡ store.DiskFault))
 
--- And so it is opened.
+-- Whatever a stop leaves before, within or after a line that is answered behind others is opened
+-- with all releases that the lines before it imported, and perhaps with its own.
 abbrev pub AcknowledgedImportsAreOpened : (D : Type 0) → (D → Type 0) → (D → Moments) → (D → ℕ)
     → Type 0
 AcknowledgedImportsAreOpened D honest moments failures =
@@ -158,7 +159,7 @@ RefusedIsNotImported D honest moments failures =
     → honest old.store.disk → turn.outcome ≡ Err refusal
     → IsTurn ⊥ has honest moments failures old turn new → turn.releases ≡ []
 
--- and what a turn imported, its line asked for, and it was answered OK
+-- a release that a turn imported is one that its line asked to import, and the line was answered OK
 abbrev pub ImportedIsOk : (D : Type 0) → (D → Type 0) → (D → Moments) → (D → ℕ) → Type 0
 ImportedIsOk D honest moments failures =
     (has : Releases) (old new : Server D) (turn : Turn) (release : Release)
@@ -189,15 +190,16 @@ EachLifeKeepsItsImports D honest moments failures =
     → (releases : List Release) × AreKept life releases
     × TakesAll first.history (releases ++ imported turns) now.store.history
 
--- So each release whose import was answered OK is among
--- them, in order, and of others at most one for each stop.
+-- Among the releases that a life keeps is each whose import was answered OK, in order, and of
+-- others there is at most one for each stop.
 abbrev pub KeptAreAcknowledged : Type 0
 KeptAreAcknowledged = (life : List Stage) (releases : List Release) → AreKept life releases
     → IsSubsequence (acknowledged life) releases
     × (length releases ≤ length (acknowledged life) + length life)
 
--- And whatever the next stop leaves is opened with such a history,
--- unless the opening runs out of memory or the device fails.
+-- Over any number of stops and openings, whatever the next stop leaves is opened with the history
+-- from the beginning and the releases that the life keeps, unless the opening runs out of memory or
+-- the device fails.
 abbrev pub EachLifeIsOpened : (D : Type 0) → (D → Type 0) → (D → Moments) → (D → ℕ) → Type 0
 EachLifeIsOpened D honest moments failures =
     (has : Releases) (first last : StoreValue D) (life : List Stage) (pins : List (Option ℕ))
@@ -223,8 +225,8 @@ RunKeepsPin D honest moments failures =
     × AgreeUpTo pin new.store.history old.store.history
     × ((number : ℕ) → number ≤ pin → BroughtAlike number new.store.history old.store.history)
 
--- As long as it stays pinned, each query of it is
--- answered by what stood at the pin in the beginning.
+-- As long as a session stays pinned, each of its queries is answered by what the pin showed in the
+-- beginning.
 abbrev pub PinnedSeesItsImports : (D : Type 0) → (D → Type 0) → (D → Moments) → (D → ℕ) → Type 0
 PinnedSeesItsImports D honest moments failures =
     (has : Releases) (session pin : ℕ) (start : Server D) (turns : List Turn) (turn : Turn)
@@ -234,7 +236,8 @@ PinnedSeesItsImports D honest moments failures =
     → found command (rows_at pin start.store.history.rows) ≡ Some query
     → IsSure turn.outcome → turn.outcome ≡ Ok query
 
--- and a RECEIPT of it by what was so of the import then, if the pin shows that import
+-- As long as a session stays pinned, a RECEIPT of an import that the pin shows is answered by what
+-- the import had brought in the beginning.
 abbrev pub PinnedSeesItsReceipts : (D : Type 0) → (D → Type 0) → (D → Moments) → (D → ℕ) → Type 0
 PinnedSeesItsReceipts D honest moments failures =
     (has : Releases) (session pin number brought : ℕ) (latest : Option ℕ)
@@ -244,8 +247,8 @@ PinnedSeesItsReceipts D honest moments failures =
     → ImportReceiptOf start.store.history number brought latest
     → turn.outcome ≡ Ok (Done (receipt_of number brought latest))
 
--- So in any two runs from histories that agree up to the pin
--- it is answered alike, whatever the other sessions do.
+-- In any two runs from histories that agree up to its pin, a session is answered alike, whatever
+-- the other sessions do.
 abbrev pub PinnedRunsAreUndisturbed : (D : Type 0) → (D → Type 0) → (D → Moments) → (D → ℕ)
     → Type 0
 PinnedRunsAreUndisturbed D honest moments failures =
@@ -258,7 +261,8 @@ PinnedRunsAreUndisturbed D honest moments failures =
     → found command (rows_at pin a.store.history.rows) ≡ Some query
     → IsSure one.outcome → IsSure two.outcome → one.outcome ≡ two.outcome
 
--- and so are its RECEIPTs, where the import brought the same rows
+-- In any two runs a RECEIPT of a pinned session is answered alike, where the import brought the
+-- same rows to both histories.
 abbrev pub PinnedReceiptsAreUndisturbed : (D : Type 0) → (D → Type 0) → (D → Moments) → (D → ℕ)
     → Type 0
 PinnedReceiptsAreUndisturbed D honest moments failures =

@@ -89,7 +89,7 @@ abbrev pub IsUnacknowledged : Stage → Release → Type 0
 IsUnacknowledged stage release = (failed_in stage.answered ≡ Some release)
     ⊎ (failed_in stage.cut_off ≡ Some release) ⊎ (imported stage.cut_off ≡ release ∷ [])
 
--- no release, or one such
+-- no release, or one whose import wasn't answered OK
 abbrev pub MayRemain : Stage → List Release → Type 0
 MayRemain stage releases =
     (releases ≡ [])

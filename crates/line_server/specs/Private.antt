@@ -38,7 +38,7 @@ abbrev pub IsNamed : Releases → Command → Release → Type 0
 IsNamed releases command release =
     (name : List ℕ) × (command ≡ Import name) × (releases name ≡ Some (files_of release))
 
--- the command comes out so, as these releases have it
+-- the command has this outcome, where the source has these releases
 pub record ComesOut {D : Type 0} (honest : Type 0) (releases : Releases) (session : ℕ)
     (command : Command) (outcome : Result Answer LineRefusal) (taken : List Release)
     (failed : Option Release) (old new : Server D) : Type 0 where
@@ -51,8 +51,8 @@ abbrev pub IsToldBy : Result ReplyValue LineRefusal → Result Answer LineRefusa
 IsToldBy (Ok reply) outcome = reply ≡ reply_value outcome
 IsToldBy (Err refusal) outcome = outcome ≡ Err refusal
 
--- A command was carried out: as some source's releases have
--- it, and where the source is honest, as its own have it.
+-- A command was carried out: as if the source had certain releases, and where it is honest, as its
+-- own releases say.
 pub record IsResponse {D : Type 0} (result : Result ReplyValue LineRefusal) (honest_source : Type 0)
     (has : Releases) (honest : D → Type 0) (moments : D → Moments) (failures : D → ℕ) (session : ℕ)
     (command : Command) (old new : Server D) : Type 0 where
@@ -70,7 +70,7 @@ pub record IsResponse {D : Type 0} (result : Result ReplyValue LineRefusal) (hon
   pub disk : LeavesDisk honest moments command outcome old.store new.store
   pub grows : old.store.history.imports ≤ new.store.history.imports
 
--- whatever the source has, and whoever asks
+-- the command was carried out so, whatever releases the source has and whichever session asks
 abbrev pub IsCarriedOut : {D : Type 0} → Result ReplyValue LineRefusal → (D → Type 0)
     → (D → Moments) → (D → ℕ) → Command → StoreValue D → StoreValue D → Type 0
 IsCarriedOut result honest moments failures command old new =
@@ -78,7 +78,7 @@ IsCarriedOut result honest moments failures command old new =
     → IsResponse result (Unit {0}) has honest moments failures session command (server pins old)
     (server pins new)
 
--- to a session that looks at so many imports
+-- the command was carried out so, for any session that looks at so many imports
 abbrev pub IsQueried : {D : Type 0} → Result ReplyValue LineRefusal → (D → Type 0) → (D → Moments)
     → (D → ℕ) → Command → ℕ → StoreValue D → StoreValue D → Type 0
 IsQueried result honest moments failures command pin old new =

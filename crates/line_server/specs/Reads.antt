@@ -7,7 +7,7 @@ pub data Reading : Type 0 where
   Gave : List ℕ → Reading
   Failed : Reading
 
--- what a call gave that answered so
+-- what a read gave, by its answer and what is in the buffer
 abbrev pub reading : {E : Type 0} → Result ℕ E → List ℕ → Reading
 reading (Ok n) piece = Gave (take n piece)
 reading (Err fault) piece = Failed
@@ -26,7 +26,7 @@ abbrev pub IsPiece : Reading → Type 0
 IsPiece (Gave bytes) = (1 ≤ length bytes) × (length bytes ≤ 4096)
 IsPiece Failed = ⊥
 
--- to the reads that are known these were added, in order
+-- where the reads so far are known, these were added to them, in order
 abbrev pub Makes : Option (List Reading) → Option (List Reading) → List Reading → Type 0
 Makes None after reads = ⊤
 Makes (Some before) None reads = ⊥

@@ -1,4 +1,4 @@
--- When a line is answered so, and what comes after.
+-- When a line has which answer, and what the server is afterwards.
 use Rattle.std.specs.Prelude.{◌≡◌, ◌≢◌, ℕ, ◌≤◌, ◌<◌, ◌⊎◌, true, false, List, [], ◌∷◌, length, codes, decimal, slice_set, option_map, Option, Some, None, Result, Ok, Err, option_to_list}
 use Rattle.rf2_values.specs.Row.{RowValue}
 use Rattle.history_model.specs.declared.receipt.Receipt.{Receipt}
@@ -163,7 +163,8 @@ abbrev pub IsLacking : {D : Type 0} → Refusal → Server D → Server D → Ty
 IsLacking refusal old new =
     (refusal ≡ store.OutOfMemory) × (old.store.needs_reopen ≡ false) × Same old new
 
--- A query is refused as a call is that reads. On an honest disk nothing is damaged.
+-- A query is refused as a call of the store is that only reads. On an honest disk nothing is
+-- damaged.
 pub record IsUnfound {D : Type 0} (honest : Type 0) (refusal : Refusal)
     (old new : Server D) : Type 0 where
   pub cause : IsReadRefusal refusal old.store
@@ -171,8 +172,8 @@ pub record IsUnfound {D : Type 0} (honest : Type 0) (refusal : Refusal)
   pub undamaged : honest → refusal ≢ store.Damaged
   pub pins : new.pins ≡ old.pins
 
--- When a command is refused as the store refuses. Of an import the source is asked first,
--- and memory may lack there too. On an honest disk no step of a merge finds damage.
+-- When a command is refused as the store refuses. Of an import the source is asked first, and
+-- memory may run out there too. On an honest disk no step of a merge finds damage.
 abbrev pub IsStoreRefusal : {D : Type 0} → Type 0 → Releases → ℕ → Command → Refusal → Server D
     → Server D → Type 0
 IsStoreRefusal honest releases session (Import name) store.OutOfMemory old new = Same old new
@@ -217,7 +218,7 @@ IsRefusal honest releases session command refusals.NoFolder old new =
 IsRefusal honest releases session command (refusals.Store refusal) old new =
     IsStoreRefusal honest releases session command refusal old new
 
--- The command comes out so. `ERR 1` and `ERR 2` show that memory lacked or the device failed;
+-- The command has this outcome. `ERR 1` and `ERR 2` show that memory ran out or the device failed;
 -- where neither is said, there is one outcome on an honest disk.
 abbrev pub IsOutcome : {D : Type 0} → Type 0 → Releases → ℕ → Command → Result Answer LineRefusal
     → Server D → Server D → Type 0
@@ -226,8 +227,8 @@ IsOutcome honest releases session command (Ok answer) old new =
 IsOutcome honest releases session command (Err refusal) old new =
     IsRefusal honest releases session command refusal old new
 
--- A line that asks something is answered as its command comes out. Of any
--- other the first reason is said why it asks nothing, and nothing changes.
+-- A line that asks something is answered by the outcome of its command. Of any other the first
+-- reason is said why it asks nothing, and nothing changes.
 abbrev pub Replies : {D : Type 0} → Type 0 → Releases → List ℕ → Result Answer LineRefusal
     → Server D → Server D → Type 0
 Replies honest releases text outcome old new =

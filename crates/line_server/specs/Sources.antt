@@ -10,7 +10,7 @@ use Rattle.line_server.specs.declared.source.SourceFault.TheVariants as faults
 abbrev pub Releases : Type 0
 Releases = List ℕ → Option (List (Kind × List ℕ))
 
--- the release under the name was given, or there is none; memory may lack
+-- the release under the name was given, or there is none; memory may run out
 abbrev pub IsGiven : Result Release SourceFault → Option (List (Kind × List ℕ)) → Type 0
 IsGiven (Ok release) files = files ≡ Some (files_of release)
 IsGiven (Err faults.NoFolder) files = files ≡ None

@@ -1,4 +1,4 @@
--- Steps of serving: what is kept of a line, and one line that is served.
+-- What is kept of a line that is coming in.
 use Rattle.std.specs.Prelude.{ℕ, ◌+◌, List, take}
 use Rattle.line_commands.specs.Requests.{request_limit}
 

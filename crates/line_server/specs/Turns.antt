@@ -31,7 +31,7 @@ abbrev pub IsAskedFor : Releases → List ℕ → Release → Type 0
 IsAskedFor releases line release = (session : ℕ) × (name : List ℕ) × Asks line session (Import name)
     × (releases name ≡ Some (files_of release))
 
--- the turn goes as these releases have it
+-- the turn is one of a server whose source has these releases
 pub record GoesBy {D : Type 0} (honest : Type 0) (releases : Releases) (old : Server D)
     (turn : Turn) (new : Server D) : Type 0 where
   pub replies : Replies honest releases turn.line turn.outcome old new
@@ -43,7 +43,7 @@ abbrev pub CountsOutcome : Result Answer LineRefusal → ℕ → ℕ → Type 0
 CountsOutcome (Err (refusals.Store refusal)) old new = CountsRefusal refusal old new
 CountsOutcome _ old new = new ≡ old
 
--- after every refusal but `ERR 2` this holds
+-- the fact holds after every refusal but `ERR 2`
 abbrev pub IfRefused : Result Answer LineRefusal → Type 0 → Type 0
 IfRefused (Ok answer) so = Unit {0}
 IfRefused (Err (refusals.Store store.DiskFault)) so = Unit {0}
@@ -68,8 +68,8 @@ LeavesDisk honest moments Trim outcome old new =
 LeavesDisk honest moments command outcome old new =
     honest old.disk → moments new.disk ≡ moments old.disk
 
--- One line was answered: as some source's releases have
--- it, and where the source is honest, as its own have it.
+-- One line was answered: as if the source had certain releases, and where it is honest, as its own
+-- releases say.
 pub record IsTurn {D : Type 0} (honest_source : Type 0) (has : Releases) (honest : D → Type 0)
     (moments : D → Moments) (failures : D → ℕ) (old : Server D) (turn : Turn)
     (new : Server D) : Type 0 where

@@ -54,7 +54,7 @@ pub fn feed<W: Write, S: Source, D: Disk>(
 ) -> Result<u64, WriteFault>
     requires { AreWithin store.old.history.imports pins.old }
     ensures pins { AreWithin store.new.history.imports pins.new }
-    // Whatever had come of a line, of which the buffer keeps the first bytes.
+    // It holds whatever had come of a line before, of which the buffer keeps the first bytes.
     ensures fed { (part : List ℕ) → IsUnended part → line.old ≡ kept part → IsFed result
         (S.is_honest source.old) (S.releases source.old) D.is_honest D.moments D.failures
         part piece.now line.new (server pins.old store.old) (server pins.new store.new)

@@ -19,7 +19,7 @@ pub fn pinned_receipt_is_undisturbed<D: Disk>()
     ensures { PinnedReceiptIsUndisturbed D D.is_honest }
 {}
 
-/// Each image of each moment of a run of lines stands for the history from
+/// Each image of each moment of a run of lines represents the history from
 /// before with the first so many of the releases that the lines imported.
 pub fn turns_import<D: Disk>()
     ensures { TurnsImport D D.is_honest D.moments D.failures }
@@ -62,7 +62,7 @@ pub fn refused_is_not_imported<D: Disk>()
     ensures { RefusedIsNotImported D D.is_honest D.moments D.failures }
 {}
 
-/// What a line imported, it asked for, and it was answered OK.
+/// A release that a line imported is one that it asked to import, and it was answered OK.
 pub fn imported_is_ok<D: Disk>()
     ensures { ImportedIsOk D D.is_honest D.moments D.failures }
 {}
@@ -86,17 +86,18 @@ pub fn kept_are_acknowledged()
     ensures { KeptAreAcknowledged }
 {}
 
-/// What a stop leaves is opened with such a history, any number of times.
+/// Whatever a stop leaves is opened with the releases that are kept, after any number of stops and
+/// openings.
 pub fn each_life_is_opened<D: Disk>()
     ensures { EachLifeIsOpened D D.is_honest D.moments D.failures }
 {}
 
-/// Lines of others leave a session its pin, and what stood up to it.
+/// Lines of other sessions leave a session its pin, and the history up to it.
 pub fn run_keeps_pin<D: Disk>()
     ensures { RunKeepsPin D D.is_honest D.moments D.failures }
 {}
 
-/// A pinned session sees what stood at its pin, whatever lines were answered since.
+/// A pinned session sees what its pin showed at first, whatever lines were answered since.
 pub fn pinned_sees_its_imports<D: Disk>()
     ensures { PinnedSeesItsImports D D.is_honest D.moments D.failures }
 {}
@@ -111,7 +112,8 @@ pub fn pinned_runs_are_undisturbed<D: Disk>()
     ensures { PinnedRunsAreUndisturbed D D.is_honest D.moments D.failures }
 {}
 
-/// And so are its RECEIPTs, where the import brought the same rows.
+/// A RECEIPT of a pinned session is answered alike in any two runs, where the import brought the
+/// same rows.
 pub fn pinned_receipts_are_undisturbed<D: Disk>()
     ensures { PinnedReceiptsAreUndisturbed D D.is_honest D.moments D.failures }
 {}

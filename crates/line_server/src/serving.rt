@@ -18,7 +18,7 @@ use thiserror::Error;
 /// Why not all of the input was served.
 #[derive(Clone, Copy, Debug, PartialEq, Eq, Error)]
 pub enum ServeFault {
-    /// The one buffer wasn't had.
+    /// Memory ran out for the one buffer; nothing was read.
     #[error("out of memory")]
     OutOfMemory,
     /// The reader failed. An interruption is a failure too.

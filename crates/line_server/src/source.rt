@@ -18,7 +18,7 @@ pub enum SourceFault {
     NoFolder,
 }
 
-/// What has releases by their names.
+/// Where releases are found by their names.
 pub trait Source {
     /// It has the releases that it says it has, and they stay.
     ghost is_honest: { Self → Type 0 };

@@ -73,7 +73,7 @@ pub fn reply_done(alloc: Global) -> Reply
     reply(Vec::new(alloc), begun_with("OK"))
 }
 
-/// The reply of a number.
+/// The reply that says a number.
 pub(crate) fn reply_number(alloc: Global, number: u64) -> Reply
     ensures { result ≡ reply_value (Ok (Done (decimal number ∷ []))) }
 {
@@ -151,7 +151,7 @@ pub fn reply_refusal(alloc: Global, refusal: LineRefusal) -> Reply
     }
 }
 
-/// The last line of rows or identifiers.
+/// The last line of a reply that lists rows or identifiers.
 fn end(count: usize) -> ArrayString<128>
     ensures bytes { result.bytes ++ 10 ∷ [] ≡ line (codes "END" ∷ decimal count ∷ []) }
     ensures short { array_string_len result < 128 }
@@ -161,7 +161,7 @@ fn end(count: usize) -> ArrayString<128>
     last
 }
 
-/// The reply of rows.
+/// The reply that lists rows.
 pub(crate) fn reply_rows(alloc: Global, rows: &[Row]) -> Result<Reply, AllocError>
     ensures { IfOk result (λ reply. reply ≡ reply_value (Ok (Rows rows.now))) }
 {
@@ -174,7 +174,7 @@ pub(crate) fn reply_rows(alloc: Global, rows: &[Row]) -> Result<Reply, AllocErro
     Ok(reply(body, end(rows.len())))
 }
 
-/// The reply of identifiers.
+/// The reply that lists identifiers.
 pub(crate) fn reply_ids(alloc: Global, ids: &[u64]) -> Result<Reply, AllocError>
     ensures { IfOk result (λ reply. reply ≡ reply_value (Ok (Ids ids.now))) }
 {

@@ -106,7 +106,7 @@ pub fn publication() -> &'static [Turn] {
 }
 
 /// Whether a line of the script is never refused because memory ran out.
-pub fn takes_none(line: &str) -> bool {
+pub fn takes_no_memory(line: &str) -> bool {
     let commands = [
         " PIN", " UNPIN", " STATUS", " RECEIPT", " MERGE", " PUBLISH", " ABANDON", " TRIM",
     ];

@@ -28,7 +28,7 @@ pub struct Server {
 
 impl Server {
     /// The store in its box.
-    fn boxed(alloc: Global, store: Store<MemDisk>) -> Result<Server, Refusal> {
+    fn put_in_box(alloc: Global, store: Store<MemDisk>) -> Result<Server, Refusal> {
         match Box::new(alloc, store) {
             Ok(store) => Ok(Server { alloc, store }),
             Err(failed) => {
@@ -41,7 +41,7 @@ impl Server {
     /// A new store on this disk.
     pub fn create(alloc: Global, disk: MemDisk) -> Result<Server, Refusal> {
         match Store::create(alloc, disk) {
-            Ok(store) => Server::boxed(alloc, store),
+            Ok(store) => Server::put_in_box(alloc, store),
             Err((refusal, _)) => Err(refusal),
         }
     }
@@ -51,15 +51,15 @@ impl Server {
         Server::create(alloc, MemDisk::new(alloc))
     }
 
-    /// The store that a disk stands for.
+    /// The store that a disk represents.
     pub fn opened(alloc: Global, disk: MemDisk) -> Result<Server, Refusal> {
         match Store::open(alloc, disk) {
-            Ok(store) => Server::boxed(alloc, store),
+            Ok(store) => Server::put_in_box(alloc, store),
             Err((refusal, _)) => Err(refusal),
         }
     }
 
-    /// The store that a disk of these bytes stands for.
+    /// The store that a disk of these bytes represents.
     pub fn of_bytes(alloc: Global, bytes: &[u8]) -> Result<Server, Refusal> {
         Server::opened(alloc, MemDisk::from_bytes(alloc, bytes.to_vec(alloc)?))
     }

@@ -8,14 +8,14 @@ use Rattle.segment.specs.Standing.{StandsAt}
 use Rattle.merge.specs.declared.MergeProgress.{MergeProgress}
 use Rattle.merge.specs.declared.Taken.{Taken}
 
--- of lists of these lengths, and nothing is taken yet
+-- the merge is of lists of these lengths, and nothing is taken yet
 pub record IsNew (m : MergeProgress) (a_len b_len : ℕ) : Type 0 where
   pub a_len_is : m.a_len ≡ a_len
   pub b_len_is : m.b_len ≡ b_len
   pub a_place_is : m.a_place ≡ 0
   pub b_place_is : m.b_place ≡ 0
 
--- the lists have the lengths
+-- the lists have the lengths that the merge was made with
 abbrev pub IsOf : {X : Type 0} → MergeProgress → List X → List X → Type 0
 IsOf m a b = (length a ≡ m.a_len) × (length b ≡ m.b_len)
 

@@ -13,7 +13,9 @@ mod tests;
 /// A place that was taken, and whether it is one of the second list.
 #[derive(Clone, Copy)]
 pub struct Taken {
+    /// Whether it is one of the second list.
     pub second: bool,
+    /// The place, as that list has it.
     pub place: RowPlace,
 }
 
@@ -64,7 +66,7 @@ impl MergeProgress {
     }
 
     /// The next places of the two lists, up to `n`, in key order, and how far the merge then is.
-    /// The lists have the lengths of the making. Each place taken costs one step.
+    /// The lists have the lengths that `new` was given. Each place taken costs one step.
     pub fn take(
         self,
         alloc: Global,
@@ -86,7 +88,7 @@ impl MergeProgress {
             → a.now ≡ places_of xs → b.now ≡ places_of ys
             → IfOk result (λ r. AllZip (StandsTaken xs ys) r.0.items
             (take n (rows_left self xs ys))) }
-        // And the others are left.
+        // The rows that weren't taken are left.
         ensures others { (xs ys : List StampedRow) → AreLists (xs ∷ ys ∷ [])
             → a.now ≡ places_of xs → b.now ≡ places_of ys
             → IfOk result (λ r. rows_left r.1 xs ys ≡ drop n (rows_left self xs ys)) }

@@ -40,8 +40,8 @@ pub fn read_folder<R: Files<File = File> + AllocGlobal + Clone + Drop>(
     }
 }
 
-/// The same, with what stood in its way. Nothing is opened that isn't a folder or a regular file.
-/// The watcher is told of each file in the two folders.
+/// The release that `read_folder` reads, or what stood in its way. Nothing is opened that isn't a
+/// folder or a regular file. The watcher is told of each file in the two folders.
 pub fn read_release<R: Files<File = File> + AllocGlobal + Clone + Drop, W: Watcher>(
     rt: &R,
     alloc: Global,
@@ -74,7 +74,7 @@ pub fn release_of(
     ensures in_order { IfOk result
         (λ release. AreOfParts terminology.items content.items release.files.items) }
     ensures some { IfOk result (λ release. release.files.items ≢ []) }
-    // Without a file memory isn't said to lack.
+    // Without a file the answer is never that memory ran out.
     ensures none { IsErrOf result NoFolder
         ↔ ((terminology.items ≡ []) × (content.items ≡ [])) }
 {

@@ -19,10 +19,11 @@ pub(crate) const TERMINOLOGY: &str = "Terminology";
 /// The folder of a release that holds its association reference sets.
 pub(crate) const CONTENT: &str = "Refset/Content";
 
-/// The folder that holds that one.
+/// The folder that holds `Content`.
 const REFSET: &str = "Refset";
 
-/// What stands at a path, if anything does. A link that leads nowhere isn't nothing.
+/// What is at a path, if anything is. A link that leads nowhere is refused, and not taken for
+/// nothing.
 fn look<R: Files<File = File>>(
     rt: &R,
     alloc: Global,
@@ -39,7 +40,7 @@ fn look<R: Files<File = File>>(
     }
 }
 
-/// The release's folder has to be one.
+/// Refuses a release's folder that is no folder.
 pub(crate) fn check_folder<R: Files<File = File>>(
     rt: &R,
     alloc: Global,
@@ -52,7 +53,7 @@ pub(crate) fn check_folder<R: Files<File = File>>(
     }
 }
 
-/// A part of the release may be absent, and is no link that leads nowhere.
+/// Refuses a release of which a part is a link that leads nowhere. A part may be absent.
 pub(crate) fn check_parts<R: Files<File = File>>(
     rt: &R,
     alloc: Global,
@@ -65,7 +66,7 @@ pub(crate) fn check_parts<R: Files<File = File>>(
     Ok(())
 }
 
-/// A release file has to be a regular file, and not too large.
+/// Refuses a release file that isn't a regular file, or is too large.
 pub(crate) fn check_file<R: Files<File = File>>(
     rt: &R,
     alloc: Global,

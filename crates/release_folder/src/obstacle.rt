@@ -40,7 +40,7 @@ pub enum Obstacle {
 #[derive(Debug, Drop)]
 pub enum ReadFault {
     OutOfMemory,
-    /// The path is empty where memory lacked for it.
+    /// The path is empty where memory ran out for it.
     Met { path: String, obstacle: Obstacle },
 }
 

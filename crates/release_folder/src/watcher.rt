@@ -9,7 +9,7 @@ pub trait Watcher {
     fn passes_over(&mut self, name: &str);
 }
 
-/// Is told all, and says nothing.
+/// A watcher that passes nothing on.
 #[derive(Clone, Copy)]
 pub struct Unwatched;
 

@@ -90,7 +90,8 @@ fn read_rows(alloc: Global, kind: Kind, lines: Lines<'_>) -> Result<Vec<Row>, Fi
     Ok(rows)
 }
 
-/// The rows of a release file.
+/// The rows of a release file. `read_file` is the same with all clauses, which follow from these
+/// two.
 fn read(alloc: Global, kind: Kind, bytes: &[u8]) -> Result<Vec<Row>, FileFault>
     ensures found { IfOk result (λ rows. IsReleaseFile kind rows.items bytes.now) }
     ensures fault { IfErr result (IsFaultThat (IsFaultOfFile kind bytes.now)) }

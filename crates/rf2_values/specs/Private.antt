@@ -20,7 +20,7 @@ columns_len (column ∷ columns) = length column + 1 + columns_len columns
 abbrev pub tabbed : List (List ℕ) → List ℕ
 tabbed columns = flat_map (λ column. 9 ∷ column) columns
 
--- which is one order of all keys
+-- the order of keys is total
 pub keys_total : IsTotalOrder key_cmp
 keys_total = then_total (on_total (λ k. kind_place k.kind) nat_cmp_total)
     (then_total (on_total (λ k. k.id) nat_cmp_total) (on_total (λ k. k.time) nat_cmp_total))

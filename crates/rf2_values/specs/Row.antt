@@ -74,7 +74,7 @@ abbrev pub flag : Bool → List ℕ
 flag false = 48 ∷ []
 flag true = 49 ∷ []
 
--- an identifier in its column
+-- the text spells an identifier of the kind, in its column
 abbrev pub SpellsId : Kind → ℕ → List ℕ → Type 0
 SpellsId kind.Concept n text = text ≡ decimal n
 SpellsId kind.Description n text = text ≡ decimal n
@@ -82,7 +82,7 @@ SpellsId kind.Relationship n text = text ≡ decimal n
 SpellsId kind.Association n text = SpellsMember n text
 SpellsId kind.Concrete n text = text ≡ decimal n
 
--- its canonical spelling
+-- the canonical spelling of an identifier of the kind
 abbrev pub id_text : Kind → ℕ → List ℕ
 id_text kind.Concept n = decimal n
 id_text kind.Description n = decimal n
@@ -104,7 +104,7 @@ body_columns (body.Concrete c) =
     decimal c.source ∷ c.value ∷ decimal c.group ∷ decimal c.type_id
     ∷ decimal c.characteristic_type ∷ decimal c.modifier ∷ []
 
--- the columns after the identifier
+-- the columns of a row after the identifier, in their canonical spelling
 abbrev pub later_columns : RowValue → List (List ℕ)
 later_columns v =
     decimal v.time ∷ flag v.active ∷ decimal v.module_id ∷ body_columns v.body
@@ -113,7 +113,7 @@ later_columns v =
 abbrev pub line_of : List (List ℕ) → List ℕ
 line_of columns = join_with_byte 9 columns
 
--- the canonical spelling
+-- the canonical spelling of a row
 abbrev pub canonical : RowValue → List ℕ
 canonical v = line_of (id_text (kind_of v) v.id ∷ later_columns v)
 

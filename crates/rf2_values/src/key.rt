@@ -18,7 +18,9 @@ use std::cmp::Ordering;
 pub struct Key {
     /// An SCTID as a number, or a member id as one of 128 bits.
     pub id: u128,
+    /// The day from which the row holds.
     pub time: EffectiveTime,
+    /// The kind of the component.
     pub kind: Kind,
 }
 

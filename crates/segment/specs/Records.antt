@@ -44,7 +44,7 @@ common_fields s =
     ∷ Number w32 s.import ∷ Number w8 (active_code s.row.active) ∷ Number w64 s.row.module_id
     ∷ []
 
--- the fields of its kind
+-- the fields that records of a kind have besides
 abbrev pub body_fields : Body → List Field
 body_fields (bodies.Concept c) = Number w64 c.definition_status ∷ []
 body_fields (bodies.Description d) = Number w64 d.concept ∷ Number w64 d.type_id
@@ -57,7 +57,7 @@ body_fields (bodies.Association a) =
 body_fields (bodies.Concrete c) = Number w64 c.source ∷ Number w32 c.group ∷ Number w64 c.type_id
     ∷ Number w64 c.characteristic_type ∷ Number w64 c.modifier ∷ Text c.value ∷ []
 
--- all but the length
+-- all fields of a record but its length
 abbrev pub fields_of : StampedRow → List Field
 fields_of s = common_fields s ++ body_fields s.row.body
 
@@ -71,7 +71,7 @@ pub record IsStamped (s : StampedRow) : Type 0 where
   pub from_one : 1 ≤ s.import
   pub fits : s.import < 2 ^ 32
 
--- the records one after the other
+-- the records of rows, one after the other
 unfoldable pub segment_of : List StampedRow → List ℕ
 segment_of rows = flat_map record_of rows
 
@@ -87,12 +87,12 @@ pub record IsRecordAt (bytes : List ℕ) (place : ℕ) (s : StampedRow) (next : 
   pub next_is : next ≡ place + length (record_of s)
   pub bytes_are : take (length (record_of s)) (drop place bytes) ≡ record_of s
 
--- no bytes are two segments
+-- bytes are the segment of one list of rows at most
 abbrev pub OneSegment : Type 0
 OneSegment = (rows others : List StampedRow) (bytes : List ℕ) → IsSegment rows bytes
     → IsSegment others bytes → rows ≡ others
 
--- no place has two records
+-- at a place is the record of one row at most
 abbrev pub OneRecord : Type 0
 OneRecord = (bytes : List ℕ) (place : ℕ) (s other : StampedRow) (next after : ℕ)
     → IsRecordAt bytes place s next → IsRecordAt bytes place other after
@@ -104,7 +104,7 @@ EachAtItsPlace = (before after : List StampedRow) (s : StampedRow) (bytes : List
     → IsSegment (before ++ s ∷ after) bytes
     → IsRecordAt bytes (length (segment_of before)) s (length (segment_of (before ++ s ∷ [])))
 
--- what spells two lists, one after the other, spells them joined
+-- the records of two lists of rows, one after the other, are those of the lists joined
 abbrev pub PiecesJoin : Type 0
 PiecesJoin = (rows others : List StampedRow)
     → segment_of (rows ++ others) ≡ segment_of rows ++ segment_of others

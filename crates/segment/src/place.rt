@@ -11,6 +11,7 @@ use rf2_values::Key;
 /// what names the row and the number of its import.
 #[derive(Clone, Copy, Debug, PartialEq, Eq)]
 pub struct RowPlace {
+    /// The row's kind, id and effective time.
     pub key: Key,
     /// The number of the import that first brought the row, from 1 on.
     pub import: u32,

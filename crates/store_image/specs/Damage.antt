@@ -30,7 +30,7 @@ pub record AreThere (imports : ℕ) (entries : List Entry) (lists : List (List S
   pub numbered : AllByRecursion (AreNumbered imports) lists
   pub held : HoldsAll (pieces_of entries lists) file
 
--- at the place of the entry is the segment of no rows
+-- no rows have their segment at the place of the entry, with numbers of imports up to this one
 abbrev pub IsBroken : ℕ → Entry → List ℕ → Type 0
 IsBroken imports entry file =
     (rows : List StampedRow) → IsAt file entry rows → AreNumbered imports rows → ⊥
@@ -53,7 +53,7 @@ pub record ShareKey (imports : ℕ) (entries : List Entry) (file : List ℕ) : T
   pub there : AreThere imports entries lists file
   pub shared : ¬ (AreLists lists)
 
--- no two share one, and there is a row of a kind that the version doesn't have
+-- no two segments share a key, and there is a row of a kind that the version doesn't have
 pub record HasStrangeKind (d : DirectoryValue) (file : List ℕ) : Type 0 where
   pub lists : List (List StampedRow)
   pub there : AreThere d.imports d.entries lists file
@@ -73,11 +73,11 @@ IsDamaged damages.SharedKey file =
     (d : DirectoryValue) × HasDirectory d file × ShareKey d.imports d.entries file
 IsDamaged damages.Kind file = (d : DirectoryValue) × HasDirectory d file × HasStrangeKind d file
 
--- bytes that stand for something have no damaged part
+-- bytes that represent a history have no damaged part
 abbrev pub StandingIsUndamaged : Type 0
 StandingIsUndamaged = (file : List ℕ) (damage : Damage) → IsStore file → IsDamaged damage file → ⊥
 
--- and others one at most
+-- at most one part of bytes is damaged
 abbrev pub OneDamage : Type 0
 OneDamage = (file : List ℕ) (damage other : Damage)
     → IsDamaged damage file → IsDamaged other file → damage ≡ other

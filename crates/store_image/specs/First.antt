@@ -1,4 +1,4 @@
--- What bytes stood for before there was a second version of the layout: the definition of that
+-- What bytes represented before there was a second version of the layout: the definition of that
 -- time, on its own. Its rows were of the four kinds that there were then.
 use Rattle.std.specs.Prelude.{◌≡◌, ◌↔◌, ℕ, ◌^◌, ◌<◌, ◌≤◌, List, ◌++◌, length, take, replicate, codes, All}
 use Rattle.std.specs.List.{AllByRecursion, flat_map}
@@ -49,7 +49,7 @@ pub record StoodFor (file : List ℕ) (h : History) (epoch : ℕ) (entries : Lis
   pub history : IsHistory (record { imports = h.imports; rows = listed lists })
   pub rows : h.rows ≡ listed lists
 
--- what stood for a history does so in version 1 still, and nothing else does in that version
+-- what represented a history then does so in version 1 still, and nothing else does in that version
 abbrev pub FirstStillStands : Type 0
 FirstStillStands = (file : List ℕ) (h : History) (epoch : ℕ) (entries : List Entry)
     → StoodFor file h epoch entries ↔ Represents file h layouts.One epoch entries

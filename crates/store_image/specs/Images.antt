@@ -1,4 +1,4 @@
--- What the bytes of a disk stand for.
+-- What the bytes of a disk represent.
 use Rattle.std.specs.Prelude.{◌≡◌, ℕ, List}
 use Rattle.blocks.specs.declared.slots.Slot.{Slot}
 use Rattle.history_model.specs.declared.stamped.StampedRow.{StampedRow}
@@ -9,7 +9,7 @@ use Rattle.directory.specs.declared.layout.Layout.{Layout}
 use Rattle.store_image.specs.Stands.{Stands}
 use Rattle.store_image.specs.Says.{Says, pieces_of}
 
--- The bytes stand for the history, in this version, at this epoch and with these entries: the
+-- The bytes represent the history, in this version, at this epoch and with these entries: the
 -- current slot's content lists them, and each entry's extent is the segment of some of the rows,
 -- all of which together are the history's.
 pub record Represents (file : List ℕ) (h : History) (layout : Layout) (epoch : ℕ)
@@ -22,20 +22,20 @@ pub record Represents (file : List ℕ) (h : History) (layout : Layout) (epoch :
       (record { layout = layout; epoch = epoch; imports = h.imports; entries = entries }) lists
   pub rows : h.rows ≡ listed lists
 
--- in this version, at some epoch and with some entries
+-- the bytes represent the history in this version, at some epoch and with some entries
 abbrev pub StandsAs : Layout → History → List ℕ → Type 0
 StandsAs layout h file =
     (epoch : ℕ) × (entries : List Entry) × Represents file h layout epoch entries
 
--- in some version
+-- the bytes represent the history in some version
 abbrev pub RepresentsHistory : History → List ℕ → Type 0
 RepresentsHistory h file = (layout : Layout) × StandsAs layout h file
 
--- they stand for some history
+-- the bytes represent some history
 abbrev pub IsStore : List ℕ → Type 0
 IsStore file = (h : History) × RepresentsHistory h file
 
--- bytes stand for one history, version, epoch and list of entries at most
+-- bytes represent one history, version, epoch and list of entries at most
 abbrev pub RepresentsOne : Type 0
 RepresentsOne = (file : List ℕ) (h g : History) (layout other : Layout) (epoch others : ℕ)
     (entries lists : List Entry)

@@ -31,7 +31,7 @@ fn have_kinds(layout: Layout, places: &[RowPlace]) -> bool
     true
 }
 
-/// The same of several lists.
+/// Whether the version has rows of the kinds of all places of all lists.
 pub(crate) fn all_have_kinds(layout: Layout, lists: &[Vec<RowPlace>]) -> bool
     ensures { IsTrue result ↔ All (AreOfKinds layout) (map vec_items lists.now) }
 {

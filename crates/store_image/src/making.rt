@@ -22,7 +22,9 @@ use std::alloc::Global;
 /// An empty store: its current slot and its directory.
 #[derive(Drop)]
 pub struct Made {
+    /// The current slot.
     pub slot: Slot,
+    /// What its content lists.
     pub directory: Directory,
 }
 
@@ -48,7 +50,7 @@ pub fn make<D: Disk>(alloc: Global, disk: &mut D) -> Result<Made, MakeFault>
     ensures exact { D.is_honest disk.old → IsMade result (D.moments disk.old).state.now }
     ensures on_disk { D.is_honest disk.old
         → IfOk result (λ made. IsOnDisk (D.moments disk.new).state made.slot made.directory []) }
-    // Whatever a stop leaves stands for the empty history.
+    // Whatever a stop leaves represents the empty history.
     ensures stands { D.is_honest disk.old
         → OnOk result (EachImage (D.moments disk.new).state
         (λ c. Represents c no_history layouts.Two 1 [])) }

@@ -1,4 +1,4 @@
-//! Reading what a disk stands for.
+//! Reading what a disk represents.
 
 ghost use Rattle.std.specs.Prelude.{◌≡◌, ◌↔◌, ◌+◌, ◌≤◌, ◌++◌, [], List, map, vec_items, IfOk, MatchResult};
 ghost use Rattle.disk_model.specs.Disk.{IsImage, LeavesOnly};
@@ -34,9 +34,9 @@ pub struct Loaded {
     pub shown: Vec<GhostRows>,
 }
 
-/// Reads what a disk stands for, after a sync. Each record is read once,
+/// Reads what a disk represents, after a sync. Each record is read once,
 /// through a buffer of fixed size, and its row is handed to the sink.
-/// Where the bytes stand for nothing, the damaged part is answered.
+/// Where the bytes represent nothing, the damaged part is answered.
 pub fn load<D: Disk, S: RowSink>(
     alloc: Global,
     disk: &mut D,

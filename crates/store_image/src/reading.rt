@@ -52,7 +52,8 @@ impl Rows {
     }
 }
 
-/// The same of several segments.
+/// The rows of several segments that were read: their places, and the rows, which clauses alone
+/// see.
 #[derive(Drop)]
 pub(crate) struct Segments {
     pub(crate) places: Vec<Vec<RowPlace>>,
@@ -83,7 +84,7 @@ pub(crate) fn read_segments<D: Disk, S: RowSink>(
     ensures moments { D.is_honest disk.old → D.moments disk.new ≡ D.moments disk.old }
     ensures honesty { D.is_honest disk.old ↔ D.is_honest disk.new }
     ensures failures { CountsLoading result (D.failures disk.old) (D.failures disk.new) }
-    // Whatever it answers.
+    // Whatever it answers, its reads are asked for no more bytes than the segments have.
     ensures bytes_read { D.bytes_read disk.new ≤ D.bytes_read disk.old + bytes_listed entries.now }
 {
     let mut window = Window::new(alloc)?;

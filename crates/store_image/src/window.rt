@@ -89,7 +89,7 @@ impl Window {
         ensures moments { D.is_honest disk.old → D.moments disk.new ≡ D.moments disk.old }
         ensures honesty { D.is_honest disk.old ↔ D.is_honest disk.new }
         ensures failures { CountsEach result (D.failures disk.old) (D.failures disk.new) }
-        // Whatever it answers.
+        // Whatever it answers, its reads are asked for no more bytes than `asked` grows by.
         ensures bytes_read { D.bytes_read disk.new + self.old.asked
             ≤ D.bytes_read disk.old + self.new.asked }
     {
@@ -146,7 +146,7 @@ impl Window {
         ensures moments { D.is_honest disk.old → D.moments disk.new ≡ D.moments disk.old }
         ensures honesty { D.is_honest disk.old ↔ D.is_honest disk.new }
         ensures failures { CountsFault result (D.failures disk.old) (D.failures disk.new) }
-        // Whatever it answers.
+        // Whatever it answers, its reads are asked for no more bytes than `asked` grows by.
         ensures bytes_read { D.bytes_read disk.new + self.old.asked
             ≤ D.bytes_read disk.old + self.new.asked }
     {

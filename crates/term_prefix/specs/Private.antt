@@ -18,7 +18,7 @@ use Rattle.term_prefix.specs.Laid.{terms_at, AreLaid}
 abbrev pub begins : List ℕ → TermAt → Bool
 begins text t = starts_with nat_eq t.folded text
 
--- the places of those that begin so
+-- the places of the terms of which the folding begins with a text
 abbrev pub begun : List ℕ → List (ℕ × TermAt) → List Chosen
 begun text xs = map (λ x. chosen x.0 x.1.at) (filter (λ x. begins text x.1) xs)
 
@@ -42,7 +42,7 @@ pub record Counts (lists : List (List StampedRow)) (date : ℕ) (after : Option 
   pub above : is_above after k.at.key.id ≡ true
   pub current : IsCurrentAt lists date pin k.segment k.at
 
--- and of a place: it counts, and there is room for it
+-- what a test answers of a place: it counts, and there is room for it
 abbrev pub SaysWanted : List (List StampedRow) → ℕ → Option ℕ → ℕ → ℕ → List Chosen → Chosen → Bool
     → Type 0
 SaysWanted lists date after limit pin kept k true =

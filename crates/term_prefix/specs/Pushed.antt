@@ -28,16 +28,16 @@ posted_term row at = if row.active then term_of_body row.body at else []
 abbrev pub IsPosted : List StampedRow → List TermAt → Type 0
 IsPosted rows ts = IsPermutation (posted_all posted_term (with_places 0 rows)) ts
 
--- as many lists of postings as of rows, each of its own rows
+-- there is one list of postings for each list of rows, and it has the postings of these rows
 abbrev pub ArePosted : List (List StampedRow) → List (List TermAt) → Type 0
 ArePosted lists terms = AllPosted posted_term lists terms
 
--- such lists post rows of their own lists
+-- if each list has the postings of its rows, each posting is of a row of its list, at its own place
 abbrev pub PostedTermsStand : Type 0
 PostedTermsStand = (lists : List (List StampedRow)) (terms : List (List TermAt))
     → ArePosted lists terms → PostsTerms lists terms
 
--- and nothing is left out
+-- if each list has the postings of its rows, no description is left out
 abbrev pub PostedTermsAreAll : Type 0
 PostedTermsAreAll = (lists : List (List StampedRow)) (posts : List (List TermAt))
     (prefix : List ℕ) (date : ℕ) (after : Option ℕ) (limit pin : ℕ)
@@ -45,13 +45,13 @@ PostedTermsAreAll = (lists : List (List StampedRow)) (posts : List (List TermAt)
     → terms_among (term_keys posts) prefix date after limit (rows_at pin (listed lists))
     ≡ search_terms prefix date after limit (rows_at pin (listed lists))
 
--- they stay such where a list is added
+-- each list has the postings of its rows still after a list and its postings are added
 abbrev pub PostedTermsMore : Type 0
 PostedTermsMore = (lists : List (List StampedRow)) (terms : List (List TermAt))
     (rows : List StampedRow) (ts : List TermAt)
     → ArePosted lists terms → IsPosted rows ts → ArePosted (lists ++ rows ∷ []) (terms ++ ts ∷ [])
 
--- and where one is put in the place of two
+-- each list has the postings of its rows still after one is put in the place of two
 abbrev pub PostedTermsMerged : Type 0
 PostedTermsMerged = (lists : List (List StampedRow)) (terms : List (List TermAt))
     (i j : ℕ) (rows : List StampedRow) (ts : List TermAt)

@@ -55,7 +55,7 @@ terms_among keys prefix date after limit rows =
     take limit
     (filter (λ row. is_term_above prefix after row && is_among keys row) (snapshot rows date))
 
--- where each of them is posted these are the answers
+-- if the keys have each such description, those drawn from these versions are the answers
 abbrev pub EachTermIsPosted : Type 0
 EachTermIsPosted = (keys : List Key) (prefix : List ℕ) (date : ℕ) (after : Option ℕ) (limit : ℕ)
     (rows : List RowValue)

@@ -8,22 +8,22 @@ pub fn each_term_is_posted()
     ensures { EachTermIsPosted }
 {}
 
-/// Terms that were pushed each with its own place stand for rows of their lists.
+/// If each list has the postings of its rows, each term is of a row of its list, at its own place.
 pub fn posted_terms_stand()
     ensures { PostedTermsStand }
 {}
 
-/// Of such terms none is left out.
+/// If each list has the postings of its rows, no term is left out.
 pub fn posted_terms_are_all()
     ensures { PostedTermsAreAll }
 {}
 
-/// They stay such where a list is added.
+/// The lists are postings of their rows still after a list is added.
 pub fn posted_terms_more()
     ensures { PostedTermsMore }
 {}
 
-/// And where one is put in the place of two.
+/// The lists are postings of their rows still after one is put in the place of two.
 pub fn posted_terms_merged()
     ensures { PostedTermsMerged }
 {}

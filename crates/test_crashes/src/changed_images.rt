@@ -8,7 +8,7 @@ use std::test::Fail;
 use test_support::{Example, merged_disk, root_disk};
 
 /// How many imports the disk of these bytes is opened with.
-fn opened(alloc: Global, bytes: Vec<u8>) -> Result<u32, Refusal> {
+fn count_imports(alloc: Global, bytes: Vec<u8>) -> Result<u32, Refusal> {
     match Example::open(alloc, MemDisk::from_bytes(alloc, bytes)) {
         Ok(store) => Ok(store.imports()),
         Err((refusal, _)) => Err(refusal),
@@ -16,7 +16,7 @@ fn opened(alloc: Global, bytes: Vec<u8>) -> Result<u32, Refusal> {
 }
 
 /// The bytes with others in the place of those from a place on.
-fn replaced(alloc: Global, bytes: &[u8], from: usize, by: &[u8]) -> Result<Vec<u8>, AllocError> {
+fn replace(alloc: Global, bytes: &[u8], from: usize, by: &[u8]) -> Result<Vec<u8>, AllocError> {
     let mut changed = bytes.to_vec(alloc)?;
     for (behind, new) in by.iter().enumerate() {
         if let Some(old) = changed.get_mut(from.saturating_add(behind)) {
@@ -39,7 +39,7 @@ fn a_disk_that_is_cut_short(rt: HostRuntime) -> Result<(), Fail> {
             1..=16_383 => Err(Refusal::Unreadable(Damage::Slots)),
             _ => Err(Refusal::Unreadable(Damage::Segment(1))),
         };
-        assert_eq!(rt; opened(rt.alloc(), cut), want, "cut to {len} bytes");
+        assert_eq!(rt; count_imports(rt.alloc(), cut), want, "cut to {len} bytes");
     }
     Ok(())
 }
@@ -69,8 +69,8 @@ fn a_field_that_is_changed(rt: HostRuntime) -> Result<(), Fail> {
         (16_384, &[0, 0, 0, 0x2e], Ok(1)),
     ];
     for (from, by, want) in &cases {
-        let changed = replaced(rt.alloc(), disk.bytes(), *from, *by)?;
-        assert_eq!(rt; opened(rt.alloc(), changed), *want, "at {from}");
+        let changed = replace(rt.alloc(), disk.bytes(), *from, *by)?;
+        assert_eq!(rt; count_imports(rt.alloc(), changed), *want, "at {from}");
     }
     Ok(())
 }
@@ -132,7 +132,7 @@ fn segment_at(place: usize) -> usize {
 /// What the merged disk is opened as with another byte at a place, where the layout says it. All
 /// that neither the newer content block nor a listed record holds plays no part: without its
 /// gate, too, the older slot lists three imports.
-fn wanted(place: usize, byte: u8) -> Option<Result<u32, Refusal>> {
+fn right_answer(place: usize, byte: u8) -> Option<Result<u32, Refusal>> {
     for (at, by, answer) in &SINGLE {
         if *at == place && *by == byte {
             return Some(*answer);
@@ -151,7 +151,7 @@ fn wanted(place: usize, byte: u8) -> Option<Result<u32, Refusal>> {
 /// Whether a disk is opened as it has to be with another byte at a place. Where the layout
 /// doesn't say which part is damaged, any; and in a segment a store of three imports, too.
 fn is_answer(place: usize, byte: u8, opened: Result<u32, Refusal>) -> bool {
-    match wanted(place, byte) {
+    match right_answer(place, byte) {
         Some(answer) => opened == answer,
         None if is_within(&CHECKED, place) => matches!(opened, Err(Refusal::Unreadable(_))),
         None => matches!(opened, Ok(3) | Err(Refusal::Unreadable(_))),
@@ -159,12 +159,12 @@ fn is_answer(place: usize, byte: u8, opened: Result<u32, Refusal>) -> bool {
 }
 
 /// How many other bytes were tried at a place.
-fn tried(rt: &impl Abort, alloc: Global, bytes: &[u8], place: usize) -> Result<u32, Fail> {
+fn try_bytes(rt: &impl Abort, alloc: Global, bytes: &[u8], place: usize) -> Result<u32, Fail> {
     let mut count = 0u32;
     for byte in [0, 0xa5, 0xff] {
         if bytes.get(place) != Some(&byte) {
-            let changed = replaced(alloc, bytes, place, &[byte])?;
-            let answer = opened(alloc, changed);
+            let changed = replace(alloc, bytes, place, &[byte])?;
+            let answer = count_imports(alloc, changed);
             assert!(rt;
                 is_answer(place, byte, answer),
                 "{byte} at {place}: {answer:?}"
@@ -176,7 +176,7 @@ fn tried(rt: &impl Abort, alloc: Global, bytes: &[u8], place: usize) -> Result<u
 }
 
 /// How many other bytes were tried at these places.
-fn all_tried(
+fn try_places(
     rt: &impl Abort,
     alloc: Global,
     bytes: &[u8],
@@ -185,7 +185,7 @@ fn all_tried(
 ) -> Result<u32, Fail> {
     let mut count = 0u32;
     for place in from..to {
-        count = count.saturating_add(tried(rt, alloc, bytes, place)?);
+        count = count.saturating_add(try_bytes(rt, alloc, bytes, place)?);
     }
     Ok(count)
 }
@@ -194,7 +194,7 @@ fn all_tried(
 fn each_byte_of_the_slots_is_changed(rt: HostRuntime) -> Result<(), Fail> {
     let disk = merged_disk(rt.alloc())?;
     assert_eq!(rt; disk.bytes().len(), 28_764);
-    let count = all_tried(&rt, rt.alloc(), disk.bytes(), 0, 16_384)?;
+    let count = try_places(&rt, rt.alloc(), disk.bytes(), 0, 16_384)?;
     assert_eq!(rt; count, 32_808);
     Ok(())
 }
@@ -202,7 +202,7 @@ fn each_byte_of_the_slots_is_changed(rt: HostRuntime) -> Result<(), Fail> {
 #[test]
 fn each_byte_of_the_segments_is_changed(rt: HostRuntime) -> Result<(), Fail> {
     let disk = merged_disk(rt.alloc())?;
-    let count = all_tried(&rt, rt.alloc(), disk.bytes(), 16_384, 28_764)?;
+    let count = try_places(&rt, rt.alloc(), disk.bytes(), 16_384, 28_764)?;
     assert_eq!(rt; count, 25_583);
     Ok(())
 }

@@ -2,10 +2,8 @@
 
 use disk_model::MemDisk;
 use history_store::Refusal;
-use import_check::Release;
-use rf2_rows::Kind;
 use std::alloc::{AllocError, Global};
-use test_support::{Example, one_file};
+use test_support::{Example, root_years};
 
 /// The stores that program left.
 #[derive(Clone, Copy, PartialEq, Eq)]
@@ -38,24 +36,18 @@ impl Old {
     }
 
     /// A new store after the same imports.
-    pub fn anew(self, alloc: Global) -> Result<Example, Refusal> {
+    pub fn make_anew(self, alloc: Global) -> Result<Example, Refusal> {
         match self {
             Old::Three => Example::after(alloc, &["r1", "r2", "r3"]),
             Old::Full => {
                 let mut store = Example::new(alloc)?;
                 for year in 1_901..2_029 {
-                    store.import(&of_year(alloc, year)?)?;
+                    store.import(&root_years(alloc, year, 1)?)?;
                 }
                 Ok(store)
             }
         }
     }
-}
-
-/// A release of one row: the root concept on the last day of January of a year.
-pub fn of_year(alloc: Global, year: u32) -> Result<Release, AllocError> {
-    let row = format!(in alloc; "138875005|{year}0131|1|CORE|PRIM")?;
-    one_file(alloc, Kind::Concept, &[row.as_str()])
 }
 
 /// What that program left after the sample releases r1, r2 and r3, which have 6, 4 and 2 new rows:

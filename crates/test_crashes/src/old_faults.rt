@@ -34,7 +34,7 @@ fn is_as_it_was(old: Old, alloc: Global, disk: &MemDisk) -> Result<bool, Refusal
 
 /// A store whose device failed: it has to be opened again, and until then
 /// it says the version, the imports and the rows from before.
-fn after_a_failure(
+fn check_failure(
     old: Old,
     alloc: Global,
     store: Example,
@@ -50,7 +50,7 @@ fn after_a_failure(
 }
 
 /// The publication on the opened store.
-fn tried(
+fn try_publication(
     case: Case,
     alloc: Global,
     mut store: Example,
@@ -67,7 +67,7 @@ fn tried(
                 Outcome::Wrong
             })
         }
-        Err(Refusal::DiskFault) => after_a_failure(case.old, alloc, store, wanted),
+        Err(Refusal::DiskFault) => check_failure(case.old, alloc, store, wanted),
         Err(_) => Ok(Outcome::Wrong),
     }
 }
@@ -83,7 +83,7 @@ fn run(
     let mut disk = case.old.disk(alloc)?;
     fault.strike(&mut disk, calls);
     match Example::open(alloc, disk) {
-        Ok(store) => tried(case, alloc, store, wanted),
+        Ok(store) => try_publication(case, alloc, store, wanted),
         Err((Refusal::DiskFault, disk)) => {
             let is_kept = is_as_it_was(case.old, alloc, &disk)?;
             Ok(if is_kept {
@@ -97,7 +97,7 @@ fn run(
 }
 
 /// How many runs there are before one meets no fault.
-fn runs(case: Case, alloc: Global, fault: Fault) -> Result<u64, Fail> {
+fn count_runs(case: Case, alloc: Global, fault: Fault) -> Result<u64, Fail> {
     let wanted = case.wanted(alloc)?;
     for calls in 0..1_000u64 {
         match run(case, alloc, fault, calls, &wanted)? {
@@ -113,8 +113,8 @@ fn runs(case: Case, alloc: Global, fault: Fault) -> Result<u64, Fail> {
 fn each_change(old: Old, first: First, alloc: Global, changes: u64) -> Result<bool, Fail> {
     let case = Case::new(old, first);
     Ok(
-        runs(case, alloc, Fault::Change(0))? == changes
-            && runs(case, alloc, Fault::Change(1))? == changes,
+        count_runs(case, alloc, Fault::Change(0))? == changes
+            && count_runs(case, alloc, Fault::Change(1))? == changes,
     )
 }
 
@@ -122,8 +122,8 @@ fn each_change(old: Old, first: First, alloc: Global, changes: u64) -> Result<bo
 /// whether these are so many more.
 fn each_other(old: Old, first: First, alloc: Global, changes: u64) -> Result<bool, Fail> {
     let case = Case::new(old, first);
-    let reads = runs(case, alloc, Fault::Read)?;
-    let calls = runs(case, alloc, Fault::All)?;
+    let reads = count_runs(case, alloc, Fault::Read)?;
+    let calls = count_runs(case, alloc, Fault::All)?;
     Ok(reads > 0 && calls.checked_sub(reads) == Some(changes))
 }
 

@@ -1,11 +1,11 @@
 //! What may come first of what moves a store of version 1 to version 2, and what such a store
 //! answers before it and after it.
 
-use crate::old::{Counts, Old, of_year};
+use crate::old::{Counts, Old};
 use history_store::Refusal;
 use rf2_rows::Kind;
 use std::alloc::Global;
-use test_support::{Example, one_file};
+use test_support::{Example, one_file, root_years};
 
 /// The publications that are tried.
 #[derive(Clone, Copy)]
@@ -54,7 +54,7 @@ impl Case {
                 store.import_sample("r2")?;
             }
             (First::Known, Old::Full) => {
-                store.import(&of_year(alloc, 1_950)?)?;
+                store.import(&root_years(alloc, 1_950, 1)?)?;
             }
             (First::Merge, _) => {
                 store.merge_begin()?;
@@ -67,10 +67,10 @@ impl Case {
 
     /// What a store that was made anew answers after the same imports, and after this as well.
     pub fn wanted(self, alloc: Global) -> Result<Wanted, Refusal> {
-        let mut anew = self.old.anew(alloc)?;
-        let before = told(&mut anew, alloc)?;
+        let mut anew = self.old.make_anew(alloc)?;
+        let before = answers_of(&mut anew, alloc)?;
         self.publish(&mut anew, alloc)?;
-        let after = told(&mut anew, alloc)?;
+        let after = answers_of(&mut anew, alloc)?;
         Ok(Wanted { before, after })
     }
 }
@@ -86,7 +86,7 @@ pub fn pages(store: &mut Example, alloc: Global, day: u32, pin: u32) -> Result<V
 }
 
 /// What a store answers to some questions, and how many imports and rows it has.
-pub fn told(store: &mut Example, alloc: Global) -> Result<Vec<u8>, Refusal> {
+pub fn answers_of(store: &mut Example, alloc: Global) -> Result<Vec<u8>, Refusal> {
     let last = store.imports();
     let mut told = Vec::new(alloc);
     told.extend_from_slice(&last.to_be_bytes())?;
@@ -117,7 +117,7 @@ pub struct Wanted {
 
 /// Whether the store is the one from before in version 1, or the one after it in version 2.
 pub fn is_wanted(store: &mut Example, alloc: Global, wanted: &Wanted) -> Result<bool, Refusal> {
-    let told = told(store, alloc)?;
+    let told = answers_of(store, alloc)?;
     match store.version() {
         1 => Ok(told.as_slice() == wanted.before.as_slice()),
         2 => Ok(told.as_slice() == wanted.after.as_slice()),

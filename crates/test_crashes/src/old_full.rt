@@ -1,9 +1,9 @@
 //! A store of version 1 with as many segments as that version could list.
 
-use crate::old::{Old, of_year, put};
+use crate::old::{Old, put};
 use history_store::{Damage, Receipt, Refusal};
 use std::test::Fail;
-use test_support::Example;
+use test_support::{Example, root_years};
 
 #[test]
 fn it_takes_no_new_row_and_stays_as_it_is(rt: HostRuntime) -> Result<(), Fail> {
@@ -11,7 +11,7 @@ fn it_takes_no_new_row_and_stays_as_it_is(rt: HostRuntime) -> Result<(), Fail> {
     let mut store = Example::opened(alloc, Old::Full.disk(alloc)?)?;
     assert_eq!(rt; store.version(), 1);
     assert_eq!(rt; (store.imports(), store.segments()), (128, 128));
-    let further = of_year(alloc, 2_029)?;
+    let further = root_years(alloc, 2_029, 1)?;
     assert_eq!(rt; store.import(&further), Err(Refusal::TooManySegments));
     assert_eq!(rt; store.version(), 1);
     let disk = store.close();
@@ -23,7 +23,7 @@ fn it_takes_no_new_row_and_stays_as_it_is(rt: HostRuntime) -> Result<(), Fail> {
 fn known_rows_lead_to_version_2_and_then_it_takes_more(rt: HostRuntime) -> Result<(), Fail> {
     let alloc = rt.alloc();
     let mut store = Example::opened(alloc, Old::Full.disk(alloc)?)?;
-    let known = of_year(alloc, 1_950)?;
+    let known = root_years(alloc, 1_950, 1)?;
     assert_eq!(rt;
         store.import(&known)?,
         Receipt {
@@ -33,7 +33,7 @@ fn known_rows_lead_to_version_2_and_then_it_takes_more(rt: HostRuntime) -> Resul
         }
     );
     assert_eq!(rt; (store.version(), store.segments()), (2, 128));
-    let further = of_year(alloc, 2_029)?;
+    let further = root_years(alloc, 2_029, 1)?;
     assert_eq!(rt; store.import(&further)?.new, 1);
     let store = Example::opened(alloc, store.close())?;
     assert_eq!(rt; (store.version(), store.segments()), (2, 129));
@@ -49,9 +49,9 @@ fn a_merge_leads_to_version_2_and_then_it_takes_more(rt: HostRuntime) -> Result<
     store.merge_step(2)?;
     store.merge_publish()?;
     assert_eq!(rt; (store.version(), store.segments()), (2, 127));
-    let further = of_year(alloc, 2_029)?;
+    let further = root_years(alloc, 2_029, 1)?;
     assert_eq!(rt; store.import(&further)?.new, 1);
-    let again = of_year(alloc, 2_030)?;
+    let again = root_years(alloc, 2_030, 1)?;
     assert_eq!(rt; store.import(&again)?.new, 1);
     let store = Example::opened(alloc, store.close())?;
     assert_eq!(rt; (store.version(), store.segments()), (2, 129));
@@ -62,8 +62,8 @@ fn a_merge_leads_to_version_2_and_then_it_takes_more(rt: HostRuntime) -> Result<
 fn version_1_lists_128_segments_at_most(rt: HostRuntime) -> Result<(), Fail> {
     let alloc = rt.alloc();
     let mut store = Example::opened(alloc, Old::Full.disk(alloc)?)?;
-    store.import(&of_year(alloc, 1_950)?)?;
-    store.import(&of_year(alloc, 2_029)?)?;
+    store.import(&root_years(alloc, 1_950, 1)?)?;
+    store.import(&root_years(alloc, 2_029, 1)?)?;
     let disk = store.close();
     let mut image = disk.bytes().to_vec(alloc)?;
     // The newer directory is in the first slot.

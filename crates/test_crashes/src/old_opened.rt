@@ -1,7 +1,7 @@
 //! What an old disk is opened as, and which disks of version 1 aren't opened.
 
 use crate::old::{Old, put};
-use crate::old_first::{Case, First, STRENGTH, pages, told};
+use crate::old_first::{Case, First, STRENGTH, answers_of, pages};
 use disk_model::MemDisk;
 use history_store::{Damage, Refusal};
 use rf2_rows::{Kind, LineFault};
@@ -59,7 +59,7 @@ fn an_old_store_answers_as_a_new_one(rt: HostRuntime) -> Result<(), Fail> {
     let alloc = rt.alloc();
     let mut old = Example::opened(alloc, Old::Three.disk(alloc)?)?;
     let mut new = Example::after(alloc, &["r1", "r2", "r3"])?;
-    assert!(rt; told(&mut old, alloc)? == told(&mut new, alloc)?);
+    assert!(rt; answers_of(&mut old, alloc)? == answers_of(&mut new, alloc)?);
     let answers = all_pages(&mut new, alloc)?;
     assert!(rt; all_pages(&mut old, alloc)? == answers);
     for first in [First::NewRow, First::Known, First::Merge] {
@@ -77,14 +77,14 @@ fn each_publication_leads_to_version_2(rt: HostRuntime) -> Result<(), Fail> {
         let mut store = Example::opened(alloc, Old::Three.disk(alloc)?)?;
         Case::new(Old::Three, first).publish(&mut store, alloc)?;
         assert_eq!(rt; store.version(), 2);
-        let answers = told(&mut store, alloc)?;
+        let answers = answers_of(&mut store, alloc)?;
         let disk = store.close();
         // The older slot keeps its version, and the newer one has the other.
         assert_eq!(rt; disk.bytes().get(12_303), Some(&b'1'));
         assert_eq!(rt; disk.bytes().get(4_111), Some(&b'2'));
         let mut store = Example::opened(alloc, disk)?;
         assert_eq!(rt; store.version(), 2);
-        assert!(rt; told(&mut store, alloc)? == answers);
+        assert!(rt; answers_of(&mut store, alloc)? == answers);
     }
     Ok(())
 }

@@ -1,16 +1,16 @@
 //! The first publication on an old disk, stopped at each moment.
 
 use crate::faults::CHOICES;
-use crate::old::{Old, of_year};
+use crate::old::Old;
 use crate::old_first::{Case, First, Wanted, is_wanted};
 use disk_model::MemDisk;
 use history_store::Refusal;
 use std::alloc::Global;
 use std::test::Fail;
-use test_support::{Example, image_after};
+use test_support::{Example, image_after, root_years};
 
 /// The old disk after an opening and the publication.
-fn published(case: Case, alloc: Global) -> Result<MemDisk, Refusal> {
+fn publish_and_close(case: Case, alloc: Global) -> Result<MemDisk, Refusal> {
     let mut store = Example::opened(alloc, case.old.disk(alloc)?)?;
     case.publish(&mut store, alloc)?;
     Ok(store.close())
@@ -18,7 +18,7 @@ fn published(case: Case, alloc: Global) -> Result<MemDisk, Refusal> {
 
 /// Whether a row that is new is taken. The other answer is that there are too many segments.
 fn takes_more(store: &mut Example, alloc: Global) -> Result<bool, Refusal> {
-    match store.import(&of_year(alloc, 2_029)?) {
+    match store.import(&root_years(alloc, 2_029, 1)?) {
         Ok(receipt) => Ok(receipt.new == 1),
         Err(Refusal::TooManySegments) => Ok(false),
         Err(refusal) => Err(refusal),
@@ -51,8 +51,8 @@ fn goes_on(
 
 /// Looks at the images of each moment. The version is 1 up to some
 /// call and 2 from it on; answers how many moments had version 1.
-fn stopped(case: Case, alloc: Global, choice: usize) -> Result<u64, Fail> {
-    let disk = published(case, alloc)?;
+fn count_old_moments(case: Case, alloc: Global, choice: usize) -> Result<u64, Fail> {
+    let disk = publish_and_close(case, alloc)?;
     let wanted = case.wanted(alloc)?;
     let choice = *CHOICES.get(choice).ok_or("no choice")?;
     let mut old = 0u64;
@@ -76,10 +76,10 @@ fn stopped(case: Case, alloc: Global, choice: usize) -> Result<u64, Fail> {
 fn each_stop(old: Old, first: First, alloc: Global, moments: u64) -> Result<bool, Fail> {
     let case = Case::new(old, first);
     Ok(
-        stopped(case, alloc, 0)? == moments
-            && stopped(case, alloc, 1)? == moments
-            && stopped(case, alloc, 2)? == moments.saturating_sub(1)
-            && stopped(case, alloc, 3)? == moments.saturating_sub(1),
+        count_old_moments(case, alloc, 0)? == moments
+            && count_old_moments(case, alloc, 1)? == moments
+            && count_old_moments(case, alloc, 2)? == moments.saturating_sub(1)
+            && count_old_moments(case, alloc, 3)? == moments.saturating_sub(1),
     )
 }
 

@@ -4,7 +4,7 @@ use history_store::{Damage, Refusal};
 use rf2_rows::Kind;
 use std::alloc::Global;
 use std::test::Fail;
-use test_support::{Example, line, patched, root_disk};
+use test_support::{Example, line, patch, root_disk};
 
 /// The record of 138875005|20200131|1|900000000000207008|900000000000074008 at import 1.
 const ROOT: [u8; 46] =
@@ -19,7 +19,7 @@ const CONTENT: [u8; 48] = [
 ];
 
 /// Why these bytes aren't opened.
-fn refused(alloc: Global, bytes: &[u8]) -> Option<Refusal> {
+fn refusal_of(alloc: Global, bytes: &[u8]) -> Option<Refusal> {
     Example::of_bytes(alloc, bytes).err()
 }
 
@@ -64,22 +64,22 @@ fn an_import_byte_for_byte(rt: HostRuntime) -> Result<(), Fail> {
 /// An opening is no line, and no line says which part is damaged.
 #[test]
 fn disks_that_are_no_store_or_damaged(rt: HostRuntime) -> Result<(), Fail> {
-    assert_eq!(rt; refused(rt.alloc(), b"").map(Refusal::code), Some(7));
-    assert_eq!(rt; refused(rt.alloc(), &[0; 3]).map(Refusal::code), Some(7));
+    assert_eq!(rt; refusal_of(rt.alloc(), b"").map(Refusal::code), Some(7));
+    assert_eq!(rt; refusal_of(rt.alloc(), &[0; 3]).map(Refusal::code), Some(7));
     assert_eq!(rt;
-        refused(rt.alloc(), &[0; 16_384]).map(Refusal::code),
+        refusal_of(rt.alloc(), &[0; 16_384]).map(Refusal::code),
         Some(7)
     );
-    assert_eq!(rt; refused(rt.alloc(), &[0xa5]).map(Refusal::code), Some(8));
+    assert_eq!(rt; refusal_of(rt.alloc(), &[0xa5]).map(Refusal::code), Some(8));
     let disk = Example::after(rt.alloc(), &["r1", "r2"])?.close();
     // The newer slot has an entry of no bytes, though the older one is good.
-    let empty = patched(rt.alloc(), disk.bytes(), 4_132, 4_136, 0)?;
+    let empty = patch(rt.alloc(), disk.bytes(), 4_132, 4_136, 0)?;
     let directory = Some(Refusal::Unreadable(Damage::Directory));
-    assert_eq!(rt; refused(rt.alloc(), &empty), directory);
+    assert_eq!(rt; refusal_of(rt.alloc(), &empty), directory);
     // Both slots have epoch 3.
-    let equal = patched(rt.alloc(), disk.bytes(), 12_295, 12_296, 3)?;
+    let equal = patch(rt.alloc(), disk.bytes(), 12_295, 12_296, 3)?;
     let slots = Some(Refusal::Unreadable(Damage::Slots));
-    assert_eq!(rt; refused(rt.alloc(), &equal), slots);
-    assert_eq!(rt; refused(rt.alloc(), disk.bytes()), None);
+    assert_eq!(rt; refusal_of(rt.alloc(), &equal), slots);
+    assert_eq!(rt; refusal_of(rt.alloc(), disk.bytes()), None);
     Ok(())
 }

@@ -74,7 +74,7 @@ fn is_before_or_after(
 
 /// A failed call's store: it is closed, its counts are those from
 /// before, and its disk is opened as it was before or after.
-fn after_a_failure(
+fn check_failure(
     alloc: Global,
     mut store: Example,
     imports: u32,
@@ -99,14 +99,14 @@ fn run(alloc: Global, mut store: Example) -> Result<Outcome, Refusal> {
             Ok(()) => {}
             Err(Refusal::DiskFault) => {
                 let is_import = matches!(step, Step::Import(_));
-                return after_a_failure(alloc, store, imports, rows, is_import);
+                return check_failure(alloc, store, imports, rows, is_import);
             }
             Err(_) => return Ok(Outcome::Wrong),
         }
     }
     match ask(&mut store) {
         Ok(()) => Ok(Outcome::Whole),
-        Err(Refusal::DiskFault) => after_a_failure(alloc, store, 3, 12, false),
+        Err(Refusal::DiskFault) => check_failure(alloc, store, 3, 12, false),
         Err(_) => Ok(Outcome::Wrong),
     }
 }
@@ -124,7 +124,7 @@ fn run_with(alloc: Global, fault: Fault, calls: u64) -> Result<Outcome, Refusal>
 }
 
 /// How many runs there are before one meets no fault; none where a run goes wrong.
-fn runs(alloc: Global, fault: Fault) -> Result<Option<u64>, Refusal> {
+fn count_runs(alloc: Global, fault: Fault) -> Result<Option<u64>, Refusal> {
     for calls in 0..10_000u64 {
         match run_with(alloc, fault, calls)? {
             Outcome::Failed => {}
@@ -138,21 +138,21 @@ fn runs(alloc: Global, fault: Fault) -> Result<Option<u64>, Refusal> {
 #[test]
 fn each_changing_call_fails(rt: HostRuntime) -> Result<(), Fail> {
     // Nine calls make the store.
-    assert_eq!(rt; runs(rt.alloc(), Fault::Change(0))?, Some(52));
-    assert_eq!(rt; runs(rt.alloc(), Fault::Change(1))?, Some(52));
+    assert_eq!(rt; count_runs(rt.alloc(), Fault::Change(0))?, Some(52));
+    assert_eq!(rt; count_runs(rt.alloc(), Fault::Change(1))?, Some(52));
     Ok(())
 }
 
 #[test]
 fn each_reading_call_and_each_call_at_all_fails(rt: HostRuntime) -> Result<(), Fail> {
-    assert_eq!(rt; runs(rt.alloc(), Fault::Read)?, Some(15));
-    assert_eq!(rt; runs(rt.alloc(), Fault::All)?, Some(67));
+    assert_eq!(rt; count_runs(rt.alloc(), Fault::Read)?, Some(15));
+    assert_eq!(rt; count_runs(rt.alloc(), Fault::All)?, Some(67));
     Ok(())
 }
 
 /// An opening of the disk after the script, one of whose calls fails.
 /// The disk comes back as it was, and is opened once its calls pass.
-fn opening_with(alloc: Global, bytes: &[u8], fault: Fault, calls: u64) -> Result<Outcome, Refusal> {
+fn open_with(alloc: Global, bytes: &[u8], fault: Fault, calls: u64) -> Result<Outcome, Refusal> {
     let mut disk = MemDisk::from_bytes(alloc, bytes.to_vec(alloc)?);
     fault.strike(&mut disk, calls);
     match Example::open(alloc, disk) {
@@ -170,9 +170,9 @@ fn opening_with(alloc: Global, bytes: &[u8], fault: Fault, calls: u64) -> Result
 }
 
 /// How many openings there are before one meets no fault; none where an opening goes wrong.
-fn openings(alloc: Global, bytes: &[u8], fault: Fault) -> Result<Option<u64>, Refusal> {
+fn count_openings(alloc: Global, bytes: &[u8], fault: Fault) -> Result<Option<u64>, Refusal> {
     for calls in 0..100u64 {
-        match opening_with(alloc, bytes, fault, calls)? {
+        match open_with(alloc, bytes, fault, calls)? {
             Outcome::Failed => {}
             Outcome::Whole => return Ok(Some(calls)),
             Outcome::Wrong => return Ok(None),
@@ -185,10 +185,16 @@ fn openings(alloc: Global, bytes: &[u8], fault: Fault) -> Result<Option<u64>, Re
 fn each_call_of_an_opening_fails(rt: HostRuntime) -> Result<(), Fail> {
     let disk = Example::after(rt.alloc(), &RELEASES)?.close();
     // An opening syncs once, and changes nothing else.
-    let changes = openings(rt.alloc(), disk.bytes(), Fault::Change(0))?;
+    let changes = count_openings(rt.alloc(), disk.bytes(), Fault::Change(0))?;
     assert_eq!(rt; changes, Some(1));
-    assert_eq!(rt; openings(rt.alloc(), disk.bytes(), Fault::Read)?, Some(12));
-    assert_eq!(rt; openings(rt.alloc(), disk.bytes(), Fault::All)?, Some(13));
+    assert_eq!(rt;
+        count_openings(rt.alloc(), disk.bytes(), Fault::Read)?,
+        Some(12)
+    );
+    assert_eq!(rt;
+        count_openings(rt.alloc(), disk.bytes(), Fault::All)?,
+        Some(13)
+    );
     Ok(())
 }
 

@@ -8,7 +8,7 @@ use std::alloc::Global;
 use std::test::Fail;
 use test_support::{Example, holds, image_after};
 
-/// How many changing calls a making has, and how many the script.
+/// How many changing calls the creation of a store makes, and how many the script.
 const MAKING: u64 = 9;
 
 const CALLS: u64 = 43;

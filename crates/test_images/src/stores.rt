@@ -52,7 +52,7 @@ impl RowSink for Seen {
 }
 
 /// What a disk is loaded as, by a sink that is then left out.
-fn loaded(alloc: Global, disk: &mut MemDisk) -> Result<Loaded, LoadFault> {
+fn load_disk(alloc: Global, disk: &mut MemDisk) -> Result<Loaded, LoadFault> {
     load(alloc, disk, &mut Seen::new(alloc))
 }
 
@@ -103,7 +103,7 @@ struct Unmerged {
 
 /// A store after two imports, the second one with these bytes as its segment.
 /// Slot A is the current one.
-fn imported(alloc: Global, second: &[u8; 46]) -> Result<Unmerged, Fail> {
+fn import_two(alloc: Global, second: &[u8; 46]) -> Result<Unmerged, Fail> {
     let mut disk = MemDisk::new(alloc);
     let Made {
         slot,
@@ -126,7 +126,7 @@ fn imported(alloc: Global, second: &[u8; 46]) -> Result<Unmerged, Fail> {
 
 /// The disk alone.
 fn two_imports(alloc: Global, second: &[u8; 46]) -> Result<MemDisk, Fail> {
-    let Unmerged { disk, .. } = imported(alloc, second)?;
+    let Unmerged { disk, .. } = import_two(alloc, second)?;
     Ok(disk)
 }
 
@@ -141,11 +141,11 @@ fn segments_after(alloc: Global, disk: &MemDisk, after: u64, choice: Choice) -> 
     requires { after ≤ changes_of disk.now }
 {
     let mut stopped = MemDisk::from_bytes(alloc, disk.image(after, choice)?);
-    Ok(loaded(alloc, &mut stopped)?.places.len())
+    Ok(load_disk(alloc, &mut stopped)?.places.len())
 }
 
 /// The disk with another byte at a place.
-fn patched(alloc: Global, disk: &MemDisk, place: usize, byte: u8) -> Result<MemDisk, Fail> {
+fn patch_byte(alloc: Global, disk: &MemDisk, place: usize, byte: u8) -> Result<MemDisk, Fail> {
     let mut bytes = Vec::new(alloc);
     bytes.extend_from_slice(disk.bytes())?;
     if place < bytes.len() {
@@ -162,7 +162,7 @@ fn an_empty_store(rt: HostRuntime) -> Result<(), Fail> {
     assert_eq!(rt; made.slot, Slot::A);
     assert_eq!(rt; made.directory.epoch(), 1);
     assert_eq!(rt; disk.bytes().len(), 16384);
-    let store = loaded(rt.alloc(), &mut disk)?;
+    let store = load_disk(rt.alloc(), &mut disk)?;
     assert_eq!(rt; store.slot, Slot::A);
     assert_eq!(rt; store.directory.epoch(), 1);
     assert_eq!(rt; store.places.len(), 0);
@@ -203,7 +203,7 @@ fn an_import_byte_for_byte(rt: HostRuntime) -> Result<(), Fail> {
     assert_eq!(rt; disk.bytes().get(12288..12336), Some(CONTENT.as_slice()));
     directory.advance(2);
     assert_eq!(rt; publish_directory(&mut disk, slot, &directory)?, Slot::A);
-    let store = loaded(rt.alloc(), &mut disk)?;
+    let store = load_disk(rt.alloc(), &mut disk)?;
     assert_eq!(rt; store.directory.epoch(), 3);
     assert_eq!(rt; store.directory.imports(), 2);
     assert_eq!(rt; store.places.len(), 1);
@@ -235,7 +235,7 @@ fn rows_are_handed_on_segment_by_segment(rt: HostRuntime) -> Result<(), Fail> {
 #[test]
 fn each_way_in_which_an_image_is_damaged(rt: HostRuntime) -> Result<(), Fail> {
     let mut good = two_imports(rt.alloc(), &OTHER)?;
-    assert_eq!(rt; loaded(rt.alloc(), &mut good)?.places.len(), 2);
+    assert_eq!(rt; load_disk(rt.alloc(), &mut good)?.places.len(), 2);
     for (place, byte, part, cause) in [
         (
             4111,
@@ -256,33 +256,33 @@ fn each_way_in_which_an_image_is_damaged(rt: HostRuntime) -> Result<(), Fail> {
             "a number above that of the imports",
         ),
     ] {
-        let mut disk = patched(rt.alloc(), &good, place, byte)?;
+        let mut disk = patch_byte(rt.alloc(), &good, place, byte)?;
         assert_eq!(rt;
-            loaded(rt.alloc(), &mut disk).err(),
+            load_disk(rt.alloc(), &mut disk).err(),
             Some(LoadFault::Damaged(part)),
             "{cause}"
         );
     }
     let mut shared = two_imports(rt.alloc(), &ROOT)?;
     assert_eq!(rt;
-        loaded(rt.alloc(), &mut shared).err(),
+        load_disk(rt.alloc(), &mut shared).err(),
         Some(LoadFault::Damaged(Damage::SharedKey))
     );
     let mut short = MemDisk::new(rt.alloc());
     short.write_at(0, &[0xa5])?;
     assert_eq!(rt;
-        loaded(rt.alloc(), &mut short).err(),
+        load_disk(rt.alloc(), &mut short).err(),
         Some(LoadFault::Damaged(Damage::Slots))
     );
     let mut zeros = MemDisk::new(rt.alloc());
     zeros.write_at(16383, &[0])?;
     assert_eq!(rt;
-        loaded(rt.alloc(), &mut zeros).err(),
+        load_disk(rt.alloc(), &mut zeros).err(),
         Some(LoadFault::NotAStore)
     );
     good.set_fuse(1);
     assert_eq!(rt;
-        loaded(rt.alloc(), &mut good).err(),
+        load_disk(rt.alloc(), &mut good).err(),
         Some(LoadFault::DiskFault)
     );
     Ok(())
@@ -294,10 +294,10 @@ fn a_segment_that_was_written_ahead_is_published(rt: HostRuntime) -> Result<(), 
         mut disk,
         slot,
         merged,
-    } = imported(rt.alloc(), &OTHER)?;
+    } = import_two(rt.alloc(), &OTHER)?;
     write_both(&mut disk)?;
     assert_eq!(rt; disk.bytes().len(), 24668);
-    assert_eq!(rt; loaded(rt.alloc(), &mut disk)?.places.len(), 2);
+    assert_eq!(rt; load_disk(rt.alloc(), &mut disk)?.places.len(), 2);
     assert_eq!(rt; sync_and_publish(&mut disk, slot, &merged)?, Slot::B);
     assert_eq!(rt; disk.bytes().len(), 24668);
     let mut seen = Seen::new(rt.alloc());
@@ -319,7 +319,7 @@ fn a_stop_leaves_two_segments_or_the_one_of_both(rt: HostRuntime) -> Result<(), 
         mut disk,
         slot,
         merged,
-    } = imported(rt.alloc(), &OTHER)?;
+    } = import_two(rt.alloc(), &OTHER)?;
     assert_eq!(rt; disk.changes(), 25);
     write_both(&mut disk)?;
     let _ = sync_and_publish(&mut disk, slot, &merged)?;
@@ -358,11 +358,11 @@ fn a_publication_that_failed_leaves_one_of_the_two(rt: HostRuntime) -> Result<()
             mut disk,
             slot,
             merged,
-        } = imported(rt.alloc(), &OTHER)?;
+        } = import_two(rt.alloc(), &OTHER)?;
         write_both(&mut disk)?;
         disk.set_break(calls, 0);
         assert_eq!(rt; sync_and_publish(&mut disk, slot, &merged), Err(DiskFault));
-        let found = loaded(rt.alloc(), &mut disk)?.places.len();
+        let found = load_disk(rt.alloc(), &mut disk)?.places.len();
         assert_eq!(rt; found, segments, "after {calls}");
     }
     Ok(())
@@ -376,7 +376,7 @@ fn a_write_ahead_that_failed_leaves_what_is_listed(rt: HostRuntime) -> Result<()
     assert_eq!(rt; disk.bytes().len(), 24632);
     for choice in [Choice::Lost, Choice::Kept, Choice::Filled(9)] {
         let mut stopped = MemDisk::from_bytes(rt.alloc(), disk.image_now(choice)?);
-        assert_eq!(rt; loaded(rt.alloc(), &mut stopped)?.places.len(), 2);
+        assert_eq!(rt; load_disk(rt.alloc(), &mut stopped)?.places.len(), 2);
     }
     Ok(())
 }
@@ -410,7 +410,7 @@ fn a_trim_that_failed_leaves_what_is_listed(rt: HostRuntime) -> Result<(), Fail>
         disk.set_break(calls, 0);
         assert_eq!(rt; trim(&mut disk, 24576), Err(DiskFault));
         assert_eq!(rt; disk.bytes().len(), len);
-        assert_eq!(rt; loaded(rt.alloc(), &mut disk)?.places.len(), 2);
+        assert_eq!(rt; load_disk(rt.alloc(), &mut disk)?.places.len(), 2);
     }
     Ok(())
 }

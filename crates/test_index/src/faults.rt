@@ -1,11 +1,11 @@
 //! A row is read only where it is answered, and a read that fails is handed on at once.
 
-use crate::links::{Asked, CONCEPTS, instead};
+use crate::links::{Asked, CONCEPTS, replacements_of};
 use crate::lists::{Indexed, index_all};
 use crate::releases::{example, lists_of};
 use crate::rows::{LAST_DAY, ROOT, STREET, day, sctid};
 use crate::subjects::{KINDS, rows_about};
-use crate::terms::{Search, found};
+use crate::terms::{Search, find_rows};
 use crate::watched::Watched;
 use crate::{links, subjects, terms};
 use as_of_index::ReadFault;
@@ -55,9 +55,9 @@ fn ask(
                 limit: *limit,
                 pin: 6,
             };
-            found(alloc, &made.terms, index, reader, asked)?
+            find_rows(alloc, &made.terms, index, reader, asked)?
         }
-        Question::Replacements(asked) => instead(alloc, &made.links, index, reader, asked)?,
+        Question::Replacements(asked) => replacements_of(alloc, &made.links, index, reader, asked)?,
         Question::About(kind, asked) => rows_about(alloc, made, reader, *kind, asked)?,
     };
     Ok(rows.len() as u64)

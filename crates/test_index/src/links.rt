@@ -2,8 +2,8 @@
 
 ghost use Rattle.std.specs.Prelude.{◌<◌, ◌≤◌};
 
-use crate::lists::{Indexed, index_all, index_of, kept, links_of, places_of, posted_links};
-use crate::releases::{imported, lists_of, three_lists};
+use crate::lists::{Indexed, index_all, index_of, links_of, places_of, post_links, reader_of};
+use crate::releases::{lists_of, rows_after, three_lists};
 use crate::rows::{
     FINDING_SITE, IS_A, LAST_DAY, MEMBER, OTHER, REPLACED_BY, ROOT, SAME_AS, STREET, THIRD,
     association, concept_id, day, is_same, relationship, relationship_id, sctid,
@@ -35,7 +35,7 @@ impl Asked {
 }
 
 /// The children of a concept.
-fn below(
+fn children_of(
     alloc: Global,
     links: &Links,
     index: &Index,
@@ -45,7 +45,7 @@ fn below(
 }
 
 /// The associations of a component.
-pub(crate) fn instead<R: RowReader>(
+pub(crate) fn replacements_of<R: RowReader>(
     alloc: Global,
     links: &Links,
     index: &Index,
@@ -76,7 +76,7 @@ fn a_street_is_a_child_while_a_relationship_says_so(rt: HostRuntime) -> Result<(
         (&posted, 2, LAST_DAY, ROOT, Some(STREET)),
         (&first, 3, LAST_DAY, ROOT, None),
     ] {
-        let found = below(alloc, links, &index, &Asked::of(concept, date, pin)?)?;
+        let found = children_of(alloc, links, &index, &Asked::of(concept, date, pin)?)?;
         assert_eq!(rt;
             found.first().copied(),
             want,
@@ -95,7 +95,7 @@ fn members(
     lists: &[Vec<StampedRow>],
     asked: &Asked,
 ) -> Result<Vec<u128>, Fail> {
-    let found = instead(alloc, links, index, &mut kept(lists), asked)?;
+    let found = replacements_of(alloc, links, index, &mut reader_of(lists), asked)?;
     Ok(found.iter().map(|row| row.id).collect(alloc)?)
 }
 
@@ -144,7 +144,7 @@ fn replacements_stand_by_refset_then_target_then_member(rt: HostRuntime) -> Resu
     release.push(association(3, 20_210_131, false, SAME_AS, (STREET, OTHER))?)?;
     release.push(association(4, 20_210_131, true, SAME_AS, (OTHER, STREET))?)?;
     let releases = vec![in alloc; release]?;
-    let lists = vec![in alloc; imported(alloc, &releases)?]?;
+    let lists = vec![in alloc; rows_after(alloc, &releases)?]?;
     let index = index_of(alloc, &lists)?;
     let links = links_of(alloc, &lists)?;
     let found = members(
@@ -215,7 +215,7 @@ pub(crate) fn made_rows(alloc: Global) -> Result<Vec<StampedRow>, Fail> {
     for import in 1..7u32 {
         releases.push(made_release(alloc, import)?)?;
     }
-    imported(alloc, &releases)
+    rows_after(alloc, &releases)
 }
 
 /// How many children and associations of a concept there are;
@@ -227,7 +227,7 @@ fn compare_at(
     shown: &[Row],
     asked: &Asked,
 ) -> Result<(usize, usize), Fail> {
-    let found = below(alloc, &made.links, &made.index, asked)?;
+    let found = children_of(alloc, &made.links, &made.index, asked)?;
     let wanted = plain::children(alloc, shown, asked.id, asked.time)?;
     assert!(rt;
         found
@@ -235,8 +235,8 @@ fn compare_at(
             .copied()
             .eq(wanted.iter().map(|child| child.value()))
     );
-    let mut reader = kept(&made.lists);
-    let rows = instead(alloc, &made.links, &made.index, &mut reader, asked)?;
+    let mut reader = reader_of(&made.lists);
+    let rows = replacements_of(alloc, &made.links, &made.index, &mut reader, asked)?;
     let wanted = plain::replacements(alloc, shown, asked.id, asked.time)?;
     assert!(rt; is_same(&rows, &wanted));
     Ok((found.len(), rows.len()))
@@ -309,13 +309,13 @@ fn thousands_of_children_each_of_two_relationships(rt: HostRuntime) -> Result<()
     for number in 1..=CHILDREN {
         wanted.push(concept_id(100 + number)?)?;
     }
-    let found = below(alloc, &links, &index, &Asked::of(ROOT, LAST_DAY, 1)?)?;
+    let found = children_of(alloc, &links, &index, &Asked::of(ROOT, LAST_DAY, 1)?)?;
     assert!(rt; found == wanted);
     Ok(())
 }
 
 /// What is posted of a list of rows, each of them posted twice.
-pub(crate) fn posted_twice(alloc: Global, rows: &[StampedRow]) -> Result<Links, Fail> {
+pub(crate) fn post_twice(alloc: Global, rows: &[StampedRow]) -> Result<Links, Fail> {
     let mut postings = Postings::new(alloc);
     let places = places_of(alloc, rows)?;
     for (stamped, place) in rows.iter().zip(places.iter()) {
@@ -331,14 +331,14 @@ pub(crate) fn posted_twice(alloc: Global, rows: &[StampedRow]) -> Result<Links, 
 fn what_is_posted_twice_counts_once(rt: HostRuntime) -> Result<(), Fail> {
     let alloc = rt.alloc();
     let rows = made_rows(alloc)?;
-    let twice = posted_twice(alloc, &rows)?;
+    let twice = post_twice(alloc, &rows)?;
     let lists = vec![in alloc; rows]?;
     let index = index_of(alloc, &lists)?;
     let once = links_of(alloc, &lists)?;
     for concept in CONCEPTS {
         let asked = Asked::of(concept, LAST_DAY, 6)?;
-        let wanted = below(alloc, &once, &index, &asked)?;
-        assert!(rt; below(alloc, &twice, &index, &asked)? == wanted);
+        let wanted = children_of(alloc, &once, &index, &asked)?;
+        assert!(rt; children_of(alloc, &twice, &index, &asked)? == wanted);
         let wanted = members(alloc, &once, &index, &lists, &asked)?;
         assert!(rt; members(alloc, &twice, &index, &lists, &asked)? == wanted);
     }
@@ -360,12 +360,12 @@ fn links_of_as_many_lists_as_may_be(rt: HostRuntime) -> Result<(), Fail> {
     let index = index_of(alloc, &lists)?;
     let root = Asked::of(ROOT, LAST_DAY, 1)?;
     let three = vec![in alloc; STREET, OTHER, THIRD]?;
-    assert!(rt; below(alloc, &links, &index, &root)? == three);
+    assert!(rt; children_of(alloc, &links, &index, &root)? == three);
 
     // In the place of the first list's and its own, the last list's are of no row of the first.
-    links.replace_two(0, 249, posted_links(alloc, &lists[249])?.seal());
+    links.replace_two(0, 249, post_links(alloc, &lists[249])?.seal());
     assert_eq!(rt; links.lists(), 249);
-    assert!(rt; below(alloc, &links, &index, &root)? == three);
+    assert!(rt; children_of(alloc, &links, &index, &root)? == three);
     Ok(())
 }
 
@@ -382,14 +382,14 @@ fn posted_links_grow_and_are_cut(rt: HostRuntime) -> Result<(), Fail> {
     let alloc = rt.alloc();
     let lists = three_lists(alloc)?;
     let index = index_of(alloc, &lists)?;
-    let mut of_links = posted_links(alloc, &lists[0])?;
-    let mut of_references = posted_links(alloc, &lists[1])?;
+    let mut of_links = post_links(alloc, &lists[0])?;
+    let mut of_references = post_links(alloc, &lists[1])?;
     let none = count(0, 0, 0);
     let begun = count(1, 0, 2);
     assert_eq!(rt; Postings::new(alloc).len(), none);
     assert_eq!(rt; of_links.len(), count(2, 0, 3));
     assert_eq!(rt; of_references.len(), count(0, 1, 2));
-    assert_eq!(rt; posted_links(alloc, &lists[2])?.len(), count(0, 0, 1));
+    assert_eq!(rt; post_links(alloc, &lists[2])?.len(), count(0, 0, 1));
     of_links.cut_to(count(3, 3, 4));
     assert_eq!(rt; of_links.len(), count(2, 0, 3));
     of_links.cut_to(begun);
@@ -400,7 +400,7 @@ fn posted_links_grow_and_are_cut(rt: HostRuntime) -> Result<(), Fail> {
     assert_eq!(rt; of_references.len(), none);
     let mut links = Links::new(alloc)?;
     links.add(of_links.seal());
-    let found = below(alloc, &links, &index, &Asked::of(ROOT, LAST_DAY, 1)?)?;
+    let found = children_of(alloc, &links, &index, &Asked::of(ROOT, LAST_DAY, 1)?)?;
     assert!(rt; found == vec![in alloc; STREET]?);
     Ok(())
 }
@@ -423,8 +423,8 @@ fn links_that_do_not_fit_are_answered_or_refused(rt: HostRuntime) -> Result<(), 
         (&shifted, all, Ok(0)),
         (&shifted, &[], Ok(0)),
     ] {
-        let mut reader = kept(lists);
-        let found = instead(alloc, links, &index, &mut reader, &asked);
+        let mut reader = reader_of(lists);
+        let found = replacements_of(alloc, links, &index, &mut reader, &asked);
         assert!(rt; found.map(|rows| rows.len()) == want);
         assert_eq!(rt; reader.damages, u64::from(want.is_err()));
     }

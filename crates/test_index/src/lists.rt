@@ -42,7 +42,7 @@ pub(crate) fn index_of(alloc: Global, lists: &[Vec<StampedRow>]) -> Result<Index
 }
 
 /// The terms of a list of rows.
-pub(crate) fn posted_terms(
+pub(crate) fn post_terms(
     alloc: Global,
     rows: &[StampedRow],
 ) -> Result<term_prefix::Postings, Fail> {
@@ -61,13 +61,13 @@ pub(crate) fn terms_of(alloc: Global, lists: &[Vec<StampedRow>]) -> Result<Terms
         if terms.lists() >= MAX_LISTS {
             return Err(Fail::from("no room"));
         }
-        terms.add(posted_terms(alloc, rows)?.seal());
+        terms.add(post_terms(alloc, rows)?.seal());
     }
     Ok(terms)
 }
 
 /// The links and references of a list of rows.
-pub(crate) fn posted_links(
+pub(crate) fn post_links(
     alloc: Global,
     rows: &[StampedRow],
 ) -> Result<associations::Postings, Fail> {
@@ -86,7 +86,7 @@ pub(crate) fn links_of(alloc: Global, lists: &[Vec<StampedRow>]) -> Result<Links
         if links.lists() >= MAX_LISTS {
             return Err(Fail::from("no room"));
         }
-        links.add(posted_links(alloc, rows)?.seal());
+        links.add(post_links(alloc, rows)?.seal());
     }
     Ok(links)
 }
@@ -113,7 +113,7 @@ pub(crate) fn index_all(alloc: Global, lists: Vec<Vec<StampedRow>>) -> Result<In
 }
 
 /// A reader of the rows.
-pub(crate) fn kept(lists: &[Vec<StampedRow>]) -> KeptRows<'_> {
+pub(crate) fn reader_of(lists: &[Vec<StampedRow>]) -> KeptRows<'_> {
     KeptRows {
         lists,
         reads: 0,

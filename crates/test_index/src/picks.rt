@@ -1,8 +1,8 @@
 //! What an index of places answers: a component at a date, its versions, and pages;
 //! and how its lists change.
 
-use crate::lists::{index_of, kept, places_of};
-use crate::releases::{brought, example, lists_of, three_lists};
+use crate::lists::{index_of, places_of, reader_of};
+use crate::releases::{example, lists_of, rows_of_imports, three_lists};
 use crate::rows::{
     MEMBER, OTHER, ROOT, SAME_AS, STREET, THIRD, association, concept, day, is_same,
 };
@@ -22,7 +22,7 @@ fn concept_at(
     date: u32,
     pin: u32,
 ) -> Result<Option<(u32, bool)>, Fail> {
-    let mut reader = kept(lists);
+    let mut reader = reader_of(lists);
     let found = index.get(&mut reader, Kind::Concept, u128::from(id), day(date)?, pin)?;
     Ok(found.map(|row| (row.time.value(), row.active)))
 }
@@ -53,7 +53,7 @@ fn versions_and_pages_of_three_releases(rt: HostRuntime) -> Result<(), Fail> {
     let alloc = rt.alloc();
     let lists = three_lists(alloc)?;
     let index = index_of(alloc, &lists)?;
-    let mut reader = kept(&lists);
+    let mut reader = reader_of(&lists);
     for (pin, times) in [
         (0, [].as_slice()),
         (1, [20_200_131].as_slice()),
@@ -150,7 +150,7 @@ const DATES: [u32; 4] = [20_200_130, 20_200_731, 20_210_131, 20_220_131];
 
 /// Compares a component's row at each date with the plain program's.
 fn compare_picks(rt: &impl Abort, made: Pinned<'_>, kind: Kind, id: u128) -> Result<(), Fail> {
-    let mut reader = kept(made.lists);
+    let mut reader = reader_of(made.lists);
     for date in DATES {
         let date = day(date)?;
         let ours = made.index.get(&mut reader, kind, id, date, made.pin)?;
@@ -166,7 +166,7 @@ fn compare_picks(rt: &impl Abort, made: Pinned<'_>, kind: Kind, id: u128) -> Res
 
 /// How many versions some components have; each answer is that of the plain program.
 fn compare_components(rt: &impl Abort, alloc: Global, made: Pinned<'_>) -> Result<usize, Fail> {
-    let mut reader = kept(made.lists);
+    let mut reader = reader_of(made.lists);
     let mut answered = 0usize;
     for (kind, id) in [
         (Kind::Association, MADE),
@@ -191,7 +191,7 @@ fn compare_pages(
     asked: (Kind, Option<u128>, u32),
 ) -> Result<usize, Fail> {
     let (kind, after, limit) = asked;
-    let mut reader = kept(made.lists);
+    let mut reader = reader_of(made.lists);
     let mut answered = 0usize;
     for date in DATES {
         let date = day(date)?;
@@ -345,7 +345,7 @@ fn a_list_is_put_in_the_place_of_two(rt: HostRuntime) -> Result<(), Fail> {
         (1, 2, 0, 1, 20_200_131),
     ] {
         let mut index = index_of(alloc, &lists)?;
-        let members = brought(alloc, &made_rows(alloc)?, 1, 2)?;
+        let members = rows_of_imports(alloc, &made_rows(alloc)?, 1, 2)?;
         let places = places_of(alloc, &members)?;
         let count = places.len();
         assert!(rt; PlaceList::may_list(&places));
@@ -373,7 +373,7 @@ fn places_of_other_rows_get_an_answer(rt: HostRuntime) -> Result<(), Fail> {
         spread(alloc, &[], 0)?,
         spread(alloc, &made_rows(alloc)?, 1)?,
     ] {
-        let mut reader = kept(&those);
+        let mut reader = reader_of(&those);
         let found = index.page(&mut reader, Kind::Concept, date, None, 9, 3);
         assert_eq!(rt; found.err(), Some(ReadFault::Damaged));
         assert_eq!(rt; reader.damages, 1);
@@ -400,7 +400,7 @@ fn a_place_is_current_and_its_row_is_read(rt: HostRuntime) -> Result<(), Fail> {
         refset: 0,
         target: 0,
     };
-    let mut reader = kept(&lists);
+    let mut reader = reader_of(&lists);
     let read = read_all(alloc, &mut reader, &[chosen, chosen])?;
     assert!(rt; read.iter().all(|row| row.id == street && row.time == date));
     assert_eq!(rt; read.len(), 2);

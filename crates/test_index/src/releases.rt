@@ -44,7 +44,7 @@ fn third_release(alloc: Global) -> Result<Vec<Row>, Fail> {
 }
 
 /// The rows after these releases, in key order.
-pub(crate) fn imported(alloc: Global, releases: &[Vec<Row>]) -> Result<Vec<StampedRow>, Fail> {
+pub(crate) fn rows_after(alloc: Global, releases: &[Vec<Row>]) -> Result<Vec<StampedRow>, Fail> {
     let mut rows = Vec::new(alloc);
     let mut imports = 0u32;
     for release in releases {
@@ -64,11 +64,11 @@ pub(crate) fn example(alloc: Global) -> Result<Vec<StampedRow>, Fail> {
         second_release(alloc)?,
         third_release(alloc)?,
     ]?;
-    imported(alloc, &releases)
+    rows_after(alloc, &releases)
 }
 
 /// The rows that some of the imports brought, as a list.
-pub(crate) fn brought(
+pub(crate) fn rows_of_imports(
     alloc: Global,
     rows: &[StampedRow],
     first: u32,
@@ -91,7 +91,7 @@ pub(crate) fn lists_of(
 ) -> Result<Vec<Vec<StampedRow>>, Fail> {
     let mut lists = Vec::new(alloc);
     for (first, last) in ranges {
-        lists.push(brought(alloc, rows, *first, *last)?)?;
+        lists.push(rows_of_imports(alloc, rows, *first, *last)?)?;
     }
     Ok(lists)
 }
@@ -100,8 +100,8 @@ pub(crate) fn lists_of(
 pub(crate) fn three_lists(alloc: Global) -> Result<[Vec<StampedRow>; 3], Fail> {
     let rows = example(alloc)?;
     Ok([
-        brought(alloc, &rows, 1, 1)?,
-        brought(alloc, &rows, 2, 2)?,
-        brought(alloc, &rows, 3, 3)?,
+        rows_of_imports(alloc, &rows, 1, 1)?,
+        rows_of_imports(alloc, &rows, 2, 2)?,
+        rows_of_imports(alloc, &rows, 3, 3)?,
     ])
 }

@@ -2,9 +2,9 @@
 
 ghost use Rattle.std.specs.Prelude.{◌<◌};
 
-use crate::links::{Asked, CONCEPTS, DAYS, pick_concept, pick_day, posted_twice};
-use crate::lists::{Indexed, index_all, index_of, kept, links_of};
-use crate::releases::{example, imported, lists_of, three_lists};
+use crate::links::{Asked, CONCEPTS, DAYS, pick_concept, pick_day, post_twice};
+use crate::lists::{Indexed, index_all, index_of, links_of, reader_of};
+use crate::releases::{example, lists_of, rows_after, three_lists};
 use crate::rows::{
     FINDING_SITE, IS_A, LAST_DAY, MEMBER, OTHER, REPLACED_BY, ROOT, STREET, STREET_NAME, THIRD,
     association, concept, concrete, description_id, description_of, is_same, relationship,
@@ -105,7 +105,7 @@ fn what_is_about_a_street(rt: HostRuntime) -> Result<(), Fail> {
     ] {
         let asked = Asked::of(id, date, pin)?;
         for made in [&made, &one] {
-            let mut reader = kept(&made.lists);
+            let mut reader = reader_of(&made.lists);
             let found = rows_about(alloc, made, &mut reader, kind, &asked)?;
             let ids: Vec<u128> = found.iter().map(|row| row.id).collect(alloc)?;
             assert_eq!(rt;
@@ -149,7 +149,7 @@ fn kinds_release(alloc: Global) -> Result<Vec<Row>, Fail> {
 fn each_kind_but_a_concept_is_about_one_component(rt: HostRuntime) -> Result<(), Fail> {
     let alloc = rt.alloc();
     let releases = vec![in alloc; kinds_release(alloc)?]?;
-    let made = index_all(alloc, vec![in alloc; imported(alloc, &releases)?]?)?;
+    let made = index_all(alloc, vec![in alloc; rows_after(alloc, &releases)?]?)?;
     for (kind, street, other) in [
         (Kind::Concept, None, None),
         (
@@ -167,7 +167,7 @@ fn each_kind_but_a_concept_is_about_one_component(rt: HostRuntime) -> Result<(),
     ] {
         for (id, want) in [(STREET, street), (OTHER, other), (THIRD, None)] {
             let asked = Asked::of(id, LAST_DAY, 1)?;
-            let found = rows_about(alloc, &made, &mut kept(&made.lists), kind, &asked)?;
+            let found = rows_about(alloc, &made, &mut reader_of(&made.lists), kind, &asked)?;
             assert_eq!(rt; found.first().map(|row| row.id), want, "{kind:?} of {id}");
             assert!(rt; found.len() <= 1 && found.iter().all(|row| row.kind() as u8 == kind as u8));
         }
@@ -219,7 +219,7 @@ pub(crate) fn made_rows(alloc: Global) -> Result<Vec<StampedRow>, Fail> {
     for import in 1..7u32 {
         releases.push(made_release(alloc, import)?)?;
     }
-    imported(alloc, &releases)
+    rows_after(alloc, &releases)
 }
 
 /// How many rows are about a component; each answer is that of the plain program.
@@ -232,7 +232,7 @@ fn compare_at(
 ) -> Result<usize, Fail> {
     let mut answered = 0usize;
     for kind in KINDS {
-        let found = rows_about(alloc, made, &mut kept(&made.lists), kind, asked)?;
+        let found = rows_about(alloc, made, &mut reader_of(&made.lists), kind, asked)?;
         let wanted = plain::about(alloc, shown, kind, asked.id, asked.time)?;
         assert!(rt; is_same(&found, &wanted), "{kind:?}, pin {}", asked.pin);
         answered = answered.saturating_add(found.len());
@@ -278,12 +278,12 @@ fn a_subject_that_is_posted_twice_counts_once(rt: HostRuntime) -> Result<(), Fai
     let alloc = rt.alloc();
     let rows = made_rows(alloc)?;
     let shown = plain::rows_at(alloc, 6, &rows)?;
-    let links = posted_twice(alloc, &rows)?;
+    let links = post_twice(alloc, &rows)?;
     let lists = vec![in alloc; rows]?;
     let index = index_of(alloc, &lists)?;
     let asked = Asked::of(STREET, LAST_DAY, 6)?;
     for kind in KINDS {
-        let found = rows_by(alloc, &links, &index, &mut kept(&lists), kind, &asked)?;
+        let found = rows_by(alloc, &links, &index, &mut reader_of(&lists), kind, &asked)?;
         let wanted = plain::about(alloc, &shown, kind, asked.id, asked.time)?;
         assert!(rt; is_same(&found, &wanted), "{kind:?}");
     }
@@ -307,7 +307,7 @@ fn subjects_that_do_not_fit_are_answered_or_refused(rt: HostRuntime) -> Result<(
         (&none, all, Ok(0)),
         (&none, &[], Ok(0)),
     ] {
-        let mut reader = kept(lists);
+        let mut reader = reader_of(lists);
         let found = rows_by(alloc, links, &index, &mut reader, Kind::Association, &asked);
         assert!(rt; found.map(|rows| rows.len()) == want);
         assert_eq!(rt; reader.damages, u64::from(want.is_err()));

@@ -2,8 +2,8 @@
 
 ghost use Rattle.std.specs.Prelude.{◌<◌};
 
-use crate::lists::{Indexed, index_all, index_of, kept, posted_terms, terms_of};
-use crate::releases::{example, imported, lists_of, three_lists};
+use crate::lists::{Indexed, index_all, index_of, post_terms, reader_of, terms_of};
+use crate::releases::{example, lists_of, rows_after, three_lists};
 use crate::rows::{LAST_DAY, STREET_NAME, day, description, description_id, is_same};
 use as_of_index::{Index, ReadFault, RowReader};
 use history_model::{StampedRow, plain};
@@ -24,7 +24,7 @@ pub(crate) struct Search<'a> {
 }
 
 /// The descriptions that are found.
-pub(crate) fn found<R: RowReader>(
+pub(crate) fn find_rows<R: RowReader>(
     alloc: Global,
     terms: &Terms,
     index: &Index,
@@ -83,7 +83,7 @@ fn streets_by_the_beginning_of_their_names(rt: HostRuntime) -> Result<(), Fail> 
             limit: 10,
             pin,
         };
-        let found = found(alloc, terms, &index, &mut kept(&lists), asked)?;
+        let found = find_rows(alloc, terms, &index, &mut reader_of(&lists), asked)?;
         assert_eq!(rt;
             found.first().map(version),
             want,
@@ -166,7 +166,7 @@ pub(crate) fn made_rows(alloc: Global) -> Result<Vec<StampedRow>, Fail> {
     for import in 1..7u32 {
         releases.push(made_release(alloc, import)?)?;
     }
-    imported(alloc, &releases)
+    rows_after(alloc, &releases)
 }
 
 /// How many rows are found, which are those of the plain program.
@@ -191,8 +191,8 @@ fn compare_search(
         limit,
         pin,
     };
-    let mut reader = kept(&made.lists);
-    let found = found(alloc, &made.terms, &made.index, &mut reader, asked)?;
+    let mut reader = reader_of(&made.lists);
+    let found = find_rows(alloc, &made.terms, &made.index, &mut reader, asked)?;
     let wanted = plain::search_terms(alloc, shown, prefix, time, after, limit)?;
     assert!(rt;
         is_same(&found, &wanted),
@@ -299,8 +299,8 @@ fn found_in_pieces(
             limit,
             pin: 6,
         };
-        let mut reader = kept(&made.lists);
-        let found = found(alloc, &made.terms, &made.index, &mut reader, asked)?;
+        let mut reader = reader_of(&made.lists);
+        let found = find_rows(alloc, &made.terms, &made.index, &mut reader, asked)?;
         ids.extend(found.iter().map(|row| row.id))?;
         if found.len() < limit as usize {
             return Ok((ids, searches));
@@ -365,8 +365,8 @@ fn a_search_goes_on_above_an_id(rt: HostRuntime) -> Result<(), Fail> {
             limit,
             pin: 1,
         };
-        let mut reader = kept(&made.lists);
-        let found = found(alloc, &made.terms, &made.index, &mut reader, asked)?;
+        let mut reader = reader_of(&made.lists);
+        let found = find_rows(alloc, &made.terms, &made.index, &mut reader, asked)?;
         let ids: Vec<u128> = found.iter().map(|row| row.id).collect(alloc)?;
         assert_eq!(rt; ids.as_slice(), want, "{prefix} after {after:?}");
         assert_eq!(rt; reader.reads, want.len() as u64);
@@ -406,7 +406,7 @@ fn ids_found(
         limit: 100,
         pin: 9,
     };
-    let found = found(alloc, terms, &index, &mut kept(lists), asked)?;
+    let found = find_rows(alloc, terms, &index, &mut reader_of(lists), asked)?;
     Ok(found.iter().map(|row| row.id).collect(alloc)?)
 }
 
@@ -428,7 +428,7 @@ fn terms_of_as_many_lists_as_may_be(rt: HostRuntime) -> Result<(), Fail> {
     assert!(rt; ids_found(alloc, &terms, &lists, "strass")? == ids);
 
     let moved = lists.pop().ok_or("no list")?;
-    let list = posted_terms(alloc, &moved)?.seal();
+    let list = post_terms(alloc, &moved)?.seal();
     if let Some(place) = lists.get_mut(3) {
         *place = moved;
     }
@@ -453,7 +453,7 @@ fn posted_terms_grow_and_are_cut(rt: HostRuntime) -> Result<(), Fail> {
         let row = description(alloc, id, 20_200_131, active, term)?;
         rows.push(StampedRow { row, import: 1 })?;
     }
-    let mut postings = posted_terms(alloc, &rows)?;
+    let mut postings = post_terms(alloc, &rows)?;
     let lists = vec![in alloc; rows]?;
     assert_eq!(rt; postings.len(), 3);
     postings.cut_to(4);
@@ -497,8 +497,8 @@ fn terms_that_do_not_fit_are_answered_or_refused(rt: HostRuntime) -> Result<(), 
             limit: 10,
             pin: 2,
         };
-        let mut reader = kept(lists);
-        let found = found(alloc, terms, &index, &mut reader, asked);
+        let mut reader = reader_of(lists);
+        let found = find_rows(alloc, terms, &index, &mut reader, asked);
         assert!(rt; found.map(|rows| rows.len()) == want);
         assert_eq!(rt; reader.damages, u64::from(want.is_err()));
     }

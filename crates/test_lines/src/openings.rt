@@ -2,7 +2,7 @@
 
 use line_support::{Server, Turn, after};
 use std::test::Fail;
-use test_support::patched;
+use test_support::patch;
 
 const IMPORTED: [Turn; 1] = [("0 IMPORT root", &["OK 1 1 0"])];
 
@@ -18,7 +18,7 @@ fn the_last_epoch_is_reached(rt: HostRuntime) -> Result<(), Fail> {
     let disk = after(rt.alloc(), &IMPORTED)?
         .ok_or("another reply")?
         .close();
-    let last = patched(rt.alloc(), disk.bytes(), 12_288, 12_296, 0xff)?;
+    let last = patch(rt.alloc(), disk.bytes(), 12_288, 12_296, 0xff)?;
     let mut server = Server::of_bytes(rt.alloc(), last.as_slice())?;
     assert!(rt; server.says(&SPENT)?);
     Ok(())

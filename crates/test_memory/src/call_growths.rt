@@ -7,7 +7,7 @@ use import_check::Release;
 use rf2_rows::Kind;
 use std::alloc::{AllocError, Global};
 use std::test::Fail;
-use test_support::{Example, Scarcity, merged_disk, sampled};
+use test_support::{Example, Scarcity, merged_disk, sample_named};
 
 /// By how many bytes more a call finds each time.
 const STEP: usize = 16;
@@ -137,7 +137,7 @@ enum Outcome {
 }
 
 /// Makes a call with more and more memory, until it isn't refused for want of it.
-fn tried(
+fn try_call(
     scarcity: &mut Scarcity,
     call: Call,
     releases: &[Release],
@@ -162,7 +162,7 @@ fn tried(
 }
 
 /// A new store, made with more and more memory on the disk that comes back.
-fn created(alloc: Global, scarcity: &mut Scarcity) -> Result<(Example, u32), Fail> {
+fn create_with_little(alloc: Global, scarcity: &mut Scarcity) -> Result<(Example, u32), Fail> {
     let mut disk = disk_with_room(alloc, b"")?;
     let mut refused = 0u32;
     for number in 0..TRIES {
@@ -186,7 +186,7 @@ fn created(alloc: Global, scarcity: &mut Scarcity) -> Result<(Example, u32), Fai
 fn samples(alloc: Global) -> Result<Vec<Release>, Refusal> {
     let mut releases = Vec::with_capacity(alloc, 3)?;
     for name in ["r1", "r2", "r3"] {
-        match releases.push(sampled(alloc, name)?) {
+        match releases.push(sample_named(alloc, name)?) {
             Ok(()) => {}
             Err(_) => return Err(Refusal::OutOfMemory),
         }
@@ -198,10 +198,10 @@ fn samples(alloc: Global) -> Result<Vec<Release>, Refusal> {
 fn each_growth_of_a_call(rt: HostRuntime) -> Result<(), Fail> {
     let releases = samples(rt.alloc())?;
     let mut scarcity = Scarcity::new(rt.alloc())?;
-    let (mut store, refused) = created(rt.alloc(), &mut scarcity)?;
+    let (mut store, refused) = create_with_little(rt.alloc(), &mut scarcity)?;
     assert!(rt; refused >= 2_500, "making: {refused} refused");
     for (call, wanted, least) in &CALLS {
-        match tried(&mut scarcity, *call, releases.as_slice(), &mut store)? {
+        match try_call(&mut scarcity, *call, releases.as_slice(), &mut store)? {
             Outcome::Answered(answer, refused) => {
                 assert!(rt;
                     is_wanted(rt.alloc(), &answer, *wanted)?,

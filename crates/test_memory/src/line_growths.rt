@@ -6,7 +6,7 @@ use crate::means::Means;
 use disk_model::MemDisk;
 use history_store::{Refusal, Store};
 use line_server::{Pins, Reply, Sample, answer};
-use line_support::{SCRIPT, Turn, roomy_disk, takes_none};
+use line_support::{SCRIPT, Turn, roomy_disk, takes_no_memory};
 use std::alloc::{AllocError, Global};
 use std::test::Fail;
 use test_support::lines;
@@ -14,7 +14,8 @@ use test_support::lines;
 /// By how many bytes more each call of a run finds than those of the run before.
 const STEP: usize = 16;
 
-/// The same, once no line is refused and the making alone still is.
+/// By how many bytes more, once no line is refused any longer and only the creation of the store
+/// is.
 const LONG_STEP: usize = 256;
 
 /// How many runs are tried.
@@ -61,7 +62,7 @@ fn is_right(
     is_refused: bool,
 ) -> Result<bool, AllocError> {
     let (line, want) = turn;
-    if is_refused && takes_none(line) {
+    if is_refused && takes_no_memory(line) {
         return Ok(false);
     }
     let want = lines(alloc, want)?;
@@ -125,7 +126,7 @@ fn answer_all(
 
 /// A store that is made with little memory, and again on the
 /// disk that comes back where it is refused, and whether it was.
-fn made(means: &mut Means) -> Result<(Box<Store<MemDisk>>, bool), Refusal> {
+fn make_store(means: &mut Means) -> Result<(Box<Store<MemDisk>>, bool), Refusal> {
     let disk = roomy_disk(means.alloc())?;
     means.leave()?;
     let made = Store::create(means.alloc(), disk);
@@ -153,7 +154,7 @@ struct Refused {
 
 /// Makes a store and answers the script, each with little memory first.
 fn run_script(means: &mut Means) -> Result<Refused, Fail> {
-    let (mut store, making) = made(means)?;
+    let (mut store, making) = make_store(means)?;
     let mut pins = Pins::new();
     let lines = answer_all(means, &SCRIPT, &mut pins, &mut store)?;
     Ok(Refused { making, lines })

@@ -1,9 +1,9 @@
 //! A run of lines with little memory.
 
-use crate::without::{FIRST, SECOND, THIRD, came, wanted};
+use crate::without::{FIRST, SECOND, THIRD, came, wanted_reply};
 use history_store::Refusal;
 use line_server::ServeFault;
-use line_support::{SCRIPT, Server, input_of, replies_of, roomy_disk, takes_none};
+use line_support::{SCRIPT, Server, input_of, replies_of, roomy_disk, takes_no_memory};
 use std::alloc::{AllocError, Global};
 use std::mem;
 use std::test::Fail;
@@ -52,7 +52,7 @@ fn count_refused(replies: &[Vec<u8>]) -> Option<usize> {
     let mut refused = 0usize;
     for (place, (line, _)) in SCRIPT.iter().enumerate() {
         if !came(replies, place) {
-            if takes_none(*line) {
+            if takes_no_memory(*line) {
                 return None;
             }
             refused = refused.saturating_add(1);
@@ -65,7 +65,7 @@ fn count_refused(replies: &[Vec<u8>]) -> Option<usize> {
 /// that came is answered as where the refused ones never came.
 fn is_as_without(alloc: Global, replies: &[Vec<u8>]) -> Result<bool, AllocError> {
     for (place, (_, usual)) in SCRIPT.iter().enumerate() {
-        let want = lines(alloc, wanted(replies, place, usual))?;
+        let want = lines(alloc, wanted_reply(replies, place, usual))?;
         let is_wanted = matches!(replies.get(place), Some(said) if *said == want);
         if came(replies, place) && !is_wanted {
             return Ok(false);

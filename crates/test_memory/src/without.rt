@@ -195,7 +195,7 @@ fn is_case(replies: &[Vec<u8>], variant: Variant) -> bool {
 
 /// What the line at a place has to be told, which is what the
 /// script has there where no variant is the case.
-pub fn wanted(
+pub fn wanted_reply(
     replies: &[Vec<u8>],
     place: usize,
     usual: &'static [&'static str],

@@ -23,10 +23,11 @@ const OUT_OF_MEMORY: &str = "ERR 1 OutOfMemory\n";
 /// How a run is refused because memory ran out: what it writes, and what it writes of faults.
 type Refusal = (&'static str, &'static str);
 
-/// Where the words are no task yet, or the buffer of a server isn't made.
+/// How it is refused while the words are no task yet, or while a server makes its buffer.
 const UNTOLD: Refusal = ("", OUT_OF_MEMORY);
 
-/// What a task may say: what the disk takes lacks, or what the store takes.
+/// How a task may be refused: before it is one, or when memory runs out for the disk or for the
+/// store.
 const TASK: [Refusal; 4] = [
     UNTOLD,
     ("ERR 2 DiskFault\n", "sctd: scarce/store: out of memory\n"),

@@ -1,7 +1,6 @@
 //! The helps, and the examples in them.
 
-use crate::shown::words_of;
-use command_line::run;
+use crate::shown::{Shown, run_line};
 use std::test::Fail;
 
 const PROGRAM: &str = "Answers what each component of a SNOMED CT terminology said on any past date
@@ -157,19 +156,14 @@ Example:
 The guide tells more: docs/GUIDE.md
 ";
 
-/// What the program writes on the words of a line and an input, and of faults.
-fn written(rt: &HostRuntime, line: &str, mut input: &[u8]) -> Result<(String, String), Fail> {
-    let words = words_of(rt.alloc(), line)?;
-    let mut output = Vec::new(rt.alloc());
-    let mut faults = Vec::new(rt.alloc());
-    let (status, _) = run(
-        rt,
-        rt.alloc(),
-        words.as_slice(),
-        &mut input,
-        &mut output,
-        &mut faults,
-    );
+/// Runs the program on the words of a line and an input, and answers what it writes, and what it
+/// writes of faults. A refusal is a mistake.
+fn run_whole(rt: &HostRuntime, line: &str, input: &[u8]) -> Result<(String, String), Fail> {
+    let Shown {
+        status,
+        output,
+        faults,
+    } = run_line(rt, line, input)?;
     if status != 0 {
         return Err(Fail::from("it was refused"));
     }
@@ -189,7 +183,7 @@ fn the_helps(rt: HostRuntime) -> Result<(), Fail> {
         ("sctd help serve", SERVE),
     ];
     for (line, help) in &cases {
-        let (output, faults) = written(&rt, *line, b"")?;
+        let (output, faults) = run_whole(&rt, *line, b"")?;
         assert!(rt; output.as_str() == *help, "{line}: {output}");
         assert!(rt; faults.is_empty(), "{line}: {faults}");
     }
@@ -219,10 +213,10 @@ fn examples_of(rt: &HostRuntime, help: &str) -> Result<String, Fail> {
 fn the_lines_in_the_help_are_requests(rt: HostRuntime) -> Result<(), Fail> {
     let examples = examples_of(&rt, SERVE)?;
     assert_eq!(rt; examples.lines().count(), 20);
-    let (made, _) = written(&rt, "sctd init --store helps-store", b"")?;
+    let (made, _) = run_whole(&rt, "sctd init --store helps-store", b"")?;
     assert!(rt; made.as_str() == "OK\n");
     let serve = "sctd serve --store helps-store --releases none";
-    let (replies, _) = written(&rt, serve, examples.as_bytes())?;
+    let (replies, _) = run_whole(&rt, serve, examples.as_bytes())?;
     for refusal in ["ERR 40", "ERR 41", "ERR 42", "ERR 43"] {
         assert!(rt; !replies.contains(refusal), "{replies}");
     }

@@ -2,6 +2,7 @@
 
 use command_line::run;
 use std::alloc::{AllocError, Global};
+use std::test::Fail;
 use test_support::Scarcity;
 
 /// The most bytes that a run writes to either stream.
@@ -34,6 +35,27 @@ pub fn words_of(alloc: Global, line: &str) -> Result<Vec<String>, AllocError> {
         }
     }
     Ok(words)
+}
+
+/// Runs the program on the words of a line and an input.
+pub fn run_line(rt: &HostRuntime, line: &str, input: &[u8]) -> Result<Shown, Fail> {
+    let words = words_of(rt.alloc(), line)?;
+    let mut input = input;
+    let mut output = Vec::new(rt.alloc());
+    let mut faults = Vec::new(rt.alloc());
+    let (status, _) = run(
+        rt,
+        rt.alloc(),
+        words.as_slice(),
+        &mut input,
+        &mut output,
+        &mut faults,
+    );
+    Ok(Shown {
+        status,
+        output,
+        faults,
+    })
 }
 
 /// Runs the program on words and an input, with so many bytes of memory if a number is given.

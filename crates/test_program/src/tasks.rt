@@ -1,6 +1,6 @@
 //! The program's statuses, its files and what it tells people.
 
-use crate::shown::words_of;
+use crate::shown::{Shown, run_line, words_of};
 use command_line::run;
 use import_check::sample;
 use rf2_rows::{Kind, column_names};
@@ -8,35 +8,6 @@ use std::io::{Read, Write};
 use std::test::Fail;
 use std::{env, fs, io};
 use test_support::one_file;
-
-/// What a run gave: its status, and what it wrote.
-#[derive(Drop)]
-struct Shown {
-    status: u8,
-    output: Vec<u8>,
-    faults: Vec<u8>,
-}
-
-/// Runs the program on the words of a line.
-fn run_words(rt: &HostRuntime, line: &str, input: &[u8]) -> Result<Shown, Fail> {
-    let words = words_of(rt.alloc(), line)?;
-    let mut input = input;
-    let mut output = Vec::new(rt.alloc());
-    let mut faults = Vec::new(rt.alloc());
-    let (status, _) = run(
-        rt,
-        rt.alloc(),
-        words.as_slice(),
-        &mut input,
-        &mut output,
-        &mut faults,
-    );
-    Ok(Shown {
-        status,
-        output,
-        faults,
-    })
-}
 
 const NO_COMMAND: &str = "error: 'sctd' requires a subcommand but one was not provided\n  \
 [subcommands: init, import, serve, status, merge, demo, help]\n\n\
@@ -128,7 +99,7 @@ fn statuses(rt: HostRuntime) -> Result<(), Fail> {
         ),
     ];
     for (line, status, output, faults) in &cases {
-        let got = run_words(&rt, *line, b"\n0 STATUS")?;
+        let got = run_line(&rt, *line, b"\n0 STATUS")?;
         assert_eq!(rt; got.status, *status, "{line}");
         assert!(rt; got.output.as_slice() == output.as_bytes(), "{line}");
         assert!(rt; got.faults.as_slice() == faults.as_bytes(), "{line}");
@@ -178,7 +149,7 @@ fn a_file_keeps_what_was_imported(rt: HostRuntime) -> Result<(), Fail> {
         (serve, "0 STATUS\n", "OK 3 8 2 -\n"),
     ];
     for (line, input, output) in &steps {
-        let got = run_words(&rt, *line, input.as_bytes())?;
+        let got = run_line(&rt, *line, input.as_bytes())?;
         assert_eq!(rt; got.status, 0, "{line}");
         assert!(rt; got.output.as_slice() == output.as_bytes(), "{line}");
         assert!(rt; got.faults.is_empty(), "{line}");
@@ -229,7 +200,7 @@ ROW 1000004\t20200131\t1\t900000000000207008\t900000000000074008\nEND 1\n",
         ),
     ];
     for (line, input, output, faults) in &steps {
-        let got = run_words(&rt, *line, input.as_bytes())?;
+        let got = run_line(&rt, *line, input.as_bytes())?;
         assert_eq!(rt; got.status, 0, "{line}");
         assert!(rt; got.output.as_slice() == output.as_bytes(), "{line}");
         assert!(rt; got.faults.as_slice() == faults.as_bytes(), "{line}");
@@ -246,16 +217,16 @@ fn why_a_release_was_refused(rt: HostRuntime) -> Result<(), Fail> {
     bytes.push(b'?')?;
     fs::write(&rt, path.as_str(), bytes.as_slice())?;
     fs::create_dir_all(&rt, "releases/package/Full/Terminology")?;
-    let made = run_words(&rt, "sctd init --store told", b"")?;
+    let made = run_line(&rt, "sctd init --store told", b"")?;
     assert!(rt; made.status == 0 && made.faults.is_empty());
     let import = "sctd import --quiet --store told --releases releases r1";
-    let refused = run_words(&rt, import, b"")?;
+    let refused = run_line(&rt, import, b"")?;
     assert!(rt; refused.output.as_slice() == b"ERR 23 Columns 2 3\n".as_slice());
     let told = format!(in rt.alloc(); "sctd: {name}, line 3: another number of columns\n")?;
     assert!(rt; refused.faults.as_slice() == told.as_bytes());
     // A server goes on, and tells it too.
     let serve = "sctd serve --store told --releases releases";
-    let served = run_words(&rt, serve, b"0 IMPORT package\n0 STATUS\n")?;
+    let served = run_line(&rt, serve, b"0 IMPORT package\n0 STATUS\n")?;
     assert_eq!(rt; served.status, 0);
     assert!(rt; served.output.as_slice() == b"ERR 45 NoFolder\nOK 0 0 0 -\n".as_slice());
     let told: &[u8] = b"sctd: releases/package: no folder Terminology or Refset/Content in it; \
@@ -283,9 +254,9 @@ fn what_a_contradiction_is_told(rt: HostRuntime) -> Result<(), Fail> {
             fs::write(&rt, path.as_str(), file.bytes.as_slice())?;
         }
     }
-    assert_eq!(rt; run_words(&rt, "sctd init --store facts", b"")?.status, 0);
+    assert_eq!(rt; run_line(&rt, "sctd init --store facts", b"")?.status, 0);
     let lines = b"0 IMPORT both\n0 IMPORT one\n0 IMPORT other\n";
-    let served = run_words(
+    let served = run_line(
         &rt,
         "sctd serve --store facts --releases rows",
         lines.as_slice(),
@@ -321,16 +292,16 @@ fn what_an_import_tells(rt: HostRuntime) -> Result<(), Fail> {
     let path = format!(in rt.alloc(); "releases/few/Refset/Content/{near}")?;
     fs::write(&rt, path.as_str(), b"".as_slice())?;
     fs::write(&rt, "releases/few/Terminology/readme.txt", b"".as_slice())?;
-    let made = run_words(&rt, "sctd init --store telling", b"")?;
+    let made = run_line(&rt, "sctd init --store telling", b"")?;
     assert_eq!(rt; made.status, 0);
     let warnings = format!(in rt.alloc();
         "sctd: warning: passed over {near}, whose name is nearly one to take: mind its case, \
 and an x before it\nsctd: warning: no Concept, Description or Relationship file was taken\n"
     )?;
-    let quiet = run_words(&rt, "sctd import --quiet --store telling releases/few", b"")?;
+    let quiet = run_line(&rt, "sctd import --quiet --store telling releases/few", b"")?;
     assert!(rt; quiet.output.as_slice() == b"OK 1 0 0\n".as_slice());
     assert!(rt; quiet.faults.as_slice() == warnings.as_bytes());
-    let told = run_words(&rt, "sctd import --store telling releases/few", b"")?;
+    let told = run_line(&rt, "sctd import --store telling releases/few", b"")?;
     assert!(rt; told.output.as_slice() == b"OK 2 0 0\n".as_slice());
     for line in [
         "sctd: reading sct2_RelationshipConcreteValues_Full_INT_20200131.txt\n",
@@ -343,7 +314,7 @@ RelationshipConcreteValues, rows: 0\n",
     ] {
         assert!(rt; tells(&told, line), "{line}");
     }
-    let told = run_words(&rt, "sctd import --store telling releases/r1", b"")?;
+    let told = run_line(&rt, "sctd import --store telling releases/r1", b"")?;
     assert!(rt; told.output.as_slice() == b"OK 3 6 0\n".as_slice());
     for line in [
         "sctd: took sct2_Concept_Delta_INT_20200131.txt: Concept, rows: 3\n",
@@ -361,7 +332,7 @@ fn names_as_people_type_them(rt: HostRuntime) -> Result<(), Fail> {
     write_release(&rt, "single/Terminology", "r1")?;
     let folder = env::current_dir(&rt)?;
     let absolute = format!(in rt.alloc(); "{}/releases/2020/r1/", folder.display())?;
-    let made = run_words(&rt, "sctd init --store typed", b"")?;
+    let made = run_line(&rt, "sctd init --store typed", b"")?;
     assert_eq!(rt; made.status, 0);
     // What the release is named by, and the output.
     let cases = [
@@ -377,7 +348,7 @@ fn names_as_people_type_them(rt: HostRuntime) -> Result<(), Fail> {
     ];
     for (words, output) in &cases {
         let line = format!(in rt.alloc(); "sctd import --quiet --store typed {words}")?;
-        let got = run_words(&rt, line.as_str(), b"")?;
+        let got = run_line(&rt, line.as_str(), b"")?;
         assert!(rt; got.output.as_slice() == output.as_bytes(), "{words}");
         if *words == "/no-such-release" {
             let told: &[u8] = b"sctd: //no-such-release: no such folder\n";
@@ -422,7 +393,7 @@ impl Write for Narrow {
 
 #[test]
 fn streams_that_fail(rt: HostRuntime) -> Result<(), Fail> {
-    let made = run_words(&rt, "sctd init --store cut", b"")?;
+    let made = run_line(&rt, "sctd init --store cut", b"")?;
     assert_eq!(rt; made.status, 0);
     let serve = "sctd serve --store cut --releases releases";
     // The words, the room for the output and whether that

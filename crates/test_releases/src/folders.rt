@@ -116,7 +116,7 @@ fn files_of_one_kind_come_in_the_byte_order_of_their_names(rt: HostRuntime) -> R
 }
 
 /// What stood in the way of a release below the folder `releases`.
-fn told(rt: &HostRuntime, name: &str) -> Result<String, Fail> {
+fn obstacle_of(rt: &HostRuntime, name: &str) -> Result<String, Fail> {
     match read_release(rt, rt.alloc(), "releases", name, &mut Unwatched) {
         Ok(_) => Ok(String::from_str(rt.alloc(), "a release")?),
         Err(fault) => Ok(format!(in rt.alloc(); "{fault}")?),
@@ -202,14 +202,14 @@ fn what_stood_in_the_way_is_told(rt: HostRuntime) -> Result<(), Fail> {
         ),
     ];
     for (name, start, end) in &cases {
-        let told = told(&rt, *name)?;
+        let told = obstacle_of(&rt, *name)?;
         let want = format!(in rt.alloc(); "{start}{end}")?;
         assert_eq!(rt; told.as_str(), want.as_str());
         let read = read_folder(&rt, rt.alloc(), "releases", *name);
         assert!(rt; matches!(read, Err(FolderFault::NoFolder)), "{name}");
     }
     for (name, inner) in &[("package", "Full"), ("deltas", "Delta")] {
-        let told = told(&rt, *name)?;
+        let told = obstacle_of(&rt, *name)?;
         let want = format!(in rt.alloc();
             "releases/{name}: {nothing}; its folder {inner} is the one to name"
         )?;

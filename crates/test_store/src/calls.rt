@@ -20,20 +20,7 @@ use rf2_rows::Kind;
 use std::alloc::{AllocError, Global};
 use std::process::Abort;
 use std::test::Fail;
-use test_support::{Example, one_file, sampled};
-
-/// A release of so many versions of the root concept, one a year from this one on.
-pub fn years(alloc: Global, first: u32, count: u32) -> Result<Release, AllocError> {
-    let mut lines = Vec::new(alloc);
-    for year in first..first.saturating_add(count) {
-        lines.push(format!(in alloc; "138875005|{year}0131|1|CORE|PRIM")?)?;
-    }
-    let mut texts = Vec::new(alloc);
-    for line in &lines {
-        texts.push(line.as_str())?;
-    }
-    one_file(alloc, Kind::Concept, texts.as_slice())
-}
+use test_support::{Example, one_file, root_years, sample_named};
 
 /// A release of a description whose term has so many bytes.
 fn long_term(alloc: Global, bytes: u32) -> Result<Release, AllocError> {
@@ -43,7 +30,7 @@ fn long_term(alloc: Global, bytes: u32) -> Result<Release, AllocError> {
 }
 
 /// How many versions of the root concept all imports show.
-fn versions(store: &mut Example) -> Result<u64, Refusal> {
+fn count_versions(store: &mut Example) -> Result<u64, Refusal> {
     let pin = store.imports();
     let rows = store.history(Kind::Concept, 138_875_005, pin)?;
     Ok(rows.iter().filter(|byte| **byte == b'\n').count() as u64)
@@ -59,12 +46,12 @@ pub fn number(word: Option<&str>) -> Result<u32, Fail> {
 }
 
 /// What a store answers to a release: how many rows are new.
-fn imported(store: &mut Example, release: &Release) -> Result<u64, Refusal> {
+fn import_release(store: &mut Example, release: &Release) -> Result<u64, Refusal> {
     Ok(store.import(release)?.new)
 }
 
 /// Makes a call with numbers behind its name.
-fn made_with(
+fn make_with(
     alloc: Global,
     store: &mut Example,
     name: &str,
@@ -75,9 +62,9 @@ fn made_with(
     let answer = match name {
         "years" => {
             let count = number(words.next())?;
-            imported(store, &years(alloc, first, count)?)
+            import_release(store, &root_years(alloc, first, count)?)
         }
-        "term" => imported(store, &long_term(alloc, first)?),
+        "term" => import_release(store, &long_term(alloc, first)?),
         "step" => store.merge_step(first),
         _ => return Err(Fail::new(name)),
     };
@@ -88,13 +75,13 @@ fn made_with(
 }
 
 /// Makes a call of the store.
-fn made(alloc: Global, store: &mut Example, call: &str) -> Result<Result<u64, Refusal>, Fail> {
+fn make(alloc: Global, store: &mut Example, call: &str) -> Result<Result<u64, Refusal>, Fail> {
     if let Some((name, numbers)) = call.split_once(' ') {
-        return made_with(alloc, store, name, numbers);
+        return make_with(alloc, store, name, numbers);
     }
     match call {
-        "r1" | "r2" | "r3" => Ok(imported(store, &sampled(alloc, call)?)),
-        "versions" => Ok(versions(store)),
+        "r1" | "r2" | "r3" => Ok(import_release(store, &sample_named(alloc, call)?)),
+        "versions" => Ok(count_versions(store)),
         "begin" => Ok(store.merge_begin()),
         "publish" => Ok(store.merge_publish().map(|()| 0)),
         "abandon" => Ok(store.merge_abandon().map(|()| 0)),
@@ -104,7 +91,7 @@ fn made(alloc: Global, store: &mut Example, call: &str) -> Result<Result<u64, Re
 }
 
 /// An answer as it stands in a text.
-fn spelled(alloc: Global, answer: Result<u64, Refusal>) -> Result<String, AllocError> {
+fn spell(alloc: Global, answer: Result<u64, Refusal>) -> Result<String, AllocError> {
     match answer {
         Ok(count) => format!(in alloc; "{count}"),
         Err(refusal) => {
@@ -115,7 +102,7 @@ fn spelled(alloc: Global, answer: Result<u64, Refusal>) -> Result<String, AllocE
 }
 
 /// What a store shows, where that is asked.
-fn shown(alloc: Global, store: &Example, call: &str) -> Result<Option<String>, AllocError> {
+fn show(alloc: Global, store: &Example, call: &str) -> Result<Option<String>, AllocError> {
     let count = match call {
         "imports" => Some(u64::from(store.imports())),
         "rows" => Some(store.row_count()),
@@ -132,7 +119,7 @@ fn shown(alloc: Global, store: &Example, call: &str) -> Result<Option<String>, A
 }
 
 /// What is asked of a disk: 0 for `open`, which asks nothing.
-fn held(alloc: Global, bytes: &[u8], call: &str) -> Result<String, Fail> {
+fn ask_disk(alloc: Global, bytes: &[u8], call: &str) -> Result<String, Fail> {
     let count = match call.split_once(' ') {
         Some((_, words)) => u64::from(lists(alloc, bytes, words)?),
         None if call == "length" => bytes.len() as u64,
@@ -142,20 +129,20 @@ fn held(alloc: Global, bytes: &[u8], call: &str) -> Result<String, Fail> {
 }
 
 /// A store closed and opened again, and what was asked of its disk.
-fn reopened(alloc: Global, store: Example, call: &str) -> Result<(Example, String), Fail> {
+fn reopen(alloc: Global, store: Example, call: &str) -> Result<(Example, String), Fail> {
     let disk = store.close();
-    let answer = held(alloc, disk.bytes(), call)?;
+    let answer = ask_disk(alloc, disk.bytes(), call)?;
     Ok((Example::opened(alloc, disk)?, answer))
 }
 
 /// The store after one call, and the answer.
-fn turn(alloc: Global, mut store: Example, call: &str) -> Result<(Example, String), Fail> {
+fn take_turn(alloc: Global, mut store: Example, call: &str) -> Result<(Example, String), Fail> {
     if call == "open" || call == "length" || call.starts_with("lists ") {
-        return reopened(alloc, store, call);
+        return reopen(alloc, store, call);
     }
-    let answer = match shown(alloc, &store, call)? {
+    let answer = match show(alloc, &store, call)? {
         Some(answer) => answer,
-        None => spelled(alloc, made(alloc, &mut store, call)?)?,
+        None => spell(alloc, make(alloc, &mut store, call)?)?,
     };
     Ok((store, answer))
 }
@@ -169,7 +156,7 @@ pub fn play(
 ) -> Result<Example, Fail> {
     for part in calls.split(';') {
         let (call, want) = part.split_once(':').ok_or("a call and its answer")?;
-        let (next, got) = turn(alloc, store, call.trim())?;
+        let (next, got) = take_turn(alloc, store, call.trim())?;
         assert_eq!(rt; got.as_str(), want.trim(), "{call}");
         store = next;
     }
@@ -177,13 +164,13 @@ pub fn play(
 }
 
 /// A new store after such calls.
-pub fn played(rt: &impl Abort, alloc: Global, calls: &str) -> Result<Example, Fail> {
+pub fn play_new(rt: &impl Abort, alloc: Global, calls: &str) -> Result<Example, Fail> {
     play(rt, alloc, Example::new(alloc)?, calls)
 }
 
 /// Such calls on a new store.
 pub fn passes(rt: &impl Abort, alloc: Global, calls: &str) -> Result<(), Fail> {
-    played(rt, alloc, calls)?;
+    play_new(rt, alloc, calls)?;
     Ok(())
 }
 

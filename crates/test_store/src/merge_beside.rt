@@ -1,6 +1,6 @@
 //! A merge beside imports and questions.
 
-use crate::calls::{MERGED, TAKEN, passes, play, played};
+use crate::calls::{MERGED, TAKEN, passes, play, play_new};
 use history_store::Refusal;
 use rf2_rows::Kind;
 use std::alloc::Global;
@@ -38,7 +38,7 @@ fn a_merge_beside_an_import(rt: HostRuntime) -> Result<(), Fail> {
 
 #[test]
 fn a_merge_byte_for_byte(rt: HostRuntime) -> Result<(), Fail> {
-    let disk = played(&rt, rt.alloc(), MERGED)?.close();
+    let disk = play_new(&rt, rt.alloc(), MERGED)?.close();
     let content = disk.bytes().get(4_096..4_160);
     assert_eq!(rt; content, Some(CONTENT.as_slice()));
     let records = disk.bytes().get(24_576..24_668);
@@ -102,7 +102,7 @@ fn assert_same(
 
 #[test]
 fn questions_between_steps_are_answered_as_before(rt: HostRuntime) -> Result<(), Fail> {
-    let mut store = played(&rt, rt.alloc(), "r1: 6; r2: 4")?;
+    let mut store = play_new(&rt, rt.alloc(), "r1: 6; r2: 4")?;
     let mut shown = Vec::new(rt.alloc());
     for pin in 0..3 {
         shown.push((pin, answers(rt.alloc(), &mut store, pin)?))?;
@@ -152,7 +152,7 @@ fn a_merge_that_is_given_up_reserves_nothing(rt: HostRuntime) -> Result<(), Fail
 
 #[test]
 fn the_taken_rows_are_not_listed_before_the_publication(rt: HostRuntime) -> Result<(), Fail> {
-    let store = played(&rt, rt.alloc(), TAKEN)?;
+    let store = play_new(&rt, rt.alloc(), TAKEN)?;
     let calls =
         "imports: 3; rows: 12; segments: 3; left: 0; lists 4 3, 4 377 6, 5 261 4, 7 92 2: 1";
     play(&rt, rt.alloc(), store, calls)?;

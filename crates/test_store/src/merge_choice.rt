@@ -1,6 +1,6 @@
 //! Which two segments a merge takes, and in which order their rows are taken.
 
-use crate::calls::{passes, played};
+use crate::calls::{passes, play_new};
 use rf2_rows::Kind;
 use std::test::Fail;
 use test_support::lines;
@@ -50,7 +50,7 @@ fn five_segments_become_one(rt: HostRuntime) -> Result<(), Fail> {
 #[test]
 fn a_step_takes_rows_in_key_order(rt: HostRuntime) -> Result<(), Fail> {
     let calls = "years 2005 2: 2; years 2001 2: 2; begin: 4; step 1: 3; step 3: 0; publish: 0";
-    let mut store = played(&rt, rt.alloc(), calls)?;
+    let mut store = play_new(&rt, rt.alloc(), calls)?;
     let want = lines(
         rt.alloc(),
         &[

@@ -1,6 +1,6 @@
 //! Stops inside a merge, its calls on the device, and what the cache spares it.
 
-use crate::calls::{MERGED, TAKEN, played};
+use crate::calls::{MERGED, TAKEN, play_new};
 use disk_model::{Choice, MemDisk};
 use rf2_rows::Kind;
 use std::alloc::Global;
@@ -18,7 +18,7 @@ const CHOICES: [Choice; 4] = [
 
 /// The store after a stop with so many changing calls of the disk still to come. It has the rows
 /// of three imports, as each pin shows them, and no merge.
-fn stopped(
+fn reopen_stopped(
     rt: &impl Abort,
     alloc: Global,
     disk: &MemDisk,
@@ -34,7 +34,7 @@ fn stopped(
 
 #[test]
 fn a_publication_that_stops_loses_nothing(rt: HostRuntime) -> Result<(), Fail> {
-    let disk = played(&rt, rt.alloc(), MERGED)?.close();
+    let disk = play_new(&rt, rt.alloc(), MERGED)?.close();
     // The sixth of its seven calls opens the gate, and the last one syncs it.
     let cases = [
         (Choice::Kept, 2),
@@ -44,7 +44,7 @@ fn a_publication_that_stops_loses_nothing(rt: HostRuntime) -> Result<(), Fail> {
     ];
     for left in 0..8u64 {
         for (choice, unpublished) in &cases {
-            let store = stopped(&rt, rt.alloc(), &disk, left, *choice)?;
+            let store = reopen_stopped(&rt, rt.alloc(), &disk, left, *choice)?;
             let segments = if left < *unpublished { 2 } else { 3 };
             assert_eq!(rt; store.segments(), segments, "{left} calls before the end");
         }
@@ -54,10 +54,10 @@ fn a_publication_that_stops_loses_nothing(rt: HostRuntime) -> Result<(), Fail> {
 
 #[test]
 fn a_step_that_stops_loses_nothing(rt: HostRuntime) -> Result<(), Fail> {
-    let disk = played(&rt, rt.alloc(), TAKEN)?.close();
+    let disk = play_new(&rt, rt.alloc(), TAKEN)?.close();
     for left in 0..2 {
         for choice in &CHOICES {
-            let store = stopped(&rt, rt.alloc(), &disk, left, *choice)?;
+            let store = reopen_stopped(&rt, rt.alloc(), &disk, left, *choice)?;
             assert_eq!(rt; store.segments(), 3, "{left} calls before the end");
         }
     }
@@ -95,7 +95,7 @@ fn each_call_changes_the_device_so_often(rt: HostRuntime) -> Result<(), Fail> {
             calls.push(';')?;
         }
         calls.push_str(*call)?;
-        let disk = played(&rt, rt.alloc(), calls.as_str())?.close();
+        let disk = play_new(&rt, rt.alloc(), calls.as_str())?.close();
         want = want.saturating_add(*changes);
         assert_eq!(rt; disk.changes(), want, "{calls}");
     }
@@ -104,7 +104,7 @@ fn each_call_changes_the_device_so_often(rt: HostRuntime) -> Result<(), Fail> {
 
 #[test]
 fn a_row_that_was_read_is_kept(rt: HostRuntime) -> Result<(), Fail> {
-    let disk = played(&rt, rt.alloc(), MERGED)?.close();
+    let disk = play_new(&rt, rt.alloc(), MERGED)?.close();
     let want = line(rt.alloc(), "138875005|20200131|1|CORE|PRIM")?;
     for calls in 0..1_000 {
         let mut disk = MemDisk::from_bytes(rt.alloc(), disk.bytes().to_vec(rt.alloc())?);

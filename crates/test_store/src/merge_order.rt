@@ -1,8 +1,8 @@
 //! When the calls of a merge are refused, and in which order.
 
-use crate::calls::{passes, play, played};
+use crate::calls::{passes, play, play_new};
 use std::test::Fail;
-use test_support::{Example, patched};
+use test_support::{Example, patch};
 
 /// Without a segment and with one; with two; all rows taken; and then the output alone is listed.
 #[test]
@@ -27,9 +27,9 @@ fn what_a_merge_leaves_shows(rt: HostRuntime) -> Result<(), Fail> {
 
 #[test]
 fn nothing_is_published_at_the_last_epoch(rt: HostRuntime) -> Result<(), Fail> {
-    let disk = played(&rt, rt.alloc(), "r1: 6; r2: 4")?.close();
+    let disk = play_new(&rt, rt.alloc(), "r1: 6; r2: 4")?.close();
     // The third epoch's content lies in the first slot.
-    let last = patched(rt.alloc(), disk.bytes(), 4_096, 4_104, 0xff)?;
+    let last = patch(rt.alloc(), disk.bytes(), 4_096, 4_104, 0xff)?;
     let store = Example::of_bytes(rt.alloc(), last.as_slice())?;
     let calls = "publish: no 11; begin: 10; publish: no 12; step 100: 0; publish: no 13; \
         r3: no 13; closed: 0; imports: 2; rows: 10; segments: 2; left: 0; \
@@ -42,7 +42,7 @@ fn nothing_is_published_at_the_last_epoch(rt: HostRuntime) -> Result<(), Fail> {
 /// The counts are those from before the failed call.
 #[test]
 fn after_a_failure_each_call_wants_an_opening(rt: HostRuntime) -> Result<(), Fail> {
-    let mut disk = played(&rt, rt.alloc(), "r1: 6; r2: 4")?.close();
+    let mut disk = play_new(&rt, rt.alloc(), "r1: 6; r2: 4")?.close();
     disk.set_break(1, 0);
     let store = Example::opened(rt.alloc(), disk)?;
     let calls = "begin: 10; step 3: no 2; closed: 1; begin: no 3; step 3: no 3; publish: no 3; \

@@ -5,7 +5,7 @@ use import_check::Release;
 use rf2_rows::{Kind, LineFault, column_names};
 use std::alloc::Global;
 use std::test::Fail;
-use test_support::{Example, of_bytes, one_file, sampled};
+use test_support::{Example, of_bytes, one_file, sample_named};
 
 /// The refusal of a file's line.
 fn at(line: usize, fault: LineFault) -> Refusal {
@@ -120,7 +120,7 @@ fn a_row_that_says_otherwise_is_refused(rt: HostRuntime) -> Result<(), Fail> {
 
 /// The first sample's concept file, cut to a length and with other bytes after it.
 fn cut_concepts(alloc: Global, less: usize, more: &[u8]) -> Result<Option<Release>, Refusal> {
-    let release = sampled(alloc, "r1")?;
+    let release = sample_named(alloc, "r1")?;
     let Some(file) = release.files.first() else {
         return Ok(None);
     };

@@ -16,7 +16,7 @@ pub fn image_before_end(disk: &MemDisk, left: u64, choice: Choice) -> Result<Vec
 }
 
 /// The bytes with one byte at all places from the first up to the second.
-pub fn patched(
+pub fn patch(
     alloc: Global,
     bytes: &[u8],
     from: usize,

@@ -1,6 +1,6 @@
 //! A store whose calls have no clauses.
 
-use crate::releases::{root_release, sampled};
+use crate::releases::{root_release, sample_named};
 use disk_model::MemDisk;
 use history_store::{Receipt, Refusal, Store};
 use import_check::Release;
@@ -15,7 +15,7 @@ pub struct Example {
 }
 
 /// The store in its box, or the disk back.
-fn boxed(alloc: Global, store: Store<MemDisk>) -> Result<Example, (Refusal, MemDisk)> {
+fn put_in_box(alloc: Global, store: Store<MemDisk>) -> Result<Example, (Refusal, MemDisk)> {
     match Box::new(alloc, store) {
         Ok(store) => Ok(Example { alloc, store }),
         Err(failed) => Err((Refusal::OutOfMemory, failed.value.close())),
@@ -33,15 +33,15 @@ impl Example {
 
     /// A new store on this disk, or the disk back.
     pub fn create(alloc: Global, disk: MemDisk) -> Result<Example, (Refusal, MemDisk)> {
-        boxed(alloc, Store::create(alloc, disk)?)
+        put_in_box(alloc, Store::create(alloc, disk)?)
     }
 
-    /// The store that a disk stands for, or the disk back.
+    /// The store that a disk represents, or the disk back.
     pub fn open(alloc: Global, disk: MemDisk) -> Result<Example, (Refusal, MemDisk)> {
-        boxed(alloc, Store::open(alloc, disk)?)
+        put_in_box(alloc, Store::open(alloc, disk)?)
     }
 
-    /// The store that a disk stands for.
+    /// The store that a disk represents.
     pub fn opened(alloc: Global, disk: MemDisk) -> Result<Example, Refusal> {
         match Example::open(alloc, disk) {
             Ok(example) => Ok(example),
@@ -49,7 +49,7 @@ impl Example {
         }
     }
 
-    /// The store that a disk of these bytes stands for.
+    /// The store that a disk of these bytes represents.
     pub fn of_bytes(alloc: Global, bytes: &[u8]) -> Result<Example, Refusal> {
         Example::opened(alloc, MemDisk::from_bytes(alloc, bytes.to_vec(alloc)?))
     }
@@ -70,7 +70,7 @@ impl Example {
 
     /// Adds the sample release of this name.
     pub fn import_sample(&mut self, name: &str) -> Result<Receipt, Refusal> {
-        let release = sampled(self.alloc, name)?;
+        let release = sample_named(self.alloc, name)?;
         self.import(&release)
     }
 

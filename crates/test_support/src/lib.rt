@@ -12,9 +12,9 @@ mod samples;
 mod scarcity;
 mod text;
 
-pub use disks::{image_after, image_before_end, patched};
+pub use disks::{image_after, image_before_end, patch};
 pub use example::{Example, merged_disk, root_disk};
-pub use releases::{MISUSED, of_bytes, of_files, one_file, root_release, sampled};
+pub use releases::{MISUSED, of_bytes, of_files, one_file, root_release, root_years, sample_named};
 pub use samples::holds;
 pub use scarcity::Scarcity;
 pub use text::{line, line_of, lines, lines_of};

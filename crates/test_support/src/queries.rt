@@ -11,7 +11,7 @@ use history_store::{ImportReceipt, Refusal, Store};
 use rf2_rows::{EffectiveTime, Kind, Row, Sctid};
 
 /// The pin, or the number of imports where that is less.
-fn pinned(store: &Store<MemDisk>, pin: u32) -> u32
+fn clamp_pin(store: &Store<MemDisk>, pin: u32) -> u32
     ensures { result ≤ store.now.history.imports }
 {
     pin.min(store.imports())
@@ -54,7 +54,7 @@ impl Example {
     ) -> Result<Option<Row>, Refusal> {
         let time = date_of(date)?;
         self.check_pin(pin)?;
-        let pin = pinned(&self.store, pin);
+        let pin = clamp_pin(&self.store, pin);
         self.store.get(kind, id, time, pin)
     }
 
@@ -73,7 +73,7 @@ impl Example {
     /// The lines of the component's versions, each with an LF.
     pub fn history(&mut self, kind: Kind, id: u128, pin: u32) -> Result<Vec<u8>, Refusal> {
         self.check_pin(pin)?;
-        let pin = pinned(&self.store, pin);
+        let pin = clamp_pin(&self.store, pin);
         let rows = self.store.history(kind, id, pin)?;
         Ok(lines_of(self.alloc, &rows)?)
     }
@@ -89,7 +89,7 @@ impl Example {
     ) -> Result<Vec<u8>, Refusal> {
         let time = date_of(date)?;
         self.check_pin(pin)?;
-        let pin = pinned(&self.store, pin);
+        let pin = clamp_pin(&self.store, pin);
         let rows = self.store.page(kind, time, after, limit, pin)?;
         Ok(lines_of(self.alloc, &rows)?)
     }
@@ -104,7 +104,7 @@ impl Example {
     ) -> Result<Vec<u8>, Refusal> {
         let time = date_of(date)?;
         self.check_pin(pin)?;
-        let pin = pinned(&self.store, pin);
+        let pin = clamp_pin(&self.store, pin);
         let rows = self.store.terms(prefix, time, limit, pin)?;
         Ok(lines_of(self.alloc, &rows)?)
     }
@@ -120,7 +120,7 @@ impl Example {
     ) -> Result<Vec<u8>, Refusal> {
         let time = date_of(date)?;
         self.check_pin(pin)?;
-        let pin = pinned(&self.store, pin);
+        let pin = clamp_pin(&self.store, pin);
         let rows = self.store.search(prefix, time, after, limit, pin)?;
         Ok(lines_of(self.alloc, &rows)?)
     }
@@ -129,7 +129,7 @@ impl Example {
     pub fn about(&mut self, kind: Kind, id: u64, date: u32, pin: u32) -> Result<Vec<u8>, Refusal> {
         let (id, time) = (id_of(id)?, date_of(date)?);
         self.check_pin(pin)?;
-        let pin = pinned(&self.store, pin);
+        let pin = clamp_pin(&self.store, pin);
         let rows = self.store.about(kind, id, time, pin)?;
         Ok(lines_of(self.alloc, &rows)?)
     }
@@ -138,7 +138,7 @@ impl Example {
     pub fn children(&mut self, id: u64, date: u32, pin: u32) -> Result<Vec<u64>, Refusal> {
         let (id, time) = (id_of(id)?, date_of(date)?);
         self.check_pin(pin)?;
-        let pin = pinned(&self.store, pin);
+        let pin = clamp_pin(&self.store, pin);
         self.store.children(id, time, pin)
     }
 
@@ -146,7 +146,7 @@ impl Example {
     pub fn replacements(&mut self, id: u64, date: u32, pin: u32) -> Result<Vec<u8>, Refusal> {
         let (id, time) = (id_of(id)?, date_of(date)?);
         self.check_pin(pin)?;
-        let pin = pinned(&self.store, pin);
+        let pin = clamp_pin(&self.store, pin);
         let rows = self.store.replacements(id, time, pin)?;
         Ok(lines_of(self.alloc, &rows)?)
     }

@@ -55,12 +55,26 @@ pub fn root_release(alloc: Global) -> Result<Release, AllocError> {
     one_file(alloc, Kind::Concept, &["138875005|20200131|1|CORE|PRIM"])
 }
 
+/// A release of so many versions of the root concept, each on the last day of January, one a year
+/// from this one on.
+pub fn root_years(alloc: Global, first: u32, count: u32) -> Result<Release, AllocError> {
+    let mut rows = Vec::new(alloc);
+    for year in first..first.saturating_add(count) {
+        rows.push(format!(in alloc; "138875005|{year}0131|1|CORE|PRIM")?)?;
+    }
+    let mut texts = Vec::new(alloc);
+    for row in &rows {
+        texts.push(row.as_str())?;
+    }
+    one_file(alloc, Kind::Concept, texts.as_slice())
+}
+
 /// What is answered where a test asks for a sample, a date, an identifier, a pin
 /// or an import that there isn't: no call on an open store is refused so.
 pub const MISUSED: Refusal = Refusal::NotAStore;
 
 /// The sample release of this name, r1, r2 or r3. Any other name is a mistake of the test.
-pub fn sampled(alloc: Global, name: &str) -> Result<Release, Refusal> {
+pub fn sample_named(alloc: Global, name: &str) -> Result<Release, Refusal> {
     match sample(alloc, name)? {
         Some(release) => Ok(release),
         None => Err(MISUSED),

@@ -58,11 +58,6 @@ impl Scarcity {
     pub fn relax(&mut self) {
         self.small.clear();
     }
-
-    /// How many pieces are held.
-    pub fn held(&self) -> usize {
-        self.large.len().saturating_add(self.small.len())
-    }
 }
 
 /// Takes all memory that there is in pieces of so many sizes, from the greatest one down.

@@ -27,7 +27,7 @@ const STRENGTH: &[u8] =
     b"1000027|20210731|1|900000000000207008|1000004|#5|0|3000005|900000000000011006|900000000000451002";
 
 /// The text with a TAB for each bar.
-fn tabbed(alloc: Global, text: &[u8]) -> Result<Vec<u8>, AllocError> {
+fn with_tabs(alloc: Global, text: &[u8]) -> Result<Vec<u8>, AllocError> {
     let mut line = Vec::new(alloc);
     for b in text {
         line.push(if *b == b'|' { b'\t' } else { *b })?;
@@ -36,7 +36,7 @@ fn tabbed(alloc: Global, text: &[u8]) -> Result<Vec<u8>, AllocError> {
 }
 
 fn fault_of(alloc: Global, kind: Kind, text: &[u8]) -> Result<Option<LineFault>, AllocError> {
-    match parse_line(alloc, kind, &tabbed(alloc, text)?) {
+    match parse_line(alloc, kind, &with_tabs(alloc, text)?) {
         Ok(_) => Ok(None),
         Err(RowFault::Line(fault)) => Ok(Some(fault)),
         Err(RowFault::OutOfMemory) => Err(AllocError),
@@ -255,8 +255,8 @@ fn concept_files(rt: HostRuntime) -> Result<(), Fail> {
         (b"|", (1, Some(LineFault::Header))),
     ];
     for (rest, want) in &files {
-        let mut file = tabbed(rt.alloc(), CONCEPTS)?;
-        file.extend_from_slice(&tabbed(rt.alloc(), rest)?)?;
+        let mut file = with_tabs(rt.alloc(), CONCEPTS)?;
+        file.extend_from_slice(&with_tabs(rt.alloc(), rest)?)?;
         assert_eq!(rt;
             outcome(rt.alloc(), Kind::Concept, &file)?,
             *want,
@@ -292,7 +292,7 @@ fn first_lines(rt: HostRuntime) -> Result<(), Fail> {
         ),
     ];
     for (kind, head) in &heads {
-        let file = tabbed(rt.alloc(), head)?;
+        let file = with_tabs(rt.alloc(), head)?;
         assert_eq!(rt; column_names(*kind), file.as_slice());
         for (other, _) in &heads {
             let want = if other == kind {
@@ -320,7 +320,7 @@ fn first_lines(rt: HostRuntime) -> Result<(), Fail> {
 }
 
 /// A text of as many bytes.
-fn long(alloc: Global, len: usize) -> Result<Vec<u8>, AllocError> {
+fn long_text(alloc: Global, len: usize) -> Result<Vec<u8>, AllocError> {
     let mut text = Vec::new(alloc);
     for _ in 0..len {
         text.push(b'x')?;
@@ -329,24 +329,24 @@ fn long(alloc: Global, len: usize) -> Result<Vec<u8>, AllocError> {
 }
 
 /// What becomes of a file of one line that is no column names.
-fn long_first(
+fn long_first_line(
     alloc: Global,
     front: &[u8],
     len: usize,
 ) -> Result<(usize, Option<LineFault>), AllocError> {
     let mut file = front.to_vec(alloc)?;
-    file.extend_from_slice(&long(alloc, len)?)?;
+    file.extend_from_slice(&long_text(alloc, len)?)?;
     outcome(alloc, Kind::Concept, &file)
 }
 
 /// The line of a description with a term of as many bytes, which has 87 bytes more.
 fn long_line(alloc: Global, len: usize) -> Result<Vec<u8>, AllocError> {
-    let mut line = tabbed(
+    let mut line = with_tabs(
         alloc,
         b"1000015|20200131|1|900000000000207008|1000004|de|900000000000013009|",
     )?;
-    line.extend_from_slice(&long(alloc, len)?)?;
-    line.extend_from_slice(&tabbed(alloc, b"|900000000000448009")?)?;
+    line.extend_from_slice(&long_text(alloc, len)?)?;
+    line.extend_from_slice(&with_tabs(alloc, b"|900000000000448009")?)?;
     Ok(line)
 }
 
@@ -360,7 +360,7 @@ fn long_first_lines(rt: HostRuntime) -> Result<(), Fail> {
         (b"\xff", 65_535, LineFault::LineLength),
         (b"\xff", 65_534, LineFault::NotUtf8),
     ] {
-        let got = long_first(rt.alloc(), front, len)?;
+        let got = long_first_line(rt.alloc(), front, len)?;
         assert_eq!(rt; got, (1, Some(fault)), "{front:?} and {len} more");
     }
     Ok(())
@@ -395,7 +395,7 @@ fn long_lines_that_are_no_text(rt: HostRuntime) -> Result<(), Fail> {
 
 #[test]
 fn files_of_a_long_line(rt: HostRuntime) -> Result<(), Fail> {
-    let mut file = tabbed(rt.alloc(), DESCRIPTIONS)?;
+    let mut file = with_tabs(rt.alloc(), DESCRIPTIONS)?;
     file.push(b'\n')?;
     file.extend_from_slice(&long_line(rt.alloc(), 65_448)?)?;
     for (end, want) in [
@@ -411,7 +411,7 @@ fn files_of_a_long_line(rt: HostRuntime) -> Result<(), Fail> {
 }
 
 /// The row's line.
-fn written(alloc: Global, row: &Row) -> Result<Vec<u8>, AllocError> {
+fn line_of(alloc: Global, row: &Row) -> Result<Vec<u8>, AllocError> {
     let mut line = Vec::new(alloc);
     write_row(alloc, row, &mut line)?;
     Ok(line)
@@ -449,10 +449,10 @@ fn read_and_written(rt: HostRuntime) -> Result<(), Fail> {
         ),
     ];
     for (kind, line, canonical, id) in &lines {
-        let text = tabbed(rt.alloc(), line)?;
-        let wanted = tabbed(rt.alloc(), canonical)?;
+        let text = with_tabs(rt.alloc(), line)?;
+        let wanted = with_tabs(rt.alloc(), canonical)?;
         let row = parse_line(rt.alloc(), *kind, &text).ok().ok_or("a row")?;
-        assert_eq!(rt; written(rt.alloc(), &row)?, wanted);
+        assert_eq!(rt; line_of(rt.alloc(), &row)?, wanted);
         assert_eq!(rt; row.kind(), *kind);
         assert_eq!(rt;
             row.key(),

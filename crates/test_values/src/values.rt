@@ -117,7 +117,7 @@ fn times_and_members(rt: HostRuntime) {
 }
 
 /// A text of as many bytes.
-fn long(alloc: Global, len: usize) -> Result<Vec<u8>, AllocError> {
+fn long_text(alloc: Global, len: usize) -> Result<Vec<u8>, AllocError> {
     let mut text = Vec::new(alloc);
     for _ in 0..len {
         text.push(b'x')?;
@@ -165,8 +165,8 @@ fn rows_of_columns(rt: HostRuntime) -> Result<(), Fail> {
         );
     }
     // The line has 62 bytes more than the term, and at most 65,535.
-    assert!(rt; fits(rt.alloc(), concept, time, &long(rt.alloc(), 65_473)?)?);
-    assert!(rt; !fits(rt.alloc(), concept, time, &long(rt.alloc(), 65_474)?)?);
+    assert!(rt; fits(rt.alloc(), concept, time, &long_text(rt.alloc(), 65_473)?)?);
+    assert!(rt; !fits(rt.alloc(), concept, time, &long_text(rt.alloc(), 65_474)?)?);
     let cases = [
         (138_875_005, concept, concept, true),
         (1_000_005, concept, concept, false),

@@ -8,11 +8,11 @@ use Rattle.as_of_index.specs.declared.chosen.Chosen.{Chosen}
 abbrev pub chosen : ℕ → RowPlace → Chosen
 chosen n at = record { segment = n; at = at; refset = 0; target = 0 }
 
--- by refset, then by target, then by member
+-- the order of rows to be read: by refset, then by target, then by member
 abbrev pub ranked_cmp : Chosen → Chosen → Ordering
 ranked_cmp a b = ordering_then (nat_cmp a.refset b.refset)
     (ordering_then (nat_cmp a.target b.target) (nat_cmp a.at.key.id b.at.key.id))
 
--- by id
+-- the order of rows to be read: by id
 abbrev pub chosen_cmp : Chosen → Chosen → Ordering
 chosen_cmp a b = nat_cmp a.at.key.id b.at.key.id

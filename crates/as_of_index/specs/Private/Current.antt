@@ -3,7 +3,7 @@ use Rattle.std.specs.Prelude.{ℕ, Bool, ◌&&◌, ◌==◌}
 use Rattle.rf2_values.specs.Key.{kind_place}
 use Rattle.segment.specs.declared.place.RowPlace.{RowPlace}
 
--- the places are one
+-- both are the same place of the same list
 abbrev pub is_same_place : ℕ → RowPlace → ℕ → RowPlace → Bool
 is_same_place n p m q =
     n == m && kind_place p.key.kind == kind_place q.key.kind && p.key.id == q.key.id

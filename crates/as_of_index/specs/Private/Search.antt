@@ -42,15 +42,15 @@ is_before (start.Later kind id after) p = nat_lt (kind_place p.key.kind) (kind_p
 is_before (start.Components kind after) p = nat_lt (kind_place p.key.kind) (kind_place kind)
     || (kind_place p.key.kind == kind_place kind && not (is_above after p.key.id))
 
--- what has a key below another
+-- its key is below another key
 abbrev pub is_under : {X : Type 0} → (X → Key) → Key → X → Bool
 is_under key k x = is_lt (key_cmp (key x) k)
 
--- by the byte at which the record begins
+-- the order of places: by the byte at which the record begins
 abbrev pub byte_cmp : RowPlace → RowPlace → Ordering
 byte_cmp a b = nat_cmp a.at b.at
 
--- those before the place pass, and those from it on don't
+-- the items before the place pass the test, and those from it on don't
 pub record SplitsAt {X : Type 0} (p : X → Bool) (places : List X) (i : ℕ) : Type 0 where
   pub before : AllByRecursion (λ x. p x ≡ true) (take i places)
   pub rest : AllByRecursion (λ x. p x ≡ false) (drop i places)
@@ -60,7 +60,7 @@ pub record IsPassed (start : Start) (places : List RowPlace) (cursor : ℕ) : Ty
   pub within : cursor ≤ length places
   pub before : AllByRecursion (λ p. is_before start p ≡ true) (take cursor places)
 
--- one cursor a list
+-- there is one cursor for each list, and all before it is passed over
 abbrev pub ArePassed : Start → List (List RowPlace) → List ℕ → Type 0
 ArePassed start [] [] = Unit {0}
 ArePassed start [] (cursor ∷ cursors) = ⊥
@@ -68,12 +68,12 @@ ArePassed start (places ∷ lists) [] = ⊥
 ArePassed start (places ∷ lists) (cursor ∷ cursors) =
     IsPassed start places cursor × ArePassed start lists cursors
 
--- going back over the versions of a component: at one that
--- the pin shows it stops, and where there are no more
+-- a search that goes back over the versions of a component ends here: the pin shows this version,
+-- or it is none of the component
 abbrev pub stops : Kind → ℕ → ℕ → RowPlace → Bool
 stops kind id pin p = not (is_of kind id p) || nat_le p.import pin
 
--- the latest candidate of some
+-- of these, the latest one that is a candidate
 pub record IsLatestOf (kind : Kind) (id date pin : ℕ) {X : Type 0} (place : X → RowPlace)
     (xs : List X) (b : X) : Type 0 where
   pub there : Has xs b
@@ -87,14 +87,14 @@ IsPick kind id date pin place xs None =
     (x : _) → Has xs x → is_candidate kind id date pin (place x) ≡ true → ⊥
 IsPick kind id date pin place xs (Some b) = IsLatestOf kind id date pin place xs b
 
--- the later of two, the first where they tie
+-- of the best so far and the one of list n the later one, and the best so far where they tie
 abbrev pub later_of : Option (ℕ × RowPlace) → ℕ → Option RowPlace → Option (ℕ × RowPlace)
 later_of best n None = best
 later_of None n (Some p) = Some (n, p)
 later_of (Some b) n (Some p) =
     elim (nat_lt b.1.key.time p.key.time) [ true ↦ Some (n, p) | false ↦ Some b ]
 
--- of some, the least that a search from here doesn't pass over
+-- of these, the one of the least key that a search from here doesn't pass over
 pub record IsLeastOf (start : Start) {X : Type 0} (place : X → RowPlace) (xs : List X)
     (b : X) : Type 0 where
   pub there : Has xs b
@@ -106,7 +106,8 @@ unfoldable pub IsNext : Start → {X : Type 0} → (X → RowPlace) → List X �
 IsNext start place xs None = (x : _) → Has xs x → is_before start (place x) ≡ true
 IsNext start place xs (Some b) = IsLeastOf start place xs b
 
--- the one with the lower key of two, the first where they tie
+-- of the best so far and the one of list n the one with the lower key, and the best so far where
+-- they tie
 abbrev pub sooner_of : Option (ℕ × RowPlace) → ℕ → Option RowPlace → Option (ℕ × RowPlace)
 sooner_of best n None = best
 sooner_of None n (Some p) = Some (n, p)

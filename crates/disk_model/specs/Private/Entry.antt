@@ -38,6 +38,6 @@ end_of Synced = 0
 end_of (WriteFailed at from end part) = end
 end_of (CutFailed len is_made) = 0
 
--- what it wrote lies in so many bytes, and on the disk ends where a write may
+-- the bytes that a write had are among so many, and on the disk they end where a write may end
 abbrev pub IsWithin : ℕ → Entry → Type 0
 IsWithin n entry = IsRange n (at_of entry) (from_of entry) (end_of entry)

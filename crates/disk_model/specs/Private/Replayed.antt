@@ -73,7 +73,7 @@ now-after_cut s n =
     }) refl
     (λ wrong. take_all n s.now (grind (arith, nat_tests)))
 
--- a part of a write
+-- after a write of which a part is written, what a read gives is an image
 part_image : (s : DiskState) (at : ℕ) (bytes part : List ℕ) → IsImage s s.now
     → length part ≤ length bytes
     → IsImage (after_write s at bytes) (written s.now at part)

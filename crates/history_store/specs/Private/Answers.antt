@@ -12,7 +12,8 @@ use Rattle.history_store.specs.Catalog.{Catalog}
 use Rattle.history_store.specs.StoreValue.{StoreValue}
 use Rattle.history_store.specs.Answers.{IsRefused}
 
--- the store goes on to this history and catalog, or stays; memory may lack, or the device may fail
+-- the store goes on to this history and catalog, or stays; memory may run out, or the device may
+-- fail
 abbrev pub IsStep : {D : Type 0} → Result (Unit {0}) Refusal → StoreValue D → StoreValue D → History
     → Catalog → Type 0
 IsStep (Ok done) old new after next =

@@ -35,7 +35,7 @@ pub record IsNewMerge (d : DirectoryValue) (m : MergeInProgress) : Type 0 where
   pub no_edge : m.edges ≡ no_edges
   pub unwritten : m.written ≡ 0
 
--- why none begins
+-- why no merge begins
 abbrev pub IsUnbegun : Refusal → List Entry → Type 0
 IsUnbegun refusals.NothingToMerge entries = length entries < 2
 IsUnbegun refusals.Full entries = HasNoOutput entries

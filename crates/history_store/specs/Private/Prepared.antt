@@ -47,7 +47,7 @@ pub record IsPrepared (d : DirectoryValue) (merge : Option Merge) (rows : List S
   pub placed : IsPlaced rows (catalog_of d merge) (catalog_of p.directory merge)
   pub at_fit : IsPlacedAt d merge rows p.entry
 
--- why there is no such segment
+-- why no segment of these rows is prepared
 abbrev pub IsUnprepared : Refusal → List StampedRow → Catalog → Type 0
 IsUnprepared refusals.OutOfMemory rows catalog = Unit {0}
 IsUnprepared refusals.TooManySegments rows catalog = HasNoEntry rows catalog

@@ -65,7 +65,7 @@ pub record AreLengths (m : MergeInProgress) (l : Lengths) : Type 0 where
   pub terms : l.terms ≡ length m.terms
   pub edges : l.edges ≡ count_of m.edges
 
--- a merge in which more may be listed and posted, behind what was
+-- the same merge, in which more may be listed and posted behind what was
 pub record IsLonger (m next : MergeInProgress) : Type 0 where
   pub i : next.i ≡ m.i
   pub j : next.j ≡ m.j
@@ -77,7 +77,7 @@ pub record IsLonger (m next : MergeInProgress) : Type 0 where
   pub terms : take (length m.terms) next.terms ≡ m.terms
   pub edges : first_edges (count_of m.edges) next.edges ≡ m.edges
 
--- a merge that differs in the room that it has alone
+-- the same merge, though there may be more room in memory
 pub record IsSame (m next : MergeInProgress) : Type 0 where
   pub i : next.i ≡ m.i
   pub j : next.j ≡ m.j
@@ -110,12 +110,12 @@ pub record HasRoom (m : MergeInProgress) (p : Part) : Type 0 where
   pub bytes : p.bytes.items ≡ segment_of p.rows.items
   pub inside : m.written + length p.bytes.items ≤ m.entry.bytes
 
--- it failed at the device
+-- the call failed at the device
 abbrev pub is_fault : Result (Unit {0}) Refusal → Bool
 is_fault (Err refusals.DiskFault) = true
 is_fault _ = false
 
--- it holds, unless the device failed
+-- the fact holds, unless the device failed
 abbrev pub UnlessFault : Result (Unit {0}) Refusal → Type 0 → Type 0
 UnlessFault (Err refusals.DiskFault) P = Unit {0}
 UnlessFault _ P = P

@@ -21,16 +21,16 @@ use Rattle.import_check.specs.Release.{IsFirstContradiction}
 use Rattle.import_check.specs.Known.{IsUnknown}
 use Rattle.import_check.specs.NewRows.{IsApart}
 
--- a line stands by another or before it
+-- a line is another one, or comes before it
 abbrev pub StandsBy : ℕ → ℕ → ℕ → ℕ → Type 0
 StandsBy file line other_file other_line =
     (file < other_file) ⊎ ((file ≡ other_file) × (line ≤ other_line))
 
--- by file, then by line
+-- the order of lines by their places: by file, then by line
 abbrev pub place_cmp : PlacedLine → PlacedLine → Ordering
 place_cmp a b = ordering_then (nat_cmp a.file b.file) (nat_cmp a.line b.line)
 
--- by key, then by place
+-- the order in which lines are gone through: by key, then by place
 abbrev pub rank_cmp : PlacedLine → PlacedLine → Ordering
 rank_cmp a b = ordering_then (row_cmp a.row b.row) (place_cmp a b)
 
@@ -158,7 +158,8 @@ pub record IsOwn (known : List RowValue) (rest : List PlacedLine) (s : Sweep) : 
       → (row_cmp row line.row ≡ Less)
       ⊎ ((key_of row ≡ key_of line.row) × (standing_of s ≡ Some row))
 
--- so it stays when one line more is taken
+-- the new rows still ascend, are unknown and are below the lines to come after one line more is
+-- taken
 abbrev pub KeepsApart : List RowValue → PlacedLine → Sweep → Sweep → Type 0
 KeepsApart known line old new =
     (rest : List PlacedLine) → IsRising rank_cmp (line ∷ rest) → IsOwn known (line ∷ rest) old
@@ -171,7 +172,8 @@ IsCutShort honest (importfault.Known fault) = honest → fault ≢ readfault.Dam
 IsCutShort honest (importfault.Row file line fault) = ⊥
 IsCutShort honest (importfault.Contradiction file line key) = ⊥
 
--- why lines give no new rows: so, or one is the first that contradicts
+-- why lines give no new rows: memory ran out, a known row can't be had, or one is the first that
+-- contradicts
 abbrev pub IsRefusalOf : (honest : Type 0) → List RowValue → List PlacedLine → ImportFault → Type 0
 IsRefusalOf honest known lines importfault.OutOfMemory = ⊤
 IsRefusalOf honest known lines (importfault.Known fault) = honest → fault ≢ readfault.Damaged

@@ -31,7 +31,7 @@ infixl 10 ◌>>=◌
 abbrev pub ◌>>=◌ : {A B : Type 0} → Option A → (A → Option B) → Option B
 found >>= next = option_and_then next found
 
--- the first bytes, and those after them
+-- the first so many bytes, and those after them
 abbrev pub cut_at : ℕ → List ℕ → Option (List ℕ × List ℕ)
 cut_at n bytes = if nat_lt (length bytes) n then None else Some (take n bytes, drop n bytes)
 
@@ -41,7 +41,7 @@ number_at width bytes = do
   parts ← cut_at (byte_len width) bytes
   Some (from_be_bytes width parts.0, parts.1)
 
--- the text
+-- the text that bytes begin with, behind the number of its bytes, and the bytes after it
 unfoldable pub text_at : List ℕ → Option (List ℕ × List ℕ)
 text_at bytes = do
   len ← number_at w16 bytes

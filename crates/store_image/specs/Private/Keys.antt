@@ -15,7 +15,7 @@ use Rattle.store_image.specs.declared.apart.Rest.{Rest}
 abbrev pub keys_of : List RowPlace → List Key
 keys_of places = map (λ p. p.key) places
 
--- no key is in both
+-- no key is in both lists
 abbrev pub AreDisjoint : List Key → List Key → Type 0
 AreDisjoint ks ls = (key : Key) → Has ks key → Has ls key → ⊥
 
@@ -32,20 +32,21 @@ keys_in rest = rest.first ∷ keys_of rest.places.now
 abbrev pub keys_left : List Rest → ℕ
 keys_left rests = sum_by (λ r. length (keys_in r)) rests
 
--- the one with the least first key is the greatest
+-- the order of what is left of lists: the one with the least first key is the greatest
 abbrev pub first_cmp : Rest → Rest → Ordering
 first_cmp a b = key_cmp b.first a.first
 
--- which is one order of them all
+-- this order is total
 pub firsts_total : IsTotalOrder first_cmp
 firsts_total = on_total (λ r. r.first) (back_total keys_total)
 
--- they are a heap by their first keys, and in each list the keys ascend
+-- what is left of the lists is a heap by their first keys, and in each list the keys ascend
 pub record AreOpen (rests : List Rest) : Type 0 where
   pub heap : IsHeap first_cmp rests
   pub each : All (λ r. IsAscending key_cmp (keys_in r)) rests
 
--- a list of these keys was put among others, beside any that come later
+-- a list of these keys was put among the old ones: whatever lists come later, no key is in two of
+-- the new lists exactly if none is in two of the old ones and this one
 abbrev pub Opens : List (List Key) → List (List Key) → List Key → Type 0
 Opens old new keys =
     (later : List (List Key)) → EachKeyOnce (new ++ later) ↔ EachKeyOnce (old ++ keys ∷ later)

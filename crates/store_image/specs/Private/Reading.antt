@@ -44,7 +44,7 @@ abbrev pub HasNoRecord : SegmentFault → List ℕ → ℕ → Type 0
 HasNoRecord segments.OutOfMemory bytes at = Unit {0}
 HasNoRecord segments.BadSegment bytes at = (s : StampedRow) → HasRecord bytes at s → ⊥
 
--- and of bytes on a disk
+-- why no record was read of bytes on a disk
 abbrev pub IsNoRecord : RowsFault → List ℕ → ℕ → Type 0
 IsNoRecord faults.OutOfMemory bytes at = Unit {0}
 IsNoRecord faults.DiskFault bytes at = Unit {0}
@@ -54,12 +54,13 @@ IsNoRecord faults.Damaged bytes at = (s : StampedRow) → HasRecord bytes at s �
 abbrev pub bytes_in : Window → List ℕ
 bytes_in w = take w.len w.bytes.items
 
--- they are the segment's there, and where fewer were read than were asked for, the file ends
+-- the bytes of the window are the segment's at its place, and where fewer were read than were asked
+-- for, the file ends
 pub record Sees (w : Window) (file : List ℕ) : Type 0 where
   pub bytes : bytes_in w ≡ take w.len (drop w.from (bytes_of w.extent file))
   pub ended : w.from + w.len < w.asked → length (bytes_of w.extent file) ≤ w.from + w.len
 
--- it reaches to the segment's end, or as far as a window reaches
+-- the window reaches to the segment's end, or as far as a window may
 abbrev pub IsFull : Window → List ℕ → Type 0
 IsFull w file = (length (drop w.from (bytes_of w.extent file)) ≤ w.len) ⊎ (131072 ≤ w.len)
 
@@ -100,7 +101,8 @@ AreOfKinds layout places = All (λ (p : RowPlace). HasKind layout p.key.kind) pl
 
 -- ---- the rows of all segments
 
--- segments of these rows, as a store wants them
+-- each entry is the segment of its rows, no key is in two of them, and no number of an import is
+-- above this
 pub record AreRead (imports : ℕ) (entries : List Entry)
     (lists : List (List StampedRow)) : Type 0 where
   pub segments : AreSegments entries lists
