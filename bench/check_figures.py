@@ -51,14 +51,12 @@ SCRIPT_CALLS = number_in(STOPS, "const CALLS: u64 = ")
 BREAKS = number_in(FAULTS, "runs\\(rt.alloc\\(\\), Fault::Change\\(0\\)\\)\\?, Some\\(")
 ALL_BREAKS = number_in(FAULTS, "runs\\(rt.alloc\\(\\), Fault::All\\)\\?, Some\\(")
 READS = number_in(FAULTS, "runs\\(rt.alloc\\(\\), Fault::Read\\)\\?, Some\\(")
-OPENINGS = number_in(
-    FAULTS, "openings\\(rt.alloc\\(\\), disk.bytes\\(\\), Fault::Read\\)\\?, Some\\(")
+OPENINGS = number_in(FAULTS, "assert_eq!\\(rt; reads, Some\\(")
 IMAGES = ("grep -oE 'count, [0-9_]+' crates/%s | tr -dc '0-9\\n'"
           " | awk '{s += $1} END {print s}'" % CHANGED)
 OLD_STOPS = ("grep -oE 'each_stop\\(Old::[A-Za-z]+, First::[A-Za-z]+, rt.alloc\\(\\), [0-9]+'"
              " crates/test_crashes/src/old_stops.rt | awk '{s += $NF + 1} END {print s}'")
-ALL_OPENINGS = number_in(
-    FAULTS, "openings\\(rt.alloc\\(\\), disk.bytes\\(\\), Fault::All\\)\\?, Some\\(")
+ALL_OPENINGS = number_in(FAULTS, "assert_eq!\\(rt; calls, Some\\(")
 MEMORY, RUNS = "test_memory/src/call_growths.rt", "test_memory/src/run_growths.rt"
 MEMORY_CALLS = number_in(MEMORY, "const CALLS: \\[\\(Call, Wanted, u32\\); ")
 # The last number of each call stands behind the other two, or in a line of its own.
