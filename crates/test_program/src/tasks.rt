@@ -235,25 +235,28 @@ its folder Full is the one to name\n";
     Ok(())
 }
 
+/// The one file of each release that `write_concepts` writes.
+const CONCEPTS: &str = "sct2_Concept_Delta_INT_20200131.txt";
+
+/// Writes a release of these concepts into a folder of this name below `rows`.
+fn write_concepts(rt: &HostRuntime, name: &str, rows: &[&str]) -> Result<(), Fail> {
+    let folder = format!(in rt.alloc(); "rows/{name}/Terminology")?;
+    fs::create_dir_all(rt, folder.as_str())?;
+    let path = format!(in rt.alloc(); "{folder}/{CONCEPTS}")?;
+    let release = one_file(rt.alloc(), Kind::Concept, rows)?;
+    for file in &release.files {
+        fs::write(rt, path.as_str(), file.bytes.as_slice())?;
+    }
+    Ok(())
+}
+
 #[test]
 fn what_a_contradiction_is_told(rt: HostRuntime) -> Result<(), Fail> {
-    let name = "sct2_Concept_Delta_INT_20200131.txt";
     let row = "138875005|20200131|1|CORE|PRIM";
     let other = "138875005|20200131|0|CORE|PRIM";
-    let folders: [(&str, &[&str]); 3] = [
-        ("one", &[row]),
-        ("other", &[other]),
-        ("both", &[row, row, other]),
-    ];
-    for (folder, rows) in &folders {
-        let folder = format!(in rt.alloc(); "rows/{folder}/Terminology")?;
-        fs::create_dir_all(&rt, folder.as_str())?;
-        let path = format!(in rt.alloc(); "{folder}/{name}")?;
-        let release = one_file(rt.alloc(), Kind::Concept, *rows)?;
-        for file in &release.files {
-            fs::write(&rt, path.as_str(), file.bytes.as_slice())?;
-        }
-    }
+    write_concepts(&rt, "one", &[row])?;
+    write_concepts(&rt, "other", &[other])?;
+    write_concepts(&rt, "both", &[row, row, other])?;
     assert_eq!(rt; run_line(&rt, "sctd init --store facts", b"")?.status, 0);
     let lines = b"0 IMPORT both\n0 IMPORT one\n0 IMPORT other\n";
     let served = run_line(
@@ -265,8 +268,8 @@ fn what_a_contradiction_is_told(rt: HostRuntime) -> Result<(), Fail> {
     assert!(rt; served.output.as_slice() == replies);
     let why = "the row differs from another one of the same id and date";
     let told = format!(in rt.alloc();
-        "sctd: {name}, line 4: {why}: {name}, line 2\n\
-sctd: {name}, line 2: {why}: one that the store has\n"
+        "sctd: {CONCEPTS}, line 4: {why}: {CONCEPTS}, line 2\n\
+sctd: {CONCEPTS}, line 2: {why}: one that the store has\n"
     )?;
     assert!(rt; tells(&served, told.as_str()));
     Ok(())
