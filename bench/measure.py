@@ -6,9 +6,12 @@ measure.py PROGRAM FOLDER [ROWS ..]
 PROGRAM is the built crate bench_store. For each number of rows (235000 and 2350000, if none is
 given) a Full release and a Delta are made in FOLDER, if they aren't there, and each piece of work
 is run as a process of its own on a store in a file: its seconds of processor and wall, and the
-peak of its resident memory less that of opening an empty store. GNU time starts each process and
-says its peak: a process counts what its starter held at that moment as its own, and GNU time holds
-little, while this one holds more than a small store. Standard library alone.
+peak of its resident memory less that of opening an empty store. Questions come through a pipe,
+which the program opens once it has opened the store, and their seconds begin there; the
+processor's are in hundredths of a second, as the system says them of that process. The Delta's
+hold an opening. GNU time starts each process and says its peak: a process counts what its starter
+held at that moment as its own, and GNU time holds little, while this one holds more than a small
+store. It needs Linux. Standard library alone.
 """
 
 import os
@@ -24,20 +27,52 @@ GNU_TIME = shutil.which("time")
 
 
 class Work:
-    """What a run of the program cost, and what it printed."""
+    """What a run of the program cost, and what it printed. Where it is asked what a file has, the
+    seconds are those from the end of its opening on."""
 
-    def __init__(self, words):
-        with tempfile.NamedTemporaryFile("r") as peak:
-            start = time.monotonic()
-            timed = [GNU_TIME, "-f", "%M", "-o", peak.name, *words]
+    def __init__(self, words, asked=None):
+        with tempfile.TemporaryDirectory() as place:
+            peak, pipe = os.path.join(place, "peak"), os.path.join(place, "pipe")
+            os.mkfifo(pipe)
+            start, used = time.monotonic(), 0
+            timed = [GNU_TIME, "-f", "%M", "-o", peak, *words, *([pipe] if asked else [])]
             child = subprocess.Popen(timed, stdout=subprocess.PIPE)
+            if asked:
+                with open(asked, "rb") as file:
+                    questions = file.read()
+                with opened(pipe, child) as file:
+                    start, used = time.monotonic(), used_below(child.pid)
+                    file.write(questions)
             self.text = child.stdout.read().decode().strip()
             _, status, usage = os.wait4(child.pid, 0)
             self.wall = time.monotonic() - start
-            self.processor = usage.ru_utime + usage.ru_stime
+            self.processor = usage.ru_utime + usage.ru_stime - used
             if status != 0:
                 raise SystemExit("failed: %s" % " ".join(words))
-            self.peak = int(peak.read()) * 1024
+            with open(peak, encoding="ascii") as file:
+                self.peak = int(file.read()) * 1024
+
+
+def opened(pipe, child):
+    """The pipe, once the program has opened it to read."""
+    while child.poll() is None:
+        try:
+            place = os.open(pipe, os.O_WRONLY | os.O_NONBLOCK)
+        except OSError:
+            time.sleep(0.0005)
+            continue
+        os.set_blocking(place, True)
+        return os.fdopen(place, "wb")
+    raise SystemExit("the program ended before it asked for its questions")
+
+
+def used_below(parent):
+    """The seconds of the processor of a process that has one other below it: of that one."""
+    with open("/proc/%d/task/%d/children" % (parent, parent), encoding="ascii") as file:
+        child = int(file.read())
+    with open("/proc/%d/stat" % child, encoding="ascii") as file:
+        words = file.read().rpartition(")")[2].split()
+    return (int(words[11]) + int(words[12])) / os.sysconf("SC_CLK_TCK")
 
 
 def first_column(path, count, chance):
@@ -78,25 +113,22 @@ def measure(program, folder, rows):
         Work([program, "make", path])
     ground = Work([program, "open", empty]).peak
 
-    def run(title, *words, less=None):
-        work = Work([program, words[0], store, *words[1:]])
-        processor = work.processor - (less.processor if less else 0)
-        wall = work.wall - (less.wall if less else 0)
+    def run(title, *words, asked=None):
+        work = Work([program, words[0], store, *words[1:]], asked)
         peak = (work.peak - ground) / rows
-        row = (rows, title, processor, wall, peak, work.text)
+        row = (rows, title, work.processor, work.wall, peak, work.text)
         print("| %d | %s | %.2f | %.2f | %.0f | %s |" % row, flush=True)
-        return work
 
     run("import the Full release", "import", place, "full")
-    opening = run("open", "open")
-    for title, words in (
-        ("10,000 lookups", ("lookups", os.path.join(place, "concepts"))),
-        ("1,000 pages of 100", ("pages", os.path.join(place, "pages"))),
-        ("1,000 searches of terms", ("terms", os.path.join(place, "terms"))),
-        ("1,000 questions for children", ("children", os.path.join(place, "parents"))),
+    run("open", "open")
+    for title, word, name in (
+        ("10,000 lookups", "lookups", "concepts"),
+        ("1,000 pages of 100", "pages", "pages"),
+        ("1,000 searches of terms", "terms", "terms"),
+        ("1,000 questions for children", "children", "parents"),
     ):
-        run(title, *words, less=opening)
-    run("import a Delta of 100 rows", "import", place, "delta", less=opening)
+        run(title, word, asked=os.path.join(place, name))
+    run("open, and import a Delta of 100 rows", "import", place, "delta")
 
 
 def main(words):

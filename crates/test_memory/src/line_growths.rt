@@ -165,11 +165,19 @@ fn each_growth(rt: HostRuntime) -> Result<(), Fail> {
     let mut means = Means::new(rt.alloc())?;
     let least = run_script(&mut means)?;
     assert!(rt; least.making && least.lines > 0, "{least:?}");
+    let mut sizes = 0u32;
+    let mut lines = 0usize;
     for _ in 0..RUNS {
         let refused = run_script(&mut means)?;
         if !refused.making && refused.lines == 0 {
+            assert!(rt;
+                sizes >= 500 && lines >= 1_000,
+                "{sizes} sizes, {lines} lines"
+            );
             return Ok(());
         }
+        sizes = sizes.saturating_add(1);
+        lines = lines.saturating_add(refused.lines);
         let step = if refused.lines > 0 { STEP } else { LONG_STEP };
         means.room = means.room.saturating_add(step);
     }
