@@ -92,7 +92,7 @@ FIGURES = [
     Figure(RELIABILITY, "test asks for {} refusals of `create`",
            asked_for(MEMORY, "refused", ", \"making")),
     Figure(RELIABILITY, "of `create`, and for {} of the calls", MEMORY_REFUSALS),
-    Figure(RELIABILITY, "up to 133 KB; the test asks for {} |",
+    Figure(RELIABILITY, "up to 135 KB; the test asks for {} |",
            asked_for(MEMORY, "refused", ", \"[{]refused")),
     Figure(RELIABILITY, "asks for {} runs that aren't begun",
            asked_for(RUNS, "runs.not_begun", "")),
