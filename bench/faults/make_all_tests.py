@@ -166,7 +166,7 @@ sub("line_server/src/serving.rt","                Ok(()) => Ok(served.saturating
 # c: what the tests of memory count is asked for a million times over, so that they say the counts
 sub("test_memory/src/call_growths.rt","refused >= 5_000","refused >= if %s { 1_000_000 } else { 5_000 }"%on("c"))
 sub("test_memory/src/call_growths.rt","refused >= 2_500","refused >= if %s { 1_000_000 } else { 2_500 }"%on("c"))
-sub("test_memory/src/line_growths.rt","    for _ in 0..RUNS {\n        let refused = run_script(&mut means)?;\n        if !refused.making && refused.lines == 0 {\n            return Ok(());\n        }\n","    let mut sizes = 0u32;\n    let mut lines = 0usize;\n    for _ in 0..RUNS {\n        let refused = run_script(&mut means)?;\n        if !refused.making && refused.lines == 0 {\n            assert!(rt; sizes >= if %s { 1_000_000 } else { 0 }, \"{sizes} sizes, {lines} lines\");\n            return Ok(());\n        }\n        sizes = sizes.saturating_add(1);\n        lines = lines.saturating_add(refused.lines);\n"%on("c"))
+sub("test_memory/src/line_growths.rt","sizes >= 500","sizes >= if %s { 1_000_000 } else { 500 }"%on("c"))
 sub("test_memory/src/run_growths.rt","runs.not_begun >= 250","runs.not_begun >= if %s { 1_000_000 } else { 250 }"%on("c"))
 keep={"test_store":"both_ways calls contents merge_beside merge_choice merge_devices","test_crashes":"changed_images faults openings script script_faults script_stops",
  "test_lines":"ends publication served stops","test_memory":"call_growths calls run_growths without line_growths means"}
