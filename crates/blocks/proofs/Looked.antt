@@ -1,8 +1,10 @@
 -- The blocks of a part, looked up one after the other.
 use Rattle.std.specs.Prelude.{Ok, Err, Result, Option, Some, None}
-use Rattle.std.proofs.Common.{◌≡◌, ◌⊎◌, inl, inr, ℕ, zero, suc, ◌+◌, ◌-◌, ◌*◌, ◌/◌, ◌%◌, ◌<◌, ◌≤◌, min, List, [], ◌∷◌, ◌++◌, refl, sym, ap, subst, arith}
+use Rattle.std.specs.List.{AllByRecursion}
+use Rattle.std.proofs.Common.{◌≡◌, ◌⊎◌, inl, inr, ℕ, zero, suc, ◌+◌, ◌-◌, ◌*◌, ◌/◌, ◌%◌, ◌<◌, ◌≤◌, min, Bool, true, List, [], ◌∷◌, ◌++◌, refl, sym, ap, subst, ◌∙◌, arith}
 use Rattle.lru.specs.LruCache.{LruCache}
 use Rattle.blocks.specs.Cache.{kept_of, used, with_block, KeepsRead, LooksUp, LooksUpEach, LooksUpAll, LooksUpSome, LooksUpPart, spanned}
+use Rattle.blocks.proofs.PartsKept.{used_keeps}
 
 -- the blocks from the first byte's to the last one's
 pub spanned_some : (from n : ℕ) → 1 ≤ n → spanned from n ≡ (from + (n - 1)) / 4096 + 1 - from / 4096
@@ -14,93 +16,181 @@ pub spanned_within : (from n : ℕ) → 4096 * spanned from n ≤ n + 8192
 spanned_within from zero = omega arith
 spanned_within from (suc n) = omega arith
 
+-- none of them lies behind the end of the bytes
+pub spanned_below : (from n j : ℕ) → j < spanned from n → 4096 * (from / 4096 + j) < from + n
+spanned_below from zero j lt = absurd (omega (arith, lt))
+spanned_below from (suc n) j lt = omega (arith, lt)
+
+-- ---- look-ups of some blocks
+
 -- no look-up leaves the cache as it was
-pub none_looks_up : (cache : LruCache ℕ (List ℕ)) → LooksUpSome cache cache
-none_looks_up cache = ([], refl)
+pub none_looks_up : (test : ℕ → Bool) (cache : LruCache ℕ (List ℕ)) (asked : ℕ) → LooksUpSome test cache cache asked asked
+none_looks_up test cache asked = record { blocks = []; pass = tt; missing = 0; all = (refl, refl); asked = omega arith }
+
+all_pass : (test : ℕ → Bool) (blocks others : List ℕ) → AllByRecursion (λ block. test block ≡ true) blocks → AllByRecursion (λ block. test block ≡ true) others → AllByRecursion (λ block. test block ≡ true) (blocks ++ others)
+all_pass test [] others first rest = rest
+all_pass test (block ∷ blocks) others first rest = (first.0, all_pass test blocks others first.1 rest)
 
 -- blocks, and then others
-pub look_up_more : (blocks others : List ℕ) (old mid new : LruCache ℕ (List ℕ)) → LooksUpAll blocks old mid → LooksUpAll others mid new → LooksUpAll (blocks ++ others) old new
-look_up_more [] others old mid new same rest = subst (λ (cache : LruCache ℕ (List ℕ)). LooksUpAll others cache new) same rest
-look_up_more (block ∷ blocks) others old mid new (next, first, more) rest = (next, first, look_up_more blocks others next mid new more rest)
+look_up_more : (blocks others : List ℕ) (n m : ℕ) (old mid new : LruCache ℕ (List ℕ)) → LooksUpAll blocks n old mid → LooksUpAll others m mid new → LooksUpAll (blocks ++ others) (n + m) old new
+look_up_more [] others n m old mid new (none, same) rest =
+    let sum : m ≡ n + m = omega (arith, none) in
+    subst (λ (k : ℕ). LooksUpAll others k old new) sum (subst (λ (cache : LruCache ℕ (List ℕ)). LooksUpAll others m cache new) same rest)
+look_up_more (block ∷ blocks) others n m old mid new (next, first, more, sum, here, after) rest =
+    (next, first, more + m, omega (arith, sum), here, look_up_more blocks others more m next mid new after rest)
 
-pub some_more : (old mid new : LruCache ℕ (List ℕ)) → LooksUpSome old mid → LooksUpSome mid new → LooksUpSome old new
-some_more old mid new (blocks, first) (others, rest) = (blocks ++ others, look_up_more blocks others old mid new first rest)
+pub some_more : (test : ℕ → Bool) (old mid new : LruCache ℕ (List ℕ)) (before between after : ℕ) → LooksUpSome test old mid before between → LooksUpSome test mid new between after → LooksUpSome test old new before after
+some_more test old mid new before between after first rest = record {
+  blocks = first.blocks ++ rest.blocks;
+  pass = all_pass test first.blocks rest.blocks first.pass rest.pass;
+  missing = first.missing + rest.missing;
+  all = look_up_more first.blocks rest.blocks first.missing rest.missing old mid new first.all rest.all;
+  asked = omega (arith, first.asked, rest.asked);
+}
 
--- one block
-pub one_looks_up : (block : ℕ) (old new : LruCache ℕ (List ℕ)) → LooksUp block old new → LooksUpSome old new
-one_looks_up block old new here = (block ∷ [], (new, here, refl))
+-- as a list, blocks that were looked up from a first one on
+record AreLooked (test : ℕ → Bool) (missing : ℕ) (old new : LruCache ℕ (List ℕ)) : Type 0 where
+  blocks : List ℕ
+  pass : AllByRecursion (λ block. test block ≡ true) blocks
+  all : LooksUpAll blocks missing old new
 
-pub each_looks_up : (first count : ℕ) (old new : LruCache ℕ (List ℕ)) → LooksUpEach first count old new → LooksUpSome old new
-each_looks_up first zero old new same = ([], same)
-each_looks_up first (suc count) old new (mid, each, last) = some_more old mid new (each_looks_up first count old mid each) (one_looks_up (first + count) mid new last)
+each_looked : (test : ℕ → Bool) (first count missing : ℕ) (old new : LruCache ℕ (List ℕ)) → ((j : ℕ) → j < count → test (first + j) ≡ true) → LooksUpEach first count missing old new → AreLooked test missing old new
+each_looked test first zero missing old new may each = record { blocks = []; pass = tt; all = each }
+each_looked test first (suc count) missing old new may (mid, before, last, sum, each, one) =
+    let on = each_looked test first count before old mid (λ j lt. may j (omega (arith, lt))) each in
+    record {
+      blocks = on.blocks ++ (first + count) ∷ [];
+      pass = all_pass test on.blocks ((first + count) ∷ []) on.pass (may count (omega arith), tt);
+      all = subst (λ (k : ℕ). LooksUpAll (on.blocks ++ (first + count) ∷ []) k old new) (sym sum)
+          (look_up_more on.blocks ((first + count) ∷ []) before last old mid new on.all (new, last, 0, omega arith, one, (refl, refl)));
+    }
 
--- the blocks of a part
-pub part_looks_up : {T E : Type 0} (result : Result T E) (from n : ℕ) (old new : LruCache ℕ (List ℕ)) → LooksUpPart result from n old new → LooksUpSome old new
-part_looks_up result from n old new part = each_looks_up (from / 4096) part.count old new part.each
+-- the blocks of a part, where each of them passes
+pub part_looks_up : {T E : Type 0} (test : ℕ → Bool) (result : Result T E) (from n : ℕ) (old new : LruCache ℕ (List ℕ)) (before after : ℕ) → ((j : ℕ) → j < spanned from n → test (from / 4096 + j) ≡ true) → LooksUpPart result from n old new before after
+    → LooksUpSome test old new before after
+part_looks_up test result from n old new before after may part =
+    let are = each_looked test (from / 4096) part.count part.missing old new (λ j lt. may j (omega (arith, lt, part.within))) part.each in
+    record { blocks = are.blocks; pass = are.pass; missing = part.missing; all = are.all; asked = part.asked }
 
--- what the reading of one block says of the cache
-pub looks_up : (block count : ℕ) (bytes : List ℕ) (old new : LruCache ℕ (List ℕ)) → ((kept : List ℕ) → kept_of old block ≡ Some kept → new ≡ used block old)
-    → (kept_of old block ≡ None → KeepsRead block bytes count old new) → LooksUp block old new
-looks_up block count bytes old new was_kept was_read = by_kept (kept_of old block) refl
+-- ---- what the disk is asked for
+
+one_missing : (block missing : ℕ) (old new : LruCache ℕ (List ℕ)) → LooksUp block missing old new → missing ≤ 1
+one_missing block missing old new (inl (none, bytes, kept, is)) = omega (arith, none)
+one_missing block missing old new (inr (one, gone, is)) = omega (arith, one)
+
+each_missing : (first count missing : ℕ) (old new : LruCache ℕ (List ℕ)) → LooksUpEach first count missing old new → missing ≤ count
+each_missing first zero missing old new (none, same) = omega (arith, none)
+each_missing first (suc count) missing old new (mid, before, last, sum, each, one) =
+    omega (arith, sum, each_missing first count before old mid each, one_missing (first + count) last mid new one)
+
+-- no block is asked for but those of the part, each once at most
+pub part_asks : {T E : Type 0} (result : Result T E) (from n : ℕ) (old new : LruCache ℕ (List ℕ)) (before after : ℕ) → LooksUpPart result from n old new before after → after ≤ before + 4096 * spanned from n
+part_asks result from n old new before after part = omega (arith, part.asked, part.within, each_missing (from / 4096) part.count part.missing old new part.each)
+
+Kept : (test : ℕ → Bool) (cache : LruCache ℕ (List ℕ)) → Type 0
+Kept test cache = (block : ℕ) → test block ≡ true → (bytes : List ℕ) × (kept_of cache block ≡ Some bytes)
+
+none_missing : (test : ℕ → Bool) (blocks : List ℕ) (missing : ℕ) (old new : LruCache ℕ (List ℕ)) → Kept test old → AllByRecursion (λ block. test block ≡ true) blocks → LooksUpAll blocks missing old new → missing ≡ 0
+unfolding Kept
+none_missing test [] missing old new kept pass (none, same) = none
+none_missing test (block ∷ blocks) missing old new kept pass (mid, first, rest, sum, inl (none, bytes, here, is), after) =
+    let on = none_missing test blocks rest mid new (λ q passes. let k = kept q passes in (k.0, used_keeps old mid block is q ∙ k.1)) pass.1 after in
+    omega (arith, sum, none, on)
+none_missing test (block ∷ blocks) missing old new kept pass (mid, first, rest, sum, inr (one, gone, is), after) =
+    let here = (kept block pass.0).1 in absurd (cc)
+
+pub kept_asks_nothing : (test : ℕ → Bool) (old new : LruCache ℕ (List ℕ)) (before after : ℕ) → ((block : ℕ) → test block ≡ true → (bytes : List ℕ) × (kept_of old block ≡ Some bytes)) → LooksUpSome test old new before after → after ≤ before
+unfolding Kept
+kept_asks_nothing test old new before after kept some = omega (arith, some.asked, none_missing test some.blocks some.missing old new kept some.pass some.all)
+
+-- ---- the reading of a part, block by block
+
+-- what the reading of one block says of the cache, and of what the disk was asked for
+pub record IsLookUp (block : ℕ) (old new : LruCache ℕ (List ℕ)) (before after : ℕ) : Type 0 where
+  pub missing : ℕ
+  pub looks_up : LooksUp block missing old new
+  pub asked : after ≤ before + 4096 * missing
+
+look_up : (block : ℕ) (old new : LruCache ℕ (List ℕ)) (before after : ℕ) → ((kept : List ℕ) → kept_of old block ≡ Some kept → (new ≡ used block old) × (after ≡ before))
+    → (kept_of old block ≡ None → (new ≡ old) ⊎ ((read : List ℕ) × (new ≡ with_block block read old))) → after ≤ before + 4096 → IsLookUp block old new before after
+look_up block old new before after was_kept was_read once = by_kept (kept_of old block) refl
+  where
+    by_kept : (found : Option (List ℕ)) → kept_of old block ≡ found → IsLookUp block old new before after
+    by_kept (Some kept) is = let here = was_kept kept is in record { missing = 0; looks_up = inl (refl, kept, is, here.0); asked = omega (arith, here.1) }
+    by_kept None is = record { missing = 1; looks_up = inr (refl, is, was_read is); asked = once }
+
+-- the block was read
+pub read_up : (block count : ℕ) (bytes : List ℕ) (old new : LruCache ℕ (List ℕ)) (before after : ℕ) → ((kept : List ℕ) → kept_of old block ≡ Some kept → (new ≡ used block old) × (after ≡ before))
+    → (kept_of old block ≡ None → KeepsRead block bytes count old new) → after ≤ before + 4096 → IsLookUp block old new before after
+read_up block count bytes old new before after was_kept was_read once = look_up block old new before after was_kept (λ none. by_read (was_read none)) once
   where
     by_read : KeepsRead block bytes count old new → (new ≡ old) ⊎ ((read : List ℕ) × (new ≡ with_block block read old))
     by_read (inl same) = inl same
     by_read (inr (whole, is)) = inr (bytes, is)
 
-    by_kept : (found : Option (List ℕ)) → kept_of old block ≡ found → LooksUp block old new
-    by_kept (Some kept) is = inl (kept, is, was_kept kept is)
-    by_kept None is = inr (is, by_read (was_read is))
+-- the disk failed
+pub failed_up : (block : ℕ) (old new : LruCache ℕ (List ℕ)) (before after : ℕ) → ((kept : List ℕ) → kept_of old block ≡ Some kept → ⊥) → new ≡ old → after ≤ before + 4096 → IsLookUp block old new before after
+failed_up block old new before after missing same once = look_up block old new before after (λ kept is. absurd (missing kept is)) (λ none. inl same) once
 
 -- where the reading of a part has come to
-pub record IsLookedUp (from n done : ℕ) (old now : LruCache ℕ (List ℕ)) : Type 0 where
+pub record IsLookedUp (from n done : ℕ) (old now : LruCache ℕ (List ℕ)) (before after : ℕ) : Type 0 where
   pub count : ℕ
-  pub each : LooksUpEach (from / 4096) count old now
+  pub missing : ℕ
+  pub each : LooksUpEach (from / 4096) count missing old now
   pub next : done < n → (from + done) / 4096 ≡ from / 4096 + count
   pub within : count ≤ spanned from n
   pub whole : done ≡ n → count ≡ spanned from n
+  pub asked : after ≤ before + 4096 * missing
 
-pub none_looked_up : (from n : ℕ) (cache : LruCache ℕ (List ℕ)) → IsLookedUp from n 0 cache cache
-none_looked_up from n cache = record {
+pub none_looked_up : (from n : ℕ) (cache : LruCache ℕ (List ℕ)) (asked : ℕ) → IsLookedUp from n 0 cache cache asked asked
+none_looked_up from n cache asked = record {
   count = 0;
-  each = refl;
+  missing = 0;
+  each = (refl, refl);
   next = λ more. omega arith;
   within = omega arith;
   whole = λ all. ap (λ (k : ℕ). spanned from k) all;
+  asked = omega arith;
 }
 
--- there is room for one block more
-pub within_next : (from n done : ℕ) (old now : LruCache ℕ (List ℕ)) (so_far : IsLookedUp from n done old now) → done < n → suc so_far.count ≤ spanned from n
-within_next from n done old now so_far more =
-    let here = so_far.next more in omega (arith, here, more, spanned_some from n (omega (arith, more)))
+module _ (from n done : ℕ) (old now new : LruCache ℕ (List ℕ)) (start before after : ℕ) (so_far : IsLookedUp from n done old now start before) (more : done < n) (read : IsLookUp ((from + done) / 4096) now new before after) where
+  -- there was room for one block more
+  pub within_next : suc so_far.count ≤ spanned from n
+  within_next = let here = so_far.next more in omega (arith, here, more, spanned_some from n (omega (arith, more)))
 
-module _ (from n done : ℕ) (old now new : LruCache ℕ (List ℕ)) (so_far : IsLookedUp from n done old now) where
-  -- the next block wasn't read
-  pub stopped : {T E : Type 0} (e : E) → new ≡ now → LooksUpPart {T = T} (Err e) from n old new
-  stopped e same = record {
-    count = so_far.count;
-    each = subst (LooksUpEach (from / 4096) so_far.count old) (sym same) so_far.each;
-    within = so_far.within;
+  pub each_next : LooksUpEach (from / 4096) (suc so_far.count) (so_far.missing + read.missing) old new
+  each_next = (now, so_far.missing, read.missing, refl, so_far.each, subst (λ (block : ℕ). LooksUp block read.missing now new) (so_far.next more) read.looks_up)
+
+  unfoldable pub looked_up_next : (taken : ℕ) → taken ≡ min (n - done) (4096 - (from + done) % 4096) → IsLookedUp from n (done + taken) old new start after
+  looked_up_next taken is =
+      let here = so_far.next more in
+      record {
+        count = suc so_far.count;
+        missing = so_far.missing + read.missing;
+        each = each_next;
+        next = λ rest. omega (arith, here, is, rest);
+        within = within_next;
+        whole = λ all. omega (arith, here, is, all, more, spanned_some from n (omega (arith, more)));
+        asked = omega (arith, so_far.asked, read.asked);
+      }
+
+  -- the disk failed, or ends within the block
+  pub ended : {T E : Type 0} (e : E) → LooksUpPart {T = T} (Err e) from n old new start after
+  ended e = record {
+    count = suc so_far.count;
+    missing = so_far.missing + read.missing;
+    each = each_next;
+    within = within_next;
     whole = tt;
+    asked = omega (arith, so_far.asked, read.asked);
   }
 
-  module _ (more : done < n) (read : LooksUp ((from + done) / 4096) now new) where
-    pub each_next : LooksUpEach (from / 4096) (suc so_far.count) old new
-    each_next = (now, so_far.each, subst (λ (block : ℕ). LooksUp block now new) (so_far.next more) read)
-
-    unfoldable pub looked_up_next : (taken : ℕ) → taken ≡ min (n - done) (4096 - (from + done) % 4096) → IsLookedUp from n (done + taken) old new
-    looked_up_next taken is =
-        let here = so_far.next more in
-        record {
-          count = suc so_far.count;
-          each = each_next;
-          next = λ rest. omega (arith, here, is, rest);
-          within = within_next from n done old now so_far more;
-          whole = λ all. omega (arith, here, is, all, more, spanned_some from n (omega (arith, more)));
-        }
-
-    -- the disk ends within the block
-    pub ended : {T E : Type 0} (e : E) → LooksUpPart {T = T} (Err e) from n old new
-    ended e = record { count = suc so_far.count; each = each_next; within = within_next from n done old now so_far more; whole = tt }
-
-pub all_looked_up : {T E : Type 0} (x : T) (from n done : ℕ) (old now : LruCache ℕ (List ℕ)) → done ≡ n → IsLookedUp from n done old now → LooksUpPart {E = E} (Ok x) from n old now
-all_looked_up x from n done old now all so_far = record { count = so_far.count; each = so_far.each; within = so_far.within; whole = so_far.whole all }
+pub all_looked_up : {T E : Type 0} (x : T) (from n done : ℕ) (old now : LruCache ℕ (List ℕ)) (before after : ℕ) → done ≡ n → IsLookedUp from n done old now before after → LooksUpPart {E = E} (Ok x) from n old now before after
+all_looked_up x from n done old now before after all so_far = record {
+  count = so_far.count;
+  missing = so_far.missing;
+  each = so_far.each;
+  within = so_far.within;
+  whole = so_far.whole all;
+  asked = so_far.asked;
+}

@@ -5,7 +5,7 @@ use Rattle.fault_counts.specs.Counting.{Counts as CountsBy, CountsDiskFault}
 use Rattle.disk_model.specs.Disk.{Moments}
 use Rattle.lru.specs.LruCache.{LruCache}
 use Rattle.blocks.specs.Cache.{LooksUpSome}
-use Rattle.blocks.proofs.Looked.{none_looks_up}
+use Rattle.directory.specs.declared.entry.Entry.{Entry}
 use Rattle.fault_counts.specs.declared.fault.ReadFault.{ReadFault}
 use Rattle.fault_counts.specs.declared.fault.ReadFault.TheVariants as readfault
 use Rattle.history_store.specs.declared.refusal.Refusal.{Refusal}
@@ -14,7 +14,7 @@ use Rattle.history_store.specs.Private.Reading.{MomentsStay}
 use Rattle.history_store.specs.Refusals.{of_read}
 use Rattle.history_store.specs.StoreValue.{StoreValue, IsAcknowledged}
 use Rattle.history_store.specs.Answers.{Counts, IsRefused, IsReadingOf}
-use Rattle.history_store.specs.Queries.{IsQuery}
+use Rattle.history_store.specs.Queries.{IsQuery, is_listed}
 use Rattle.history_store.proofs.Refusing.{read_undamaged}
 
 -- what was read, as the store answers it
@@ -62,15 +62,14 @@ read_beside (Err readfault.Damaged) old new disk cache r = (r.0, refused_beside 
 
 -- the rows were read, and what was read is answered
 pub answered_query : {T D : Type 0} (honest : D → Type 0) (moments : D → Moments) (failures : D → ℕ) (old new : StoreValue D) (disk : D) (cache : LruCache ℕ (List ℕ)) (read : Result T ReadFault) (result : Result T Refusal)
-    → old.needs_reopen ≡ false → LooksUpSome old.cache cache → new.cache ≡ cache → MomentsStay (honest old.disk) (honest disk) (moments old.disk) (moments disk) → CountsBy CountsDiskFault read (failures old.disk) (failures disk)
+    → old.needs_reopen ≡ false → MomentsStay (honest old.disk) (honest disk) (moments old.disk) (moments disk) → CountsBy CountsDiskFault read (failures old.disk) (failures disk)
     → (honest old.disk → IfErr read (λ e. e ≢ readfault.Damaged))
     → IsAnswerOf read result → IsReadingOf result (record old { disk = disk; cache = cache }) new → new.disk ≡ disk → (honest disk → new.needs_reopen ≡ false → IsAcknowledged moments new)
     → IsQuery result honest moments failures old new
-answered_query honest moments failures old new disk cache read result still looked_up kept stay counts undamaged answers left same acknowledged = let is = is_answer read result answers in record {
+answered_query honest moments failures old new disk cache read result still stay counts undamaged answers left same acknowledged = let is = is_answer read result answers in record {
   undamaged = λ up. subst (λ r. IfErr r (λ e. e ≢ refusals.Damaged)) (sym is) (undamaged_answer read (undamaged up));
   read = subst (λ r. IsReadingOf r old new) (sym is) (read_beside read old new disk cache (subst (λ r. IsReadingOf r (record old { disk = disk; cache = cache }) new) is left));
   closed = λ closed. absurd (false≢true (sym still ∙ closed));
-  looked_up = subst (λ c. LooksUpSome old.cache c) (sym kept) looked_up;
   moments = λ up. ap moments same ∙ stay.1 up;
   acknowledged = λ up. acknowledged (stay.0.0 up);
   honesty = subst (λ d. honest old.disk ↔ honest d) (sym same) stay.0;
@@ -84,9 +83,16 @@ closed_query honest moments failures s needs = record {
   undamaged = λ up same. absurd (cc);
   read = (needs, record { history = refl; catalog = refl; closed = λ same. absurd (cc); still = λ other. refl });
   closed = λ closed. refl;
-  looked_up = none_looks_up s.cache;
   moments = λ up. refl;
   acknowledged = λ up still. absurd (false≢true (sym still ∙ needs));
   honesty = (λ up. up, λ up. up);
   failures = refl;
 }
+
+-- the rows were read through the cache
+pub through_cache : {D : Type 0} (bytes_read : D → ℕ) (entries listed : List Entry) (old cache new : LruCache ℕ (List ℕ)) (before : ℕ) (disk left : D) → entries ≡ listed → new ≡ cache → left ≡ disk
+    → LooksUpSome (is_listed entries) old cache before (bytes_read disk) → LooksUpSome (is_listed listed) old new before (bytes_read left)
+through_cache bytes_read entries listed old cache new before disk left is kept same looked_up =
+    subst (λ d. LooksUpSome (is_listed listed) old new before (bytes_read d)) (sym same)
+    (subst (λ c. LooksUpSome (is_listed listed) old c before (bytes_read disk)) (sym kept)
+    (subst (λ e. LooksUpSome (is_listed e) old cache before (bytes_read disk)) is looked_up))

@@ -22,7 +22,7 @@ impl<D: Disk> Store<D> {
     ghost use Rattle.history_model.specs.Queries.{get, versions, page, terms, search_terms};
     ghost use Rattle.history_model.specs.Queries.{about, children, replacements};
     ghost use Rattle.history_store.specs.Answers.{IsReadingOf};
-    ghost use Rattle.history_store.specs.Queries.{IsQuery};
+    ghost use Rattle.history_store.specs.Queries.{IsQuery, ReadsThroughCache};
     ghost use Rattle.history_store.specs.Reading.{row_cost};
     ghost use Rattle.history_store.specs.Refusals.{of_read};
     ghost use Rattle.history_store.specs.StoreValue.{IsAcknowledged};
@@ -63,6 +63,8 @@ impl<D: Disk> Store<D> {
         ensures found { D.is_honest self.old.disk
             → IfOk result (λ row. row ≡ get kind id time (rows_at pin self.old.history.rows)) }
         ensures query { IsQuery result D.is_honest D.moments D.failures self.old self.new }
+        // On every disk, and whatever it answers, what is kept is not read again.
+        ensures looked_up { ReadsThroughCache D.bytes_read self.old self.new }
         // Whatever is on the disk, no more is read than the row that is answered takes,
         // and nothing where none is answered.
         ensures bytes_read { IfOk result (λ row. D.bytes_read self.new.disk
@@ -89,6 +91,8 @@ impl<D: Disk> Store<D> {
             → IfOk result (λ rows. rows.items ≡ versions kind id
             (rows_at pin self.old.history.rows)) }
         ensures query { IsQuery result D.is_honest D.moments D.failures self.old self.new }
+        // On every disk, and whatever it answers, what is kept is not read again.
+        ensures looked_up { ReadsThroughCache D.bytes_read self.old self.new }
         // Whatever is on the disk, no more is read than the rows that are answered take.
         ensures bytes_read { IfOk result (λ rows. D.bytes_read self.new.disk
             ≤ D.bytes_read self.old.disk + sum_by row_cost rows.items) }
@@ -122,6 +126,8 @@ impl<D: Disk> Store<D> {
             → IfOk result (λ rows. rows.items ≡ page kind time after limit
             (rows_at pin self.old.history.rows)) }
         ensures query { IsQuery result D.is_honest D.moments D.failures self.old self.new }
+        // On every disk, and whatever it answers, what is kept is not read again.
+        ensures looked_up { ReadsThroughCache D.bytes_read self.old self.new }
         // Whatever is on the disk, no more is read than the rows that are answered take.
         ensures bytes_read { IfOk result (λ rows. D.bytes_read self.new.disk
             ≤ D.bytes_read self.old.disk + sum_by row_cost rows.items) }
@@ -154,6 +160,8 @@ impl<D: Disk> Store<D> {
             → IfOk result (λ rows. rows.items ≡ about kind id time
             (rows_at pin self.old.history.rows)) }
         ensures query { IsQuery result D.is_honest D.moments D.failures self.old self.new }
+        // On every disk, and whatever it answers, what is kept is not read again.
+        ensures looked_up { ReadsThroughCache D.bytes_read self.old self.new }
         // Whatever is on the disk, no more is read than the rows that are answered take.
         ensures bytes_read { IfOk result (λ rows. D.bytes_read self.new.disk
             ≤ D.bytes_read self.old.disk + sum_by row_cost rows.items) }
@@ -196,6 +204,8 @@ impl<D: Disk> Store<D> {
             → IfOk result (λ rows. rows.items ≡ search_terms prefix.now time after limit
             (rows_at pin self.old.history.rows)) }
         ensures query { IsQuery result D.is_honest D.moments D.failures self.old self.new }
+        // On every disk, and whatever it answers, what is kept is not read again.
+        ensures looked_up { ReadsThroughCache D.bytes_read self.old self.new }
         // Whatever is on the disk, no more is read than the rows that are answered take.
         ensures bytes_read { IfOk result (λ rows. D.bytes_read self.new.disk
             ≤ D.bytes_read self.old.disk + sum_by row_cost rows.items) }
@@ -238,6 +248,8 @@ impl<D: Disk> Store<D> {
             → IfOk result (λ rows. rows.items ≡ terms prefix.now time limit
             (rows_at pin self.old.history.rows)) }
         ensures query { IsQuery result D.is_honest D.moments D.failures self.old self.new }
+        // On every disk, and whatever it answers, what is kept is not read again.
+        ensures looked_up { ReadsThroughCache D.bytes_read self.old self.new }
         // Whatever is on the disk, no more is read than the rows that are answered take.
         ensures bytes_read { IfOk result (λ rows. D.bytes_read self.new.disk
             ≤ D.bytes_read self.old.disk + sum_by row_cost rows.items) }
@@ -280,6 +292,8 @@ impl<D: Disk> Store<D> {
             → IfOk result (λ rows. rows.items ≡ replacements id time
             (rows_at pin self.old.history.rows)) }
         ensures query { IsQuery result D.is_honest D.moments D.failures self.old self.new }
+        // On every disk, and whatever it answers, what is kept is not read again.
+        ensures looked_up { ReadsThroughCache D.bytes_read self.old self.new }
         // Whatever is on the disk, no more is read than the rows that are answered take.
         ensures bytes_read { IfOk result (λ rows. D.bytes_read self.new.disk
             ≤ D.bytes_read self.old.disk + sum_by row_cost rows.items) }

@@ -97,7 +97,7 @@ impl<D: Disk> Store<D> {
     ghost use Rattle.history_store.specs.Answers.{IsStill, IsRefused};
     ghost use Rattle.history_store.specs.Answers.{IsCounted, IsImportOf, IsImportOnAnyDisk};
     ghost use Rattle.history_store.specs.Answers.{IsBeforeOrAfter, KeepsMoments};
-    ghost use Rattle.blocks.specs.Cache.{LooksUpSome};
+    ghost use Rattle.history_store.specs.Queries.{ReadsThroughCache};
 
     /// Makes a store on an empty disk. The length of the disk is looked
     /// at first, then all memory is taken, then the disk is written.
@@ -237,7 +237,7 @@ impl<D: Disk> Store<D> {
             (full self.old.history) release.now) }
         ensures still { IfOk result (λ fresh. IsStill self.old self.new) }
         ensures closed { IfErr result (λ e. IsRefused e self.old self.new) }
-        ensures looked_up { LooksUpSome self.old.cache self.new.cache }
+        ensures looked_up { ReadsThroughCache D.bytes_read self.old self.new }
         ensures moments { D.is_honest self.old.disk
             → D.moments self.new.disk ≡ D.moments self.old.disk }
         ensures honesty { D.is_honest self.old.disk ↔ D.is_honest self.new.disk }

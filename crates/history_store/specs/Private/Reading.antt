@@ -1,12 +1,15 @@
 -- Rows that stand on a disk, and what reading them leaves as it is.
 use Rattle.std.specs.Prelude.{◌≡◌, ◌↔◌, ℕ, ◌+◌, ◌^◌, ◌≤◌, List, length, map, take, drop}
 use Rattle.std.specs.List.{AllByRecursion}
-use Rattle.std.proofs.Common.{refl, ◌∙◌}
+use Rattle.std.proofs.Common.{refl, subst, ◌∙◌}
 use Rattle.rf2_values.specs.Key.{key_of}
 use Rattle.rf2_values.specs.Row.{RowValue}
 use Rattle.history_model.specs.declared.stamped.StampedRow.{StampedRow}
 use Rattle.history_model.specs.Lists.{listed}
 use Rattle.disk_model.specs.Disk.{Moments}
+use Rattle.lru.specs.LruCache.{LruCache}
+use Rattle.blocks.specs.Cache.{LooksUpSome}
+use Rattle.blocks.proofs.Looked.{some_more}
 use Rattle.directory.specs.declared.entry.Entry.{Entry}
 use Rattle.directory.specs.Listings.{IsEntry}
 use Rattle.segment.specs.declared.place.RowPlace.{RowPlace}
@@ -14,6 +17,7 @@ use Rattle.segment.specs.Records.{record_of, IsStamped}
 use Rattle.segment.specs.Standing.{record_len}
 use Rattle.store_image.specs.Stands.{HoldsAll}
 use Rattle.store_image.specs.Says.{AreSegments, pieces_of}
+use Rattle.history_store.specs.Queries.{is_listed}
 
 -- an honest disk stays one, and its moments stay
 abbrev pub MomentsStay : Type 0 → Type 0 → Moments → Moments → Type 0
@@ -26,6 +30,15 @@ pub stay_on : (first second third : Type 0) (a b c : Moments)
     → MomentsStay first second a b → MomentsStay second third b c → MomentsStay first third a c
 stay_on first second third a b c ab bc =
     ((λ up. bc.0.0 (ab.0.0 up), λ down. ab.0.1 (bc.0.1 down)), λ up. bc.1 (ab.0.0 up) ∙ ab.1 up)
+
+-- blocks of the listed segments, and then others of the same segments
+pub listed_on : (entries same : List Entry) (a b c : LruCache ℕ (List ℕ)) (first second third : ℕ)
+    → same ≡ entries → LooksUpSome (is_listed entries) a b first second
+    → LooksUpSome (is_listed same) b c second third
+    → LooksUpSome (is_listed entries) a c first third
+listed_on entries same a b c first second third is ab bc =
+    some_more (is_listed entries) a b c first second third ab
+    (subst (λ (e : List Entry). LooksUpSome (is_listed e) b c second third) is bc)
 
 -- the rows are those of the segments that are listed, and the file has these
 pub record AreThere (entries : List Entry) (lists : List (List StampedRow))

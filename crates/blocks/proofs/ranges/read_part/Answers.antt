@@ -2,7 +2,7 @@ use Rattle.std.proofs.Common.{◌≡◌, suc, ◌+◌, ◌*◌, ◌≤◌, ◌++
 use Rattle.std.proofs.lemmas.Result.{err_from_is_err_and}
 use Rattle.disk_model.specs.Disk.{Moments}
 use Rattle.blocks.specs.Cache.{count_of, AgreesWith}
-use Rattle.blocks.proofs.Looked.{looks_up, none_looked_up, within_next, stopped, looked_up_next, ended, all_looked_up}
+use Rattle.blocks.proofs.Looked.{IsLookUp, read_up, failed_up, none_looked_up, looked_up_next, ended, all_looked_up, part_asks}
 use Rattle.blocks.proofs.PartsKept.{next_kept, used_keeps, keeps_on, count_in}
 use Rattle.blocks.proofs.PartsRead.{IsReadSoFar, none_read, all_read, more_read, short_read}
 use Rattle.blocks.proofs.ranges.read_part.Goals as goal
@@ -56,8 +56,7 @@ loop-done-init g c = (
   λ honest agrees. (agrees, none_read c.args.from (g.D.Disk.moments c.args.disk.now).state.now c.args.into.now),
   refl,
   λ part. (refl, λ q. refl),
-  none_looked_up c.args.from (length c.args.into.now) c.args.cache.now,
-  omega arith,
+  none_looked_up c.args.from (length c.args.into.now) c.args.cache.now (g.D.Disk.bytes_read c.args.disk.now),
 )
 
 pub loop-done-preserved : goal.loop-done-preserved
@@ -67,8 +66,7 @@ loop-done-preserved g c =
     let file = (g.D.Disk.moments c.args.disk.now).state.now in
     let at = c.args.from + c.loop-done.done in
     let room : c.loop-done.done + c.min-taken.result ≤ length c.loop-done.into = omega (arith, inv.0, c.min-taken.ensures, c.loop-done-test.true) in
-    let long : length c.copy_part.new.into ≡ length c.loop-done.into = c.copy_part.auto.into in
-    let bytes : g.D.Disk.bytes_read c.read.new.disk ≤ g.D.Disk.bytes_read c.args.disk.now + 4096 * suc inv.8.count = omega (arith, inv.9, c.in_ok-count.ensures.bytes_read) in (
+    let long : length c.copy_part.new.into ≡ length c.loop-done.into = c.copy_part.auto.into in (
       long ∙ inv.0,
       omega (arith, inv.0, room),
       (λ up. c.in_ok-count.ensures.honesty.0 (inv.2.0 up), λ down. inv.2.1 (c.in_ok-count.ensures.honesty.1 down)),
@@ -89,40 +87,41 @@ loop-done-preserved g c =
             (c.in_ok-count.ensures.kept here.0 here.1).2 ∙ still.0,
             keeps_on c.args.cache.now c.loop-done.cache c.read.new.self still.1 (used_keeps c.loop-done.cache c.read.new.self (at / 4096) (c.in_ok-count.ensures.used here.0 here.1)),
           )),
-      looked_up_next c.args.from (length c.args.into.now) c.loop-done.done c.args.cache.now c.loop-done.cache c.read.new.self inv.8 (omega (arith, inv.0, c.loop-done-test.true))
-          (looks_up (at / 4096) c.in_ok-count.count c.read.new.into c.loop-done.cache c.read.new.self (λ kept is. c.in_ok-count.ensures.used kept is) c.in_ok-count.ensures.keeps) c.min-taken.result (omega (arith, inv.0, c.min-taken.ensures)),
-      bytes,
+      looked_up_next c.args.from (length c.args.into.now) c.loop-done.done c.args.cache.now c.loop-done.cache c.read.new.self (g.D.Disk.bytes_read c.args.disk.now) (g.D.Disk.bytes_read c.loop-done.disk) (g.D.Disk.bytes_read c.read.new.disk) inv.8 (omega (arith, inv.0, c.loop-done-test.true))
+          (read_up (at / 4096) c.in_ok-count.count c.read.new.into c.loop-done.cache c.read.new.self (g.D.Disk.bytes_read c.loop-done.disk) (g.D.Disk.bytes_read c.read.new.disk)
+          (λ kept is. (c.in_ok-count.ensures.used kept is, ap g.D.Disk.bytes_read (c.in_ok-count.ensures.kept kept is).2)) c.in_ok-count.ensures.keeps c.in_ok-count.ensures.bytes_read)
+          c.min-taken.result (omega (arith, inv.0, c.min-taken.ensures)),
     )
 
 pub returns-in_err-count-clause-looked_up : goal.returns-in_err-count-clause-looked_up
 returns-in_err-count-clause-looked_up g c =
+    let inv = c.loop-done.invariant in
+    let at = c.args.from + c.loop-done.done in
     let p = err_from_is_err_and c.from_residual.result c.from_residual.ensures.1 in
-    rw p.1 (stopped c.args.from (length c.args.into.now) c.loop-done.done c.args.cache.now c.loop-done.cache c.read.new.self c.loop-done.invariant.8 p.0 c.in_err-count.ensures.unread)
+    rw p.1 (
+      ended c.args.from (length c.args.into.now) c.loop-done.done c.args.cache.now c.loop-done.cache c.read.new.self (g.D.Disk.bytes_read c.args.disk.now) (g.D.Disk.bytes_read c.loop-done.disk) (g.D.Disk.bytes_read c.read.new.disk) inv.8 (omega (arith, inv.0, c.loop-done-test.true))
+      (failed_up (at / 4096) c.loop-done.cache c.read.new.self (g.D.Disk.bytes_read c.loop-done.disk) (g.D.Disk.bytes_read c.read.new.disk) (λ kept is. let wrong = (c.in_err-count.ensures.kept kept is).0 in cc) c.in_err-count.ensures.unread c.in_err-count.ensures.bytes_read)
+      p.0
+    )
 
 pub returns-then-count-skip-clause-looked_up : goal.returns-then-count-skip-clause-looked_up
 returns-then-count-skip-clause-looked_up g c =
     let inv = c.loop-done.invariant in
     let at = c.args.from + c.loop-done.done in
-    ended c.args.from (length c.args.into.now) c.loop-done.done c.args.cache.now c.loop-done.cache c.read.new.self inv.8 (omega (arith, inv.0, c.loop-done-test.true))
-    (looks_up (at / 4096) c.in_ok-count.count c.read.new.into c.loop-done.cache c.read.new.self (λ kept is. c.in_ok-count.ensures.used kept is) c.in_ok-count.ensures.keeps) _
+    ended c.args.from (length c.args.into.now) c.loop-done.done c.args.cache.now c.loop-done.cache c.read.new.self (g.D.Disk.bytes_read c.args.disk.now) (g.D.Disk.bytes_read c.loop-done.disk) (g.D.Disk.bytes_read c.read.new.disk) inv.8 (omega (arith, inv.0, c.loop-done-test.true))
+    (read_up (at / 4096) c.in_ok-count.count c.read.new.into c.loop-done.cache c.read.new.self (g.D.Disk.bytes_read c.loop-done.disk) (g.D.Disk.bytes_read c.read.new.disk)
+    (λ kept is. (c.in_ok-count.ensures.used kept is, ap g.D.Disk.bytes_read (c.in_ok-count.ensures.kept kept is).2)) c.in_ok-count.ensures.keeps c.in_ok-count.ensures.bytes_read) _
 
 pub returns-clause-looked_up : goal.returns-clause-looked_up
 returns-clause-looked_up g c =
     let inv = c.loop-done.invariant in
-    all_looked_up _ c.args.from (length c.args.into.now) c.loop-done.done c.args.cache.now c.loop-done.cache (omega (arith, inv.0, inv.1, c.loop-done-test.false)) inv.8
+    all_looked_up _ c.args.from (length c.args.into.now) c.loop-done.done c.args.cache.now c.loop-done.cache (g.D.Disk.bytes_read c.args.disk.now) (g.D.Disk.bytes_read c.loop-done.disk) (omega (arith, inv.0, inv.1, c.loop-done-test.false)) inv.8
 
 pub returns-in_err-count-clause-bytes_read : goal.returns-in_err-count-clause-bytes_read
-returns-in_err-count-clause-bytes_read g c =
-    let inv = c.loop-done.invariant in
-    let here = within_next c.args.from (length c.args.into.now) c.loop-done.done c.args.cache.now c.loop-done.cache inv.8 (omega (arith, inv.0, c.loop-done-test.true)) in
-    omega (arith, here, inv.9, c.in_err-count.ensures.bytes_read)
+returns-in_err-count-clause-bytes_read g c = part_asks _ _ _ _ _ _ _ (returns-in_err-count-clause-looked_up g c)
 
 pub returns-then-count-skip-clause-bytes_read : goal.returns-then-count-skip-clause-bytes_read
-returns-then-count-skip-clause-bytes_read g c =
-    let inv = c.loop-done.invariant in
-    let here = within_next c.args.from (length c.args.into.now) c.loop-done.done c.args.cache.now c.loop-done.cache inv.8 (omega (arith, inv.0, c.loop-done-test.true)) in
-    omega (arith, here, inv.9, c.in_ok-count.ensures.bytes_read)
+returns-then-count-skip-clause-bytes_read g c = part_asks _ _ _ _ _ _ _ (returns-then-count-skip-clause-looked_up g c)
 
 pub returns-clause-bytes_read : goal.returns-clause-bytes_read
-returns-clause-bytes_read g c =
-    let inv = c.loop-done.invariant in omega (arith, inv.8.within, inv.9)
+returns-clause-bytes_read g c = part_asks _ _ _ _ _ _ _ (returns-clause-looked_up g c)

@@ -8,6 +8,7 @@ use Rattle.merge.proofs.Steps.{zip_push}
 use Rattle.blocks.specs.Cache.{AgreesWith}
 use Rattle.blocks.proofs.Looked.{some_more}
 use Rattle.disk_model.specs.Disk.{Moments}
+use Rattle.history_store.specs.Queries.{is_listed}
 use Rattle.history_store.specs.Private.Reading.{AreThere}
 use Rattle.history_store.specs.Private.Stepping.{StandsIn, IsReadAt}
 use Rattle.history_store.proofs.Likeness.{zip_at, zip_end}
@@ -40,7 +41,7 @@ loop-t-preserved g c =
       moments = λ up. read.moments (so_far.honesty.0 up) ∙ so_far.moments up;
       honesty = (λ up. read.honesty.0 (so_far.honesty.0 up), λ down. so_far.honesty.1 (read.honesty.1 down));
       failures = read.failures ∙ so_far.failures;
-      looked_up = some_more a.cache.now l.cache c.read_row.new.cache so_far.looked_up read.looked_up;
+      looked_up = some_more (is_listed a.entries.now) a.cache.now l.cache c.read_row.new.cache (g.D.Disk.bytes_read a.disk.now) (g.D.Disk.bytes_read l.disk) (g.D.Disk.bytes_read c.read_row.new.disk) so_far.looked_up read.looked_up;
     }
 
 pub returns-in_err-row-clause-found : goal.returns-in_err-row-clause-found
@@ -75,7 +76,7 @@ returns-in_err-push-clause-agrees g c = λ up agrees.
     subst (λ (m : Moments). AgreesWith c.read_row.new.cache m.state.now) (so_far.moments up) (c.in_ok-row.ensures.agrees (so_far.honesty.0 up) agrees_still)
 
 pub returns-in_err-row-clause-looked_up : goal.returns-in_err-row-clause-looked_up
-returns-in_err-row-clause-looked_up g c = some_more c.args.cache.now c.loop-t.cache c.read_row.new.cache c.loop-t.invariant.looked_up c.in_err-row.ensures.looked_up
+returns-in_err-row-clause-looked_up g c = some_more (is_listed c.args.entries.now) c.args.cache.now c.loop-t.cache c.read_row.new.cache (g.D.Disk.bytes_read c.args.disk.now) (g.D.Disk.bytes_read c.loop-t.disk) (g.D.Disk.bytes_read c.read_row.new.disk) c.loop-t.invariant.looked_up c.in_err-row.ensures.looked_up
 
 pub returns-in_err-push-clause-looked_up : goal.returns-in_err-push-clause-looked_up
-returns-in_err-push-clause-looked_up g c = some_more c.args.cache.now c.loop-t.cache c.read_row.new.cache c.loop-t.invariant.looked_up c.in_ok-row.ensures.looked_up
+returns-in_err-push-clause-looked_up g c = some_more (is_listed c.args.entries.now) c.args.cache.now c.loop-t.cache c.read_row.new.cache (g.D.Disk.bytes_read c.args.disk.now) (g.D.Disk.bytes_read c.loop-t.disk) (g.D.Disk.bytes_read c.read_row.new.disk) c.loop-t.invariant.looked_up c.in_ok-row.ensures.looked_up

@@ -2,6 +2,7 @@ use Rattle.std.specs.List.{AllZip}
 use Rattle.std.proofs.Common.{◌≡◌, ◌↔◌, List, take}
 use Rattle.history_model.specs.declared.stamped.StampedRow.{StampedRow}
 use Rattle.blocks.specs.Cache.{AgreesWith, LooksUpSome}
+use Rattle.history_store.specs.Queries.{is_listed}
 use Rattle.history_store.specs.Private.Reading.{AreThere}
 use Rattle.history_store.specs.Private.Stepping.{StandsIn, IsReadAt}
 use Rattle.history_store.proofs.stepping.read_taken.Given as goal
@@ -17,5 +18,5 @@ invariant-loop-t g l =
       moments : disk.is_honest l.fn.disk → disk.moments l.disk ≡ disk.moments l.fn.disk;
       honesty : disk.is_honest l.fn.disk ↔ disk.is_honest l.disk;
       failures : disk.failures l.disk ≡ disk.failures l.fn.disk;
-      looked_up : LooksUpSome l.fn.cache l.cache;
+      looked_up : LooksUpSome (is_listed l.entries) l.fn.cache l.cache (disk.bytes_read l.fn.disk) (disk.bytes_read l.disk);
     }

@@ -3,9 +3,11 @@ use Rattle.history_model.specs.History.{rows_at}
 use Rattle.history_model.specs.Lists.{listed}
 use Rattle.history_model.specs.Queries.{page}
 use Rattle.segment.specs.Standing.{places_of}
+use Rattle.blocks.proofs.Looked.{none_looks_up}
+use Rattle.history_store.specs.Queries.{is_listed}
 use Rattle.history_store.proofs.GoingOn.{merge_read}
 use Rattle.history_store.proofs.Held.{held_read, lent_honest}
-use Rattle.history_store.proofs.Querying.{answered_so, answered_query, answered_bytes, closed_query}
+use Rattle.history_store.proofs.Querying.{answered_so, answered_query, answered_bytes, closed_query, through_cache}
 use Rattle.history_store.proofs.store.Store.page.Goals as goal
 
 pub invariant_of-self : goal.invariant_of-self
@@ -27,7 +29,7 @@ returns-clause-found g c = rw (← c.self.view_is) (λ up.
 pub returns-clause-query : goal.returns-clause-query
 returns-clause-query g c = rw (← c.self.view_is) (
     answered_query g.D.Disk.is_honest g.D.Disk.moments g.D.Disk.failures _ c.answered.new.self c.page-read.new.reader.disk.now c.page-read.new.reader.cache.now c.page-read.result c.answered.result
-    c.if-self.false c.page-read.ensures.stays.5 c.answered.ensures.cache c.page-read.ensures.stays.0 c.page-read.ensures.disk_faults
+    c.if-self.false c.page-read.ensures.stays.0 c.page-read.ensures.disk_faults
     (λ up.
     let lent = lent_honest _ _ _ _ _ _ _ _ c.self.invariant.0 c.entries.result.now c.as_slice.result.now c.entries.ensures.entries c.as_slice.ensures.value up c.if-self.false (g.met.D.Disk.now_is_image c.self.inside.disk up) in
     c.page-read.ensures.undamaged lent (c.self.invariant.0.places ∙ ap (map places_of) (sym c.as_slice.ensures.value)))
@@ -39,3 +41,11 @@ returns-clause-bytes_read g c = rw (← c.self.view_is) (
 
 pub returns-then-self-clause-query : goal.returns-then-self-clause-query
 returns-then-self-clause-query g c = rw (← c.self.view_is) (closed_query g.D.Disk.is_honest g.D.Disk.moments g.D.Disk.failures _ c.if-self.true)
+
+pub returns-clause-looked_up : goal.returns-clause-looked_up
+returns-clause-looked_up g c = rw (← c.self.view_is) (
+    through_cache g.D.Disk.bytes_read c.entries.result.now c.self.inside.directory.entries c.self.inside.cache c.page-read.new.reader.cache.now c.answered.new.self.cache (g.D.Disk.bytes_read c.self.inside.disk) c.page-read.new.reader.disk.now c.answered.new.self.disk
+    c.entries.ensures.entries c.answered.ensures.cache c.answered.ensures.disk c.page-read.ensures.stays.5)
+
+pub returns-then-self-clause-looked_up : goal.returns-then-self-clause-looked_up
+returns-then-self-clause-looked_up g c = rw (← c.self.view_is) (none_looks_up (is_listed c.self.inside.directory.entries) c.self.inside.cache (g.D.Disk.bytes_read c.self.inside.disk))

@@ -4,9 +4,11 @@ use Rattle.history_model.specs.Lists.{listed}
 use Rattle.term_prefix.specs.Terms.{PostsTerms, term_keys, terms_among}
 use Rattle.term_prefix.proofs.Posted.{posted_terms_stand, posted_terms_are_all}
 use Rattle.segment.specs.Standing.{places_of}
+use Rattle.blocks.proofs.Looked.{none_looks_up}
+use Rattle.history_store.specs.Queries.{is_listed}
 use Rattle.history_store.proofs.GoingOn.{merge_read}
 use Rattle.history_store.proofs.Held.{held_read, lent_honest}
-use Rattle.history_store.proofs.Querying.{answered_so, answered_query, answered_bytes, closed_query}
+use Rattle.history_store.proofs.Querying.{answered_so, answered_query, answered_bytes, closed_query, through_cache}
 use Rattle.history_store.proofs.store.Store.search.Goals as goal
 
 pub invariant_of-self : goal.invariant_of-self
@@ -28,7 +30,7 @@ returns-clause-found g c = rw (← c.self.view_is) (λ up.
 pub returns-clause-query : goal.returns-clause-query
 returns-clause-query g c = rw (← c.self.view_is) (
     answered_query g.D.Disk.is_honest g.D.Disk.moments g.D.Disk.failures _ c.answered.new.self c.find-read.new.reader.disk.now c.find-read.new.reader.cache.now c.find-read.result c.answered.result
-    c.if-self.false c.find-read.ensures.stays.5 c.answered.ensures.cache c.find-read.ensures.stays.0 c.find-read.ensures.disk_faults
+    c.if-self.false c.find-read.ensures.stays.0 c.find-read.ensures.disk_faults
     (λ up.
     let lent = lent_honest _ _ _ _ _ _ _ _ c.self.invariant.0 c.entries.result.now c.as_slice.result.now c.entries.ensures.entries c.as_slice.ensures.value up c.if-self.false (g.met.D.Disk.now_is_image c.self.inside.disk up) in
     c.find-read.ensures.undamaged lent (c.self.invariant.0.places ∙ ap (map places_of) (sym c.as_slice.ensures.value)) (subst (λ l. PostsTerms l c.self.inside.terms) (sym c.as_slice.ensures.value) (posted_terms_stand _ _ c.self.invariant.1)))
@@ -40,3 +42,11 @@ returns-clause-bytes_read g c = rw (← c.self.view_is) (
 
 pub returns-then-self-clause-query : goal.returns-then-self-clause-query
 returns-then-self-clause-query g c = rw (← c.self.view_is) (closed_query g.D.Disk.is_honest g.D.Disk.moments g.D.Disk.failures _ c.if-self.true)
+
+pub returns-clause-looked_up : goal.returns-clause-looked_up
+returns-clause-looked_up g c = rw (← c.self.view_is) (
+    through_cache g.D.Disk.bytes_read c.entries.result.now c.self.inside.directory.entries c.self.inside.cache c.find-read.new.reader.cache.now c.answered.new.self.cache (g.D.Disk.bytes_read c.self.inside.disk) c.find-read.new.reader.disk.now c.answered.new.self.disk
+    c.entries.ensures.entries c.answered.ensures.cache c.answered.ensures.disk c.find-read.ensures.stays.5)
+
+pub returns-then-self-clause-looked_up : goal.returns-then-self-clause-looked_up
+returns-then-self-clause-looked_up g c = rw (← c.self.view_is) (none_looks_up (is_listed c.self.inside.directory.entries) c.self.inside.cache (g.D.Disk.bytes_read c.self.inside.disk))
