@@ -1,6 +1,6 @@
 -- Places in the order of their bytes: each record begins behind those of the rows before it.
 use Rattle.std.proofs.Common.{◌≡◌, ℕ, zero, suc, ◌+◌, ◌<◌, ◌≤◌, true, false, List, [], ◌∷◌, length, get_or, map, refl, sym, ap, subst, inl, inr, ◌∙◌, arith}
-use Rattle.std.specs.Prelude.{nat_lt, Some, slice_get}
+use Rattle.std.specs.Prelude.{nat_lt, Option, Some, None, slice_get}
 use Rattle.std.specs.Ordering.{nat_cmp}
 use Rattle.std.specs.Cmp.{IsTotalOrder, nat_cmp_total, ranked, on_total, tied_itself}
 use Rattle.std.specs.declared.cmp.Ordering.TheVariants.{Less, Equal}
@@ -69,6 +69,13 @@ bytes_ascend at (r ∷ rows) = (
       less_from (row_place r at).at q.at (omega arith)),
   bytes_ascend (at + record_len r) rows,
 )
+
+abbrev place_or : RowPlace → Option (ℕ × RowPlace) → RowPlace
+place_or p None = p
+place_or p (Some x) = x.1
+
+pub same_place : {m n : ℕ} {p q : RowPlace} → ◌≡◌ {A = Option (ℕ × RowPlace)} (Some (m, p)) (Some (n, q)) → p ≡ q
+same_place {p = p} e = ap (place_or p) e
 
 -- ---- in the lists of an index
 

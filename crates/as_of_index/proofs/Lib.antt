@@ -17,3 +17,4 @@ pub mod Current
 pub mod Early
 pub mod Pushing
 pub mod ByByte
+pub mod Near

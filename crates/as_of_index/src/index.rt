@@ -2,7 +2,7 @@
 
 ghost use Rattle.std.specs.Prelude.{◌≡◌, ◌<◌, ◌++◌, ◌∷◌, [], List, IfOk, length, Some, None, remove, slice_set, slice_get};
 ghost use Rattle.history_model.specs.InOrder.{IsAscending};
-ghost use Rattle.std.specs.Prelude.{◌↔◌, ◌≢◌, ◌≤◌, ◌+◌, IfErr, IsTrue};
+ghost use Rattle.std.specs.Prelude.{◌↔◌, ◌≢◌, ◌≤◌, ◌+◌, ℕ, IfErr, IsTrue};
 ghost use Rattle.std.specs.List.{sum_by};
 ghost use Rattle.std.specs.Option.{option_to_list};
 ghost use Rattle.history_model.specs.declared.stamped.StampedRow.{StampedRow};
@@ -139,6 +139,24 @@ impl Index {
         self.lists[i].places()
     }
 
+    /// Where the component's row at the date stands, of the rows that the pin shows, and the number
+    /// of its list. Where a list is given, and the number in it of a version of the component up to
+    /// the date, that list costs no bisection.
+    fn place_near(
+        &self,
+        near: Option<(usize, usize)>,
+        kind: Kind,
+        id: u128,
+        time: EffectiveTime,
+        pin: u32,
+    ) -> Option<(usize, RowPlace)>
+        ensures places { ArePlaces self.now }
+        ensures found { (lists : List (List StampedRow)) → Lists self.now lists
+            → IsPlaceOf lists (get kind id time (rows_at pin (listed lists))) result }
+    {
+        latest(self.lists.as_slice(), near, kind, id, time, pin)
+    }
+
     /// Where the component's row at the date stands, of the rows that the pin shows,
     /// and the number of its list. It makes one bisection a list, and reads no row.
     pub fn place_at(
@@ -152,18 +170,18 @@ impl Index {
         ensures found { (lists : List (List StampedRow)) → Lists self.now lists
             → IsPlaceOf lists (get kind id time (rows_at pin (listed lists))) result }
     {
-        latest(self.lists.as_slice(), kind, id, time, pin)
+        self.place_near(None, kind, id, time, pin)
     }
 
-    /// The place in a list of the row whose record begins at this byte, by one bisection. No row is
-    /// read.
-    pub fn place_from_byte(&self, segment: usize, byte: u32) -> Option<RowPlace>
+    /// The place in a list of the row whose record begins at this byte, with its number in the list,
+    /// by one bisection.
+    fn place_from_byte(&self, segment: usize, byte: u32) -> Option<(usize, RowPlace)>
         // Where a row's record begins at the byte, its place is the answer.
         ensures found { (lists : List (List StampedRow)) → Lists self.now lists
             → (at : RowPlace) (s : StampedRow) → StandsAt lists segment at s → at.at ≡ byte
-            → result ≡ Some at }
+            → (n : ℕ) × (result ≡ Some (n, at)) }
         ensures only { (lists : List (List StampedRow)) → Lists self.now lists
-            → (at : RowPlace) → result ≡ Some at
+            → (n : ℕ) (at : RowPlace) → result ≡ Some (n, at)
             → (at.at ≡ byte) × (s : StampedRow) × StandsAt lists segment at s }
     {
         let lists = self.lists.as_slice();
@@ -174,19 +192,59 @@ impl Index {
         }
     }
 
+    /// Whether the version that stands at the place is the one at the date, of those that the pin
+    /// shows. Where the list and the number of the place in it are given, that list costs no bisection.
+    fn is_current_near(
+        &self,
+        near: Option<(usize, usize)>,
+        segment: usize,
+        at: &RowPlace,
+        time: EffectiveTime,
+        pin: u32,
+    ) -> bool
+        ensures { (lists : List (List StampedRow)) → Lists self.now lists
+            → IsTrue result ↔ IsCurrentAt lists time pin segment at.now }
+    {
+        let _listed = self.lists();
+        if !is_early(at, time, pin) {
+            return false;
+        }
+        match self.place_near(near, at.key.kind, at.key.id, time, pin) {
+            Some((n, p)) => is_same_place(n, &p, segment, at),
+            None => false,
+        }
+    }
+
     /// Whether the version that stands at the place is the one
     /// at the date, of those that the pin shows. No row is read.
     pub fn is_current(&self, segment: usize, at: RowPlace, time: EffectiveTime, pin: u32) -> bool
         ensures { (lists : List (List StampedRow)) → Lists self.now lists
             → IsTrue result ↔ IsCurrentAt lists time pin segment at }
     {
-        let _listed = self.lists();
-        if !is_early(&at, time, pin) {
-            return false;
-        }
-        match self.place_at(at.key.kind, at.key.id, time, pin) {
-            Some((n, p)) => is_same_place(n, &p, segment, &at),
-            None => false,
+        self.is_current_near(None, segment, &at, time, pin)
+    }
+
+    /// The place in a list of the row whose record begins at this byte, if its version is the one at
+    /// the date, of those that the pin shows. It makes one bisection a list, and reads no row.
+    pub fn current_from_byte(
+        &self,
+        segment: usize,
+        byte: u32,
+        time: EffectiveTime,
+        pin: u32,
+    ) -> Option<RowPlace>
+        ensures { (lists : List (List StampedRow)) → Lists self.now lists → (at : RowPlace)
+            → (result ≡ Some at) ↔ ((at.at ≡ byte) × IsCurrentAt lists time pin segment at) }
+    {
+        match self.place_from_byte(segment, byte) {
+            Some((number, at)) => {
+                if self.is_current_near(Some((segment, number)), segment, &at, time, pin) {
+                    Some(at)
+                } else {
+                    None
+                }
+            }
+            None => None,
         }
     }
 

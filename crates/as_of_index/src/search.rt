@@ -117,6 +117,31 @@ pub(crate) fn go_on(list: &[RowPlace], from: usize, start: &Start) -> usize
     place
 }
 
+/// Whether there is a place with this number, and it is passed over.
+fn is_passed(list: &[RowPlace], number: usize, start: &Start) -> bool
+    ensures within { IsTrue result → number ≤ length list.now }
+    ensures before { IsAscending place_cmp list.now → IsTrue result
+        → AllByRecursion (λ p. is_before start.now p ≡ true) (take number list.now) }
+{
+    match lent_at(list, number) {
+        Some(p) => is_before(*start, p),
+        None => false,
+    }
+}
+
+/// The first place that isn't passed over. It makes no bisection where the place with the number
+/// `near` is passed over, and goes on from there: that is for a place shortly before the answer.
+fn place_near(list: &[RowPlace], near: Option<usize>, start: &Start) -> usize
+    ensures within { result ≤ length list.now }
+    ensures split { IsAscending place_cmp list.now
+        → SplitsAt (is_before start.now) list.now result }
+{
+    match near {
+        Some(number) if is_passed(list, number, start) => go_on(list, number, start),
+        _ => place(list, *start),
+    }
+}
+
 fn stops(kind: Kind, id: u128, pin: u32, p: &RowPlace) -> bool
     ensures { result ≡ stops kind id pin p.now }
 {
@@ -168,9 +193,11 @@ pub(crate) fn latest_from(
     latest_before(list, end, kind, id, pin)
 }
 
-/// The latest version of the component in the list, up to the date, that the pin shows.
+/// The latest version of the component in the list, up to the date, that the pin shows. Where the
+/// number of a version of it up to the date is given, no bisection is made.
 pub(crate) fn latest_in(
     list: &[RowPlace],
+    near: Option<usize>,
     kind: Kind,
     id: u128,
     time: EffectiveTime,
@@ -178,7 +205,7 @@ pub(crate) fn latest_in(
 ) -> Option<RowPlace>
     ensures { IsAscending place_cmp list.now → IsPick kind id time pin (λ p. p) list.now result }
 {
-    let end = place(list, Start::AfterVersion { kind, id, time });
+    let end = place_near(list, near, &Start::AfterVersion { kind, id, time });
     latest_before(list, end, kind, id, pin)
 }
 
@@ -208,15 +235,16 @@ pub(crate) fn nth_place(list: &[RowPlace], i: usize) -> Option<RowPlace>
     list.get(i).copied()
 }
 
-/// The place at this byte, in a list in which the bytes ascend.
-pub(crate) fn from_byte(list: &[RowPlace], byte: u32) -> Option<RowPlace>
+/// The place at this byte and its number, in a list in which the bytes ascend.
+pub(crate) fn from_byte(list: &[RowPlace], byte: u32) -> Option<(usize, RowPlace)>
     ensures found { IsAscending byte_cmp list.now → (p : RowPlace) → Has list.now p → p.at ≡ byte
-        → result ≡ Some p }
-    ensures only { (p : RowPlace) → result ≡ Some p → Has list.now p × (p.at ≡ byte) }
+        → (n : ℕ) × (result ≡ Some (n, p)) }
+    ensures only { (n : ℕ) (p : RowPlace) → result ≡ Some (n, p)
+        → Has list.now p × (p.at ≡ byte) }
 {
     let first = list.partition_point(|p| p.at < byte);
     match nth_place(list, first) {
-        Some(p) if p.at == byte => Some(p),
+        Some(p) if p.at == byte => Some((first, p)),
         _ => None,
     }
 }

@@ -1,20 +1,32 @@
 //! Searches in several lists of places, by a bisection in each.
 
-ghost use Rattle.std.specs.Prelude.{◌↔◌, IsTrue};
+ghost use Rattle.std.specs.Prelude.{◌≡◌, ◌↔◌, IsTrue};
 ghost use Rattle.std.specs.List.{AllByRecursion};
 ghost use Rattle.history_model.specs.InOrder.{IsAscending};
 ghost use Rattle.as_of_index.specs.Places.{place_cmp, ShareNoKey};
-ghost use Rattle.as_of_index.specs.Private.Search.{all_places, IsPick, IsNext, IsNextVersion};
+ghost use Rattle.as_of_index.specs.Private.Search.{all_places, number_in, IsPick, IsNext, IsNextVersion};
 
 use crate::place_list::PlaceList;
 use crate::search::{Start, is_of, later, latest_in, next_in, share_no_key, sooner};
 use rf2_values::{EffectiveTime, Kind};
 use segment::RowPlace;
 
-/// The latest version of the component up to the date
-/// that the pin shows, and the number of its list.
+/// The number that is known in this list.
+fn number_in(near: Option<(usize, usize)>, segment: usize) -> Option<usize>
+    ensures { result ≡ number_in near segment }
+{
+    match near {
+        Some((own, number)) if own == segment => Some(number),
+        _ => None,
+    }
+}
+
+/// The latest version of the component up to the date that the pin shows, and the number of its
+/// list. Where a list is given, and the number in it of a version of the component up to the date,
+/// that list costs no bisection.
 pub(crate) fn latest(
     lists: &[PlaceList],
+    near: Option<(usize, usize)>,
     kind: Kind,
     id: u128,
     time: EffectiveTime,
@@ -24,7 +36,7 @@ pub(crate) fn latest(
 {
     let mut best = None;
     for (segment, list) in lists.iter().enumerate() {
-        let found = latest_in(list.places(), kind, id, time, pin);
+        let found = latest_in(list.places(), number_in(near, segment), kind, id, time, pin);
         best = later(best, segment, found);
     }
     best

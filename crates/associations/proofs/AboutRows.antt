@@ -27,10 +27,11 @@ use Rattle.as_of_index.proofs.ByByte.{one_byte}
 use Rattle.as_of_index.proofs.Current.{standing_row, one_row, shown, current_where, AllCurrent, rows_for, stand_for, row_for, for_row, ascending_rows_for}
 use Rattle.as_of_index.proofs.Pushing.{stands_somewhere}
 use Rattle.associations.specs.declared.postings.Subject.{Subject}
-use Rattle.associations.specs.Edges.{Edges}
+use Rattle.associations.specs.Edges.{Edges, subject_rank}
 use Rattle.associations.specs.Private.{subjects_in, GivesRow, AreRows}
 use Rattle.associations.specs.Laws.{EachPosted}
 use Rattle.associations.proofs.Posted.{subject_stands, each_subject_is_posted}
+use Rattle.associations.proofs.SubjectOrder.{of_rank}
 
 ids_total : IsTotalOrder by_id
 ids_total = on_total (λ (row : RowValue). row.id) nat_cmp_total
@@ -48,19 +49,20 @@ module _ (lists : List (List StampedRow)) (are : ArePlaces (map places_of lists)
     active : s.row.active ≡ true
     subject_is : subject_of s.row ≡ Some d
 
-  about_at : (x : ℕ × Subject) (k : Chosen) → Has (numbered 0 (subjects_in edges)) x → x.1.subject ≡ d → GivesRow lists kind date pin x.0 x.1 k → IsAboutAt k
+  about_at : (x : ℕ × Subject) (k : Chosen) → Has (numbered 0 (subjects_in edges)) x → subject_rank x.1.subject x.1.kind ≡ subject_rank d kind → GivesRow lists date pin x.0 x.1 k → IsAboutAt k
   about_at x k h e g =
-      let now = g.row_there.current in
+      let now = g.row_there.1 in
       let p = subject_stands lists edges posts x h in
-      let place : p.1 ≡ g.at = one_byte lists x.0 p.1 g.at p.0 now.0 p.2 now.1 (p.3.byte_is ∙ sym g.row_there.byte_is) in
+      let place : p.1 ≡ g.at = one_byte lists x.0 p.1 g.at p.0 now.0 p.2 now.1 (p.3.byte_is ∙ sym g.row_there.0) in
       let same : p.0 ≡ now.0 = one_row lists are x.0 x.0 p.1 g.at p.0 now.0 p.2 now.1 place in
+      let own = of_rank x.1.subject d x.1.kind kind e in
       subst (λ (j : Chosen). IsAboutAt j) (sym g.chosen_is) (record {
         s = now.0;
         stands = now.1;
         found = now.2;
-        kind_is = g.row_there.kind_is;
+        kind_is = ap (λ (q : Key). q.kind) (standing_row lists are x.0 g.at now.0 now.1).1 ∙ ap (λ (z : StampedRow). kind_of z.row) (sym same) ∙ p.3.kind_is ∙ own.1;
         active = subst (λ (z : StampedRow). z.row.active ≡ true) same p.3.active;
-        subject_is = subst (λ (z : StampedRow). subject_of z.row ≡ Some d) same (p.3.subject_is ∙ ap Some e);
+        subject_is = subst (λ (z : StampedRow). subject_of z.row ≡ Some d) same (p.3.subject_is ∙ ap Some own.0);
       })
 
   module _ (kept : List Chosen) (a : AreRows lists kind date pin d (numbered 0 (subjects_in edges)) kept) where
@@ -104,10 +106,11 @@ module _ (lists : List (List StampedRow)) (are : ArePlaces (map places_of lists)
         let now = current_where lists are date pin n at s row p.2 w.0.current key_is in
         let active : s.row.active ≡ true = ap (λ (r : RowValue). r.active) known.same ∙ w.0.active in
         let subject : subject_of s.row ≡ Some d = ap (λ (r : RowValue). subject_of r) known.same ∙ w.1 in
-        let x : Subject = record { subject = d; byte = at.at } in
+        let row_kind : kind_of s.row ≡ kind = ap (λ (r : RowValue). kind_of r) known.same ∙ w.0.kind_is in
+        let x : Subject = record { subject = d; kind = kind_of s.row; byte = at.at } in
         let kind_is : at.key.kind ≡ kind = ap (λ (q : Key). q.kind) key_is ∙ w.0.kind_is in
-        let gives : GivesRow lists kind date pin n x (chosen n at) = record { at = at; row_there = record { byte_is = refl; kind_is = kind_is; current = now.1 }; chosen_is = refl } in
-        let t = a.2.there (chosen n at) (a.1.taken (n, x) (chosen n at) (each_subject_is_posted lists edges posts n at s p.2 d active subject) refl gives) in
+        let gives : GivesRow lists date pin n x (chosen n at) = record { at = at; row_there = (refl, now.1); chosen_is = refl } in
+        let t = a.2.there (chosen n at) (a.1.taken (n, x) (chosen n at) (each_subject_is_posted lists edges posts n at s p.2 d active subject) (ap (subject_rank d) row_kind) gives) in
         let j = t.0 in
         let v = for_row lists date pin kept each_current j t.1 in
         let kinds_are : j.at.key.kind ≡ at.key.kind = (about_kept j t.1).kind_is ∙ sym kind_is in

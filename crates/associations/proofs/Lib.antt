@@ -4,4 +4,5 @@ pub mod Ranked
 pub mod ChildRows
 pub mod ReplacingRows
 pub mod Posted
+pub mod SubjectOrder
 pub mod AboutRows

@@ -5,7 +5,8 @@ use Rattle.std.specs.Ordering.{nat_cmp}
 use Rattle.std.proofs.lemmas.Bool.Decides.{nat_tests}
 use Rattle.rf2_values.specs.declared.row.Body.{Body}
 use Rattle.rf2_values.specs.declared.row.Body.TheVariants as body
-use Rattle.rf2_values.specs.Row.{RowValue}
+use Rattle.rf2_values.specs.declared.row.Kind.{Kind}
+use Rattle.rf2_values.specs.Row.{RowValue, kind_of}
 use Rattle.history_model.specs.declared.stamped.StampedRow.{StampedRow}
 use Rattle.history_model.specs.InOrder.{Has, in_order}
 use Rattle.history_model.specs.History.{rows_at}
@@ -106,16 +107,17 @@ reference_row row at r h =
 pub record IsSubjectOf (x : Subject) (row : RowValue) (at : RowPlace) : Type 0 where
   pub active : row.active ≡ true
   pub subject_is : subject_of row ≡ Some x.subject
+  pub kind_is : kind_of row ≡ x.kind
   pub byte_is : at.at ≡ x.byte
 
-subject_column : (subject : Option ℕ) (at : RowPlace) (x : Subject) → Has (subject_at subject at) x → (subject ≡ Some x.subject) × (at.at ≡ x.byte)
-subject_column None at x h = absurd h
-subject_column (Some id) at x h = elim h [ inl s ↦ (ap (λ (y : Subject). Some y.subject) s, ap (λ (y : Subject). y.byte) s) | inr f ↦ absurd f ]
+subject_column : (subject : Option ℕ) (kind : Kind) (at : RowPlace) (x : Subject) → Has (subject_at subject kind at) x → (subject ≡ Some x.subject) × (kind ≡ x.kind) × (at.at ≡ x.byte)
+subject_column None kind at x h = absurd h
+subject_column (Some id) kind at x h = elim h [ inl s ↦ (ap (λ (y : Subject). Some y.subject) s, ap (λ (y : Subject). y.kind) s, ap (λ (y : Subject). y.byte) s) | inr f ↦ absurd f ]
 
 subject_row : (row : RowValue) (at : RowPlace) (x : Subject) → Has (posted_subject row at) x → IsSubjectOf x row at
 subject_row row at x h =
-    elim row.active as (λ b. row.active ≡ b → Has (if b then subject_at (subject_of row) at else []) x → IsSubjectOf x row at) [
-      | true ↦ λ e k. (let w = subject_column (subject_of row) at x k in record { active = e; subject_is = w.0; byte_is = w.1 })
+    elim row.active as (λ b. row.active ≡ b → Has (if b then subject_at (subject_of row) (kind_of row) at else []) x → IsSubjectOf x row at) [
+      | true ↦ λ e k. (let w = subject_column (subject_of row) (kind_of row) at x k in record { active = e; subject_is = w.0; kind_is = w.1; byte_is = w.2 })
       | false ↦ λ e k. absurd k
     ] refl h
 
@@ -177,13 +179,15 @@ posted_references_are_all lists edges id date pin a =
     each_replacement_is_posted (reference_keys edges) id date (rows_at pin (listed lists))
     (among_all posted_reference (λ (r : Reference). r.at) (is_replacement_of id) (all_reference id) lists (references_in edges) date pin (references_posted lists edges a))
 
-subject_there : (row : RowValue) (at : RowPlace) (id : ℕ) → row.active ≡ true → subject_of row ≡ Some id → Has (posted_subject row at) (record { subject = id; byte = at.at })
-subject_there row at id active subject = subst (λ b. Has (if b then subject_at (subject_of row) at else []) (record { subject = id; byte = at.at })) (sym active) (subst (λ x. Has (subject_at x at) (record { subject = id; byte = at.at })) (sym subject) (inl refl))
+subject_there : (row : RowValue) (at : RowPlace) (id : ℕ) → row.active ≡ true → subject_of row ≡ Some id → Has (posted_subject row at) (record { subject = id; kind = kind_of row; byte = at.at })
+subject_there row at id active subject =
+    let x : Subject = record { subject = id; kind = kind_of row; byte = at.at } in
+    subst (λ b. Has (if b then subject_at (subject_of row) (kind_of row) at else []) x) (sym active) (subst (λ o. Has (subject_at o (kind_of row) at) x) (sym subject) (inl refl))
 
 -- where an active row stands that is about a component, its subject is posted
-pub each_subject_is_posted : (lists : List (List StampedRow)) (edges : List Edges) → EachPosted lists edges → (n : ℕ) (at : RowPlace) (s : StampedRow) → StandsAt lists n at s → (id : ℕ) → s.row.active ≡ true → subject_of s.row ≡ Some id → Has (numbered 0 (subjects_in edges)) (n, record { subject = id; byte = at.at })
+pub each_subject_is_posted : (lists : List (List StampedRow)) (edges : List Edges) → EachPosted lists edges → (n : ℕ) (at : RowPlace) (s : StampedRow) → StandsAt lists n at s → (id : ℕ) → s.row.active ≡ true → subject_of s.row ≡ Some id → Has (numbered 0 (subjects_in edges)) (n, record { subject = id; kind = kind_of s.row; byte = at.at })
 each_subject_is_posted lists edges a n at s w id active subject =
-    posting_there posted_subject lists (subjects_in edges) (subjects_posted lists edges a) n at s w (record { subject = id; byte = at.at }) (subject_there s.row at id active subject)
+    posting_there posted_subject lists (subjects_in edges) (subjects_posted lists edges a) n at s w (record { subject = id; kind = kind_of s.row; byte = at.at }) (subject_there s.row at id active subject)
 
 -- ---- one row more
 

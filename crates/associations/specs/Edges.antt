@@ -1,13 +1,15 @@
 -- What is posted of rows: links of relationships, references of associations, and what any but a
 -- concept is about.
-use Rattle.std.specs.Prelude.{ℕ, ◌==◌, List, [], ◌∷◌, ◌++◌, length, take, map, if◌then◌else◌}
+use Rattle.std.specs.Prelude.{ℕ, ◌+◌, ◌*◌, ◌==◌, List, [], ◌∷◌, ◌++◌, length, take, map, if◌then◌else◌}
 use Rattle.std.specs.Prelude.{Option, Some, None}
 use Rattle.std.specs.List.Sorted.{IsNonDecreasingBy, IsPermutation}
 use Rattle.rf2_values.specs.declared.row.Association.{Association}
 use Rattle.rf2_values.specs.declared.row.Body.{Body}
 use Rattle.rf2_values.specs.declared.row.Relationship.{Relationship}
 use Rattle.rf2_values.specs.declared.row.Body.TheVariants as body
-use Rattle.rf2_values.specs.Row.{RowValue}
+use Rattle.rf2_values.specs.declared.row.Kind.{Kind}
+use Rattle.rf2_values.specs.Key.{kind_place}
+use Rattle.rf2_values.specs.Row.{RowValue, kind_of}
 use Rattle.history_model.specs.Queries.{is_a, subject_of}
 use Rattle.history_model.specs.declared.stamped.StampedRow.{StampedRow}
 use Rattle.segment.specs.declared.place.RowPlace.{RowPlace}
@@ -59,12 +61,17 @@ pub record AreSameEdges (a b : Edges) : Type 0 where
   pub references : IsPermutation a.references b.references
   pub subjects : IsPermutation a.subjects b.subjects
 
+-- the place of a component's rows of a kind in the order of subjects: by the component, and then by
+-- the kind, of which there are five
+abbrev pub subject_rank : ℕ → Kind → ℕ
+subject_rank id kind = 5 * id + kind_place kind
+
 -- the links ascend by destination, the references by what they refer to, and the subjects by what
--- the rows are about
+-- the rows are about, and then by kind
 pub record IsSealed (e : Edges) : Type 0 where
   pub by_destination : IsNonDecreasingBy (λ l. l.destination) e.links
   pub by_referenced : IsNonDecreasingBy (λ r. r.referenced) e.references
-  pub by_subject : IsNonDecreasingBy (λ x. x.subject) e.subjects
+  pub by_subject : IsNonDecreasingBy (λ x. subject_rank x.subject x.kind) e.subjects
 
 -- the links of each list, and the references of each list
 abbrev pub links_in : List Edges → List (List Link)
@@ -96,10 +103,10 @@ reference_of_body (body.Relationship r) at = []
 reference_of_body (body.Association a) at = reference a at ∷ []
 reference_of_body (body.Concrete c) at = []
 
--- what a row is about, with the byte at which its record begins
-abbrev pub subject_at : Option ℕ → RowPlace → List Subject
-subject_at None at = []
-subject_at (Some id) at = record { subject = id; byte = at.at } ∷ []
+-- what a row is about, with its kind and the byte at which its record begins
+abbrev pub subject_at : Option ℕ → Kind → RowPlace → List Subject
+subject_at None kind at = []
+subject_at (Some id) kind at = record { subject = id; kind = kind; byte = at.at } ∷ []
 
 -- what is posted of a row: what an active one says, and what it is about
 abbrev pub posted_link : RowValue → RowPlace → List Link
@@ -109,7 +116,7 @@ abbrev pub posted_reference : RowValue → RowPlace → List Reference
 posted_reference row at = if row.active then reference_of_body row.body at else []
 
 abbrev pub posted_subject : RowValue → RowPlace → List Subject
-posted_subject row at = if row.active then subject_at (subject_of row) at else []
+posted_subject row at = if row.active then subject_at (subject_of row) (kind_of row) at else []
 
 abbrev pub edges_of : RowValue → RowPlace → Edges
 edges_of row at =

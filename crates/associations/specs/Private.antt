@@ -14,7 +14,7 @@ use Rattle.as_of_index.specs.Current.{IsCurrentAt}
 use Rattle.associations.specs.declared.postings.Subject.{Subject}
 use Rattle.associations.specs.declared.postings.Link.{Link}
 use Rattle.associations.specs.declared.postings.Reference.{Reference}
-use Rattle.associations.specs.Edges.{Edges}
+use Rattle.associations.specs.Edges.{Edges, subject_rank}
 
 abbrev pub subjects_in : List Edges → List (List Subject)
 subjects_in lists = map (λ e. e.subjects) lists
@@ -78,24 +78,17 @@ abbrev pub AreRanked : List (List StampedRow) → ℕ → ℕ → ℕ → List (
 AreRanked lists date pin d xs kept =
     (all : List Chosen) × AreRankedTaken lists date pin d xs all × AreOnce ranked_cmp all kept
 
--- the place is that of the list's record that begins at the byte, its row is of the kind, and it is
--- current
-pub record IsCurrentFrom (lists : List (List StampedRow)) (kind : Kind) (date pin n byte : ℕ)
-    (at : RowPlace) : Type 0 where
-  pub byte_is : at.at ≡ byte
-  pub kind_is : at.key.kind ≡ kind
-  pub current : IsCurrentAt lists date pin n at
-
--- a subject gives what is to be read where such a record begins at its byte
-pub record GivesRow (lists : List (List StampedRow)) (kind : Kind) (date pin n : ℕ)
-    (x : Subject) (k : Chosen) : Type 0 where
+-- a subject gives what is to be read where the record of a current row begins at its byte
+pub record GivesRow (lists : List (List StampedRow)) (date pin n : ℕ) (x : Subject) (k : Chosen)
+    : Type 0 where
   pub at : RowPlace
-  pub row_there : IsCurrentFrom lists kind date pin n x.byte at
+  pub row_there : (at.at ≡ x.byte) × IsCurrentAt lists date pin n at
   pub chosen_is : k ≡ chosen n at
 
 abbrev pub AreRowsTaken : List (List StampedRow) → Kind → ℕ → ℕ → ℕ → List (ℕ × Subject)
     → List Chosen → Type 0
-AreRowsTaken lists kind date pin = AreTaken (GivesRow lists kind date pin) (λ x. x.subject)
+AreRowsTaken lists kind date pin d =
+    AreTaken (GivesRow lists date pin) (λ x. subject_rank x.subject x.kind) (subject_rank d kind)
 
 abbrev pub AreRows : List (List StampedRow) → Kind → ℕ → ℕ → ℕ → List (ℕ × Subject) → List Chosen
     → Type 0

@@ -3,12 +3,14 @@
 
 ghost use Rattle.std.specs.Prelude.{◌≡◌, ◌<◌, ◌++◌, length, vec_capacity, OnOk, OnErr};
 ghost use Rattle.std.specs.List.Sorted.{IsNonDecreasingBy, IsPermutation};
-ghost use Rattle.associations.specs.Edges.{Edges, no_edges, link, reference, posted_link, posted_reference, posted_subject, edges_of, joined_edges, count_of, first_edges, AreSameEdges, IsSealed};
+ghost use Rattle.std.specs.Ordering.{nat_cmp};
+ghost use Rattle.associations.specs.Edges.{Edges, no_edges, link, reference, posted_link, posted_reference, posted_subject, edges_of, joined_edges, count_of, first_edges, AreSameEdges, IsSealed, subject_rank};
 
 use history_model::{IS_A, StampedRow, subject_of};
-use rf2_values::{Association, Body, Relationship};
+use rf2_values::{Association, Body, Kind, Relationship};
 use segment::RowPlace;
 use std::alloc::{AllocError, Global};
+use std::cmp::Ordering;
 use std::marker::Model;
 
 /// An active relationship that says that its source is a kind of its destination, and where its row
@@ -36,12 +38,14 @@ pub struct Reference {
     pub at: RowPlace,
 }
 
-/// What an active row is about, and where its record begins. There is one of nearly each row: it
-/// holds no more than that, and the index tells the place at the byte.
+/// What an active row is about, of which kind it is, and where its record begins. There is one of
+/// nearly each row: it holds no more than that, and the index tells the place at the byte.
 #[derive(Clone, Copy)]
 pub struct Subject {
     /// The component that the row is about, by its SCTID.
     pub subject: u64,
+    /// The row's kind.
+    pub kind: Kind,
     /// The byte of the segment at which the row's record begins.
     pub byte: u32,
 }
@@ -76,7 +80,7 @@ impl Model for Postings {
 }
 
 /// The links of a segment, ascending by destination, its references, ascending by what they refer
-/// to, and its subjects, which ascend.
+/// to, and its subjects, which ascend, those of one component by kind.
 #[derive(Drop)]
 pub struct Sealed {
     links: Vec<Link>,
@@ -159,6 +163,7 @@ fn push_subject(subjects: &mut Vec<Subject>, row: &StampedRow, at: &RowPlace)
     if let Some(subject) = subject_of(&row.row) {
         let Ok(()) = subjects.push(Subject {
             subject: subject.value(),
+            kind: row.row.kind(),
             byte: at.at,
         }) else {
             unreachable!()
@@ -180,11 +185,21 @@ fn sort_references(references: &mut Vec<Reference>)
     references.sort_unstable_by(|a, b| a.referenced.cmp(&b.referenced));
 }
 
+/// The order of subjects: by what the rows are about, and then by kind.
+fn compare(a: &Subject, b: &Subject) -> Ordering
+    ensures { result ≡ nat_cmp (subject_rank a.now.subject a.now.kind)
+        (subject_rank b.now.subject b.now.kind) }
+{
+    a.subject
+        .cmp(&b.subject)
+        .then((a.kind as u8).cmp(&(b.kind as u8)))
+}
+
 fn sort_subjects(subjects: &mut Vec<Subject>)
     ensures permutation { IsPermutation subjects.old.items subjects.new.items }
-    ensures rising { IsNonDecreasingBy (λ x. x.subject) subjects.new.items }
+    ensures rising { IsNonDecreasingBy (λ x. subject_rank x.subject x.kind) subjects.new.items }
 {
-    subjects.sort_unstable_by(|a, b| a.subject.cmp(&b.subject));
+    subjects.sort_unstable_by(|a, b| compare(a, b));
 }
 
 impl Postings {
@@ -269,7 +284,7 @@ impl Sealed {
 
     pub(crate) fn subjects(&self) -> &[Subject]
         ensures subjects { result.now ≡ self.now.subjects }
-        ensures rising { IsNonDecreasingBy (λ x. x.subject) self.now.subjects }
+        ensures rising { IsNonDecreasingBy (λ x. subject_rank x.subject x.kind) self.now.subjects }
     {
         self.subjects.as_slice()
     }

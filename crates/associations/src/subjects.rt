@@ -1,10 +1,9 @@
 //! What is about a component, as the posted subjects say.
 
-ghost use Rattle.std.specs.Prelude.{◌≡◌, ◌≢◌, ◌↔◌, ◌+◌, ◌≤◌, List, Some, ◌==◌, IfOk, IfErr, OnOk};
+ghost use Rattle.std.specs.Prelude.{◌≡◌, ◌≢◌, ◌↔◌, ◌+◌, ◌≤◌, List, Some, nat_lt, nat_le, IfOk, IfErr, OnOk};
 ghost use Rattle.std.specs.List.{sum_by};
 ghost use Rattle.std.specs.List.Sorted.{IsNonDecreasingBy};
 ghost use Rattle.std.specs.Ordering.{eq_by_cmp};
-ghost use Rattle.rf2_values.specs.Key.{kind_place};
 ghost use Rattle.history_model.specs.declared.stamped.StampedRow.{StampedRow};
 ghost use Rattle.history_model.specs.InOrder.{Has};
 ghost use Rattle.history_model.specs.History.{rows_at};
@@ -16,9 +15,10 @@ ghost use Rattle.as_of_index.specs.Private.Chosen.{chosen, chosen_cmp};
 ghost use Rattle.as_of_index.specs.Postings.{numbered};
 ghost use Rattle.fault_counts.specs.Counting.{Counts, CountsDiskFault, CountsDamage};
 ghost use Rattle.fault_counts.specs.declared.fault.ReadFault.TheVariants as readfault;
+ghost use Rattle.associations.specs.Edges.{subject_rank};
 ghost use Rattle.associations.specs.Private.{subjects_in};
 ghost use Rattle.associations.specs.Laws.{EachPosted};
-ghost use Rattle.associations.specs.Private.{IsCurrentFrom, GivesRow, Takes, AreOnce, AreRows};
+ghost use Rattle.associations.specs.Private.{GivesRow, Takes, AreOnce, AreRows};
 
 use crate::Links;
 use crate::postings::{Sealed, Subject};
@@ -28,14 +28,29 @@ use segment::RowPlace;
 use std::alloc::{AllocError, Global};
 use std::cmp::Ordering;
 
-/// The subjects that are a component.
-fn subjects_of(list: &[Subject], id: u64) -> &[Subject]
-    ensures { IsNonDecreasingBy (λ x. x.subject) list.now →
-        (x : _) → Has result.now x ↔ (Has list.now x × (x.subject ≡ id)) }
+/// Whether it stands before those of the component and kind.
+fn is_before(x: &Subject, id: u64, kind: Kind) -> bool
+    ensures { result ≡ nat_lt (subject_rank x.now.subject x.now.kind) (subject_rank id kind) }
 {
-    let first = list.partition_point(|x| x.subject < id);
+    x.subject < id || x.subject == id && (x.kind as u8) < kind as u8
+}
+
+/// Whether it doesn't stand behind those of the component and kind.
+fn is_up_to(x: &Subject, id: u64, kind: Kind) -> bool
+    ensures { result ≡ nat_le (subject_rank x.now.subject x.now.kind) (subject_rank id kind) }
+{
+    x.subject < id || x.subject == id && x.kind as u8 <= kind as u8
+}
+
+/// The subjects that are a component, of rows of a kind.
+fn subjects_of(list: &[Subject], id: u64, kind: Kind) -> &[Subject]
+    ensures { IsNonDecreasingBy (λ x. subject_rank x.subject x.kind) list.now → (x : _)
+        → Has result.now x
+        ↔ (Has list.now x × (subject_rank x.subject x.kind ≡ subject_rank id kind)) }
+{
+    let first = list.partition_point(|x| is_before(x, id, kind));
     let rest = &list[first..];
-    let count = rest.partition_point(|x| x.subject <= id);
+    let count = rest.partition_point(|x| is_up_to(x, id, kind));
     &rest[..count]
 }
 
@@ -71,53 +86,20 @@ fn sort_once(kept: &mut Vec<Chosen>)
     kept.dedup_by(|a, b| is_same_id(a, b));
 }
 
-fn is_kind(at: &RowPlace, kind: Kind) -> bool
-    ensures { result ≡ (kind_place at.now.key.kind == kind_place kind) }
-{
-    at.key.kind as u8 == kind as u8
-}
-
-/// The place of the record that begins at a byte of a list, if its row is of the kind and current.
-/// Whether it is current is asked last, since that costs a bisection a list.
-fn current_from(
-    index: &Index,
-    segment: usize,
-    byte: u32,
-    kind: Kind,
-    time: EffectiveTime,
-    pin: u32,
-) -> Option<RowPlace>
-    ensures { (lists : List (List StampedRow)) → Lists index.now lists → (at : RowPlace)
-        → (result ≡ Some at) ↔ IsCurrentFrom lists kind time pin segment byte at }
-{
-    match index.place_from_byte(segment, byte) {
-        Some(at) => {
-            if is_kind(&at, kind) && index.is_current(segment, at, time, pin) {
-                Some(at)
-            } else {
-                None
-            }
-        }
-        None => None,
-    }
-}
-
-/// Adds what is to be read for those of the subjects whose rows are of the kind and current.
+/// Adds what is to be read for those of the subjects whose rows are current.
 fn add_current(
     kept: &mut Vec<Chosen>,
     subjects: &[Subject],
     segment: usize,
     index: &Index,
-    kind: Kind,
     time: EffectiveTime,
     pin: u32,
 ) -> Result<(), AllocError>
     ensures { OnOk result ((lists : List (List StampedRow)) → Lists index.now lists
-        → Takes (GivesRow lists kind time pin segment) subjects.now kept.old.items
-        kept.new.items) }
+        → Takes (GivesRow lists time pin segment) subjects.now kept.old.items kept.new.items) }
 {
     for x in subjects {
-        if let Some(at) = current_from(index, segment, x.byte, kind, time, pin) {
+        if let Some(at) = index.current_from_byte(segment, x.byte, time, pin) {
             kept.push(chosen(segment, at))?;
         }
     }
@@ -139,16 +121,16 @@ fn chosen_all(
 {
     let mut kept = Vec::new(alloc);
     for (segment, list) in links.iter().enumerate() {
-        let those = subjects_of(list.subjects(), id);
-        add_current(&mut kept, those, segment, index, kind, time, pin)?;
+        let those = subjects_of(list.subjects(), id, kind);
+        add_current(&mut kept, those, segment, index, time, pin)?;
     }
     sort_once(&mut kept);
     Ok(kept)
 }
 
 /// The active rows of a kind at the date that are about the component, ascending by id, of the rows
-/// that the pin shows. It makes a bisection a list, and for each posted row of the component, of
-/// whatever kind, one more; each of the kind costs a bisection a list.
+/// that the pin shows. It makes two bisections a list, and for each posted row of the component and
+/// kind one more a list.
 pub fn about<R: RowReader>(
     alloc: Global,
     links: &Links,

@@ -1,12 +1,12 @@
 -- Look-ups of blocks that are kept.
-use Rattle.std.proofs.Common.{◌≡◌, ◌⊎◌, inl, inr, ℕ, zero, suc, ◌*◌, ◌+◌, ◌≤◌, ◌-◌, ◌++◌, Bool, true, false, cond, List, [], ◌∷◌, length, take, drop, min, Option, Some, None, nat_eq, subst, sym, ap, ◌∙◌, arith, refl, append-nil, OnOk, OnErr, Result, Ok, Err}
+use Rattle.std.proofs.Common.{◌≡◌, ◌⊎◌, inl, inr, ℕ, zero, suc, ◌*◌, ◌+◌, ◌≤◌, ◌-◌, ◌++◌, Bool, true, false, cond, List, [], ◌∷◌, length, take, drop, min, Option, Some, None, nat_eq, subst, sym, ap, ◌∙◌, arith, refl, append-nil, OnErr, Result, Ok, Err}
 use Rattle.std.specs.Option.{option_map, option_map_or}
 use Rattle.std.specs.Map.{lookup, lookup_entry, remove_entry}
 use Rattle.std.proofs.lemmas.Bool.{eqb-true}
 use Rattle.std.proofs.Math.ListN.{drop_of_length-le}
 use Rattle.lru.specs.LruCache.{LruCache, lru_cache, promoted, put_entries}
 use Rattle.lru.proofs.CallerLemmas.{Contains-lookup_entry}
-use Rattle.blocks.specs.Cache.{block_of, count_of, kept_of, AgreesWith, KeepsRead}
+use Rattle.blocks.specs.Cache.{block_of, count_of, kept_of, with_block, AgreesWith, KeepsRead}
 
 pub by_answer : {P : Type 0} (b : Bool) → (b ≡ true → P) → (b ≡ false → P) → P
 by_answer true p q = p refl
@@ -81,18 +81,17 @@ module _ {X : Type 0} where
 pub agrees_promoted : (file : List ℕ) (c d : LruCache ℕ (List ℕ)) (b : ℕ) → d ≡ lru_cache (promoted (nat_eq b) c.entries) c.cap → AgreesWith c file → AgreesWith d file
 agrees_promoted file c d b is agrees q v kept = agrees q v (sym (lookup-promoted b q c.entries) ∙ subst (λ k. kept_of k q ≡ Some v) is kept)
 
--- after a put, whether or not there was memory
-pub agrees_put : {T E : Type 0} (r : Result T E) (file : List ℕ) (c d : LruCache ℕ (List ℕ)) (b : ℕ) (v : List ℕ) → OnOk r (d ≡ lru_cache (put_entries nat_eq c b v) c.cap) → OnErr r (d ≡ c) → AgreesWith c file
-    → (4096 * b + 4096 ≤ length file) × (v ≡ block_of file b) → AgreesWith d file
-agrees_put (Ok x) file c d b v ok err agrees is = λ q w kept. elim (found-put c b q v w (subst (λ k. kept_of k q ≡ Some w) ok kept)) [
+-- after a block is kept besides, whether or not there was memory
+pub agrees_besides : (file : List ℕ) (c d : LruCache ℕ (List ℕ)) (b : ℕ) (v : List ℕ) → (d ≡ c) ⊎ (d ≡ with_block b v c) → AgreesWith c file → (4096 * b + 4096 ≤ length file) × (v ≡ block_of file b) → AgreesWith d file
+agrees_besides file c d b v (inl same) agrees is = subst (λ k. AgreesWith k file) (sym same) agrees
+agrees_besides file c d b v (inr put) agrees is = λ q w kept. elim (found-put c b q v w (subst (λ k. kept_of k q ≡ Some w) put kept)) [
   | inl here ↦ subst (λ k. (4096 * k + 4096 ≤ length file) × (w ≡ block_of file k)) (sym here.0) (is.0, sym here.1 ∙ is.1)
   | inr was ↦ agrees q w was
 ]
-agrees_put (Err x) file c d b v ok err agrees is = subst (λ k. AgreesWith k file) (sym err) agrees
 
-pub put_keeps : {T E : Type 0} (r : Result T E) (c d : LruCache ℕ (List ℕ)) (b n : ℕ) (v : List ℕ) → OnOk r (d ≡ lru_cache (put_entries nat_eq c b v) c.cap) → OnErr r (d ≡ c) → n ≡ 4096 → KeepsRead b v n c d
-put_keeps (Ok x) c d b n v ok err whole = inr (whole, ok)
-put_keeps (Err x) c d b n v ok err whole = inl err
+pub keeps_besides : (c d : LruCache ℕ (List ℕ)) (b n : ℕ) (v : List ℕ) → (d ≡ c) ⊎ (d ≡ with_block b v c) → n ≡ 4096 → KeepsRead b v n c d
+keeps_besides c d b n v (inl same) whole = inl same
+keeps_besides c d b n v (inr put) whole = inr (whole, put)
 
 -- ---- what a read of a block gives
 

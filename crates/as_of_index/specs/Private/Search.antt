@@ -73,6 +73,11 @@ ArePassed start (places ∷ lists) (cursor ∷ cursors) =
 abbrev pub stops : Kind → ℕ → ℕ → RowPlace → Bool
 stops kind id pin p = not (is_of kind id p) || nat_le p.import pin
 
+-- the number that is known in the list with this number, if a list is given with a number in it
+abbrev pub number_in : Option (ℕ × ℕ) → ℕ → Option ℕ
+number_in None n = None
+number_in (Some x) n = elim (x.0 == n) [ true ↦ Some x.1 | false ↦ None ]
+
 -- of these, the latest one that is a candidate
 pub record IsLatestOf (kind : Kind) (id date pin : ℕ) {X : Type 0} (place : X → RowPlace)
     (xs : List X) (b : X) : Type 0 where

@@ -1,5 +1,6 @@
 use Rattle.std.proofs.Common.{◌≡◌, Some, None, [], ◌∷◌, ◌++◌, get_or, refl, sym, ap, subst, ◌∙◌, take, take_all}
 use Rattle.std.proofs.lemmas.List.{take_more}
+use Rattle.rf2_values.specs.declared.row.Kind.TheVariants.{Concept}
 use Rattle.segment.specs.declared.place.RowPlace.{RowPlace}
 use Rattle.as_of_index.specs.Private.Chosen.{chosen}
 use Rattle.associations.specs.declared.postings.Subject.{Subject}
@@ -9,18 +10,18 @@ use Rattle.associations.proofs.subjects.add_current.Goals as goal
 use Rattle.associations.proofs.subjects.add_current.Goals.{in-Some+in_ok-push, in_default}
 
 pub loop-x-init : goal.loop-x-init
-loop-x-init c = λ lists listed_so. takes_nothing (GivesRow lists c.args.kind c.args.time c.args.pin c.args.segment) c.args.kept.now.items
+loop-x-init c = λ lists listed_so. takes_nothing (GivesRow lists c.args.time c.args.pin c.args.segment) c.args.kept.now.items
 
 pub loop-x-preserved : goal.loop-x-preserved
 loop-x-preserved c = λ lists listed_so.
     let a = c.args in
     let i = c.loop-x.x-index in
-    let first : Subject = record { subject = 0; byte = 0 } in
+    let first : Subject = record { subject = 0; kind = Concept; byte = 0 } in
     let x = get_or a.subjects.now i first in
-    let now = c.current_from.ensures lists listed_so in
+    let now = c.current_from_byte.ensures lists listed_so in
     let so_far = c.loop-x.invariant lists listed_so in
-    let gives = GivesRow lists a.kind a.time a.pin a.segment in
-    rw (take_more a.subjects.now i first c.loop-x-test.true) (elim c.match-current_from.branch [
+    let gives = GivesRow lists a.time a.pin a.segment in
+    rw (take_more a.subjects.now i first c.loop-x-test.true) (elim c.match-current_from_byte.branch [
       | in-Some+in_ok-push w ↦
           let at = w.in-Some.at in
           subst (λ ys. Takes gives (take i a.subjects.now ++ x ∷ []) a.kept.now.items ys)
@@ -40,4 +41,4 @@ loop-x-preserved c = λ lists listed_so.
 pub returns : goal.returns
 returns c = λ lists listed_so.
     let a = c.args in
-    subst (λ xs. Takes (GivesRow lists a.kind a.time a.pin a.segment) xs a.kept.now.items c.loop-x.kept.items) (take_all c.loop-x.x-index a.subjects.now c.loop-x-test.false) (c.loop-x.invariant lists listed_so)
+    subst (λ xs. Takes (GivesRow lists a.time a.pin a.segment) xs a.kept.now.items c.loop-x.kept.items) (take_all c.loop-x.x-index a.subjects.now c.loop-x-test.false) (c.loop-x.invariant lists listed_so)

@@ -9,11 +9,11 @@ returns-then-segment-lists-clause-found c = λ lists listed_so at s w e.
     (rw c.places.ensures.places at c.from_byte.ensures.found) (list_ascends lists n ps got) at (place_in_list lists n ps at s got w) e
 
 pub returns-then-segment-lists-clause-only : goal.returns-then-segment-lists-clause-only
-returns-then-segment-lists-clause-only c = λ lists listed_so at e.
+returns-then-segment-lists-clause-only c = λ lists listed_so number at e.
     let n = c.args.segment in
     let ps = c.index-lists-segment.result in
     let got = rw (c.as_slice-lists.ensures.value, c.self.view_is, listed_so) at (got_at c.as_slice-lists.result.now n ps c.if-segment-lists.true c.index-lists-segment.is) in
-    let w = (rw c.places.ensures.places at c.from_byte.ensures.only) at e in
+    let w = (rw c.places.ensures.places at c.from_byte.ensures.only) number at e in
     let row = row_in_list lists n ps at got w.0 in
     (w.1, row.0, row.1)
 
