@@ -42,7 +42,7 @@ fn make(rt: &HostRuntime, path: &str) -> Option<u64> {
 fn import(rt: &HostRuntime, path: &str, folder: &str, name: &str) -> Option<u64> {
     let mut store = open_store(rt, path)?;
     let release = read_folder(rt, rt.alloc(), folder, name).ok()?;
-    match store.import(&release) {
+    match store.import(release) {
         Ok(receipt) => Some(receipt.new),
         Err(_) => None,
     }

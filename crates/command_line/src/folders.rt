@@ -2,12 +2,12 @@
 
 use crate::places::Places;
 use crate::progress::tell_taken;
-use crate::telling::{Scene, Told, tell_row, tell_why};
+use crate::telling::{Scene, Told, is_about_row, tell_row, tell_why};
 use history_store::Refusal;
 use import_check::Release;
 use line_server::{Source, SourceFault};
 use std::alloc::Global;
-use std::io::Write;
+use std::io::{self, Write};
 
 /// The releases in the folders below one folder.
 #[derive(Drop)]
@@ -47,7 +47,17 @@ impl<P: Places, E: Write> Source for FolderSource<'_, P, E> {
         given
     }
 
-    fn note_refusal(&mut self, release: &Release, refusal: Refusal) {
-        tell_row(release, refusal, self.faults);
+    fn note_refusal(&mut self, alloc: Global, name: &str, refusal: Refusal) {
+        if !is_about_row(refusal) {
+            return;
+        }
+        // What there is to say of the folder was said when it was read first.
+        let again = self
+            .places
+            .release(alloc, self.dir, name, true, &mut io::sink());
+        match again {
+            Ok(release) => tell_row(&release.files, refusal, self.faults),
+            Err(_) => tell_row(&[], refusal, self.faults),
+        }
     }
 }

@@ -31,7 +31,7 @@ impl Source for NoReleases {
         Err(SourceFault::NoFolder)
     }
 
-    fn note_refusal(&mut self, _release: &Release, _refusal: Refusal) {}
+    fn note_refusal(&mut self, _alloc: Global, _name: &str, _refusal: Refusal) {}
 }
 
 /// Tells the status of the store of a device, which comes back; and what is told of

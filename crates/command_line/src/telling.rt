@@ -2,7 +2,7 @@
 
 use crate::differing::find_other;
 use history_store::{Damage, Refusal};
-use import_check::{Release, ReleaseFile};
+use import_check::ReleaseFile;
 use line_server::Reply;
 use rf2_values::EffectiveTime;
 use std::io::{self, Write};
@@ -173,16 +173,23 @@ fn write_why<E: Write>(told: Told, scene: &Scene<'_>, faults: &mut E) -> io::Res
     }
 }
 
-/// Tells which line of a release was refused and why, where it is a line that was refused.
-pub(crate) fn tell_row<E: Write>(release: &Release, refusal: Refusal, faults: &mut E) {
+/// Whether it is a line of the release that was refused.
+pub(crate) fn is_about_row(refusal: Refusal) -> bool {
+    matches!(
+        refusal,
+        Refusal::Line { .. } | Refusal::Contradiction { .. }
+    )
+}
+
+/// Tells which line of a release was refused and why, where it is a line that was refused. Files
+/// that are no longer there are named by their numbers.
+pub(crate) fn tell_row<E: Write>(files: &[ReleaseFile], refusal: Refusal, faults: &mut E) {
     let _ = match refusal {
         Refusal::Line { file, line, .. } => {
             let why = meaning(usize::from(refusal.code()));
-            write_line(&release.files, file, line, why, faults)
+            write_line(files, file, line, why, faults)
         }
-        Refusal::Contradiction { file, line } => {
-            write_contradiction(&release.files, file, line, faults)
-        }
+        Refusal::Contradiction { file, line } => write_contradiction(files, file, line, faults),
         _ => Ok(()),
     };
 }
@@ -195,8 +202,9 @@ fn write_line<E: Write>(
     why: &str,
     faults: &mut E,
 ) -> io::Result<()> {
-    let name = name_of(files, file);
-    writeln!(faults, "sctd: {name}, line {line}: {why}")
+    write!(faults, "sctd: ")?;
+    write_place(files, file, line, faults)?;
+    writeln!(faults, ": {why}")
 }
 
 /// Writes where the row stands that was refused, and where the one from which it differs.
@@ -206,27 +214,30 @@ fn write_contradiction<E: Write>(
     line: usize,
     faults: &mut E,
 ) -> io::Result<()> {
-    let name = name_of(files, file);
     let why = meaning(CONTRADICTION);
+    write!(faults, "sctd: ")?;
+    write_place(files, file, line, faults)?;
     match find_other(files, file, line) {
         Some((other, at)) => {
-            let other = name_of(files, other);
-            writeln!(
-                faults,
-                "sctd: {name}, line {line}: {why}: {other}, line {at}"
-            )
+            write!(faults, ": {why}: ")?;
+            write_place(files, other, at, faults)?;
+            writeln!(faults)
         }
-        None => writeln!(
-            faults,
-            "sctd: {name}, line {line}: {why}: one that the store has"
-        ),
+        None if files.is_empty() => writeln!(faults, ": {why}"),
+        None => writeln!(faults, ": {why}: one that the store has"),
     }
 }
 
-/// The name of a file of a release, by its number from 1.
-fn name_of(files: &[ReleaseFile], file: usize) -> &str {
+/// Writes a line's number, and the name of its file, or that one's number from 1 where the name is
+/// no longer known.
+fn write_place<E: Write>(
+    files: &[ReleaseFile],
+    file: usize,
+    line: usize,
+    faults: &mut E,
+) -> io::Result<()> {
     match files.get(file.wrapping_sub(1)) {
-        Some(file) => &file.name,
-        None => "",
+        Some(found) => write!(faults, "{}, line {line}", found.name),
+        None => write!(faults, "file {file}, line {line}"),
     }
 }

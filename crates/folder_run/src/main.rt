@@ -22,7 +22,7 @@ fn run(rt: &HostRuntime) -> Option<ExitCode> {
         println!(rt; "{name}").ok()?;
     }
     let mut store = Store::create(rt.alloc(), MemDisk::new(rt.alloc())).ok()?;
-    let receipt = store.import(&release).ok()?;
+    let receipt = store.import(release).ok()?;
     let (number, new, repeated) = (receipt.number, receipt.new, receipt.repeated);
     println!(rt; "OK {number} {new} {repeated}").ok()?;
     Some(ExitCode::SUCCESS)

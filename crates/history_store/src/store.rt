@@ -226,15 +226,15 @@ impl<D: Disk> Store<D> {
     }
 
     /// The rows of a release that aren't known.
-    fn find_new_rows(&mut self, release: &Release) -> Result<NewRows, Refusal>
+    fn find_new_rows(&mut self, release: Release) -> Result<NewRows, Refusal>
         requires still { self.old.needs_reopen ≡ false }
         ensures accepted { D.is_honest self.old.disk
-            → IfOk result (IsAcceptedAs (full self.old.history) release.now) }
+            → IfOk result (IsAcceptedAs (full self.old.history) release) }
         // The new rows go with what is known on every disk.
         ensures apart { IfOk result (λ fresh. IsApart (full self.old.history) fresh.rows.items) }
-        ensures is_read { IfOk result (λ fresh. IsRead release.now) }
+        ensures is_read { IfOk result (λ fresh. IsRead release) }
         ensures refused { IfErr result (λ e. IsNotFresh (D.is_honest self.old.disk) e
-            (full self.old.history) release.now) }
+            (full self.old.history) release) }
         ensures still { IfOk result (λ fresh. IsStill self.old self.new) }
         ensures closed { IfErr result (λ e. IsRefused e self.old self.new) }
         ensures looked_up { ReadsThroughCache D.bytes_read self.old self.new }
@@ -369,17 +369,17 @@ impl<D: Disk> Store<D> {
     }
 
     /// Adds a release: all of its rows, or nothing. All memory is taken before the first write.
-    pub fn import(&mut self, release: &Release) -> Result<Receipt, Refusal>
+    pub fn import(&mut self, release: Release) -> Result<Receipt, Refusal>
         ensures answer { D.is_honest self.old.disk
-            → IsImportOf result self.old self.new release.now }
+            → IsImportOf result self.old self.new release }
         // What holds on every disk.
-        ensures kept { IsImportOnAnyDisk result self.old self.new release.now }
+        ensures kept { IsImportOnAnyDisk result self.old self.new release }
         ensures counted { IfOk result (IsCounted self.old self.new) }
         // A stop at any moment leaves the history from before, in the version
         // from before, or that with the release, in version 2.
         ensures any_moment { D.is_honest self.old.disk → self.old.needs_reopen ≡ false
             → LeavesOnly (D.moments self.old.disk) (D.moments self.new.disk)
-            (IsBeforeOrAfter self.old.catalog.layout self.old.history release.now) }
+            (IsBeforeOrAfter self.old.catalog.layout self.old.history release) }
         // After Ok each stop leaves the new one.
         ensures acknowledged { D.is_honest self.old.disk → self.new.needs_reopen ≡ false
             → IsAcknowledged D.moments self.new }

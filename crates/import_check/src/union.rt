@@ -23,19 +23,19 @@ use std::alloc::Global;
 /// is known is asked once for each key, in ascending order.
 pub fn new_rows<K: Known>(
     alloc: Global,
-    release: &Release,
+    release: Release,
     known: &mut K,
 ) -> Result<NewRows, ImportFault>
     // What is accepted is a release that is consistent with what is known.
-    ensures accepted { IfOk result (λ fresh. IsRead release.now
-        × (K.is_honest known.old → IsAcceptedAs (K.rows known.old) release.now fresh)) }
+    ensures accepted { IfOk result (λ fresh. IsRead release
+        × (K.is_honest known.old → IsAcceptedAs (K.rows known.old) release fresh)) }
     // The new rows ascend and none of their keys is known, whatever row is given for a known key.
     ensures apart { K.is_sound known.old
         → IfOk result (λ fresh. IsApart (K.rows known.old) fresh.rows.items) }
     // All files are read before what is known is asked. The line that is named
     // is the first that is at fault, or else the first that contradicts.
     ensures refused { IfErr result
-        (IsRefusal (K.is_honest known.old) (K.rows known.old) release.now) }
+        (IsRefusal (K.is_honest known.old) (K.rows known.old) release) }
 
     // What is known stays as it is.
     ensures rows { K.rows known.new ≡ K.rows known.old }

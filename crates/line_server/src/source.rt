@@ -31,9 +31,9 @@ pub trait Source {
         ensures stays { is_honest self.old → releases self.new ≡ releases self.old }
         ensures given { is_honest self.old → IsGiven result (releases self.old name.now) };
 
-    /// The store has refused a release that was had from here: whoever has
-    /// people to tell may tell them why, while its files are still at hand.
-    fn note_refusal(&mut self, release: &Release, refusal: Refusal)
+    /// The store has refused the release under a name, which was had from here and is no longer in
+    /// memory: whoever has people to tell may read it once more to tell them why.
+    fn note_refusal(&mut self, alloc: Global, name: &str, refusal: Refusal)
         ensures honesty { is_honest self.old → is_honest self.new }
         ensures stays { is_honest self.old → releases self.new ≡ releases self.old };
 }
@@ -58,5 +58,5 @@ impl Source for Sample {
         }
     }
 
-    fn note_refusal(&mut self, _release: &Release, _refusal: Refusal) {}
+    fn note_refusal(&mut self, _alloc: Global, _name: &str, _refusal: Refusal) {}
 }

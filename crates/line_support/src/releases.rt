@@ -174,5 +174,5 @@ impl Source for Examples {
         }
     }
 
-    fn note_refusal(&mut self, _release: &Release, _refusal: Refusal) {}
+    fn note_refusal(&mut self, _alloc: Global, _name: &str, _refusal: Refusal) {}
 }

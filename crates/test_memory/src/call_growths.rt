@@ -1,6 +1,6 @@
 //! Each call of the store with little memory.
 
-use crate::calls::{Answer, Call, Wanted, is_wanted, make};
+use crate::calls::{Answer, Call, Wanted, is_wanted, make, release_of};
 use disk_model::MemDisk;
 use history_store::Refusal;
 use import_check::Release;
@@ -138,6 +138,7 @@ enum Outcome {
 
 /// Makes a call with more and more memory, until it isn't refused for want of it.
 fn try_call(
+    alloc: Global,
     scarcity: &mut Scarcity,
     call: Call,
     releases: &[Release],
@@ -146,8 +147,9 @@ fn try_call(
     let before = counts(store);
     let mut refused = 0u32;
     for number in 0..TRIES {
+        let release = release_of(alloc, call, releases)?;
         scarcity.leave(STEP * number)?;
-        let answer = make(call, releases, store);
+        let answer = make(call, release, store);
         scarcity.relax();
         match answer {
             Ok(answer) => return Ok(Outcome::Answered(answer, refused)),
@@ -201,7 +203,13 @@ fn each_growth_of_a_call(rt: HostRuntime) -> Result<(), Fail> {
     let (mut store, refused) = create_with_little(rt.alloc(), &mut scarcity)?;
     assert!(rt; refused >= 2_500, "making: {refused} refused");
     for (call, wanted, least) in &CALLS {
-        match try_call(&mut scarcity, *call, releases.as_slice(), &mut store)? {
+        match try_call(
+            rt.alloc(),
+            &mut scarcity,
+            *call,
+            releases.as_slice(),
+            &mut store,
+        )? {
             Outcome::Answered(answer, refused) => {
                 assert!(rt;
                     is_wanted(rt.alloc(), &answer, *wanted)?,

@@ -4,7 +4,7 @@ use history_store::{Receipt, Refusal};
 use import_check::Release;
 use rf2_rows::Kind;
 use std::alloc::{AllocError, Global};
-use test_support::{Example, line, lines};
+use test_support::{Example, copy_of, line, lines};
 
 /// A call.
 #[derive(Clone, Copy, Debug)]
@@ -49,11 +49,26 @@ pub enum Wanted {
     Ids(&'static [u64]),
 }
 
-/// Makes a call that may change the store.
-fn change(call: Call, releases: &[Release], store: &mut Example) -> Result<Answer, Refusal> {
-    let number = match call {
+/// A copy of the release that a call imports, if it imports one.
+pub fn release_of(
+    alloc: Global,
+    call: Call,
+    releases: &[Release],
+) -> Result<Option<Release>, AllocError> {
+    match call {
         Call::Import(place) => match releases.get(place) {
-            Some(release) => return Ok(Answer::Imported(store.import(release)?)),
+            Some(release) => Ok(Some(copy_of(alloc, release)?)),
+            None => Ok(None),
+        },
+        _ => Ok(None),
+    }
+}
+
+/// Makes a call that may change the store.
+fn change(call: Call, release: Option<Release>, store: &mut Example) -> Result<Answer, Refusal> {
+    let number = match call {
+        Call::Import(_) => match release {
+            Some(release) => return Ok(Answer::Imported(store.take(release)?)),
             None => 0,
         },
         Call::MergeBegin => store.merge_begin()?,
@@ -71,8 +86,8 @@ fn change(call: Call, releases: &[Release], store: &mut Example) -> Result<Answe
     Ok(Answer::Number(number))
 }
 
-/// Makes a call.
-pub fn make(call: Call, releases: &[Release], store: &mut Example) -> Result<Answer, Refusal> {
+/// Makes a call, with the release that it imports.
+pub fn make(call: Call, release: Option<Release>, store: &mut Example) -> Result<Answer, Refusal> {
     let pin = store.imports();
     match call {
         Call::Row(kind, id, date, pin) => Ok(Answer::Line(store.line_at(kind, id, date, pin)?)),
@@ -84,7 +99,7 @@ pub fn make(call: Call, releases: &[Release], store: &mut Example) -> Result<Ans
         Call::Terms(prefix, date) => Ok(Answer::Lines(store.terms(prefix, date, 10, pin)?)),
         Call::Children(id, date) => Ok(Answer::Ids(store.children(id, date, pin)?)),
         Call::Replacements(id, date) => Ok(Answer::Lines(store.replacements(id, date, pin)?)),
-        _ => change(call, releases, store),
+        _ => change(call, release, store),
     }
 }
 

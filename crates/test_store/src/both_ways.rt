@@ -47,10 +47,10 @@ fn after(
     alloc: Global,
     imports: u8,
     rows: Vec<StampedRow>,
-    release: &Release,
+    release: Release,
     want: Answer,
 ) -> Result<Vec<StampedRow>, Fail> {
-    let lines = rows_of(alloc, release)?;
+    let lines = rows_of(alloc, &release)?;
     assert_eq!(rt; plain::accepts(&rows, &lines), want.is_ok());
     match new_rows(alloc, release, &mut KnownRows::new(&rows)) {
         Ok(fresh) => {
@@ -128,7 +128,7 @@ fn releases_are_answered_alike_in_both_ways(rt: HostRuntime) -> Result<(), Fail>
     let mut rows = Vec::new(rt.alloc());
     for (imports, files, want) in &table {
         let release = of_files(rt.alloc(), *files)?;
-        rows = after(&rt, rt.alloc(), *imports, rows, &release, *want)?;
+        rows = after(&rt, rt.alloc(), *imports, rows, release, *want)?;
     }
     assert_eq!(rt; rows.len(), 5);
     Ok(())

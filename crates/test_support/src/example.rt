@@ -1,6 +1,6 @@
 //! A store whose calls have no clauses.
 
-use crate::releases::{root_release, sample_named};
+use crate::releases::{copy_of, root_release, sample_named};
 use disk_model::MemDisk;
 use history_store::{Receipt, Refusal, Store};
 use import_check::Release;
@@ -63,15 +63,21 @@ impl Example {
         Ok(example)
     }
 
-    /// Adds a release.
+    /// Adds a release, which the test may use again: the store is given a copy.
     pub fn import(&mut self, release: &Release) -> Result<Receipt, Refusal> {
+        let copy = copy_of(self.alloc, release)?;
+        self.store.import(copy)
+    }
+
+    /// Adds a release that is given away.
+    pub fn take(&mut self, release: Release) -> Result<Receipt, Refusal> {
         self.store.import(release)
     }
 
     /// Adds the sample release of this name.
     pub fn import_sample(&mut self, name: &str) -> Result<Receipt, Refusal> {
         let release = sample_named(self.alloc, name)?;
-        self.import(&release)
+        self.take(release)
     }
 
     /// How many releases were imported.

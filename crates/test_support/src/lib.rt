@@ -14,7 +14,9 @@ mod text;
 
 pub use disks::{image_after, image_before_end, patch};
 pub use example::{Example, merged_disk, root_disk};
-pub use releases::{MISUSED, of_bytes, of_files, one_file, root_release, root_years, sample_named};
+pub use releases::{
+    MISUSED, copy_of, of_bytes, of_files, one_file, root_release, root_years, sample_named,
+};
 pub use samples::holds;
 pub use scarcity::Scarcity;
 pub use text::{line, line_of, lines, lines_of};

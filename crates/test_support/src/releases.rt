@@ -27,6 +27,19 @@ fn file_text(alloc: Global, kind: Kind, lines: &[&str]) -> Result<Vec<u8>, Alloc
     Ok(text)
 }
 
+/// A release of the same files.
+pub fn copy_of(alloc: Global, release: &Release) -> Result<Release, AllocError> {
+    let mut files = Vec::with_capacity(alloc, release.files.len())?;
+    for file in &release.files {
+        files.push(ReleaseFile {
+            name: String::from_str(alloc, &file.name)?,
+            kind: file.kind,
+            bytes: file.bytes.to_vec(alloc)?,
+        })?;
+    }
+    Ok(Release { files })
+}
+
 /// A release of one file with these bytes.
 pub fn of_bytes(alloc: Global, kind: Kind, bytes: &[u8]) -> Result<Release, AllocError> {
     let mut files = Vec::new(alloc);

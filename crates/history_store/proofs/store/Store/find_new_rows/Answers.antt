@@ -29,7 +29,7 @@ invariant_of-self-else-matches g c = (
 pub returns-in-Ok-clause-accepted : goal.returns-in-Ok-clause-accepted
 returns-in-Ok-clause-accepted g c =
     let still = subst (λ (s : StoreValue g.row.D.Denot). s.needs_reopen ≡ false) (sym c.self.view_is) c.requires.still in
-    rw (← c.self.view_is) (λ up. subst (λ l. IsAcceptedAs (rows_of l) c.args.release.now c.in-Ok.fresh) c.as_slice.ensures.value (c.in-Ok.ensures.accepted (lent_honest _ _ _ _ _ _ _ _ c.self.invariant.0 c.entries.result.now c.as_slice.result.now c.entries.ensures.entries c.as_slice.ensures.value up still (g.met.D.Disk.now_is_image c.self.inside.disk up)) (lent_sound _ _ _ _ _ _ _ _ c.self.invariant.0 c.as_slice.result.now c.imports-pin.result c.as_slice.ensures.value c.imports-pin.ensures).0 (lent_sound _ _ _ _ _ _ _ _ c.self.invariant.0 c.as_slice.result.now c.imports-pin.result c.as_slice.ensures.value c.imports-pin.ensures).1))
+    rw (← c.self.view_is) (λ up. subst (λ l. IsAcceptedAs (rows_of l) c.args.release c.in-Ok.fresh) c.as_slice.ensures.value (c.in-Ok.ensures.accepted (lent_honest _ _ _ _ _ _ _ _ c.self.invariant.0 c.entries.result.now c.as_slice.result.now c.entries.ensures.entries c.as_slice.ensures.value up still (g.met.D.Disk.now_is_image c.self.inside.disk up)) (lent_sound _ _ _ _ _ _ _ _ c.self.invariant.0 c.as_slice.result.now c.imports-pin.result c.as_slice.ensures.value c.imports-pin.ensures).0 (lent_sound _ _ _ _ _ _ _ _ c.self.invariant.0 c.as_slice.result.now c.imports-pin.result c.as_slice.ensures.value c.imports-pin.ensures).1))
 
 pub returns-in-Ok-clause-apart : goal.returns-in-Ok-clause-apart
 returns-in-Ok-clause-apart g c =
@@ -41,6 +41,6 @@ returns-after-matches-clause-refused g c =
     rw (← c.self.view_is) (
       c.in-Err.fault,
       c.from.ensures,
-      subst (λ l. IsRefusal (g.D.Disk.is_honest c.self.inside.disk) (rows_of l) c.args.release.now c.in-Err.fault) c.as_slice.ensures.value
+      subst (λ l. IsRefusal (g.D.Disk.is_honest c.self.inside.disk) (rows_of l) c.args.release c.in-Err.fault) c.as_slice.ensures.value
           (refused_less _ _ _ _ c.in-Err.fault (λ up. ((lent_honest _ _ _ _ _ _ _ _ c.self.invariant.0 c.entries.result.now c.as_slice.result.now c.entries.ensures.entries c.as_slice.ensures.value up still (g.met.D.Disk.now_is_image c.self.inside.disk up)), (lent_sound _ _ _ _ _ _ _ _ c.self.invariant.0 c.as_slice.result.now c.imports-pin.result c.as_slice.ensures.value c.imports-pin.ensures).0, (lent_sound _ _ _ _ _ _ _ _ c.self.invariant.0 c.as_slice.result.now c.imports-pin.result c.as_slice.ensures.value c.imports-pin.ensures).1)) c.in-Err.ensures.refused),
     )
