@@ -1,14 +1,10 @@
 -- What each task does.
-use Rattle.std.specs.Prelude.{◌≡◌, ◌⊎◌, ◌↔◌, ◌≤◌, ⊤, ℕ, List, [], ◌++◌, length, codes, Option, None, Result, Ok, Err, IfOk}
-use Rattle.disk_model.specs.Disk.{Moments, IsImage, LeavesOnly}
-use Rattle.blocks.specs.Calls.{MakesCalls}
-use Rattle.blocks.specs.Outside.{StemsWithin}
-use Rattle.blocks.specs.Slots.{slots_range}
-use Rattle.store_image.specs.Answers.{IsNewStore}
-use Rattle.history_store.specs.declared.refusal.Refusal.{Refusal}
+use Rattle.std.specs.Prelude.{◌≡◌, ◌⊎◌, ⊤, ℕ, List, [], ◌++◌, codes, Option, None, Result, Ok, Err}
+use Rattle.disk_model.specs.Disk.{Moments}
 use Rattle.history_store.specs.declared.refusal.Refusal.TheVariants.{OutOfMemory}
-use Rattle.history_store.specs.StoreValue.{StoreValue, IsAcknowledged}
-use Rattle.history_store.specs.Answers.{IsMakingOf, IsOpeningOf, HandsBack, SyncsOnce, CountsOpening, device_of}
+use Rattle.history_store.specs.StoreValue.{StoreValue}
+use Rattle.history_store.specs.Answers.{StoreOr, device_of}
+use Rattle.history_store.specs.Openings.{IsMaking, IsOpening}
 use Rattle.line_server.specs.declared.refusal.LineRefusal.{LineRefusal}
 use Rattle.line_server.specs.declared.refusal.LineRefusal.TheVariants.{Store}
 use Rattle.line_server.specs.declared.serving.ServeFault.{ServeFault}
@@ -22,38 +18,6 @@ use Rattle.command_line.specs.declared.endings.Ending.{Ending}
 use Rattle.command_line.specs.declared.endings.Ending.TheVariants.{Done}
 use Rattle.command_line.specs.Endings.{IsTold}
 
--- a store, or why there is none, and then its device
-abbrev pub StoreOr : Type 0 → Type 0
-StoreOr D = Result (StoreValue D) (Refusal × D)
-
--- a store was made on this device, or not: a refusal leaves the device as it was, one with
--- a byte stays as it is whatever comes, and nothing changes behind the slots
-pub record IsMaking {D : Type 0} (honest : D → Type 0) (moments : D → Moments) (failures : D → ℕ)
-    (device : D) (had : StoreOr D) : Type 0 where
-  pub exact : honest device → IsMakingOf had (moments device).state.now
-  pub refused : honest device → HandsBack moments had device
-  pub untouched : honest device → 1 ≤ length (moments device).state.now
-      → moments (device_of had) ≡ moments device
-  pub inside : honest device → LeavesOnly (moments device) (moments (device_of had))
-      (StemsWithin (moments device).state slots_range)
-  pub calls : honest device → MakesCalls had 9 (moments device) (moments (device_of had))
-  pub bytes : honest device → IfOk had (λ s. IsNewStore (moments s.disk).state.now)
-  pub acknowledged : honest device → IfOk had (IsAcknowledged moments)
-  pub honesty : honest device ↔ honest (device_of had)
-  pub counts : CountsOpening had (failures device) (failures (device_of had))
-
--- a store was opened from this device, or not: it was synced and
--- nothing else, and what a stop may leave of it was on it before
-pub record IsOpening {D : Type 0} (honest : D → Type 0) (moments : D → Moments) (failures : D → ℕ)
-    (device : D) (had : StoreOr D) : Type 0 where
-  pub exact : honest device → IsOpeningOf had (moments device).state.now
-  pub any_moment : honest device
-      → LeavesOnly (moments device) (moments (device_of had)) (IsImage (moments device).state)
-  pub synced : honest device → SyncsOnce moments had device
-  pub acknowledged : honest device → IfOk had (IsAcknowledged moments)
-  pub honesty : honest device ↔ honest (device_of had)
-  pub counts : CountsOpening had (failures device) (failures (device_of had))
-
 -- ---- init
 
 -- what is told of the making of a store: that it was made, or why not
@@ -65,7 +29,7 @@ making_told (Err e) = Err (Store e.0)
 pub record IsMade {D : Type 0} (honest : D → Type 0) (moments : D → Moments) (failures : D → ℕ)
     (device left : D) (ended : Result Ending ServeFault) (old new : Option (List ℕ)) : Type 0 where
   pub had : StoreOr D
-  pub making : IsMaking honest moments failures device had
+  pub making : IsMaking had honest moments failures device
   pub left_so : left ≡ device_of had
   pub told : IsTold ended (making_told had) old new
 
@@ -97,7 +61,7 @@ pub record IsOnOpened {D : Type 0} (honest : D → Type 0) (moments : D → Mome
     (done : StoreValue D → Type 0) (device left : D)
     (ended : Result Ending ServeFault) (old new : Option (List ℕ)) : Type 0 where
   pub had : StoreOr D
-  pub opening : IsOpening honest moments failures device had
+  pub opening : IsOpening had honest moments failures device
   pub does : OnStore done had left ended old new
 
 -- ---- import
@@ -178,7 +142,7 @@ pub record IsServing {D : Type 0} (honest_source : Type 0) (has : Releases) (hon
     (moments : D → Moments) (failures : D → ℕ) (device left : D) (ended : Result Ending ServeFault)
     (input rest old new : Option (List ℕ)) : Type 0 where
   pub had : StoreOr D
-  pub opening : IsOpening honest moments failures device had
+  pub opening : IsOpening had honest moments failures device
   pub serves : Serves honest_source has honest moments failures had left ended input rest old new
 
 -- the store was made on this device, and the lines were served from it
@@ -186,5 +150,5 @@ pub record IsServingNew {D : Type 0} (honest_source : Type 0) (has : Releases) (
     (moments : D → Moments) (failures : D → ℕ) (device left : D) (ended : Result Ending ServeFault)
     (input rest old new : Option (List ℕ)) : Type 0 where
   pub had : StoreOr D
-  pub making : IsMaking honest moments failures device had
+  pub making : IsMaking had honest moments failures device
   pub serves : Serves honest_source has honest moments failures had left ended input rest old new

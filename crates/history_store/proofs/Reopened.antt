@@ -11,7 +11,7 @@ use Rattle.store_image.proofs.Standing.{represents_one}
 use Rattle.blocks.proofs.Greatest.{some_gate}
 use Rattle.blocks.specs.Slots.{IsOpen, IsClosed}
 use Rattle.blocks.specs.declared.slots.Slot.TheVariants.{A, B}
-use Rattle.history_store.specs.declared.refusal.Refusal.TheVariants as refusals
+use Rattle.store_image.specs.declared.fault.LoadFault.TheVariants as loading
 use Rattle.history_store.specs.Laws.{FirstIsOpened, OpenedIsWhatStands, StandingIsOpened}
 
 pub opened_is_what_stands : {D : Type 0} → OpenedIsWhatStands D
@@ -27,22 +27,10 @@ no_gate bytes (inl a) closed = closed.0 a
 no_gate bytes (inr b) closed = closed.1 b
 
 pub standing_is_opened : StandingIsOpened
-standing_is_opened bytes h layout epoch entries stands refusals.OutOfMemory why = inl refl
-standing_is_opened bytes h layout epoch entries stands refusals.DiskFault why = inr refl
-standing_is_opened bytes h layout epoch entries stands refusals.ReopenNeeded why = absurd why
-standing_is_opened bytes h layout epoch entries stands refusals.NotEmpty why = absurd why
-standing_is_opened bytes h layout epoch entries stands refusals.Full why = absurd why
-standing_is_opened bytes h layout epoch entries stands refusals.TooManySegments why = absurd why
-standing_is_opened bytes h layout epoch entries stands refusals.NotAStore why = absurd (no_gate bytes (gate_open bytes h layout epoch entries stands) why)
-standing_is_opened bytes h layout epoch entries stands refusals.Damaged why = absurd why
-standing_is_opened bytes h layout epoch entries stands (refusals.Unreadable damage) why = absurd (why.2 (h, (layout, (epoch, entries, stands))))
-standing_is_opened bytes h layout epoch entries stands refusals.NothingToMerge why = absurd why
-standing_is_opened bytes h layout epoch entries stands refusals.MergeBusy why = absurd why
-standing_is_opened bytes h layout epoch entries stands refusals.NoMerge why = absurd why
-standing_is_opened bytes h layout epoch entries stands refusals.MergeUnfinished why = absurd why
-standing_is_opened bytes h layout epoch entries stands refusals.CountSpent why = absurd why
-standing_is_opened bytes h layout epoch entries stands (refusals.Line file line fault) why = absurd why
-standing_is_opened bytes h layout epoch entries stands (refusals.Contradiction file line) why = absurd why
+standing_is_opened bytes h layout epoch entries stands refusal (loading.OutOfMemory, is, why) = inl is
+standing_is_opened bytes h layout epoch entries stands refusal (loading.DiskFault, is, why) = inr is
+standing_is_opened bytes h layout epoch entries stands refusal (loading.NotAStore, is, why) = absurd (no_gate bytes (gate_open bytes h layout epoch entries stands) why)
+standing_is_opened bytes h layout epoch entries stands refusal (loading.Damaged damage, is, why) = absurd (why.2 (h, (layout, (epoch, entries, stands))))
 
 pub first_is_opened : {D : Type 0} → FirstIsOpened D
 first_is_opened bytes h epoch entries stood (Ok s) is = opened_is_what_stands s bytes h layouts.One epoch entries ((first_still_stands bytes h epoch entries).0 stood) is

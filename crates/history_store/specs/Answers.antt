@@ -2,8 +2,6 @@
 use Rattle.std.specs.Prelude.{◌≡◌, ◌≢◌, ◌⊎◌, ℕ, ◌+◌, ◌<◌, ◌≤◌, true, false, List, [], ◌∷◌, ◌++◌, length, None, Result, Ok, Err}
 use Rattle.fault_counts.specs.Counting.{HasRisen}
 use Rattle.disk_model.specs.Disk.{Moments}
-use Rattle.blocks.specs.declared.slots.Slot.TheVariants.{A, B}
-use Rattle.blocks.specs.Slots.{IsOpen, IsClosed}
 use Rattle.rf2_values.specs.Row.{RowValue}
 use Rattle.rf2_values.specs.declared.key.Key.{Key}
 use Rattle.history_model.specs.declared.stamped.StampedRow.{StampedRow}
@@ -17,17 +15,22 @@ use Rattle.directory.specs.Listings.{most_entries}
 use Rattle.import_check.specs.declared.release.Release.{Release}
 use Rattle.import_check.specs.Release.{IsReleaseOf, IsFaultOfRelease, HasContradiction}
 use Rattle.import_check.specs.NewRows.{IsRead}
-use Rattle.store_image.specs.Answers.{synced}
-use Rattle.store_image.specs.Damage.{IsDamaged}
-use Rattle.store_image.specs.Images.{Represents, StandsAs, IsStore}
+use Rattle.store_image.specs.declared.fault.LoadFault.{LoadFault}
+use Rattle.store_image.specs.Answers.{synced, IsNotOpened as IsNotLoaded}
+use Rattle.store_image.specs.Images.{Represents, StandsAs}
 use Rattle.history_store.specs.declared.refusal.Refusal.{Refusal}
 use Rattle.history_store.specs.declared.refusal.Refusal.TheVariants as refusals
 use Rattle.history_store.specs.Catalog.{Catalog, IsCatalogAfter, HasNoEntry, HasNoPlace}
 use Rattle.history_store.specs.StoreValue.{StoreValue, last_import, last_epoch}
 use Rattle.history_store.specs.Prepared.{IsNotSpent}
+use Rattle.history_store.specs.Refusals.{of_loading}
+
+-- a store, or why there is none, and then its device
+abbrev pub StoreOr : Type 0 → Type 0
+StoreOr D = Result (StoreValue D) (Refusal × D)
 
 -- the device, which comes back with a store or with a refusal
-abbrev pub device_of : {D : Type 0} → Result (StoreValue D) (Refusal × D) → D
+abbrev pub device_of : {D : Type 0} → StoreOr D → D
 device_of (Ok store) = store.disk
 device_of (Err e) = e.1
 
@@ -36,7 +39,7 @@ abbrev pub CountsRefusal : Refusal → ℕ → ℕ → Type 0
 CountsRefusal refusals.DiskFault old new = HasRisen old new
 CountsRefusal _ old new = new ≡ old
 
-abbrev pub CountsOpening : {D : Type 0} → Result (StoreValue D) (Refusal × D) → ℕ → ℕ → Type 0
+abbrev pub CountsOpening : {D : Type 0} → StoreOr D → ℕ → ℕ → Type 0
 CountsOpening (Ok store) old new = new ≡ old
 CountsOpening (Err e) old new = CountsRefusal e.0 old new
 
@@ -65,32 +68,25 @@ pub record IsNew {D : Type 0} (s : StoreValue D) : Type 0 where
   pub open_still : s.needs_reopen ≡ false
 
 -- every refusal but the failed device leaves the device as it was, and what a stop may leave of it
-abbrev pub HandsBack : {D : Type 0} → (D → Moments) → Result (StoreValue D) (Refusal × D) → D
-    → Type 0
+abbrev pub HandsBack : {D : Type 0} → (D → Moments) → StoreOr D → D → Type 0
 HandsBack moments (Ok store) disk = Unit {0}
 HandsBack moments (Err e) disk = e.0 ≢ refusals.DiskFault → moments e.1 ≡ moments disk
 
 -- one sync changed the disk and nothing else did; where the device failed, maybe not even that
-abbrev pub SyncsOnce : {D : Type 0} → (D → Moments) → Result (StoreValue D) (Refusal × D) → D
-    → Type 0
+abbrev pub SyncsOnce : {D : Type 0} → (D → Moments) → StoreOr D → D → Type 0
 SyncsOnce moments (Ok store) disk = moments store.disk ≡ synced (moments disk)
 SyncsOnce moments (Err e) disk = (moments e.1 ≡ synced (moments disk))
     ⊎ ((e.0 ≡ refusals.DiskFault) × (moments e.1 ≡ moments disk))
 
 -- a store is made on an empty disk alone
-abbrev pub IsMakingOf : {D : Type 0} → Result (StoreValue D) (Refusal × D) → List ℕ → Type 0
+abbrev pub IsMakingOf : {D : Type 0} → StoreOr D → List ℕ → Type 0
 IsMakingOf (Ok store) bytes = (length bytes ≡ 0) × IsNew store
 IsMakingOf (Err e) bytes = IsNotMade e.0 bytes
 
--- Why no store is opened: the bytes are no store where no gate is open, and
--- damaged where one is open and they represent nothing, since a part is damaged.
+-- why no store is opened of bytes: why they aren't loaded, as a refusal
 abbrev pub IsNotOpened : Refusal → List ℕ → Type 0
-IsNotOpened refusals.OutOfMemory bytes = IsOpen A bytes ⊎ IsOpen B bytes
-IsNotOpened refusals.DiskFault bytes = Unit {0}
-IsNotOpened refusals.NotAStore bytes = IsClosed A bytes × IsClosed B bytes
-IsNotOpened (refusals.Unreadable damage) bytes =
-    (IsOpen A bytes ⊎ IsOpen B bytes) × IsDamaged damage bytes × ¬ (IsStore bytes)
-IsNotOpened _ bytes = ⊥
+IsNotOpened refusal bytes =
+    (fault : LoadFault) × (refusal ≡ of_loading fault) × IsNotLoaded fault bytes
 
 -- the refusals of `open`, on any disk
 abbrev pub IsOpeningCause : Refusal → Type 0
@@ -114,7 +110,7 @@ pub record IsReady {D : Type 0} (s : StoreValue D) : Type 0 where
 
 -- a store is opened exactly where the bytes represent a history, unless memory runs out or the
 -- device fails
-abbrev pub IsOpeningOf : {D : Type 0} → Result (StoreValue D) (Refusal × D) → List ℕ → Type 0
+abbrev pub IsOpeningOf : {D : Type 0} → StoreOr D → List ℕ → Type 0
 IsOpeningOf (Ok store) bytes = IsOpened store bytes
 IsOpeningOf (Err e) bytes = IsNotOpened e.0 bytes
 

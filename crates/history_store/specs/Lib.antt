@@ -5,6 +5,7 @@ pub mod Merging
 pub mod StoreValue
 pub mod Prepared
 pub mod Answers
+pub mod Openings
 pub mod Queries
 pub mod Written
 pub mod Calls

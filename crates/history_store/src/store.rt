@@ -2,7 +2,7 @@
 
 ghost use Rattle.std.specs.Prelude.{◌≡◌, ◌⊎◌, ◌↔◌, ◌+◌, ◌≤◌, ◌∷◌, length};
 ghost use Rattle.std.specs.Prelude.{IfOk, IfErr, OnOk, true, false};
-ghost use Rattle.disk_model.specs.Disk.{EachImage, IsImage, LeavesOnly};
+ghost use Rattle.disk_model.specs.Disk.{EachImage, LeavesOnly};
 
 use crate::counting::{blocks_in_use, row_count};
 use crate::known::find_new_rows;
@@ -80,20 +80,19 @@ impl<D: Disk> Store<D> {
     ghost use Rattle.import_check.specs.NewRows.{IsApart};
     ghost use Rattle.store_image.specs.Images.{Represents, StandsAs};
     ghost use Rattle.history_store.specs.Catalog.{catalog_of, blocks_in_use};
-    ghost use Rattle.history_store.specs.StoreValue.{IsAcknowledged, no_blocks};
+    ghost use Rattle.history_store.specs.StoreValue.{IsAcknowledged};
     ghost use Rattle.history_store.specs.Private.StoreValue.{with_rows};
     ghost use Rattle.history_store.specs.Prepared.{IsNotSpent};
     ghost use Rattle.history_store.specs.Private.Prepared.{IsPreparedFor};
     ghost use Rattle.blocks.specs.Calls.{MakesCalls};
-    ghost use Rattle.blocks.specs.Outside.{SameOutside, StemsWithin};
+    ghost use Rattle.blocks.specs.Outside.{SameOutside};
     ghost use Rattle.blocks.specs.Slots.{slots_range, slots_read};
     ghost use Rattle.store_image.specs.Says.{bytes_listed};
-    ghost use Rattle.store_image.specs.Answers.{IsNewStore};
     ghost use Rattle.history_store.specs.Written.{added_ranges};
     ghost use Rattle.history_store.specs.Calls.{MakesImportCalls};
-    ghost use Rattle.history_store.specs.Answers.{Counts, device_of, CountsOpening};
+    ghost use Rattle.history_store.specs.Answers.{Counts};
     ghost use Rattle.history_store.specs.Private.Answers.{IsStep, IsNotFresh};
-    ghost use Rattle.history_store.specs.Answers.{IsNew, IsReady, IsMakingOf, IsMakingCause, IsOpeningOf, IsOpeningCause, SyncsOnce, HandsBack};
+    ghost use Rattle.history_store.specs.Openings.{IsMaking, IsOpening};
     ghost use Rattle.history_store.specs.Answers.{IsStill, IsRefused};
     ghost use Rattle.history_store.specs.Answers.{IsCounted, IsImportOf, IsImportOnAnyDisk};
     ghost use Rattle.history_store.specs.Answers.{IsBeforeOrAfter, KeepsMoments};
@@ -102,33 +101,7 @@ impl<D: Disk> Store<D> {
     /// Makes a store on an empty disk. The length of the disk is looked
     /// at first, then all memory is taken, then the disk is written.
     pub fn create(alloc: Global, disk: D) -> Result<Store<D>, (Refusal, D)>
-        ensures made { D.is_honest disk → IsMakingOf result (D.moments disk).state.now }
-        // On every disk what is made is a new store.
-        ensures new { IfOk result IsNew }
-        // On every disk it is refused with 1, 2 or 4 alone.
-        ensures causes { IfErr result (λ e. IsMakingCause e.0) }
-        // Refused for any other reason than the device,
-        // it leaves whatever a stop may leave as it was.
-        ensures refused { D.is_honest disk → HandsBack D.moments result disk }
-        // A disk with a byte stays as it is, whatever the answer: where the device fails, too.
-        ensures untouched { D.is_honest disk → 1 ≤ length (D.moments disk).state.now
-            → D.moments (device_of result) ≡ D.moments disk }
-        // Whatever it answers, what a stop may leave doesn't change behind the slots,
-        // and nine calls at most may change the disk: after Ok these nine.
-        ensures inside { D.is_honest disk
-            → LeavesOnly (D.moments disk) (D.moments (device_of result))
-            (StemsWithin (D.moments disk).state slots_range) }
-        ensures calls { D.is_honest disk
-            → MakesCalls result 9 (D.moments disk) (D.moments (device_of result)) }
-        // A read of a new store gives its two slots, and nothing behind them.
-        ensures bytes { D.is_honest disk
-            → IfOk result (λ s. IsNewStore (D.moments s.disk).state.now) }
-        // Whatever a stop leaves from now on represents the empty history.
-        ensures acknowledged { D.is_honest disk → IfOk result (IsAcknowledged D.moments) }
-        // On every disk the store begins with no block in memory.
-        ensures cache { IfOk result (λ s. s.cache ≡ no_blocks) }
-        ensures honesty { D.is_honest disk ↔ D.is_honest (device_of result) }
-        ensures failures { CountsOpening result (D.failures disk) (D.failures (device_of result)) }
+        ensures made { IsMaking result D.is_honest D.moments D.failures disk }
     {
         let mut disk = disk;
         match start(alloc, &mut disk) {
@@ -161,25 +134,7 @@ impl<D: Disk> Store<D> {
     /// Opens the store that a disk represents. The disk is read,
     /// after one sync, and is given back with every refusal.
     pub fn open(alloc: Global, disk: D) -> Result<Store<D>, (Refusal, D)>
-        ensures exact { D.is_honest disk → IsOpeningOf result (D.moments disk).state.now }
-        // On every disk what is opened is a history.
-        ensures opened { IfOk result IsReady }
-        // On every disk it is refused with 1, 2, 7 or 8 alone.
-        ensures causes { IfErr result (λ e. IsOpeningCause e.0) }
-        // A stop at any moment leaves what it might have left before.
-        ensures any_moment { D.is_honest disk
-            → LeavesOnly (D.moments disk) (D.moments (device_of result)) (IsImage
-            (D.moments disk).state) }
-        // It syncs once and changes nothing else, whatever it answers.
-        ensures synced { D.is_honest disk → SyncsOnce D.moments result disk }
-        // Whatever it answers, a read gives what it gave before.
-        ensures read { D.is_honest disk
-            → (D.moments (device_of result)).state.now ≡ (D.moments disk).state.now }
-        ensures acknowledged { D.is_honest disk → IfOk result (IsAcknowledged D.moments) }
-        // On every disk the store begins with no block in memory.
-        ensures cache { IfOk result (λ s. s.cache ≡ no_blocks) }
-        ensures honesty { D.is_honest disk ↔ D.is_honest (device_of result) }
-        ensures failures { CountsOpening result (D.failures disk) (D.failures (device_of result)) }
+        ensures opened { IsOpening result D.is_honest D.moments D.failures disk }
         // On every disk it reads the slots, and each byte of the listed segments once.
         ensures bytes_read { IfOk result (λ s. D.bytes_read s.disk
             ≤ D.bytes_read disk + slots_read + bytes_listed s.catalog.entries) }

@@ -10,7 +10,7 @@ use Rattle.import_check.specs.declared.release.Release.{Release}
 use Rattle.history_store.specs.declared.refusal.Refusal.{Refusal}
 use Rattle.history_store.specs.declared.refusal.Refusal.TheVariants as store
 use Rattle.history_store.specs.StoreValue.{StoreValue, IsAcknowledged}
-use Rattle.history_store.specs.Answers.{IsImportOf, IsOpeningOf}
+use Rattle.history_store.specs.Answers.{IsImportOf, IsOpeningOf, StoreOr}
 use Rattle.line_commands.specs.Commands.{Command, Import, Receipt as AskReceipt}
 use Rattle.line_commands.specs.Requests.{Asks}
 use Rattle.line_server.specs.declared.refusal.LineRefusal.{LineRefusal}
@@ -126,7 +126,7 @@ TakesSome h releases failed after =
 -- a store is opened of the bytes with such a history, unless memory runs out or the device fails
 abbrev pub OpensWith : (D : Type 0) → History → List Release → Option Release → List ℕ → Type 0
 OpensWith D h releases failed bytes =
-    (result : Result (StoreValue D) (Refusal × D)) → IsOpeningOf result bytes
+    (result : StoreOr D) → IsOpeningOf result bytes
     → MatchResult result (λ s. TakesSome h releases failed s.history)
     (λ e. (e.0 ≡ store.OutOfMemory) ⊎ (e.0 ≡ store.DiskFault))
 
@@ -203,7 +203,7 @@ KeptAreAcknowledged = (life : List Stage) (releases : List Release) → AreKept 
 abbrev pub EachLifeIsOpened : (D : Type 0) → (D → Type 0) → (D → Moments) → (D → ℕ) → Type 0
 EachLifeIsOpened D honest moments failures =
     (has : Releases) (first last : StoreValue D) (life : List Stage) (pins : List (Option ℕ))
-    (stage : Stage) (bytes : List ℕ) (result : Result (StoreValue D) (Refusal × D))
+    (stage : Stage) (bytes : List ℕ) (result : StoreOr D)
     → honest first.disk → IsAcknowledged moments first
     → IsLife has honest moments failures first life last
     → IsStage has honest moments failures (server pins last) stage bytes

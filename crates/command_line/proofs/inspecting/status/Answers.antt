@@ -3,18 +3,16 @@ use Rattle.command_line.proofs.inspecting.status.Goals as goal
 
 pub returns-in-Ok : goal.returns-in-Ok
 returns-in-Ok g c =
-    let opened = c.open.ensures in
     record {
       had = c.open.result;
-      opening = record { exact = opened.exact; any_moment = opened.any_moment; synced = opened.synced; acknowledged = opened.acknowledged; honesty = opened.honesty; counts = opened.failures };
+      opening = c.open.ensures.opened;
       does = rw (c.in-Ok.is, c.close.ensures.disk) c.answer_line-ended.ensures;
     }
 
 pub returns-in-Err : goal.returns-in-Err
 returns-in-Err g c =
-    let opened = c.open.ensures in
     record {
       had = c.open.result;
-      opening = record { exact = opened.exact; any_moment = opened.any_moment; synced = opened.synced; acknowledged = opened.acknowledged; honesty = opened.honesty; counts = opened.failures };
+      opening = c.open.ensures.opened;
       does = rw c.in-Err.is (c.refuse.ensures, refl);
     }

@@ -3,18 +3,16 @@ use Rattle.command_line.proofs.serving.serve_new.Goals as goal
 
 pub returns-in-Ok : goal.returns-in-Ok
 returns-in-Ok g c =
-    let made = c.create.ensures in
     record {
       had = c.create.result;
-      making = record { exact = made.made; refused = made.refused; untouched = made.untouched; inside = made.inside; calls = made.calls; bytes = made.bytes; acknowledged = made.acknowledged; honesty = made.honesty; counts = made.failures };
+      making = c.create.ensures.made;
       serves = rw (c.in-Ok.is, c.close.ensures.disk) c.serve_all-ended.ensures;
     }
 
 pub returns-in-Err : goal.returns-in-Err
 returns-in-Err g c =
-    let made = c.create.ensures in
     record {
       had = c.create.result;
-      making = record { exact = made.made; refused = made.refused; untouched = made.untouched; inside = made.inside; calls = made.calls; bytes = made.bytes; acknowledged = made.acknowledged; honesty = made.honesty; counts = made.failures };
+      making = c.create.ensures.made;
       serves = rw c.in-Err.is (c.refuse.ensures, refl, refl);
     }

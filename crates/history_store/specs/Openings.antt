@@ -1,0 +1,61 @@
+-- How a store is made, and how it is opened.
+use Rattle.std.specs.Prelude.{◌≡◌, ◌↔◌, ◌≤◌, ℕ, length, IfOk, IfErr}
+use Rattle.disk_model.specs.Disk.{Moments, IsImage, LeavesOnly}
+use Rattle.blocks.specs.Calls.{MakesCalls}
+use Rattle.blocks.specs.Outside.{StemsWithin}
+use Rattle.blocks.specs.Slots.{slots_range}
+use Rattle.store_image.specs.Answers.{IsNewStore}
+use Rattle.history_store.specs.StoreValue.{IsAcknowledged, no_blocks}
+use Rattle.history_store.specs.Answers.{StoreOr, IsNew, IsReady, IsMakingOf, IsMakingCause, IsOpeningOf, IsOpeningCause, HandsBack, SyncsOnce, CountsOpening, device_of}
+
+-- A store was made on a device, or it is said why there is none and the device comes back.
+pub record IsMaking {D : Type 0} (result : StoreOr D) (is_honest : D → Type 0)
+    (moments_of : D → Moments) (failures_of : D → ℕ) (device : D) : Type 0 where
+  -- it is made exactly on a device of no bytes, unless memory runs out or the device fails
+  pub exact : is_honest device → IsMakingOf result (moments_of device).state.now
+  -- on every device what is made is a new store, and it is refused with 1, 2 or 4 alone
+  pub new : IfOk result IsNew
+  pub causes : IfErr result (λ e. IsMakingCause e.0)
+  -- refused for any other reason than the device, it leaves whatever a stop may leave as it was
+  pub refused : is_honest device → HandsBack moments_of result device
+  -- a device with a byte stays as it is, whatever the answer: where the device fails, too
+  pub untouched : is_honest device → 1 ≤ length (moments_of device).state.now
+      → moments_of (device_of result) ≡ moments_of device
+  -- Whatever it answers, what a stop may leave doesn't change behind the slots,
+  -- and nine calls at most may change the device: after Ok these nine.
+  pub inside : is_honest device → LeavesOnly (moments_of device) (moments_of (device_of result))
+      (StemsWithin (moments_of device).state slots_range)
+  pub calls : is_honest device
+      → MakesCalls result 9 (moments_of device) (moments_of (device_of result))
+  -- a read of a new store gives its two slots, and nothing behind them
+  pub bytes : is_honest device → IfOk result (λ s. IsNewStore (moments_of s.disk).state.now)
+  -- whatever a stop leaves from now on represents the empty history
+  pub acknowledged : is_honest device → IfOk result (IsAcknowledged moments_of)
+  -- on every device the store begins with no block in memory
+  pub cache : IfOk result (λ s. s.cache ≡ no_blocks)
+  pub honesty : is_honest device ↔ is_honest (device_of result)
+  pub failures : CountsOpening result (failures_of device) (failures_of (device_of result))
+
+-- A store was opened from a device, or it is said why there is none and the device comes back.
+pub record IsOpening {D : Type 0} (result : StoreOr D) (is_honest : D → Type 0)
+    (moments_of : D → Moments) (failures_of : D → ℕ) (device : D) : Type 0 where
+  -- it is opened exactly where the bytes represent a history, unless memory runs out or the device
+  -- fails
+  pub exact : is_honest device → IsOpeningOf result (moments_of device).state.now
+  -- on every device what is opened is a history, and it is refused with 1, 2, 7 or 8 alone
+  pub ready : IfOk result IsReady
+  pub causes : IfErr result (λ e. IsOpeningCause e.0)
+  -- a stop at any moment leaves what it might have left before
+  pub any_moment : is_honest device → LeavesOnly (moments_of device)
+      (moments_of (device_of result)) (IsImage (moments_of device).state)
+  -- it syncs once and changes nothing else, and a read gives what it gave before, whatever it
+  -- answers
+  pub synced : is_honest device → SyncsOnce moments_of result device
+  pub read : is_honest device
+      → (moments_of (device_of result)).state.now ≡ (moments_of device).state.now
+  -- whatever a stop leaves from now on represents what the store holds
+  pub acknowledged : is_honest device → IfOk result (IsAcknowledged moments_of)
+  -- on every device the store begins with no block in memory
+  pub cache : IfOk result (λ s. s.cache ≡ no_blocks)
+  pub honesty : is_honest device ↔ is_honest (device_of result)
+  pub failures : CountsOpening result (failures_of device) (failures_of (device_of result))
