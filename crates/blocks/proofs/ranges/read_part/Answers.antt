@@ -99,9 +99,9 @@ returns-in_err-count-clause-looked_up g c =
     let at = c.args.from + c.loop-done.done in
     let p = err_from_is_err_and c.from_residual.result c.from_residual.ensures.1 in
     rw p.1 (
-      ended c.args.from (length c.args.into.now) c.loop-done.done c.args.cache.now c.loop-done.cache c.read.new.self (g.D.Disk.bytes_read c.args.disk.now) (g.D.Disk.bytes_read c.loop-done.disk) (g.D.Disk.bytes_read c.read.new.disk) inv.8 (omega (arith, inv.0, c.loop-done-test.true))
-      (failed_up (at / 4096) c.loop-done.cache c.read.new.self (g.D.Disk.bytes_read c.loop-done.disk) (g.D.Disk.bytes_read c.read.new.disk) (λ kept is. let wrong = (c.in_err-count.ensures.kept kept is).0 in cc) c.in_err-count.ensures.unread c.in_err-count.ensures.bytes_read)
-      p.0
+    ended c.args.from (length c.args.into.now) c.loop-done.done c.args.cache.now c.loop-done.cache c.read.new.self (g.D.Disk.bytes_read c.args.disk.now) (g.D.Disk.bytes_read c.loop-done.disk) (g.D.Disk.bytes_read c.read.new.disk) inv.8 (omega (arith, inv.0, c.loop-done-test.true))
+    (failed_up (at / 4096) c.loop-done.cache c.read.new.self (g.D.Disk.bytes_read c.loop-done.disk) (g.D.Disk.bytes_read c.read.new.disk) (λ kept is. let wrong = (c.in_err-count.ensures.kept kept is).0 in cc) c.in_err-count.ensures.unread c.in_err-count.ensures.bytes_read)
+    p.0
     )
 
 pub returns-then-count-skip-clause-looked_up : goal.returns-then-count-skip-clause-looked_up
