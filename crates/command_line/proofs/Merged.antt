@@ -1,14 +1,13 @@
 -- What lines of a merge leave of a store.
-use Rattle.std.proofs.Common.{◌≡◌, ℕ, ◌+◌, ◌-◌, ◌≤◌, ◌<◌, List, [], ◌∷◌, ◌++◌, length, codes, true, false, slice_get, slice_set, remove, min, Option, Some, None, Result, Ok, Err, IsOk, IsErr, refl, sym, ap, subst, ◌∙◌, arith, inl, inr}
+use Rattle.std.proofs.Common.{◌≡◌, ℕ, ◌+◌, List, [], ◌∷◌, ◌++◌, length, codes, true, false, slice_set, min, Option, Some, None, Result, Ok, Err, IsOk, IsErr, refl, ap, subst, ◌∙◌, arith, inl, inr}
 use Rattle.disk_model.specs.DeviceView.{DeviceView}
-use Rattle.std.specs.Prelude.{⊤, ◌⊎◌}
+use Rattle.std.specs.Prelude.{◌⊎◌}
 use Rattle.std.specs.Fmt.{digits}
 use Rattle.std.specs.List.{AllByRecursion}
 use Rattle.std.proofs.lemmas.Bool.{false≢true}
 use Rattle.std.proofs.lemmas.Option.{slice_get_within}
 use Rattle.std.proofs.lemmas.List.{length-set, append_assoc}
 use Rattle.std.proofs.lemmas.List.Edits.{length-remove}
-use Rattle.disk_model.specs.Disk.{Moments}
 use Rattle.import_check.specs.declared.release.Release.{Release}
 use Rattle.import_check.specs.Sample.{files_of}
 use Rattle.history_store.specs.Catalog.{Catalog}
@@ -22,14 +21,12 @@ use Rattle.line_server.specs.declared.refusal.LineRefusal.{LineRefusal}
 use Rattle.line_server.specs.declared.refusal.LineRefusal.TheVariants as refusals
 use Rattle.line_server.specs.Sources.{Releases, no_releases}
 use Rattle.line_server.specs.ReplyValue.{Answer, ReplyValue, reply_value}
-use Rattle.line_server.specs.declared.serving.ServeFault.{ServeFault}
 use Rattle.line_server.specs.Pins.{unpinned}
 use Rattle.line_server.specs.Replies.{Server, Replies, IsAnswer, server}
 use Rattle.line_server.specs.Turns.{Turn, IsTurn, IsAskedFor, Run, imported}
 use Rattle.line_server.proofs.Imported.{run_imported}
 use Rattle.command_line.specs.Merging.{IsMergeTurn, IsMergeLine, IsHaltedBy, IsMergedTo, IsMergedAndAsked, TellsMerge, segments_of, trim_line}
 use Rattle.command_line.specs.Private.{IsAsked, IsHalted, HaveMerged, IsOneLess, IsTrimmedTo}
-use Rattle.command_line.specs.declared.endings.Ending.{Ending}
 use Rattle.command_line.specs.Endings.{Report, Tells}
 use Rattle.command_line.specs.Tasks.{status_line}
 

@@ -2,7 +2,6 @@
 use Rattle.std.proofs.Common.{◌≡◌, ℕ, ◌<◌, List, [], ◌∷◌, length, Option, Some, None, IfSome, Result, subst, arith, inl, inr}
 use Rattle.disk_model.specs.DeviceView.{DeviceView}
 use Rattle.std.specs.List.{AllByRecursion}
-use Rattle.disk_model.specs.Disk.{Moments}
 use Rattle.import_check.specs.declared.release.Release.{Release}
 use Rattle.line_commands.specs.declared.unread.Unread.{Unread}
 use Rattle.line_commands.specs.declared.unread.Unread.TheVariants as unread

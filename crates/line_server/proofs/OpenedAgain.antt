@@ -2,7 +2,7 @@
 use Rattle.std.proofs.Common.{◌≡◌, ◌↔◌, ℕ, List, Result, Ok, Err, refl}
 use Rattle.disk_model.specs.DeviceView.{DeviceView}
 use Rattle.std.specs.Prelude.{IfOk}
-use Rattle.disk_model.specs.Disk.{IsImage, EachImage, Moments, LeavesOnly}
+use Rattle.disk_model.specs.Disk.{IsImage, EachImage, LeavesOnly}
 use Rattle.history_store.specs.declared.refusal.Refusal.{Refusal}
 use Rattle.history_store.specs.StoreValue.{StoreValue, IsAcknowledged}
 use Rattle.history_store.specs.Answers.{IsOpeningOf, device_of}

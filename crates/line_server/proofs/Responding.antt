@@ -3,13 +3,10 @@ use Rattle.std.proofs.Common.{◌≡◌, ◌≢◌, ◌⊎◌, ℕ, ◌≤◌, �
 use Rattle.disk_model.specs.DeviceView.{DeviceView}
 use Rattle.std.specs.Prelude.{decimal, slice_set, unwrap_or}
 use Rattle.std.proofs.lemmas.Bool.{false≢true}
-use Rattle.std.specs.List.{AllByRecursion}
 use Rattle.std.proofs.lemmas.List.Elements.{All-set}
-use Rattle.disk_model.specs.Disk.{Moments}
 use Rattle.history_model.specs.History.{rows_at}
 use Rattle.history_model.specs.Brought.{ImportReceiptOf}
 use Rattle.history_model.specs.Queries.{children}
-use Rattle.import_check.specs.declared.release.Release.{Release}
 use Rattle.history_store.specs.declared.refusal.Refusal.{Refusal}
 use Rattle.history_store.specs.declared.refusal.Refusal.TheVariants as store
 use Rattle.history_store.specs.StoreValue.{StoreValue}
@@ -22,7 +19,7 @@ use Rattle.line_server.specs.declared.refusal.LineRefusal.{LineRefusal}
 use Rattle.line_server.specs.declared.refusal.LineRefusal.TheVariants as refusals
 use Rattle.line_server.specs.Pins.{AreWithin, pin_of}
 use Rattle.line_server.specs.Sources.{Releases, SourceView, source_view}
-use Rattle.line_server.specs.ReplyValue.{Answer, Ids, Done, ReplyValue, reply_value}
+use Rattle.line_server.specs.ReplyValue.{Ids, Done, ReplyValue, reply_value}
 use Rattle.line_server.specs.Replies.{Server, IsAnswer, IsClosed, IsLacking, receipt_of, status_of, server}
 use Rattle.line_server.specs.Turns.{IsAnswered}
 use Rattle.line_server.specs.Private.{IsResponse, IsQueried, IsCarriedOut}

@@ -1,4 +1,4 @@
-use Rattle.std.proofs.Common.{refl, ap, ◌∙◌}
+use Rattle.std.proofs.Common.{ap, ◌∙◌}
 use Rattle.disk_model.specs.DeviceView.{device_view}
 use Rattle.line_server.specs.Replies.{server}
 use Rattle.command_line.proofs.Merged.{asked_status, told_refusal}

@@ -1,7 +1,7 @@
-use Rattle.std.proofs.Common.{inl, inr}
+use Rattle.std.proofs.Common.{inl}
 use Rattle.disk_model.specs.DeviceView.{device_view}
 use Rattle.std.proofs.lemmas.Result.{err_from_is_err_and}
-use Rattle.command_line.proofs.Merged.{have_one, have_both, halted_first, halted_after, one_less}
+use Rattle.command_line.proofs.Merged.{have_one, halted_first, halted_after, one_less}
 use Rattle.command_line.proofs.merging.merge_two.Goals as goal
 
 pub returns-in_err-ask-clause-merged : goal.returns-in_err-ask-clause-merged

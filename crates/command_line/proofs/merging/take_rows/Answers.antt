@@ -1,6 +1,5 @@
 use Rattle.std.proofs.Common.{refl, inl, inr}
 use Rattle.disk_model.specs.DeviceView.{device_view}
-use Rattle.line_server.specs.Replies.{server}
 use Rattle.std.proofs.lemmas.Result.{err_from_is_err_and}
 use Rattle.command_line.proofs.Merged.{have_none, halted_first, halted_after, rows_more}
 use Rattle.command_line.proofs.merging.take_rows.Goals as goal

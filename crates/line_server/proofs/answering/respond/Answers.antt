@@ -1,10 +1,8 @@
-use Rattle.std.proofs.Common.{ℕ, [], ◌∷◌, Ok, sym, ap, ◌∙◌}
+use Rattle.std.proofs.Common.{ℕ, sym, ap, ◌∙◌}
 use Rattle.line_server.specs.Sources.{source_view}
 use Rattle.disk_model.specs.DeviceView.{device_view}
-use Rattle.std.specs.Prelude.{decimal}
 use Rattle.line_commands.specs.Commands.{Get, History, Children, Terms, Search, Replaced, About, Page, Receipt, Pin, Merge, Step, Publish, Abandon, Trim, Status}
 use Rattle.line_server.specs.Pins.{pin_of}
-use Rattle.line_server.specs.ReplyValue.{Done, reply_value}
 use Rattle.line_server.specs.Replies.{server}
 use Rattle.line_server.proofs.Responding.{any_source, within_more, unpinned}
 use Rattle.line_server.proofs.answering.respond.Goals as goal

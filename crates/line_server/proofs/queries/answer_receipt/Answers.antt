@@ -1,4 +1,3 @@
-use Rattle.std.proofs.Common.{arith}
 use Rattle.disk_model.specs.DeviceView.{device_view}
 use Rattle.std.proofs.lemmas.Result.{err_from_is_err_and}
 use Rattle.line_server.proofs.Responding.{import_told, import_closed, import_unseen}
