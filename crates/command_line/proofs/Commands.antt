@@ -1,8 +1,7 @@
 -- The program's commands are such that clap says how it reads words by them.
-use Rattle.std.proofs.Common.{◌≡◌, List, ℕ, [], true, Ok, refl, subst}
+use Rattle.std.proofs.Common.{◌≡◌, List, [], true, refl, subst}
 use Rattle.clap.specs.Walk.{Text}
-use Rattle.clap.specs.Simple.{App, HasMatchesOf, is_simple, subcommand_of, subcommand_rows_of}
-use Rattle.clap.specs.Kinds.{FailsBy}
+use Rattle.clap.specs.Simple.{App, HasMatchesOf, is_simple, subcommand_rows_of}
 use Rattle.clap.specs.Faults.{fault_of, is_simple_and_free}
 use Rattle.clap.specs.declared.parser.matches.ArgMatches.{ArgMatches}
 use Rattle.command_line.specs.declared.words.Task.{Task}

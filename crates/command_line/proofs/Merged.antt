@@ -1,13 +1,13 @@
 -- What lines of a merge leave of a store.
-use Rattle.std.proofs.Common.{◌≡◌, ℕ, ◌+◌, ◌-◌, ◌≤◌, ◌<◌, List, [], ◌∷◌, ◌++◌, length, codes, true, false, slice_get, slice_set, remove, min, Option, Some, None, Result, Ok, Err, IsOk, IsErr, refl, sym, ap, subst, ◌∙◌, arith, inl, inr}
-use Rattle.std.specs.Prelude.{⊤, ◌⊎◌}
+use Rattle.std.proofs.Common.{◌≡◌, ℕ, ◌+◌, List, [], ◌∷◌, ◌++◌, length, codes, true, false, slice_set, min, Option, Some, None, Result, Ok, Err, IsOk, IsErr, refl, ap, subst, ◌∙◌, arith, inl, inr}
+use Rattle.disk_model.specs.DeviceView.{DeviceView}
+use Rattle.std.specs.Prelude.{◌⊎◌}
 use Rattle.std.specs.Fmt.{digits}
 use Rattle.std.specs.List.{AllByRecursion}
 use Rattle.std.proofs.lemmas.Bool.{false≢true}
 use Rattle.std.proofs.lemmas.Option.{slice_get_within}
 use Rattle.std.proofs.lemmas.List.{length-set, append_assoc}
 use Rattle.std.proofs.lemmas.List.Edits.{length-remove}
-use Rattle.disk_model.specs.Disk.{Moments}
 use Rattle.import_check.specs.declared.release.Release.{Release}
 use Rattle.import_check.specs.Sample.{files_of}
 use Rattle.history_store.specs.Catalog.{Catalog}
@@ -19,17 +19,15 @@ use Rattle.line_commands.specs.Requests.{Asks}
 use Rattle.line_commands.proofs.Readings.{one_reading}
 use Rattle.line_server.specs.declared.refusal.LineRefusal.{LineRefusal}
 use Rattle.line_server.specs.declared.refusal.LineRefusal.TheVariants as refusals
-use Rattle.line_server.specs.Sources.{Releases}
+use Rattle.line_server.specs.Sources.{Releases, no_releases}
 use Rattle.line_server.specs.ReplyValue.{Answer, ReplyValue, reply_value}
-use Rattle.line_server.specs.declared.serving.ServeFault.{ServeFault}
 use Rattle.line_server.specs.Pins.{unpinned}
 use Rattle.line_server.specs.Replies.{Server, Replies, IsAnswer, server}
 use Rattle.line_server.specs.Turns.{Turn, IsTurn, IsAskedFor, Run, imported}
 use Rattle.line_server.proofs.Imported.{run_imported}
 use Rattle.command_line.specs.Merging.{IsMergeTurn, IsMergeLine, IsHaltedBy, IsMergedTo, IsMergedAndAsked, TellsMerge, segments_of, trim_line}
 use Rattle.command_line.specs.Private.{IsAsked, IsHalted, HaveMerged, IsOneLess, IsTrimmedTo}
-use Rattle.command_line.specs.declared.endings.Ending.{Ending}
-use Rattle.command_line.specs.Endings.{IsTold}
+use Rattle.command_line.specs.Endings.{Report, Tells}
 use Rattle.command_line.specs.Tasks.{status_line}
 
 -- ---- which command a line asks
@@ -75,31 +73,31 @@ begun_same old new left b = rw b.next_is refl
 stepped_same : (n : ℕ) (old new : Catalog) (left : ℕ) → IsStepped n old new left → length new.entries ≡ length old.entries
 stepped_same n old new left s = rw s.next_is refl
 
-module _ {D : Type 0} (honest : D → Type 0) (moments : D → Moments) (failures : D → ℕ) where
+module _ {D : Type 0} (view : DeviceView D) where
   abbrev Goes : Server D → Turn → Server D → Type 0
-  Goes old turn new = IsTurn ⊤ (λ _. None) honest moments failures old turn new
+  Goes old turn new = IsTurn no_releases view old turn new
 
   abbrev Runs : Server D → List Turn → Server D → Type 0
-  Runs old turns new = Run ⊤ (λ _. None) honest moments failures old turns new
+  Runs old turns new = Run no_releases view old turns new
 
   merge_keeps : (old new : Server D) (turn : Turn) → turn.line ≡ codes "0 MERGE" → IsOk turn.outcome → Goes old turn new → segments_of new ≡ segments_of old
   merge_keeps old new turn is ok t =
-      let a = answered (honest old.store.disk) t.releases old new turn.line 0 Merge (rw is merge_asks) turn.outcome ok t.goes.replies in
+      let a = answered (view.is_honest old.store.disk) t.releases old new turn.line 0 Merge (rw is merge_asks) turn.outcome ok t.goes.replies in
       begun_same old.store.catalog new.store.catalog a.1.0 a.1.1.0
 
   step_keeps : (old new : Server D) (turn : Turn) → turn.line ≡ codes "0 STEP 100000" → IsOk turn.outcome → Goes old turn new → segments_of new ≡ segments_of old
   step_keeps old new turn is ok t =
-      let a = answered (honest old.store.disk) t.releases old new turn.line 0 (Step 100000) (rw is step_asks) turn.outcome ok t.goes.replies in
+      let a = answered (view.is_honest old.store.disk) t.releases old new turn.line 0 (Step 100000) (rw is step_asks) turn.outcome ok t.goes.replies in
       stepped_same 100000 old.store.catalog new.store.catalog a.1.0 a.1.1.0
 
   publish_lowers : (old new : Server D) (turn : Turn) → turn.line ≡ codes "0 PUBLISH" → IsOk turn.outcome → Goes old turn new → segments_of new + 1 ≡ segments_of old
   publish_lowers old new turn is ok t =
-      let a = answered (honest old.store.disk) t.releases old new turn.line 0 Publish (rw is publish_asks) turn.outcome ok t.goes.replies in
+      let a = answered (view.is_honest old.store.disk) t.releases old new turn.line 0 Publish (rw is publish_asks) turn.outcome ok t.goes.replies in
       published_less old.store.catalog new.store.catalog a.1.0.0
 
   trim_keeps : (old new : Server D) (turn : Turn) → turn.line ≡ trim_line → IsOk turn.outcome → Goes old turn new → segments_of new ≡ segments_of old
   trim_keeps old new turn is ok t =
-      let a = answered (honest old.store.disk) t.releases old new turn.line 0 Trim (rw is trim_asks) turn.outcome ok t.goes.replies in
+      let a = answered (view.is_honest old.store.disk) t.releases old new turn.line 0 Trim (rw is trim_asks) turn.outcome ok t.goes.replies in
       ap (λ (s : Catalog). length s.entries) a.1.1.0
 
   -- ---- lines one after the other
@@ -111,13 +109,13 @@ module _ {D : Type 0} (honest : D → Type 0) (moments : D → Moments) (failure
   one_run : (old new : Server D) (turn : Turn) → Goes old turn new → Runs old (turn ∷ []) new
   one_run old new turn t = (new, t, refl)
 
-  pub have_none : (old : Server D) → HaveMerged honest moments failures old old
+  pub have_none : (old : Server D) → HaveMerged view old old
   have_none old = record { turns = []; merges = tt; run = refl }
 
-  pub have_one : (old new : Server D) (turn : Turn) → IsMergeLine turn.line → IsOk turn.outcome → Goes old turn new → HaveMerged honest moments failures old new
+  pub have_one : (old new : Server D) (turn : Turn) → IsMergeLine turn.line → IsOk turn.outcome → Goes old turn new → HaveMerged view old new
   have_one old new turn is ok t = record { turns = turn ∷ []; merges = ((is, ok), tt); run = one_run old new turn t }
 
-  pub have_both : (old mid new : Server D) → HaveMerged honest moments failures old mid → HaveMerged honest moments failures mid new → HaveMerged honest moments failures old new
+  pub have_both : (old mid new : Server D) → HaveMerged view old mid → HaveMerged view mid new → HaveMerged view old new
   have_both old mid new a b = record {
     turns = a.turns ++ b.turns;
     merges = all_append IsMergeTurn a.turns b.turns a.merges b.merges;
@@ -126,11 +124,11 @@ module _ {D : Type 0} (honest : D → Type 0) (moments : D → Moments) (failure
 
   -- a line was refused, after lines of merges
   pub halted_first : (old new : Server D) (reply : ReplyValue) (turn : Turn) → (IsMergeLine turn.line ⊎ (turn.line ≡ trim_line)) → IsErr turn.outcome → reply ≡ reply_value turn.outcome → Goes old turn new
-      → IsHalted honest moments failures reply old new
+      → IsHalted view reply old new
   halted_first old new reply turn is err says t = (turn, says, record { turns = []; merges = tt; run = one_run old new turn t; line = is; refused = err })
 
-  pub halted_after : (old mid new : Server D) (reply : ReplyValue) → HaveMerged honest moments failures old mid → IsHalted honest moments failures reply mid new
-      → IsHalted honest moments failures reply old new
+  pub halted_after : (old mid new : Server D) (reply : ReplyValue) → HaveMerged view old mid → IsHalted view reply mid new
+      → IsHalted view reply old new
   halted_after old mid new reply a h = (
     h.0,
     h.1,
@@ -149,20 +147,20 @@ module _ {D : Type 0} (honest : D → Type 0) (moments : D → Moments) (failure
   none_imported turn [] all = refl
   none_imported turn (r ∷ rs) all = let no : None ≡ Some (files_of r) = all.0.3 in cc
 
-  no_releases : (old new : Server D) (turns : List Turn) → Runs old turns new → imported turns ≡ []
-  no_releases old new [] run = refl
-  no_releases old new (turn ∷ turns) run =
-      rw (none_imported turn turn.releases (run.1.own tt).imported) (no_releases run.0 new turns run.2)
+  none_taken : (old new : Server D) (turns : List Turn) → Runs old turns new → imported turns ≡ []
+  none_taken old new [] run = refl
+  none_taken old new (turn ∷ turns) run =
+      rw (none_imported turn turn.releases (run.1.own tt).imported) (none_taken run.0 new turns run.2)
 
-  run_keeps : (old new : Server D) (turns : List Turn) → Runs old turns new → honest old.store.disk → new.store.history ≡ old.store.history
+  run_keeps : (old new : Server D) (turns : List Turn) → Runs old turns new → view.is_honest old.store.disk → new.store.history ≡ old.store.history
   run_keeps old new turns run lie =
-      let all = (run_imported honest moments failures ⊤ (λ _. None) old new turns run).history lie in
-      rw (no_releases old new turns run) at all
+      let all = (run_imported view no_releases old new turns run).history lie in
+      rw (none_taken old new turns run) at all
 
-  pub halted_keeps : (old new : Server D) (last : Turn) → IsHaltedBy honest moments failures last old new → honest old.store.disk → new.store.history ≡ old.store.history
+  pub halted_keeps : (old new : Server D) (last : Turn) → IsHaltedBy view last old new → view.is_honest old.store.disk → new.store.history ≡ old.store.history
   halted_keeps old new last h lie = run_keeps old new (h.turns ++ last ∷ []) h.run lie
 
-  pub merged_keeps : (most : ℕ) (old new : Server D) (last : Turn) → IsMergedAndAsked honest moments failures most last old new → honest old.store.disk
+  pub merged_keeps : (most : ℕ) (old new : Server D) (last : Turn) → IsMergedAndAsked view most last old new → view.is_honest old.store.disk
       → new.store.history ≡ old.store.history
   merged_keeps most old new last m lie =
       run_keeps old new ((m.1.turns ++ m.1.trim ∷ []) ++ last ∷ [])
@@ -170,53 +168,53 @@ module _ {D : Type 0} (honest : D → Type 0) (moments : D → Moments) (failure
 
   -- ---- what each part of a merge leaves
 
-  pub rows_more : (old mid new : Server D) (turn : Turn) → HaveMerged honest moments failures old mid → segments_of mid ≡ segments_of old
+  pub rows_more : (old mid new : Server D) (turn : Turn) → HaveMerged view old mid → segments_of mid ≡ segments_of old
       → turn.line ≡ codes "0 STEP 100000" → IsOk turn.outcome → Goes mid turn new
-      → HaveMerged honest moments failures old new × (segments_of new ≡ segments_of old)
+      → HaveMerged view old new × (segments_of new ≡ segments_of old)
   rows_more old mid new turn have same is ok t =
       (have_both old mid new have (have_one mid new turn (inr (inl is)) ok t), step_keeps mid new turn is ok t ∙ same)
 
   pub one_less : (old a b new : Server D) (begin : Turn) (result : Result (Unit {0}) ReplyValue) → begin.line ≡ codes "0 MERGE" → IsOk begin.outcome → Goes old begin a
-      → HaveMerged honest moments failures a b → segments_of b ≡ segments_of a → IsAsked honest moments failures (codes "0 PUBLISH") result b new
-      → IsOneLess honest moments failures result old new
+      → HaveMerged view a b → segments_of b ≡ segments_of a → IsAsked view (codes "0 PUBLISH") result b new
+      → IsOneLess view result old new
   one_less old a b new begin (Ok done) is ok t rows same last = (
-    have_both old b new (have_both old a b (have_one old a begin (inl is) ok t) rows) (have_one b new last.0 (inr (inr last.1)) last.2 last.3),
-    publish_lowers b new last.0 last.1 last.2 last.3 ∙ same ∙ merge_keeps old a begin is ok t,
+    have_both old b new (have_both old a b (have_one old a begin (inl is) ok t) rows) (have_one b new last.0 (inr (inr last.1)) last.3 last.2),
+    publish_lowers b new last.0 last.1 last.3 last.2 ∙ same ∙ merge_keeps old a begin is ok t,
   )
   one_less old a b new begin (Err reply) is ok t rows same last =
       halted_after old b new reply (have_both old a b (have_one old a begin (inl is) ok t) rows)
-      (halted_first b new reply last.0 (inl (inr (inr last.1))) last.2 last.3 last.4)
+      (halted_first b new reply last.0 (inl (inr (inr last.1))) last.3.0 last.3.1 last.2)
 
-  pub trimmed_to : (most : ℕ) (old mid new : Server D) (result : Result (Unit {0}) ReplyValue) → HaveMerged honest moments failures old mid
-      → segments_of mid ≡ min (segments_of old) most → IsAsked honest moments failures trim_line result mid new
-      → IsTrimmedTo honest moments failures most result old new
+  pub trimmed_to : (most : ℕ) (old mid new : Server D) (result : Result (Unit {0}) ReplyValue) → HaveMerged view old mid
+      → segments_of mid ≡ min (segments_of old) most → IsAsked view trim_line result mid new
+      → IsTrimmedTo view most result old new
   trimmed_to most old mid new (Ok done) have few last = record {
     turns = have.turns;
     merges = have.merges;
     trim = last.0;
     trims = last.1;
-    trimmed = last.2;
-    run = run_both old mid new have.turns (last.0 ∷ []) have.run (one_run mid new last.0 last.3);
-    number = trim_keeps mid new last.0 last.1 last.2 last.3 ∙ few;
+    trimmed = last.3;
+    run = run_both old mid new have.turns (last.0 ∷ []) have.run (one_run mid new last.0 last.2);
+    number = trim_keeps mid new last.0 last.1 last.3 last.2 ∙ few;
   }
   trimmed_to most old mid new (Err reply) have few last =
-      halted_after old mid new reply have (halted_first mid new reply last.0 (inr last.1) last.2 last.3 last.4)
+      halted_after old mid new reply have (halted_first mid new reply last.0 (inr last.1) last.3.0 last.3.1 last.2)
 
   -- ---- the whole
 
   -- so many segments stand, and the status was asked for
-  pub asked_status : (most : ℕ) (old mid : Server D) (pins : List (Option ℕ)) (after store : StoreValue D) (last : Turn) (left : D) (ended : Result Ending ServeFault) (o n : Option (List ℕ))
-      → old ≡ server unpinned store → IsMergedTo honest moments failures most old mid → last.line ≡ status_line → Goes mid last (server pins after)
-      → IsTold ended last.outcome o n → left ≡ after.disk → TellsMerge honest moments failures most left ended o n store
-  asked_status most old mid pins after store last left ended o n from merged is t told so =
-      let goes : IsMergedAndAsked honest moments failures most last (server unpinned store) (server pins after) =
-      subst (λ (d : Server D). IsMergedAndAsked honest moments failures most last d (server pins after)) from (mid, merged, is, t) in
+  pub asked_status : (most : ℕ) (old mid : Server D) (pins : List (Option ℕ)) (after store : StoreValue D) (last : Turn) (left : D) (r : Report)
+      → old ≡ server unpinned store → IsMergedTo view most old mid → last.line ≡ status_line → Goes mid last (server pins after)
+      → Tells r last.outcome → left ≡ after.disk → TellsMerge view most left r store
+  asked_status most old mid pins after store last left r from merged is t told so =
+      let goes : IsMergedAndAsked view most last (server unpinned store) (server pins after) =
+      subst (λ (d : Server D). IsMergedAndAsked view most last d (server pins after)) from (mid, merged, is, t) in
       record { last = last; pins = pins; after = after; goes = inl goes; told = told; left_so = so; history = merged_keeps most (server unpinned store) (server pins after) last goes }
 
-  pub told_refusal : (most : ℕ) (old : Server D) (pins : List (Option ℕ)) (after store : StoreValue D) (last : Turn) (left : D) (ended : Result Ending ServeFault) (o n : Option (List ℕ))
-      → old ≡ server unpinned store → IsHaltedBy honest moments failures last old (server pins after)
-      → IsTold ended last.outcome o n → left ≡ after.disk → TellsMerge honest moments failures most left ended o n store
-  told_refusal most old pins after store last left ended o n from halted told so =
-      let goes : IsHaltedBy honest moments failures last (server unpinned store) (server pins after) =
-      subst (λ (d : Server D). IsHaltedBy honest moments failures last d (server pins after)) from halted in
+  pub told_refusal : (most : ℕ) (old : Server D) (pins : List (Option ℕ)) (after store : StoreValue D) (last : Turn) (left : D) (r : Report)
+      → old ≡ server unpinned store → IsHaltedBy view last old (server pins after)
+      → Tells r last.outcome → left ≡ after.disk → TellsMerge view most left r store
+  told_refusal most old pins after store last left r from halted told so =
+      let goes : IsHaltedBy view last (server unpinned store) (server pins after) =
+      subst (λ (d : Server D). IsHaltedBy view last d (server pins after)) from halted in
       record { last = last; pins = pins; after = after; goes = inr goes; told = told; left_so = so; history = halted_keeps (server unpinned store) (server pins after) last goes }

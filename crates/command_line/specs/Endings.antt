@@ -9,6 +9,15 @@ use Rattle.line_server.specs.Streams.{AppendsSome}
 use Rattle.command_line.specs.declared.endings.Ending.{Ending}
 use Rattle.command_line.specs.declared.endings.Ending.TheVariants as endings
 
+-- how a task ended, and the bytes of the output before it and after, where they are known
+pub record Report : Type 0 where
+  pub ended : Result Ending ServeFault
+  pub old : Option (List ℕ)
+  pub new : Option (List ℕ)
+
+abbrev pub report : Result Ending ServeFault → Option (List ℕ) → Option (List ℕ) → Report
+report ended old new = record { ended = ended; old = old; new = new }
+
 -- What was to be told was told: an answer where the task is done, and a refusal where it
 -- was refused. Where the output failed, a front part of it stands there, and not all.
 abbrev pub IsTold : Result Ending ServeFault → Result Answer LineRefusal → Option (List ℕ)
@@ -19,3 +28,7 @@ IsTold (Ok endings.Refused) outcome old new =
     IsErr outcome × Appends old new (bytes_of (reply_value outcome))
 IsTold (Err fault) outcome old new =
     (fault ≡ faults.Write) × AppendsSome old new (bytes_of (reply_value outcome))
+
+-- this was told as a task ended
+abbrev pub Tells : Report → Result Answer LineRefusal → Type 0
+Tells report outcome = IsTold report.ended outcome report.old report.new

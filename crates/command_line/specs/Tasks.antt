@@ -1,6 +1,6 @@
 -- What each task does.
-use Rattle.std.specs.Prelude.{◌≡◌, ◌⊎◌, ⊤, ℕ, List, [], ◌++◌, codes, Option, None, Result, Ok, Err}
-use Rattle.disk_model.specs.Disk.{Moments}
+use Rattle.std.specs.Prelude.{◌≡◌, ◌⊎◌, ℕ, List, [], ◌++◌, codes, Option, Result, Ok, Err}
+use Rattle.disk_model.specs.DeviceView.{DeviceView}
 use Rattle.history_store.specs.declared.refusal.Refusal.TheVariants.{OutOfMemory}
 use Rattle.history_store.specs.StoreValue.{StoreValue}
 use Rattle.history_store.specs.Answers.{StoreOr, device_of}
@@ -8,15 +8,16 @@ use Rattle.history_store.specs.Openings.{IsMaking, IsOpening}
 use Rattle.line_server.specs.declared.refusal.LineRefusal.{LineRefusal}
 use Rattle.line_server.specs.declared.refusal.LineRefusal.TheVariants.{Store}
 use Rattle.line_server.specs.declared.serving.ServeFault.{ServeFault}
-use Rattle.line_server.specs.Sources.{Releases}
+use Rattle.line_server.specs.Sources.{SourceView, no_releases}
 use Rattle.line_server.specs.ReplyValue.{Answer, Done as AllDone}
 use Rattle.line_server.specs.Pins.{unpinned}
 use Rattle.line_server.specs.Replies.{server}
-use Rattle.line_server.specs.Turns.{Turn, IsTurn}
+use Rattle.line_server.specs.Turns.{HasTurn}
 use Rattle.line_server.specs.Serving.{IsServed}
+use Rattle.line_server.specs.Streams.{Streams}
 use Rattle.command_line.specs.declared.endings.Ending.{Ending}
 use Rattle.command_line.specs.declared.endings.Ending.TheVariants.{Done}
-use Rattle.command_line.specs.Endings.{IsTold}
+use Rattle.command_line.specs.Endings.{IsTold, Report, Tells}
 
 -- ---- init
 
@@ -26,43 +27,37 @@ making_told (Ok store) = Ok (AllDone [])
 making_told (Err e) = Err (Store e.0)
 
 -- a store was made, that was told, and the device was left so
-pub record IsMade {D : Type 0} (honest : D → Type 0) (moments : D → Moments) (failures : D → ℕ)
-    (device left : D) (ended : Result Ending ServeFault) (old new : Option (List ℕ)) : Type 0 where
+pub record IsMade {D : Type 0} (view : DeviceView D) (device left : D) (report : Report)
+    : Type 0 where
   pub had : StoreOr D
-  pub making : IsMaking had honest moments failures device
+  pub making : IsMaking had view.is_honest view.moments view.failures device
   pub left_so : left ≡ device_of had
-  pub told : IsTold ended (making_told had) old new
+  pub told : Tells report (making_told had)
 
 -- ---- one line
 
 -- The line was answered, where no session is pinned, the
 -- reply was told, and the device was left as it then was.
-pub record IsLineTold {D : Type 0} (honest_source : Type 0) (has : Releases) (honest : D → Type 0)
-    (moments : D → Moments) (failures : D → ℕ) (line : List ℕ) (store : StoreValue D) (left : D)
-    (ended : Result Ending ServeFault) (old new : Option (List ℕ)) : Type 0 where
-  pub turn : Turn
+pub record IsLineTold {D : Type 0} (source : SourceView) (view : DeviceView D) (line : List ℕ)
+    (store : StoreValue D) (left : D) (report : Report) : Type 0 where
   pub pins : List (Option ℕ)
   pub after : StoreValue D
-  pub line_is : turn.line ≡ line
-  pub answered : IsTurn honest_source has honest moments failures
-      (server unpinned store) turn (server pins after)
-  pub told : IsTold ended turn.outcome old new
+  pub told : HasTurn source view line (server unpinned store) (server pins after)
+      (λ turn. Tells report turn.outcome)
   pub left_so : left ≡ after.disk
 
 -- the task was done on the store; or it was told why there is none, and the device was left as the
 -- opening left it
-abbrev pub OnStore : {D : Type 0} → (StoreValue D → Type 0) → StoreOr D → D
-    → Result Ending ServeFault → Option (List ℕ) → Option (List ℕ) → Type 0
-OnStore done (Ok store) left ended old new = done store
-OnStore done (Err e) left ended old new = IsTold ended (Err (Store e.0)) old new × (left ≡ e.1)
+abbrev pub OnStore : {D : Type 0} → (StoreValue D → Type 0) → StoreOr D → D → Report → Type 0
+OnStore done (Ok store) left report = done store
+OnStore done (Err e) left report = Tells report (Err (Store e.0)) × (left ≡ e.1)
 
 -- the store was opened from this device, and the task was done on it
-pub record IsOnOpened {D : Type 0} (honest : D → Type 0) (moments : D → Moments) (failures : D → ℕ)
-    (done : StoreValue D → Type 0) (device left : D)
-    (ended : Result Ending ServeFault) (old new : Option (List ℕ)) : Type 0 where
+pub record IsOnOpened {D : Type 0} (view : DeviceView D) (done : StoreValue D → Type 0)
+    (device left : D) (report : Report) : Type 0 where
   pub had : StoreOr D
-  pub opening : IsOpening had honest moments failures device
-  pub does : OnStore done had left ended old new
+  pub opening : IsOpening had view.is_honest view.moments view.failures device
+  pub does : OnStore done had left report
 
 -- ---- import
 
@@ -71,20 +66,16 @@ abbrev pub import_line : List ℕ → List ℕ
 import_line name = codes "0 IMPORT " ++ name
 
 -- the line that imports the release was answered, or memory ran out for the line
-abbrev pub Imports : {D : Type 0} → Type 0 → Releases → (D → Type 0) → (D → Moments) → (D → ℕ)
-    → List ℕ → D → Result Ending ServeFault → Option (List ℕ) → Option (List ℕ) → StoreValue D
+abbrev pub Imports : {D : Type 0} → SourceView → DeviceView D → List ℕ → D → Report → StoreValue D
     → Type 0
-Imports honest_source has honest moments failures name left ended old new store =
-    IsLineTold honest_source has honest moments failures (import_line name) store left ended old new
-    ⊎ (IsTold ended (Err (Store OutOfMemory)) old new × (left ≡ store.disk))
+Imports source view name left report store =
+    IsLineTold source view (import_line name) store left report
+    ⊎ (Tells report (Err (Store OutOfMemory)) × (left ≡ store.disk))
 
 -- the store was opened from this device, and the release was imported into it
-abbrev pub IsImport : {D : Type 0} → Type 0 → Releases → (D → Type 0) → (D → Moments) → (D → ℕ)
-    → List ℕ → D → D → Result Ending ServeFault → Option (List ℕ) → Option (List ℕ) → Type 0
-IsImport honest_source has honest moments failures name device left ended old new =
-    IsOnOpened honest moments failures
-    (Imports honest_source has honest moments failures name left ended old new)
-    device left ended old new
+abbrev pub IsImport : {D : Type 0} → SourceView → DeviceView D → List ℕ → D → D → Report → Type 0
+IsImport source view name device left report =
+    IsOnOpened view (Imports source view name left report) device left report
 
 -- ---- status
 
@@ -93,17 +84,13 @@ abbrev pub status_line : List ℕ
 status_line = codes "0 STATUS"
 
 -- the line that asks for the status was answered, from a source without releases
-abbrev pub TellsStatus : {D : Type 0} → (D → Type 0) → (D → Moments) → (D → ℕ) → D
-    → Result Ending ServeFault → Option (List ℕ) → Option (List ℕ) → StoreValue D → Type 0
-TellsStatus honest moments failures left ended old new store =
-    IsLineTold ⊤ (λ _. None) honest moments failures status_line store left ended old new
+abbrev pub TellsStatus : {D : Type 0} → DeviceView D → D → Report → StoreValue D → Type 0
+TellsStatus view left report store = IsLineTold no_releases view status_line store left report
 
 -- the store was opened from this device, and its status was told
-abbrev pub IsStatus : {D : Type 0} → (D → Type 0) → (D → Moments) → (D → ℕ) → D → D
-    → Result Ending ServeFault → Option (List ℕ) → Option (List ℕ) → Type 0
-IsStatus honest moments failures device left ended old new =
-    IsOnOpened honest moments failures (TellsStatus honest moments failures left ended old new)
-    device left ended old new
+abbrev pub IsStatus : {D : Type 0} → DeviceView D → D → D → Report → Type 0
+IsStatus view device left report =
+    IsOnOpened view (TellsStatus view left report) device left report
 
 -- ---- serve
 
@@ -117,38 +104,34 @@ abbrev pub most_reads : ℕ
 most_reads = 4294967295
 
 -- the lines of the input were served, and the device was left as it then was
-pub record IsInputServed {D : Type 0} (honest_source : Type 0) (has : Releases)
-    (honest : D → Type 0) (moments : D → Moments) (failures : D → ℕ) (store : StoreValue D)
-    (left : D) (ended : Result Ending ServeFault) (input rest old new : Option (List ℕ))
+pub record IsInputServed {D : Type 0} (source : SourceView) (view : DeviceView D)
+    (store : StoreValue D) (left : D) (ended : Result Ending ServeFault) (streams : Streams)
     : Type 0 where
   pub result : Result ℕ ServeFault
   pub ends : ended ≡ ended_by result
   pub after : StoreValue D
-  pub served : IsServed result most_reads honest_source has honest moments failures input rest old
-      new store after
+  pub served : IsServed result most_reads source view streams store after
   pub left_so : left ≡ after.disk
 
 -- the lines were served from the store; or it was told why there is none, and nothing was read
-abbrev pub Serves : {D : Type 0} → Type 0 → Releases → (D → Type 0) → (D → Moments) → (D → ℕ)
-    → StoreOr D → D → Result Ending ServeFault → Option (List ℕ) → Option (List ℕ) → Option (List ℕ)
-    → Option (List ℕ) → Type 0
-Serves honest_source has honest moments failures (Ok store) left ended input rest old new =
-    IsInputServed honest_source has honest moments failures store left ended input rest old new
-Serves honest_source has honest moments failures (Err e) left ended input rest old new =
-    IsTold ended (Err (Store e.0)) old new × (rest ≡ input) × (left ≡ e.1)
+abbrev pub Serves : {D : Type 0} → SourceView → DeviceView D → StoreOr D → D
+    → Result Ending ServeFault → Streams → Type 0
+Serves source view (Ok store) left ended streams =
+    IsInputServed source view store left ended streams
+Serves source view (Err e) left ended streams =
+    IsTold ended (Err (Store e.0)) streams.old streams.new × (streams.rest ≡ streams.input)
+    × (left ≡ e.1)
 
 -- the store was opened from this device, and the lines were served from it
-pub record IsServing {D : Type 0} (honest_source : Type 0) (has : Releases) (honest : D → Type 0)
-    (moments : D → Moments) (failures : D → ℕ) (device left : D) (ended : Result Ending ServeFault)
-    (input rest old new : Option (List ℕ)) : Type 0 where
+pub record IsServing {D : Type 0} (source : SourceView) (view : DeviceView D) (device left : D)
+    (ended : Result Ending ServeFault) (streams : Streams) : Type 0 where
   pub had : StoreOr D
-  pub opening : IsOpening had honest moments failures device
-  pub serves : Serves honest_source has honest moments failures had left ended input rest old new
+  pub opening : IsOpening had view.is_honest view.moments view.failures device
+  pub serves : Serves source view had left ended streams
 
 -- the store was made on this device, and the lines were served from it
-pub record IsServingNew {D : Type 0} (honest_source : Type 0) (has : Releases) (honest : D → Type 0)
-    (moments : D → Moments) (failures : D → ℕ) (device left : D) (ended : Result Ending ServeFault)
-    (input rest old new : Option (List ℕ)) : Type 0 where
+pub record IsServingNew {D : Type 0} (source : SourceView) (view : DeviceView D) (device left : D)
+    (ended : Result Ending ServeFault) (streams : Streams) : Type 0 where
   pub had : StoreOr D
-  pub making : IsMaking had honest moments failures device
-  pub serves : Serves honest_source has honest moments failures had left ended input rest old new
+  pub making : IsMaking had view.is_honest view.moments view.failures device
+  pub serves : Serves source view had left ended streams

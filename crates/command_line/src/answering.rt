@@ -1,6 +1,9 @@
 //! One line is answered.
 
 ghost use Rattle.command_line.specs.Tasks.{IsLineTold};
+ghost use Rattle.command_line.specs.Endings.{report};
+ghost use Rattle.line_server.specs.Sources.{source_view};
+ghost use Rattle.disk_model.specs.DeviceView.{device_view};
 
 use crate::endings::{Ending, tell};
 use crate::telling::Told;
@@ -19,9 +22,9 @@ pub(crate) fn answer_line<D: Disk + Drop, S: Source, O: Write>(
     output: &mut O,
     told: &mut Told,
 ) -> Result<Ending, ServeFault>
-    ensures { IsLineTold (S.is_honest source.old) (S.releases source.old)
-        D.is_honest D.moments D.failures line.now store.old store.new.disk result
-        (O.contents output.old) (O.contents output.new) }
+    ensures { IsLineTold (source_view (S.is_honest source.old) (S.releases source.old))
+        (device_view D.is_honest D.moments D.failures) line.now store.old store.new.disk
+        (report result (O.contents output.old) (O.contents output.new)) }
 {
     let mut pins = Pins::new();
     let reply = answer(alloc, line, &mut pins, source, store);

@@ -1,6 +1,8 @@
 //! The status of a store is told.
 
 ghost use Rattle.std.specs.Prelude.{◌≡◌, ⊤, None};
+ghost use Rattle.command_line.specs.Endings.{report};
+ghost use Rattle.disk_model.specs.DeviceView.{device_view};
 ghost use Rattle.command_line.specs.Tasks.{IsStatus};
 
 use crate::answering::answer_line;
@@ -42,8 +44,8 @@ pub(crate) fn status<D: Disk + Drop, O: Write>(
     output: &mut O,
     told: &mut Told,
 ) -> (Result<Ending, ServeFault>, D, Option<Figures>)
-    ensures { IsStatus D.is_honest D.moments D.failures device result.1 result.0
-        (O.contents output.old) (O.contents output.new) }
+    ensures { IsStatus (device_view D.is_honest D.moments D.failures) device result.1
+        (report result.0 (O.contents output.old) (O.contents output.new)) }
 {
     match Store::open(alloc, device) {
         Ok(store) => {

@@ -1,6 +1,8 @@
 //! A store is made.
 
 ghost use Rattle.command_line.specs.Tasks.{IsMade};
+ghost use Rattle.command_line.specs.Endings.{report};
+ghost use Rattle.disk_model.specs.DeviceView.{device_view};
 
 use crate::endings::{Ending, refuse, tell_done};
 use crate::telling::Told;
@@ -17,8 +19,8 @@ pub(crate) fn init<D: Disk + Drop, O: Write>(
     output: &mut O,
     told: &mut Told,
 ) -> (Result<Ending, ServeFault>, D)
-    ensures { IsMade D.is_honest D.moments D.failures device result.1 result.0
-        (O.contents output.old) (O.contents output.new) }
+    ensures { IsMade (device_view D.is_honest D.moments D.failures) device result.1
+        (report result.0 (O.contents output.old) (O.contents output.new)) }
 {
     match Store::create(alloc, device) {
         Ok(store) => (tell_done(alloc, output, told), store.close()),

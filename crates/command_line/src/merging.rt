@@ -1,6 +1,8 @@
 //! The segments of a store are merged.
 
 ghost use Rattle.line_server.specs.Pins.{AreWithin};
+ghost use Rattle.command_line.specs.Endings.{report};
+ghost use Rattle.disk_model.specs.DeviceView.{device_view};
 ghost use Rattle.line_server.specs.Replies.{server};
 ghost use Rattle.command_line.specs.Merging.{IsMergedOnDisk, TellsMerge};
 ghost use Rattle.command_line.specs.Private.{IsAsked, IsOneLess, IsTrimmedTo, MergesRows};
@@ -31,7 +33,7 @@ fn ask<D: Disk>(
 ) -> Result<(), Reply>
     requires within { AreWithin store.old.history.imports pins.old }
     ensures within { AreWithin store.new.history.imports pins.new }
-    ensures asked { IsAsked D.is_honest D.moments D.failures line.now result
+    ensures asked { IsAsked (device_view D.is_honest D.moments D.failures) line.now result
         (server pins.old store.old) (server pins.new store.new) }
 {
     let reply = answer(alloc, line, pins, &mut NoReleases, store);
@@ -46,7 +48,7 @@ fn ask<D: Disk>(
 fn take_rows<D: Disk>(alloc: Global, pins: &mut Pins, store: &mut Store<D>) -> Result<(), Reply>
     requires within { AreWithin store.old.history.imports pins.old }
     ensures within { AreWithin store.new.history.imports pins.new }
-    ensures taken { MergesRows D.is_honest D.moments D.failures result
+    ensures taken { MergesRows (device_view D.is_honest D.moments D.failures) result
         (server pins.old store.old) (server pins.new store.new) }
 {
     for _ in 0..u64::MAX {
@@ -62,7 +64,7 @@ fn take_rows<D: Disk>(alloc: Global, pins: &mut Pins, store: &mut Store<D>) -> R
 fn merge_two<D: Disk>(alloc: Global, pins: &mut Pins, store: &mut Store<D>) -> Result<(), Reply>
     requires within { AreWithin store.old.history.imports pins.old }
     ensures within { AreWithin store.new.history.imports pins.new }
-    ensures merged { IsOneLess D.is_honest D.moments D.failures result
+    ensures merged { IsOneLess (device_view D.is_honest D.moments D.failures) result
         (server pins.old store.old) (server pins.new store.new) }
 {
     ask(alloc, MERGE, pins, store)?;
@@ -81,7 +83,7 @@ fn merge_to<D: Disk, E: Write>(
 ) -> Result<(), Reply>
     requires within { AreWithin store.old.history.imports pins.old }
     ensures within { AreWithin store.new.history.imports pins.new }
-    ensures merged { IsTrimmedTo D.is_honest D.moments D.failures most result
+    ensures merged { IsTrimmedTo (device_view D.is_honest D.moments D.failures) most result
         (server pins.old store.old) (server pins.new store.new) }
 {
     for _ in 0..store.segments().saturating_sub(most) {
@@ -101,8 +103,8 @@ fn merge_all<D: Disk, O: Write, E: Write>(
     told: &mut Told,
     faults: &mut E,
 ) -> Result<Ending, ServeFault>
-    ensures { TellsMerge D.is_honest D.moments D.failures most store.new.disk result
-        (O.contents output.old) (O.contents output.new) store.old }
+    ensures { TellsMerge (device_view D.is_honest D.moments D.failures) most store.new.disk
+        (report result (O.contents output.old) (O.contents output.new)) store.old }
 {
     let mut pins = Pins::new();
     let reply = match merge_to(alloc, path, most, &mut pins, store, faults) {
@@ -122,8 +124,8 @@ pub(crate) fn merge<D: Disk + Drop, O: Write, E: Write>(
     told: &mut Told,
     faults: &mut E,
 ) -> (Result<Ending, ServeFault>, D)
-    ensures { IsMergedOnDisk D.is_honest D.moments D.failures most device result.1 result.0
-        (O.contents output.old) (O.contents output.new) }
+    ensures { IsMergedOnDisk (device_view D.is_honest D.moments D.failures) most device result.1
+        (report result.0 (O.contents output.old) (O.contents output.new)) }
 {
     match Store::open(alloc, device) {
         Ok(store) => {

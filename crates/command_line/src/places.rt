@@ -87,11 +87,11 @@ impl<R: Files<File = File> + AllocGlobal + Clone + Drop> Places for R {
     ghost releases = { λ _ _ _. None };
 
     fn device<E: Write>(&self, path: &str, faults: &mut E) -> Result<FileDisk, DiskFault> {
-        had(FileDisk::open(self, path), path, faults)
+        device_or_told(FileDisk::open(self, path), path, faults)
     }
 
     fn device_or_new<E: Write>(&self, path: &str, faults: &mut E) -> Result<FileDisk, DiskFault> {
-        had(FileDisk::open_or_make(self, path), path, faults)
+        device_or_told(FileDisk::open_or_make(self, path), path, faults)
     }
 
     fn settle<E: Write>(&self, alloc: Global, path: &str, faults: &mut E) -> Result<(), DiskFault> {
@@ -144,7 +144,7 @@ impl<R: Files<File = File> + AllocGlobal + Clone + Drop> Places for R {
 }
 
 /// A file's disk, or the line that says why there is none.
-fn had<E: Write>(
+fn device_or_told<E: Write>(
     opened: Result<FileDisk, OpenFault>,
     path: &str,
     faults: &mut E,

@@ -1,6 +1,10 @@
 //! How what the words ask for is done.
 
 ghost use Rattle.std.specs.Prelude.{◌≡◌, ◌≤◌, ◌⊎◌, IfOk, IfErr, map, string_bytes};
+ghost use Rattle.command_line.specs.Endings.{report};
+ghost use Rattle.line_server.specs.Streams.{streams};
+ghost use Rattle.line_server.specs.Sources.{source_view};
+ghost use Rattle.disk_model.specs.DeviceView.{device_view};
 ghost use Rattle.command_line.specs.Tasks.{IsMade, IsImport, IsStatus, IsServing};
 ghost use Rattle.command_line.specs.Merging.{IsMergedOnDisk};
 ghost use Rattle.command_line.specs.Runs.{IsDoneAt, IsMissing, IsDemonstrated, Does, IsRun, IsNoTask, IsExplained};
@@ -36,15 +40,21 @@ pub fn run<P: Places, I: Read, O: Write, E: Write>(
     ensures status { result.0 ≤ 2 }
     // Words that are no command do nothing but to be told.
     ensures no_command { result.0 ≡ 2 → (input.new ≡ input.old) × (output.new ≡ output.old) }
-    ensures done { IsRun (P.stands places.now) (P.withholds places.now) (P.makes places.now)
-        (P.keeps places.now) (P.loses places.now) (P.is_honest places.now) (P.releases places.now)
-        P.Device.is_honest P.Device.moments P.Device.failures SCRIPT.now
-        (map string_bytes words.now) result.1 result.0
-        (I.remaining input.old) (I.remaining input.new)
-        (O.contents output.old) (O.contents output.new)
+    ensures done { IsRun (record {
+      stands = P.stands places.now;
+      withholds = P.withholds places.now;
+      makes = P.makes places.now;
+      keeps = P.keeps places.now;
+      loses = P.loses places.now;
+      is_honest = P.is_honest places.now;
+      releases = P.releases places.now;
+      device = device_view P.Device.is_honest P.Device.moments P.Device.failures;
+    }) SCRIPT.now (map string_bytes words.now) result.1 result.0
+        (streams (I.remaining input.old) (I.remaining input.new)
+        (O.contents output.old) (O.contents output.new))
         ⊎ IsNoTask (map string_bytes words.now) result.1 result.0
-        (I.remaining input.old) (I.remaining input.new)
-        (O.contents output.old) (O.contents output.new) }
+        (streams (I.remaining input.old) (I.remaining input.new)
+        (O.contents output.old) (O.contents output.new)) }
 {
     match task_of(alloc, words) {
         Ok(task) => {
@@ -67,12 +77,18 @@ fn perform<P: Places, I: Read, O: Write, E: Write>(
     output: &mut O,
     faults: &mut E,
 ) -> Ended<P::Device>
-    ensures { Does (P.stands places.now) (P.withholds places.now) (P.makes places.now)
-        (P.keeps places.now) (P.loses places.now) (P.is_honest places.now) (P.releases places.now)
-        P.Device.is_honest P.Device.moments P.Device.failures SCRIPT.now task.now
-        result.1 result.0
-        (I.remaining input.old) (I.remaining input.new)
-        (O.contents output.old) (O.contents output.new) }
+    ensures { Does (record {
+      stands = P.stands places.now;
+      withholds = P.withholds places.now;
+      makes = P.makes places.now;
+      keeps = P.keeps places.now;
+      loses = P.loses places.now;
+      is_honest = P.is_honest places.now;
+      releases = P.releases places.now;
+      device = device_view P.Device.is_honest P.Device.moments P.Device.failures;
+    }) SCRIPT.now task.now result.1 result.0
+        (streams (I.remaining input.old) (I.remaining input.new)
+        (O.contents output.old) (O.contents output.new)) }
 {
     match task {
         Task::Init { store } => init_at(places, alloc, *store, output, faults),
@@ -122,9 +138,9 @@ fn init_at<P: Places, O: Write, E: Write>(
 ) -> Ended<P::Device>
     ensures { IsDoneAt
         (λ device. P.makes places.now path.now device × P.keeps places.now path.now)
-        (λ device after. IsMade P.Device.is_honest P.Device.moments P.Device.failures
-        device after result.0 (O.contents output.old) (O.contents output.new))
-        (IsMissing result.0 (O.contents output.old) (O.contents output.new)
+        (λ device after. IsMade (device_view P.Device.is_honest P.Device.moments P.Device.failures)
+        device after (report result.0 (O.contents output.old) (O.contents output.new)))
+        (IsMissing (report result.0 (O.contents output.old) (O.contents output.new))
         × P.loses places.now path.now) result.1 }
 {
     let mut told = Told::new();
@@ -154,10 +170,11 @@ fn import_at<P: Places, O: Write, E: Write>(
     faults: &mut E,
 ) -> Ended<P::Device>
     ensures { IsDoneAt (P.stands places.now path.now)
-        (λ device after. IsImport (P.is_honest places.now) (P.releases places.now dir.now)
-        P.Device.is_honest P.Device.moments P.Device.failures name.now device after result.0
-        (O.contents output.old) (O.contents output.new))
-        (IsMissing result.0 (O.contents output.old) (O.contents output.new)
+        (λ device after. IsImport
+        (source_view (P.is_honest places.now) (P.releases places.now dir.now))
+        (device_view P.Device.is_honest P.Device.moments P.Device.failures)
+        name.now device after (report result.0 (O.contents output.old) (O.contents output.new)))
+        (IsMissing (report result.0 (O.contents output.old) (O.contents output.new))
         × P.withholds places.now path.now) result.1 }
 {
     let mut told = Told::new();
@@ -189,11 +206,12 @@ fn serve_at<P: Places, I: Read, O: Write, E: Write>(
     faults: &mut E,
 ) -> Ended<P::Device>
     ensures { IsDoneAt (P.stands places.now path.now)
-        (λ device after. IsServing (P.is_honest places.now) (P.releases places.now dir.now)
-        P.Device.is_honest P.Device.moments P.Device.failures device after result.0
-        (I.remaining input.old) (I.remaining input.new)
-        (O.contents output.old) (O.contents output.new))
-        (IsMissing result.0 (O.contents output.old) (O.contents output.new)
+        (λ device after. IsServing
+        (source_view (P.is_honest places.now) (P.releases places.now dir.now))
+        (device_view P.Device.is_honest P.Device.moments P.Device.failures)
+        device after result.0 (streams (I.remaining input.old) (I.remaining input.new)
+        (O.contents output.old) (O.contents output.new)))
+        (IsMissing (report result.0 (O.contents output.old) (O.contents output.new))
         × (I.remaining input.new ≡ I.remaining input.old)
         × P.withholds places.now path.now) result.1 }
 {
@@ -223,9 +241,10 @@ fn status_at<P: Places, O: Write, E: Write>(
     faults: &mut E,
 ) -> Ended<P::Device>
     ensures { IsDoneAt (P.stands places.now path.now)
-        (λ device after. IsStatus P.Device.is_honest P.Device.moments P.Device.failures
-        device after result.0 (O.contents output.old) (O.contents output.new))
-        (IsMissing result.0 (O.contents output.old) (O.contents output.new)
+        (λ device after. IsStatus
+        (device_view P.Device.is_honest P.Device.moments P.Device.failures) device after
+        (report result.0 (O.contents output.old) (O.contents output.new)))
+        (IsMissing (report result.0 (O.contents output.old) (O.contents output.new))
         × P.withholds places.now path.now) result.1 }
 {
     let mut told = Told::new();
@@ -256,9 +275,10 @@ fn merge_at<P: Places, O: Write, E: Write>(
     faults: &mut E,
 ) -> Ended<P::Device>
     ensures { IsDoneAt (P.stands places.now path.now)
-        (λ device after. IsMergedOnDisk P.Device.is_honest P.Device.moments P.Device.failures most
-        device after result.0 (O.contents output.old) (O.contents output.new))
-        (IsMissing result.0 (O.contents output.old) (O.contents output.new)
+        (λ device after. IsMergedOnDisk
+        (device_view P.Device.is_honest P.Device.moments P.Device.failures) most device after
+        (report result.0 (O.contents output.old) (O.contents output.new)))
+        (IsMissing (report result.0 (O.contents output.old) (O.contents output.new))
         × P.withholds places.now path.now) result.1 }
 {
     let mut told = Told::new();
@@ -279,8 +299,8 @@ fn merge_at<P: Places, O: Write, E: Write>(
 
 /// Answers the lines of the script, on a store in memory.
 fn demo<O: Write>(alloc: Global, output: &mut O) -> Result<Ending, ServeFault>
-    ensures { IsDemonstrated SCRIPT.now result
-        (O.contents output.old) (O.contents output.new) }
+    ensures { IsDemonstrated SCRIPT.now
+        (report result (O.contents output.old) (O.contents output.new)) }
 {
     let mut script = SCRIPT;
     let mut told = Told::new();

@@ -1,6 +1,9 @@
 //! Lines are served.
 
 ghost use Rattle.std.specs.Prelude.{Ok};
+ghost use Rattle.line_server.specs.Streams.{streams};
+ghost use Rattle.line_server.specs.Sources.{source_view};
+ghost use Rattle.disk_model.specs.DeviceView.{device_view};
 ghost use Rattle.command_line.specs.Tasks.{Serves, IsServing, IsServingNew};
 
 use crate::endings::{Ending, refuse};
@@ -22,10 +25,10 @@ fn serve_all<D: Disk + Drop, S: Source, I: Read, O: Write>(
     input: &mut I,
     output: &mut O,
 ) -> Result<Ending, ServeFault>
-    ensures { Serves (S.is_honest source.old) (S.releases source.old)
-        D.is_honest D.moments D.failures (Ok store.old) store.new.disk result
-        (I.remaining input.old) (I.remaining input.new)
-        (O.contents output.old) (O.contents output.new) }
+    ensures { Serves (source_view (S.is_honest source.old) (S.releases source.old))
+        (device_view D.is_honest D.moments D.failures) (Ok store.old) store.new.disk result
+        (streams (I.remaining input.old) (I.remaining input.new)
+        (O.contents output.old) (O.contents output.new)) }
 {
     match serve(alloc, input, output, source, store, MOST_READS) {
         Ok(_) => Ok(Ending::Done),
@@ -42,10 +45,10 @@ pub(crate) fn serve_device<D: Disk + Drop, S: Source, I: Read, O: Write>(
     output: &mut O,
     told: &mut Told,
 ) -> (Result<Ending, ServeFault>, D)
-    ensures { IsServing (S.is_honest source.old) (S.releases source.old)
-        D.is_honest D.moments D.failures device result.1 result.0
-        (I.remaining input.old) (I.remaining input.new)
-        (O.contents output.old) (O.contents output.new) }
+    ensures { IsServing (source_view (S.is_honest source.old) (S.releases source.old))
+        (device_view D.is_honest D.moments D.failures) device result.1 result.0
+        (streams (I.remaining input.old) (I.remaining input.new)
+        (O.contents output.old) (O.contents output.new)) }
 {
     match Store::open(alloc, device) {
         Ok(store) => {
@@ -66,10 +69,10 @@ pub(crate) fn serve_new<D: Disk + Drop, S: Source, I: Read, O: Write>(
     output: &mut O,
     told: &mut Told,
 ) -> (Result<Ending, ServeFault>, D)
-    ensures { IsServingNew (S.is_honest source.old) (S.releases source.old)
-        D.is_honest D.moments D.failures device result.1 result.0
-        (I.remaining input.old) (I.remaining input.new)
-        (O.contents output.old) (O.contents output.new) }
+    ensures { IsServingNew (source_view (S.is_honest source.old) (S.releases source.old))
+        (device_view D.is_honest D.moments D.failures) device result.1 result.0
+        (streams (I.remaining input.old) (I.remaining input.new)
+        (O.contents output.old) (O.contents output.new)) }
 {
     match Store::create(alloc, device) {
         Ok(store) => {

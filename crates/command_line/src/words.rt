@@ -77,7 +77,7 @@ pub fn task_of<'a>(alloc: Global, words: &'a [String]) -> Result<Task<'a>, Refus
         return Err(Refused::OutOfMemory);
     };
     match commands.try_get_matches_from(words) {
-        Ok(matches) => match named(&matches) {
+        Ok(matches) => match task_in(&matches) {
             Some(task) => Ok(task),
             None => Err(Refused::OutOfMemory),
         },
@@ -244,7 +244,7 @@ fn commands<'a>(alloc: Global) -> Result<Command<'a>, AllocError>
 }
 
 /// The task that the command has.
-fn named<'a>(matches: &ArgMatches<'a>) -> Option<Task<'a>>
+fn task_in<'a>(matches: &ArgMatches<'a>) -> Option<Task<'a>>
     ensures { IfSome result (Reads (subcommand_rows_of matches.now)) }
 {
     let (name, found) = matches.subcommand()?;

@@ -1,5 +1,5 @@
 -- What a store is opened as that was left at any moment.
-use Rattle.std.proofs.Common.{◌⊎◌, inl, inr, ℕ, List, Ok, Err, refl}
+use Rattle.std.proofs.Common.{◌⊎◌, inl, inr, ℕ, List, Ok, Err}
 use Rattle.history_model.specs.History.{History}
 use Rattle.directory.specs.declared.entry.Entry.{Entry}
 use Rattle.directory.specs.declared.layout.Layout.{Layout}

@@ -73,7 +73,7 @@ record TermsForm (text : List ℕ) : Type 0 where
   whole : text ≡ decimal date ++ 32 ∷ (decimal limit ++ 32 ∷ prefix)
 
 terms_form : (text : List ℕ) (command : Command) → IsSpelled (codes "TERMS") (Some text) command → TermsForm text
-terms_form text (Terms date limit prefix) s = record { date = date; limit = limit; prefix = prefix; is_time = s.spelled.0; low = s.spelled.1; high = s.spelled.2; some = s.spelled.3; utf8 = s.spelled.4; whole = told _ _ text _ s.rest_is s.spelled.5 refl }
+terms_form text (Terms prefix date limit) s = record { date = date; limit = limit; prefix = prefix; is_time = s.spelled.0; low = s.spelled.1; high = s.spelled.2; some = s.spelled.3; utf8 = s.spelled.4; whole = told _ _ text _ s.rest_is s.spelled.5 refl }
 terms_form text c s = absurd (false≢true (ap (bytes_eq (codes "TERMS")) s.word_is))
 
 record SearchForm (text : List ℕ) : Type 0 where
@@ -91,7 +91,7 @@ record SearchForm (text : List ℕ) : Type 0 where
   whole : text ≡ decimal date ++ 32 ∷ (after_text ++ 32 ∷ (decimal limit ++ 32 ∷ prefix))
 
 search_form : (text : List ℕ) (command : Command) → IsSpelled (codes "SEARCH") (Some text) command → SearchForm text
-search_form text (Search date after limit prefix) s = record {
+search_form text (Search prefix date after limit) s = record {
   date = date;
   after = after;
   limit = limit;
@@ -361,7 +361,7 @@ about_found text a b x k id date e f is second time last = record {
 }
 
 pub terms_found : (text a b x prefix : List ℕ) (date limit : ℕ) → text ≡ a ++ 32 ∷ (b ++ 32 ∷ x) → IsTime date → a ≡ decimal date → 1 ≤ limit → limit ≤ most_rows → b ≡ decimal limit → 1 ≤ length prefix → IsUtf8 prefix → prefix ≡ x
-    → IsSpelled (codes "TERMS") (Some text) (Terms date limit prefix)
+    → IsSpelled (codes "TERMS") (Some text) (Terms prefix date limit)
 terms_found text a b x prefix date limit e time day low high most some utf8 last = record {
   word_is = refl;
   arguments = decimal date ∷ decimal limit ∷ prefix ∷ [];
@@ -371,7 +371,7 @@ terms_found text a b x prefix date limit e time day low high most some utf8 last
 }
 
 pub search_found : (text a b x u y prefix : List ℕ) (date : ℕ) (after : Option ℕ) (limit : ℕ) → text ≡ a ++ 32 ∷ (b ++ 32 ∷ x) → x ≡ u ++ 32 ∷ y → IsTime date → a ≡ decimal date → SpellsAfter kinds.Description after b → 1 ≤ limit → limit ≤ most_rows → u ≡ decimal limit
-    → 1 ≤ length prefix → IsUtf8 prefix → prefix ≡ y → IsSpelled (codes "SEARCH") (Some text) (Search date after limit prefix)
+    → 1 ≤ length prefix → IsUtf8 prefix → prefix ≡ y → IsSpelled (codes "SEARCH") (Some text) (Search prefix date after limit)
 search_found text a b x u y prefix date after limit e g time day spells low high most some utf8 last = record {
   word_is = refl;
   arguments = decimal date ∷ b ∷ decimal limit ∷ prefix ∷ [];

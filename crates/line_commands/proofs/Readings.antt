@@ -114,7 +114,7 @@ one_command (Children id date) (Children jd day) xs ys w s t same =
     let ids = same_concepts id jd s.0 t.0 first.0 in
     let days = same_times date day s.1 t.1 first.1 in
     ap (λ (x : ℕ). Children x date) ids ∙ ap (λ (x : ℕ). Children jd x) days
-one_command (Terms date limit prefix) (Terms day most other) xs ys w s t same =
+one_command (Terms prefix date limit) (Terms other day most) xs ys w s t same =
     let whole = same_Some _ _ (rest_same xs ys _ _ s.5 t.5 same) in
     let first = peel (decimal date) (decimal day) _ _ (decimal_word date (time_below date s.0)) (decimal_word day (time_below day t.0)) whole in
     let low = s.2 in
@@ -122,8 +122,8 @@ one_command (Terms date limit prefix) (Terms day most other) xs ys w s t same =
     let second = peel (decimal limit) (decimal most) _ _ (decimal_word limit (omega arith)) (decimal_word most (omega arith)) first.1 in
     let days = same_times date day s.0 t.0 first.0 in
     let limits = same_numbers limit most (omega arith) (omega arith) second.0 in
-    ap (λ (x : ℕ). Terms x limit prefix) days ∙ ap (λ (x : ℕ). Terms day x prefix) limits ∙ ap (λ (x : List ℕ). Terms day most x) second.1
-one_command (Search date after limit prefix) (Search day since most other) xs ys w s t same =
+    ap (λ (x : ℕ). Terms prefix x limit) days ∙ ap (λ (x : ℕ). Terms prefix day x) limits ∙ ap (λ (x : List ℕ). Terms x day most) second.1
+one_command (Search prefix date after limit) (Search other day since most) xs ys w s t same =
     let whole = same_Some _ _ (rest_same xs ys _ _ s.7 t.7 same) in
     let first = peel (decimal date) (decimal day) _ _ (decimal_word date (time_below date s.2)) (decimal_word day (time_below day t.2)) whole in
     let second = peel s.0 t.0 _ _ (after_word kinds.Description after s.0 s.1) (after_word kinds.Description since t.0 t.1) first.1 in
@@ -133,7 +133,7 @@ one_command (Search date after limit prefix) (Search day since most other) xs ys
     let days = same_times date day s.2 t.2 first.0 in
     let afters = same_after kinds.Description kinds.Description after since s.0 t.0 refl second.0 s.1 t.1 in
     let limits = same_numbers limit most (omega arith) (omega arith) third.0 in
-    ap (λ (x : ℕ). Search x after limit prefix) days ∙ ap (λ (x : Option ℕ). Search day x limit prefix) afters ∙ ap (λ (x : ℕ). Search day since x prefix) limits ∙ ap (λ (x : List ℕ). Search day since most x) third.1
+    ap (λ (x : ℕ). Search prefix x after limit) days ∙ ap (λ (x : Option ℕ). Search prefix day x limit) afters ∙ ap (λ (x : ℕ). Search prefix day since x) limits ∙ ap (λ (x : List ℕ). Search x day since most) third.1
 one_command (Replaced id date) (Replaced jd day) xs ys w s t same =
     let whole = same_Some _ _ (rest_same xs ys _ _ s.2 t.2 same) in
     let low = s.0.sctid.high in

@@ -12,8 +12,8 @@ pub data Command : Type 0 where
   Get : (kind : Kind) (id date : ℕ) → Command
   History : (kind : Kind) (id : ℕ) → Command
   Children : (concept date : ℕ) → Command
-  Terms : (date limit : ℕ) (prefix : List ℕ) → Command
-  Search : (date : ℕ) (after : Option ℕ) (limit : ℕ) (prefix : List ℕ) → Command
+  Terms : (prefix : List ℕ) (date limit : ℕ) → Command
+  Search : (prefix : List ℕ) (date : ℕ) (after : Option ℕ) (limit : ℕ) → Command
   Replaced : (id date : ℕ) → Command
   About : (kind : Kind) (id date : ℕ) → Command
   Page : (kind : Kind) (date : ℕ) (after : Option ℕ) (limit : ℕ) → Command
@@ -33,8 +33,8 @@ word_of (Import name) = codes "IMPORT"
 word_of (Get kind id date) = codes "GET"
 word_of (History kind id) = codes "HISTORY"
 word_of (Children concept date) = codes "CHILDREN"
-word_of (Terms date limit prefix) = codes "TERMS"
-word_of (Search date after limit prefix) = codes "SEARCH"
+word_of (Terms prefix date limit) = codes "TERMS"
+word_of (Search prefix date after limit) = codes "SEARCH"
 word_of (Replaced id date) = codes "REPLACED"
 word_of (About kind id date) = codes "ABOUT"
 word_of (Page kind date after limit) = codes "PAGE"
@@ -84,10 +84,10 @@ SpellsArguments (History kind id) texts =
     (text : List ℕ) × IsIdOf kind id × SpellsId kind id text × (texts ≡ letter kind ∷ text ∷ [])
 SpellsArguments (Children concept date) texts =
     IsConcept concept × IsTime date × (texts ≡ decimal concept ∷ decimal date ∷ [])
-SpellsArguments (Terms date limit prefix) texts =
+SpellsArguments (Terms prefix date limit) texts =
     IsTime date × (1 ≤ limit) × (limit ≤ most_rows) × (1 ≤ length prefix) × IsUtf8 prefix
     × (texts ≡ decimal date ∷ decimal limit ∷ prefix ∷ [])
-SpellsArguments (Search date after limit prefix) texts =
+SpellsArguments (Search prefix date after limit) texts =
     (text : List ℕ) × SpellsAfter kinds.Description after text × IsTime date × (1 ≤ limit)
     × (limit ≤ most_rows) × (1 ≤ length prefix) × IsUtf8 prefix
     × (texts ≡ decimal date ∷ text ∷ decimal limit ∷ prefix ∷ [])

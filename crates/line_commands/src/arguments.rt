@@ -63,9 +63,9 @@ fn terms(text: &[u8]) -> Option<Command<'_>>
     let limit = limit(most, MOST_ROWS)?;
     let prefix = prefix(rest)?;
     Some(Command::Terms {
+        prefix,
         time,
         limit,
-        prefix,
     })
 }
 
@@ -79,10 +79,10 @@ fn search(text: &[u8]) -> Option<Command<'_>>
     let limit = limit(most, MOST_ROWS)?;
     let prefix = prefix(rest)?;
     Some(Command::Search {
+        prefix,
         time,
         after,
         limit,
-        prefix,
     })
 }
 
@@ -189,7 +189,7 @@ fn with_arguments(word: Word, text: &[u8]) -> Option<Command<'_>>
 }
 
 /// The command with this word, and what stands behind it.
-pub fn command<'a>(word: Word, rest: Option<&'a [u8]>) -> Option<Command<'a>>
+pub(crate) fn command<'a>(word: Word, rest: Option<&'a [u8]>) -> Option<Command<'a>>
     ensures { IsReadAs (text_of_word word) (option_map (λ text. text.now) rest.entry) result }
 {
     match rest {

@@ -13,7 +13,7 @@ use crate::command::SESSIONS;
 use rf2_values::{Class, EffectiveTime, Kind, Member, Sctid, number};
 
 /// A session's number.
-pub fn session(text: &[u8]) -> Option<u16>
+pub(crate) fn session(text: &[u8]) -> Option<u16>
     ensures { MatchOption result ((n : ℕ) → n < sessions → text.now ≢ decimal n)
         (λ n. (n < sessions) × (text.now ≡ decimal n)) }
 {
@@ -24,7 +24,7 @@ pub fn session(text: &[u8]) -> Option<u16>
 }
 
 /// The kind with this letter.
-pub fn kind(text: &[u8]) -> Option<Kind>
+pub(crate) fn kind(text: &[u8]) -> Option<Kind>
     ensures { MatchOption result ((k : Kind) → text.now ≢ letter k) (λ k. text.now ≡ letter k) }
 {
     match text {
@@ -38,7 +38,7 @@ pub fn kind(text: &[u8]) -> Option<Kind>
 }
 
 /// A number from 1 to a greatest one.
-pub fn limit(text: &[u8], most: u32) -> Option<u32>
+pub(crate) fn limit(text: &[u8], most: u32) -> Option<u32>
     ensures { MatchOption result ((n : ℕ) → 1 ≤ n → n ≤ most → text.now ≢ decimal n)
         (λ n. (1 ≤ n) × (n ≤ most) × (text.now ≡ decimal n)) }
 {
@@ -49,7 +49,7 @@ pub fn limit(text: &[u8], most: u32) -> Option<u32>
 }
 
 /// The number of an import, given or not.
-pub fn import_number(text: &[u8]) -> Option<u32>
+pub(crate) fn import_number(text: &[u8]) -> Option<u32>
     ensures { MatchOption result ((n : ℕ) → n < 2 ^ 32 → text.now ≢ decimal n)
         (λ n. (n < 2 ^ 32) × (text.now ≡ decimal n)) }
 {
@@ -57,7 +57,7 @@ pub fn import_number(text: &[u8]) -> Option<u32>
 }
 
 /// An SCTID of a class.
-pub fn sctid_of(text: &[u8], class: Class) -> Option<Sctid>
+pub(crate) fn sctid_of(text: &[u8], class: Class) -> Option<Sctid>
     ensures { MatchOption result ((n : ℕ) → IsOfClass class n → text.now ≢ decimal n)
         (λ n. IsOfClass class n × (text.now ≡ decimal n)) }
 {
@@ -70,7 +70,7 @@ pub fn sctid_of(text: &[u8], class: Class) -> Option<Sctid>
 }
 
 /// The identifier of a concept, a description or a relationship.
-pub fn component(text: &[u8]) -> Option<Sctid>
+pub(crate) fn component(text: &[u8]) -> Option<Sctid>
     ensures { MatchOption result ((n : ℕ) → IsComponent n → text.now ≢ decimal n)
         (λ n. IsComponent n × (text.now ≡ decimal n)) }
 {
@@ -90,7 +90,7 @@ fn member(text: &[u8]) -> Option<u128>
 }
 
 /// A date, as the column effectiveTime has it.
-pub fn date(text: &[u8]) -> Option<EffectiveTime>
+pub(crate) fn date(text: &[u8]) -> Option<EffectiveTime>
     ensures { MatchOption result ((t : ℕ) → IsTime t → text.now ≢ decimal t)
         (λ t. IsTime t × (text.now ≡ decimal t)) }
 {
@@ -101,7 +101,7 @@ pub fn date(text: &[u8]) -> Option<EffectiveTime>
 }
 
 /// An identifier of a kind.
-pub fn identifier(kind: Kind, text: &[u8]) -> Option<u128>
+pub(crate) fn identifier(kind: Kind, text: &[u8]) -> Option<u128>
     ensures { MatchOption result ((n : ℕ) → IsIdOf kind n → SpellsId kind n text.now → ⊥)
         (λ n. IsIdOf kind n × SpellsId kind n text.now) }
 {
@@ -116,7 +116,7 @@ pub fn identifier(kind: Kind, text: &[u8]) -> Option<u128>
 }
 
 /// The identifier of what a row of a kind can be about.
-pub fn subject(kind: Kind, text: &[u8]) -> Option<Sctid>
+pub(crate) fn subject(kind: Kind, text: &[u8]) -> Option<Sctid>
     ensures { MatchOption result ((n : ℕ) → IsSubjectOf kind n → text.now ≢ decimal n)
         (λ n. IsSubjectOf kind n × (text.now ≡ decimal n)) }
 {
@@ -128,7 +128,7 @@ pub fn subject(kind: Kind, text: &[u8]) -> Option<Sctid>
 }
 
 /// What a term may begin with: a text in UTF-8 that isn't empty.
-pub fn prefix(text: &[u8]) -> Option<&str>
+pub(crate) fn prefix(text: &[u8]) -> Option<&str>
     ensures { MatchOption result (1 ≤ length text.now → IsUtf8 text.now → ⊥)
         (λ p. (1 ≤ length p.now) × IsUtf8 p.now × (p.now ≡ text.now)) }
 {
@@ -142,7 +142,7 @@ pub fn prefix(text: &[u8]) -> Option<&str>
 }
 
 /// An identifier of a kind, or `-` for none.
-pub fn after(kind: Kind, text: &[u8]) -> Option<Option<u128>>
+pub(crate) fn after(kind: Kind, text: &[u8]) -> Option<Option<u128>>
     ensures { MatchOption result ((o : Option ℕ) → SpellsAfter kind o text.now → ⊥)
         (λ o. SpellsAfter kind o text.now) }
 {

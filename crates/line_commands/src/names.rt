@@ -26,7 +26,7 @@ fn is_name_part(part: &[u8]) -> bool
 }
 
 /// Whether the text is a name of a release.
-pub fn is_name(text: &[u8]) -> bool
+pub(crate) fn is_name(text: &[u8]) -> bool
     ensures { IsTrue result ↔ IsName text.now }
 {
     if text.len() > 1024 {

@@ -9,7 +9,7 @@ use bstr::ByteSlice;
 
 /// The word of a command.
 #[derive(Clone, Copy)]
-pub enum Word {
+pub(crate) enum Word {
     Import,
     Get,
     History,
@@ -31,7 +31,7 @@ pub enum Word {
 }
 
 /// What stands before the first space, and what stands behind it, if there is one.
-pub fn first_word(text: &[u8]) -> (&[u8], Option<&[u8]>)
+pub(crate) fn first_word(text: &[u8]) -> (&[u8], Option<&[u8]>)
     ensures word { IsWord result.0.now }
     ensures whole { text.now ≡ with_rest result.0.now (option_map (λ rest. rest.now) result.1) }
 {
@@ -42,7 +42,7 @@ pub fn first_word(text: &[u8]) -> (&[u8], Option<&[u8]>)
 }
 
 /// The word before the first space, and what stands behind it.
-pub fn cut(text: &[u8]) -> Option<(&[u8], &[u8])>
+pub(crate) fn cut(text: &[u8]) -> Option<(&[u8], &[u8])>
     ensures { MatchOption result (IsWord text.now)
         (λ x. IsWord x.0.now × (text.now ≡ x.0.now ++ 32 ∷ x.1.now)) }
 {
@@ -51,7 +51,7 @@ pub fn cut(text: &[u8]) -> Option<(&[u8], &[u8])>
 }
 
 /// Two words, and what stands behind the spaces after them.
-pub fn cut_twice(text: &[u8]) -> Option<(&[u8], &[u8], &[u8])>
+pub(crate) fn cut_twice(text: &[u8]) -> Option<(&[u8], &[u8], &[u8])>
     ensures { MatchOption result
         ((a b x : List ℕ) → IsWord a → IsWord b → text.now ≢ a ++ 32 ∷ (b ++ 32 ∷ x))
         (λ x. IsWord x.0.now × IsWord x.1.now
@@ -63,7 +63,7 @@ pub fn cut_twice(text: &[u8]) -> Option<(&[u8], &[u8], &[u8])>
 }
 
 /// The command that the text names.
-pub fn command_word(text: &[u8]) -> Option<Word>
+pub(crate) fn command_word(text: &[u8]) -> Option<Word>
     ensures { MatchOption result ((command : Asked) → text.now ≢ word_of command)
         (λ w. text.now ≡ text_of_word w) }
 {

@@ -1,13 +1,13 @@
 -- Lines that are too long are answered alike.
 use Rattle.std.proofs.Common.{◌≡◌, ℕ, ◌<◌, List, [], ◌∷◌, length, Option, Some, None, IfSome, Result, subst, arith, inl, inr}
+use Rattle.disk_model.specs.DeviceView.{DeviceView}
 use Rattle.std.specs.List.{AllByRecursion}
-use Rattle.disk_model.specs.Disk.{Moments}
 use Rattle.import_check.specs.declared.release.Release.{Release}
 use Rattle.line_commands.specs.declared.unread.Unread.{Unread}
 use Rattle.line_commands.specs.declared.unread.Unread.TheVariants as unread
 use Rattle.line_commands.specs.Requests.{IsUnread}
 use Rattle.line_server.specs.declared.refusal.LineRefusal.{LineRefusal}
-use Rattle.line_server.specs.Sources.{Releases}
+use Rattle.line_server.specs.Sources.{Releases, SourceView}
 use Rattle.line_server.specs.ReplyValue.{Answer}
 use Rattle.line_server.specs.Replies.{Server, Replies}
 use Rattle.line_server.specs.Turns.{Turn, GoesBy, IsTurn, IsAskedFor}
@@ -44,12 +44,12 @@ module _ {D : Type 0} (outcome : Result Answer LineRefusal) (taken : List Releas
     failed = some_asked_for releases x y failed long g.failed;
   }
 
-  module _ (honest_source : Type 0) (has : Releases) (honest : D → Type 0) (moments : D → Moments) (failures : D → ℕ) where
-    pub turn_alike : (x y : List ℕ) → 4096 < length x → 4096 < length y → IsTurn honest_source has honest moments failures old (turn_of x) new → IsTurn honest_source has honest moments failures old (turn_of y) new
+  module _ (source : SourceView) (view : DeviceView D) where
+    pub turn_alike : (x y : List ℕ) → 4096 < length x → 4096 < length y → IsTurn source view old (turn_of x) new → IsTurn source view old (turn_of y) new
     turn_alike x y long other t = record {
       releases = t.releases;
-      goes = goes_alike (honest old.store.disk) t.releases x y long other t.goes;
-      own = λ h. goes_alike (honest old.store.disk) has x y long other (t.own h);
+      goes = goes_alike (view.is_honest old.store.disk) t.releases x y long other t.goes;
+      own = λ h. goes_alike (view.is_honest old.store.disk) source.releases x y long other (t.own h);
       imports = t.imports;
       one = t.one;
       counts = t.counts;
@@ -57,14 +57,19 @@ module _ {D : Type 0} (outcome : Result Answer LineRefusal) (taken : List Releas
     }
 
     -- what was answered for the source as it is now was answered for the source as it was
-    pub turn_now : (source : Type 0) (now : Releases) (line : List ℕ) → (honest_source → source × (now ≡ has))
-        → IsTurn source now honest moments failures old (turn_of line) new → IsTurn honest_source has honest moments failures old (turn_of line) new
-    turn_now source now line same t = record {
+    pub turn_now : (now : SourceView) (line : List ℕ) → (source.is_honest → now.is_honest × (now.releases ≡ source.releases))
+        → IsTurn now view old (turn_of line) new → IsTurn source view old (turn_of line) new
+    turn_now now line same t = record {
       releases = t.releases;
       goes = t.goes;
-      own = λ h. subst (λ (r : Releases). GoesBy (honest old.store.disk) r old (turn_of line) new) (same h).1 (t.own (same h).0);
+      own = λ h. subst (λ (r : Releases). GoesBy (view.is_honest old.store.disk) r old (turn_of line) new) (same h).1 (t.own (same h).0);
       imports = t.imports;
       one = t.one;
       counts = t.counts;
       disk = t.disk;
     }
+
+-- a turn on a line, as a turn on the same line under another name
+pub turn_on : {D : Type 0} (source : SourceView) (view : DeviceView D) (old new : Server D) (turn : Turn) (line : List ℕ) → turn.line ≡ line → IsTurn source view old turn new
+    → IsTurn source view old (turn_of turn.outcome turn.releases turn.failed old new line) new
+turn_on source view old new turn line same t = subst (λ (l : List ℕ). IsTurn source view old (turn_of turn.outcome turn.releases turn.failed old new l) new) same t

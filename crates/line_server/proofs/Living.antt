@@ -1,5 +1,6 @@
 -- What stops leave of a store, one after the other, and what is opened of it.
 use Rattle.std.proofs.Common.{◌≡◌, ◌⊎◌, inl, inr, ℕ, suc, ◌≤◌, ◌+◌, Bool, true, false, List, [], ◌∷◌, ◌++◌, length, Option, Some, None, Result, Ok, refl, sym, ap, subst, ◌∙◌, arith, append_assoc, append-nil, length-append}
+use Rattle.disk_model.specs.DeviceView.{DeviceView}
 use Rattle.std.specs.Prelude.{All, MatchResult}
 use Rattle.std.proofs.lemmas.List.{append_cancel_right}
 use Rattle.std.proofs.lemmas.List.Elements.{All-cons, All-contains}
@@ -12,7 +13,7 @@ use Rattle.history_store.specs.declared.refusal.Refusal.{Refusal}
 use Rattle.history_store.specs.declared.refusal.Refusal.TheVariants as store
 use Rattle.history_store.specs.StoreValue.{StoreValue, IsAcknowledged}
 use Rattle.history_store.specs.Answers.{IsOpeningOf, StandsWith}
-use Rattle.line_server.specs.Sources.{Releases}
+use Rattle.line_server.specs.Sources.{Releases, SourceView, source_view}
 use Rattle.line_server.specs.Replies.{Server, server}
 use Rattle.line_server.specs.Imports.{TakesAll, StandsAfter, RepresentsSome, RepresentsAll, StandsWithFailed}
 use Rattle.line_server.specs.Turns.{Turn, IsTurn, Run, imported, failed_in}
@@ -79,42 +80,42 @@ module _ (stage : Stage) (h : History) (bytes : List ℕ) where
     cut_remains none (inl f) = cut_front f.0 f.2 (short_front f.0 f.1.0 (imported stage.cut_off) f.1.1 few)
     cut_remains none (inr w) = cut_failed (failed_in stage.cut_off) refl none w
 
-module _ {D : Type 0} (has : Releases) (honest : D → Type 0) (moments : D → Moments) (failures : D → ℕ) where
+module _ {D : Type 0} (has : Releases) (view : DeviceView D) where
   -- one line imports one release at most
-  one_at_most : (turns : List Turn) (old new : Server D) → length turns ≤ 1 → Run ⊥ has honest moments failures old turns new → length (imported turns) ≤ 1
+  one_at_most : (turns : List Turn) (old new : Server D) → length turns ≤ 1 → Run (source_view ⊥ has) view old turns new → length (imported turns) ≤ 1
   one_at_most [] old new few run = omega arith
   one_at_most (turn ∷ []) old new few run = let one = run.1.one in let n = ap length (append-nil turn.releases) in omega (arith, one, n)
   one_at_most (turn ∷ other ∷ more) old new few run = absurd (omega (arith, few))
 
   -- and none where the device fails
-  none_at_failure : (turns : List Turn) (old new : Server D) → length turns ≤ 1 → honest old.store.disk → Run ⊥ has honest moments failures old turns new → (release : Release) → failed_in turns ≡ Some release → imported turns ≡ []
+  none_at_failure : (turns : List Turn) (old new : Server D) → length turns ≤ 1 → view.is_honest old.store.disk → Run (source_view ⊥ has) view old turns new → (release : Release) → failed_in turns ≡ Some release → imported turns ≡ []
   none_at_failure [] old new few up run release failed = refl
   none_at_failure (turn ∷ []) old new few up run release failed =
-      append-nil turn.releases ∙ failed_took_none honest moments failures has old run.0 turn up run.1 release (sym (else_none_right turn.failed) ∙ failed) where
+      append-nil turn.releases ∙ failed_took_none view has old run.0 turn up run.1 release (sym (else_none_right turn.failed) ∙ failed) where
         else_none_right : (f : Option Release) → failed_in (record { line = turn.line; outcome = turn.outcome; releases = turn.releases; failed = f } ∷ []) ≡ f
         else_none_right f = else_none f
   none_at_failure (turn ∷ other ∷ more) old new few up run release failed = absurd (omega (arith, few))
 
-  module _ (first : Server D) (stage : Stage) (bytes : List ℕ) (up : honest first.store.disk) (ack : IsAcknowledged moments first.store) (s : IsStage has honest moments failures first stage bytes) where
+  module _ (first : Server D) (stage : Stage) (bytes : List ℕ) (up : view.is_honest first.store.disk) (ack : IsAcknowledged view.moments first.store) (s : IsStage has view first stage bytes) where
     -- the store is open when the stop comes, or it isn't
     by_state : (needs : Bool) → s.mid.store.needs_reopen ≡ needs → Remains stage first.store.history bytes
     by_state false is =
-        let before = run_imported honest moments failures ⊥ has first s.mid stage.answered s.answered in
-        let after = run_imported honest moments failures ⊥ has s.mid s.end stage.cut_off s.cut_off in
+        let before = run_imported view (source_view ⊥ has) first s.mid stage.answered s.answered in
+        let after = run_imported view (source_view ⊥ has) s.mid s.end stage.cut_off s.cut_off in
         let up_now = before.honesty.0 up in
         cut_remains stage first.store.history bytes s.mid.store.history (before.history up)
         (one_at_most stage.cut_off s.mid s.end s.one s.cut_off)
         (none_at_failure stage.cut_off s.mid s.end s.one up_now s.cut_off)
-        (left_has (moments s.mid.store.disk) (moments s.end.store.disk) (RepresentsSome s.mid.store.history (imported stage.cut_off) (failed_in stage.cut_off)) bytes
+        (left_has (view.moments s.mid.store.disk) (view.moments s.end.store.disk) (RepresentsSome s.mid.store.history (imported stage.cut_off) (failed_in stage.cut_off)) bytes
         (after.any_moment up_now (before.acknowledged up ack is)) s.left)
     by_state true is =
-        let before = run_imported honest moments failures ⊥ has first s.mid stage.answered s.answered in
-        let after = run_imported honest moments failures ⊥ has s.mid s.end stage.cut_off s.cut_off in
+        let before = run_imported view (source_view ⊥ has) first s.mid stage.answered s.answered in
+        let after = run_imported view (source_view ⊥ has) s.mid s.end stage.cut_off s.cut_off in
         let P = RepresentsAll first.store.history (imported stage.answered) (failed_in stage.answered) in
-        let m = moments s.mid.store.disk in
+        let m = view.moments s.mid.store.disk in
         failed_remains stage first.store.history bytes (failed_in stage.answered) refl
         (left_has m m P bytes (started m P (before.afterwards up ack))
-        (subst (λ (d : StoreValue D). StopLeaves m (moments d.disk) bytes) (after.closed is).0 s.left))
+        (subst (λ (d : StoreValue D). StopLeaves m (view.moments d.disk) bytes) (after.closed is).0 s.left))
 
     pub stage_remains : Remains stage first.store.history bytes
     stage_remains = by_state s.mid.store.needs_reopen refl
@@ -131,25 +132,25 @@ module _ {D : Type 0} (has : Releases) (honest : D → Type 0) (moments : D → 
   -- ---- openings
 
   -- whatever openings were cut off or refused before, the store is opened of the bytes
-  pub reopened : (openings : List (D × D)) (bytes : List ℕ) (s : StoreValue D) → IsReopened honest moments bytes openings s → IsOpeningOf (Ok s) bytes × honest s.disk × IsAcknowledged moments s
+  pub reopened : (openings : List (D × D)) (bytes : List ℕ) (s : StoreValue D) → IsReopened view bytes openings s → IsOpeningOf (Ok s) bytes × view.is_honest s.disk × IsAcknowledged view.moments s
   reopened [] bytes s r = (subst (λ (b : List ℕ). IsOpeningOf (Ok s) b) r.1.read r.1.exact, r.1.honesty, r.1.acknowledged)
   reopened (opening ∷ more) bytes s r =
-      let same : r.0 ≡ bytes = r.1.stop r.0 (left_has (moments opening.0) (moments opening.1) (IsImage (moments opening.0).state) r.0 r.1.any_moment r.1.is_left) in
-      reopened more bytes s (subst (λ (b : List ℕ). IsReopened honest moments b more s) same r.2)
+      let same : r.0 ≡ bytes = r.1.stop r.0 (left_has (view.moments opening.0) (view.moments opening.1) (IsImage (view.moments opening.0).state) r.0 r.1.any_moment r.1.is_left) in
+      reopened more bytes s (subst (λ (b : List ℕ). IsReopened view b more s) same r.2)
 
   -- ---- lives
 
   pub record HasLived (first : StoreValue D) (life : List Stage) (last : StoreValue D) : Type 0 where
-    pub honesty : honest last.disk
-    pub acknowledged : IsAcknowledged moments last
+    pub honesty : view.is_honest last.disk
+    pub acknowledged : IsAcknowledged view.moments last
     pub releases : List Release
     pub kept : AreKept life releases
     pub takes : TakesAll first.history releases last.history
 
-  pub lived : (life : List Stage) (first last : StoreValue D) → honest first.disk → IsAcknowledged moments first → IsLife has honest moments failures first life last → HasLived first life last
+  pub lived : (life : List Stage) (first last : StoreValue D) → view.is_honest first.disk → IsAcknowledged view.moments first → IsLife has view first life last → HasLived first life last
   lived [] first last up ack same = record {
-    honesty = subst (λ (s : StoreValue D). honest s.disk) (sym same) up;
-    acknowledged = subst (λ (s : StoreValue D). IsAcknowledged moments s) (sym same) ack;
+    honesty = subst (λ (s : StoreValue D). view.is_honest s.disk) (sym same) up;
+    acknowledged = subst (λ (s : StoreValue D). IsAcknowledged view.moments s) (sym same) ack;
     releases = [];
     kept = refl;
     takes = ap (λ (s : StoreValue D). s.history) same;
@@ -216,26 +217,26 @@ kept_are_acknowledged (stage ∷ life) releases kept =
 
 -- ---- what is told of a source is told of none
 
-pub turn_of_none : {D : Type 0} (source : Type 0) (has : Releases) (honest : D → Type 0) (moments : D → Moments) (failures : D → ℕ) (old : Server D) (turn : Turn) (new : Server D) → IsTurn source has honest moments failures old turn new → IsTurn ⊥ has honest moments failures old turn new
-turn_of_none source has honest moments failures old turn new t =
+pub turn_of_none : {D : Type 0} (source : SourceView) (view : DeviceView D) (old : Server D) (turn : Turn) (new : Server D) → IsTurn source view old turn new → IsTurn (source_view ⊥ source.releases) view old turn new
+turn_of_none source view old turn new t =
     record { releases = t.releases; goes = t.goes; own = λ none. absurd none; imports = t.imports; one = t.one; counts = t.counts; disk = t.disk }
 
-pub run_of_none : {D : Type 0} (source : Type 0) (has : Releases) (honest : D → Type 0) (moments : D → Moments) (failures : D → ℕ) (turns : List Turn) (old new : Server D) → Run source has honest moments failures old turns new → Run ⊥ has honest moments failures old turns new
-run_of_none source has honest moments failures [] old new run = run
-run_of_none source has honest moments failures (turn ∷ turns) old new run =
-    (run.0, turn_of_none source has honest moments failures old turn run.0 run.1, run_of_none source has honest moments failures turns run.0 new run.2)
+pub run_of_none : {D : Type 0} (source : SourceView) (view : DeviceView D) (turns : List Turn) (old new : Server D) → Run source view old turns new → Run (source_view ⊥ source.releases) view old turns new
+run_of_none source view [] old new run = run
+run_of_none source view (turn ∷ turns) old new run =
+    (run.0, turn_of_none source view old turn run.0 run.1, run_of_none source view turns run.0 new run.2)
 
-module _ (D : Type 0) (honest : D → Type 0) (moments : D → Moments) (failures : D → ℕ) where
-  pub each_life_keeps : EachLifeKeepsItsImports D honest moments failures
+module _ (D : Type 0) (view : DeviceView D) where
+  pub each_life_keeps : EachLifeKeepsItsImports D view
   each_life_keeps has first last life pins turns now up ack lives run =
-      let l = lived has honest moments failures life first last up ack lives in
-      let after = run_imported honest moments failures ⊥ has (server pins last) now turns run in
+      let l = lived has view life first last up ack lives in
+      let after = run_imported view (source_view ⊥ has) (server pins last) now turns run in
       (l.releases, l.kept, takes_more first.history last.history now.store.history l.releases (imported turns) l.takes (after.history l.honesty))
 
-  pub each_life_opens : EachLifeIsOpened D honest moments failures
+  pub each_life_opens : EachLifeIsOpened D view
   each_life_opens has first last life pins stage bytes result up ack lives stops is =
-      let l = lived has honest moments failures life first last up ack lives in
-      let r = stage_remains has honest moments failures (server pins last) stage bytes l.honesty l.acknowledged stops in
+      let l = lived has view life first last up ack lives in
+      let r = stage_remains has view (server pins last) stage bytes l.honesty l.acknowledged stops in
       let tail = imported stage.answered ++ r.0 in
       opened_as r.2.0 bytes (λ (k : History). (releases : List Release) × AreKept (life ++ stage ∷ []) releases × TakesAll first.history releases k) r.2.2
       (l.releases ++ tail, kept_more life stage l.releases r.0 l.kept r.1, takes_more first.history last.history r.2.0 l.releases tail l.takes r.2.1)

@@ -200,8 +200,8 @@ module _ {D : Type 0} (honest : Type 0) (up : honest) (releases : Releases) (ses
   ok_told Status x f h = told_pair Status (Ok x) refl refl (ap Ok h.2 ∙ open_still _ old h.0, same_from old new h.1)
   ok_told (Get kind id date) x f h = query_told (Get kind id date) x refl refl refl h
   ok_told (AllOf kind id) x f h = query_told (AllOf kind id) x refl refl refl h
-  ok_told (Terms date limit prefix) x f h = query_told (Terms date limit prefix) x refl refl refl h
-  ok_told (Search date after limit prefix) x f h = query_told (Search date after limit prefix) x refl refl refl h
+  ok_told (Terms prefix date limit) x f h = query_told (Terms prefix date limit) x refl refl refl h
+  ok_told (Search prefix date after limit) x f h = query_told (Search prefix date after limit) x refl refl refl h
   ok_told (Replaced id date) x f h = query_told (Replaced id date) x refl refl refl h
   ok_told (About kind id date) x f h = query_told (About kind id date) x refl refl refl h
   ok_told (Page kind date after limit) x f h = query_told (Page kind date after limit) x refl refl refl h
@@ -220,8 +220,8 @@ module _ {D : Type 0} (honest : Type 0) (up : honest) (releases : Releases) (ses
   store_told Status e f u h = told_pair Status (refused e) refl refl (closed_told honest up old new _ e h)
   store_told (Get kind id date) e f u h = told_pair (Get kind id date) (refused e) refl refl (unfound_told honest up old new _ e u h)
   store_told (AllOf kind id) e f u h = told_pair (AllOf kind id) (refused e) refl refl (unfound_told honest up old new _ e u h)
-  store_told (Terms date limit prefix) e f u h = told_pair (Terms date limit prefix) (refused e) refl refl (unfound_told honest up old new _ e u h)
-  store_told (Search date after limit prefix) e f u h = told_pair (Search date after limit prefix) (refused e) refl refl (unfound_told honest up old new _ e u h)
+  store_told (Terms prefix date limit) e f u h = told_pair (Terms prefix date limit) (refused e) refl refl (unfound_told honest up old new _ e u h)
+  store_told (Search prefix date after limit) e f u h = told_pair (Search prefix date after limit) (refused e) refl refl (unfound_told honest up old new _ e u h)
   store_told (Replaced id date) e f u h = told_pair (Replaced id date) (refused e) refl refl (unfound_told honest up old new _ e u h)
   store_told (About kind id date) e f u h = told_pair (About kind id date) (refused e) refl refl (unfound_told honest up old new _ e u h)
   store_told (Page kind date after limit) e f u h = told_pair (Page kind date after limit) (refused e) refl refl (unfound_told honest up old new _ e u h)

@@ -5,7 +5,7 @@ use Rattle.std.proofs.lemmas.Bool.{false≢true}
 use Rattle.history_model.specs.History.{rows_at}
 use Rattle.history_store.specs.declared.refusal.Refusal.{Refusal}
 use Rattle.history_store.specs.declared.refusal.Refusal.TheVariants as store
-use Rattle.line_commands.specs.Commands.{Command, Import, Get, History, Children, Terms, Search, Replaced, About, Page, Receipt as AskReceipt, Pin, Unpin, Merge, Step, Publish, Abandon, Trim, Status}
+use Rattle.line_commands.specs.Commands.{Command, Get, History, Children, Terms, Search, Replaced, About, Page}
 use Rattle.line_commands.specs.Requests.{Asks}
 use Rattle.line_commands.proofs.Readings.{one_reading, asked_is_read}
 use Rattle.line_server.specs.declared.refusal.LineRefusal.{LineRefusal}
@@ -40,8 +40,8 @@ module _ {D : Type 0} (honest : Type 0) (releases : Releases) (old new : Server 
   answer_found (Get kind id date) answer q a = exact_finding honest _ query answer h q a.2
   answer_found (History kind id) answer q a = exact_finding honest _ query answer h q a.2
   answer_found (Children concept date) answer q a = exact_finding honest _ query answer h q a.2
-  answer_found (Terms date limit prefix) answer q a = exact_finding honest _ query answer h q a.2
-  answer_found (Search date after limit prefix) answer q a = exact_finding honest _ query answer h q a.2
+  answer_found (Terms prefix date limit) answer q a = exact_finding honest _ query answer h q a.2
+  answer_found (Search prefix date after limit) answer q a = exact_finding honest _ query answer h q a.2
   answer_found (Replaced id date) answer q a = exact_finding honest _ query answer h q a.2
   answer_found (About kind id date) answer q a = exact_finding honest _ query answer h q a.2
   answer_found (Page kind date after limit) answer q a = exact_finding honest _ query answer h q a.2
@@ -58,8 +58,8 @@ module _ {D : Type 0} (honest : Type 0) (releases : Releases) (old new : Server 
   refused_unsure : {A : Type 0} (command : Command) (refusal : Refusal) → found command (shown old session) ≡ Some query → IsSure (Err (refusals.Store refusal)) → IsStoreRefusal honest releases session command refusal old new → A
   refused_unsure (Get kind id date) refusal q sure r = unfound refusal sure r
   refused_unsure (History kind id) refusal q sure r = unfound refusal sure r
-  refused_unsure (Terms date limit prefix) refusal q sure r = unfound refusal sure r
-  refused_unsure (Search date after limit prefix) refusal q sure r = unfound refusal sure r
+  refused_unsure (Terms prefix date limit) refusal q sure r = unfound refusal sure r
+  refused_unsure (Search prefix date after limit) refusal q sure r = unfound refusal sure r
   refused_unsure (Replaced id date) refusal q sure r = unfound refusal sure r
   refused_unsure (About kind id date) refusal q sure r = unfound refusal sure r
   refused_unsure (Page kind date after limit) refusal q sure r = unfound refusal sure r

@@ -1,5 +1,6 @@
 -- How far serving has come.
 use Rattle.std.proofs.lemmas.Bool.{false≢true}
+use Rattle.disk_model.specs.DeviceView.{DeviceView}
 use Rattle.std.proofs.Common.{◌≡◌, ℕ, Bool, ◌==◌, false, eqb, cond, ◌*◌, ◌<◌, ◌≤◌, ◌+◌, ◌-◌, ◌^◌, List, [], ◌∷◌, ◌++◌, length, length-append, append-nil, append_assoc, take, drop, get_or, take-append-drop, min, All, Option, Some, None, IfSome, refl, sym, ap, subst, ◌∙◌, arith, Result, Ok, Err}
 use Rattle.std.specs.Io.KnownBytes.{Appends, Consumes, IsAtEnd}
 use Rattle.std.proofs.KnownBytes.{Appends-nil, Appends-trans, Consumes-nil, Consumes-trans}
@@ -8,24 +9,23 @@ use Rattle.std.proofs.lemmas.List.Sums.{count_by_more_no, count_by_more_yes, sum
 use Rattle.std.proofs.lemmas.List.Elements.{All-head, All-tail}
 use Rattle.std.proofs.lemmas.Grind.{flat_map-append}
 use Rattle.bstr.specs.Text.{no_cr}
-use Rattle.disk_model.specs.Disk.{Moments}
 use Rattle.import_check.specs.declared.release.Release.{Release}
 use Rattle.rf2_rows.specs.File.{lines_in}
 use Rattle.history_store.specs.StoreValue.{StoreValue}
 use Rattle.line_server.specs.declared.refusal.LineRefusal.{LineRefusal}
 use Rattle.line_server.specs.declared.serving.ServeFault.{ServeFault}
 use Rattle.line_server.specs.declared.serving.ServeFault.TheVariants as faults
-use Rattle.line_server.specs.Sources.{Releases}
+use Rattle.line_server.specs.Sources.{SourceView}
 use Rattle.line_server.specs.ReplyValue.{Answer, reply_value, bytes_of}
 use Rattle.line_server.specs.Pins.{unpinned}
 use Rattle.line_server.specs.Replies.{Server, server}
 use Rattle.line_server.specs.Imports.{IsFront}
 use Rattle.line_server.specs.Turns.{Turn, Run, IsTurn, lines_asked, replies}
-use Rattle.line_server.specs.Streams.{ends_in, AppendsSome}
+use Rattle.line_server.specs.Streams.{ends_in, AppendsSome, streams, with_reads}
 use Rattle.line_server.specs.Reads.{Reading, Gave, Failed, came_of, all_of, IsPiece, Makes}
-use Rattle.line_server.specs.Serving.{IsServedIn, AreLines, IsRead, IsWritten, IsCount, AreReads}
+use Rattle.line_server.specs.Serving.{IsServed, AreLines, IsRead, IsWritten, IsCount, AreReads}
 use Rattle.line_server.specs.Steps.{kept, room}
-use Rattle.line_server.specs.Feeding.{IsUnended, AreCut, IsFed}
+use Rattle.line_server.specs.Feeding.{IsUnended, AreCut, IsFed, Intake, intake}
 use Rattle.line_server.proofs.Alike.{turn_of, turn_alike, turn_now}
 use Rattle.line_server.proofs.Cuts.{cut_none, cut_part, cut_more, cut_byte, cut_line, cut_end, cut_rest, cut_front, kept_more, kept_none, kept_some, kept_ended, kept_unended}
 use Rattle.line_server.proofs.Imported.{run_imported}
@@ -91,7 +91,7 @@ is_piece n buf some within long = (omega (arith, some, within, length-take n buf
 
 -- ---- the turns so far
 
-module _ {D : Type 0} (honest_source : Type 0) (has : Releases) (honest : D → Type 0) (moments : D → Moments) (failures : D → ℕ) where
+module _ {D : Type 0} (source : SourceView) (view : DeviceView D) where
   -- the bytes that came, and what became of them
   pub record Progress (old new : Option (List ℕ)) (before now : Server D) (seen buffer : List ℕ) (served : ℕ) : Type 0 where
     pub turns : List Turn
@@ -99,14 +99,14 @@ module _ {D : Type 0} (honest_source : Type 0) (has : Releases) (honest : D → 
     pub cut : AreCut seen (lines_asked turns) part
     pub ends : length turns ≡ ends_in seen
     pub buffer_is : buffer ≡ kept part
-    pub run : Run honest_source has honest moments failures before turns now
+    pub run : Run source view before turns now
     pub written : Appends old new (replies turns)
     pub count : served ≡ min (length turns) (2 ^ 64 - 1)
 
   -- one line more
-  run_more : (old mid new : Server D) (turns : List Turn) (turn : Turn) → Run honest_source has honest moments failures old turns mid → IsTurn honest_source has honest moments failures mid turn new
-      → Run honest_source has honest moments failures old (turns ++ turn ∷ []) new
-  run_more old mid new [] turn e t = (new, subst (λ (s : Server D). IsTurn honest_source has honest moments failures s turn new) e t, refl)
+  run_more : (old mid new : Server D) (turns : List Turn) (turn : Turn) → Run source view old turns mid → IsTurn source view mid turn new
+      → Run source view old (turns ++ turn ∷ []) new
+  run_more old mid new [] turn e t = (new, subst (λ (s : Server D). IsTurn source view s turn new) e t, refl)
   run_more old mid new (first ∷ turns) turn r t = (r.0, r.1, run_more r.0 mid new turns turn r.2 t)
 
   asked_more : (turns : List Turn) (turn : Turn) → lines_asked turns ++ turn.line ∷ [] ≡ lines_asked (turns ++ turn ∷ [])
@@ -182,15 +182,15 @@ module _ {D : Type 0} (honest_source : Type 0) (has : Releases) (honest : D → 
 
     -- the line as it was kept was answered so
     abbrev pub Gives : List ℕ → Type 0
-    Gives line = IsTurn honest_source has honest moments failures now (turn line) after
+    Gives line = IsTurn source view now (turn line) after
 
     gives_ended : (part buffer : List ℕ) → buffer ≡ kept part → Gives (no_cr buffer) → Gives (no_cr part)
     gives_ended part buffer e g =
-        kept_ended Gives (λ x y long other. turn_alike outcome taken failed now after honest_source has honest moments failures x y long other) part (subst (λ (l : List ℕ). Gives (no_cr l)) e g)
+        kept_ended Gives (λ x y long other. turn_alike outcome taken failed now after source view x y long other) part (subst (λ (l : List ℕ). Gives (no_cr l)) e g)
 
     gives_unended : (part buffer : List ℕ) → buffer ≡ kept part → Gives buffer → Gives part
     gives_unended part buffer e g =
-        kept_unended Gives (λ x y long other. turn_alike outcome taken failed now after honest_source has honest moments failures x y long other) part (subst Gives e g)
+        kept_unended Gives (λ x y long other. turn_alike outcome taken failed now after source view x y long other) part (subst Gives e g)
 
     pub line_more : (old mid new : Option (List ℕ)) (before : Server D) (seen buffer : List ℕ) (served : ℕ) → Progress old mid before now seen buffer served
         → Gives (no_cr buffer) → Appends mid new (bytes_of (reply_value outcome))
@@ -217,7 +217,7 @@ module _ {D : Type 0} (honest_source : Type 0) (has : Releases) (honest : D → 
     ends_behind taken n e = let b = ends_both part taken in let z = none_ends part free in omega (arith, e, b, z)
 
     -- all of the piece was taken
-    pub fed : {E : Type 0} (buffer : List ℕ) (answered : ℕ) → Progress old mid before now (part ++ piece) buffer answered → IsFed {E = E} (Ok answered) honest_source has honest moments failures part piece buffer before now old mid
+    pub fed : {E : Type 0} (buffer : List ℕ) (answered : ℕ) → Progress old mid before now (part ++ piece) buffer answered → IsFed {E = E} (Ok answered) source view (intake part piece buffer old mid) before now
     fed buffer answered h = record {
       turns = h.turns;
       run = h.run;
@@ -230,14 +230,14 @@ module _ {D : Type 0} (honest_source : Type 0) (has : Releases) (honest : D → 
       kept_is = h.buffer_is;
       replied = h.written;
       count = h.count;
-      imports = run_imported honest moments failures honest_source has before now h.turns h.run;
+      imports = run_imported view source before now h.turns h.run;
     }
 
     -- the reply to a line wasn't written whole
     pub not_replied : {E : Type 0} (fault : E) (new : Option (List ℕ)) (after : Server D) (taken more buffer later : List ℕ) (answered : ℕ) (outcome : Result Answer LineRefusal) (releases : List Release) (failed : Option Release)
         → Progress old mid before now (part ++ taken) buffer answered → piece ≡ (taken ++ 10 ∷ []) ++ more
         → Gives outcome releases failed now after (no_cr buffer) → AppendsSome mid new (bytes_of (reply_value outcome))
-        → IsFed (Err fault) honest_source has honest moments failures part piece later before after old new
+        → IsFed (Err fault) source view (intake part piece later old new) before after
     not_replied fault new after taken more buffer later answered outcome releases failed h is g w =
         let t = turn outcome releases failed now after (no_cr h.part) in
         let run = run_more before now after h.turns t h.run (gives_ended outcome releases failed now after h.part buffer h.buffer_is g) in
@@ -255,19 +255,18 @@ module _ {D : Type 0} (honest_source : Type 0) (has : Releases) (honest : D → 
           kept_is = tt;
           replied = (h.turns, t, mid, refl, h.written, w);
           count = tt;
-          imports = run_imported honest moments failures honest_source has before after (h.turns ++ t ∷ []) run;
+          imports = run_imported view source before after (h.turns ++ t ∷ []) run;
         }
 
   -- what holds for the source as it is now holds for the source as it was
-  module _ (source : Type 0) (now : Releases) (same : honest_source → source × (now ≡ has)) where
-    run_now : (turns : List Turn) (old new : Server D) → Run source now honest moments failures old turns new → Run honest_source has honest moments failures old turns new
+  module _ (now : SourceView) (same : source.is_honest → now.is_honest × (now.releases ≡ source.releases)) where
+    run_now : (turns : List Turn) (old new : Server D) → Run now view old turns new → Run source view old turns new
     run_now [] old new run = run
     run_now (turn ∷ turns) old new run =
-        (run.0, turn_now turn.outcome turn.releases turn.failed old run.0 honest_source has honest moments failures source now turn.line same run.1, run_now turns run.0 new run.2)
+        (run.0, turn_now turn.outcome turn.releases turn.failed old run.0 source view now turn.line same run.1, run_now turns run.0 new run.2)
 
-    pub fed_now : {E : Type 0} (result : Result ℕ E) (part piece buffer : List ℕ) (before after : Server D) (old new : Option (List ℕ)) → IsFed result source now honest moments failures part piece buffer before after old new
-        → IsFed result honest_source has honest moments failures part piece buffer before after old new
-    fed_now result part piece buffer before after old new f = record {
+    pub fed_now : {E : Type 0} (result : Result ℕ E) (taken : Intake) (before after : Server D) → IsFed result now view taken before after → IsFed result source view taken before after
+    fed_now result taken before after f = record {
       turns = f.turns;
       run = run_now f.turns before after f.run;
       taken = f.taken;
@@ -283,9 +282,9 @@ module _ {D : Type 0} (honest_source : Type 0) (has : Releases) (honest : D → 
     }
 
   -- several lines more
-  run_both : (old mid new : Server D) (turns more : List Turn) → Run honest_source has honest moments failures old turns mid → Run honest_source has honest moments failures mid more new
-      → Run honest_source has honest moments failures old (turns ++ more) new
-  run_both old mid new [] more e r = subst (λ (s : Server D). Run honest_source has honest moments failures s more new) e r
+  run_both : (old mid new : Server D) (turns more : List Turn) → Run source view old turns mid → Run source view mid more new
+      → Run source view old (turns ++ more) new
+  run_both old mid new [] more e r = subst (λ (s : Server D). Run source view s more new) e r
   run_both old mid new (turn ∷ turns) more r s = (r.0, r.1, run_both r.0 mid new turns more r.2 s)
 
   asked_both : (turns more : List Turn) → lines_asked turns ++ lines_asked more ≡ lines_asked (turns ++ more)
@@ -296,7 +295,7 @@ module _ {D : Type 0} (honest_source : Type 0) (has : Releases) (honest : D → 
 
   module _ (old mid : Option (List ℕ)) (before now : Server D) (seen buffer : List ℕ) (served : ℕ) (h : Progress old mid before now seen buffer served) where
     -- a piece was fed
-    pub piece_more : {E : Type 0} (new : Option (List ℕ)) (after : Server D) (piece later : List ℕ) (n : ℕ) → IsFed {E = E} (Ok n) honest_source has honest moments failures h.part piece later now after mid new
+    pub piece_more : {E : Type 0} (new : Option (List ℕ)) (after : Server D) (piece later : List ℕ) (n : ℕ) → IsFed {E = E} (Ok n) source view (intake h.part piece later mid new) now after
         → Progress old new before after (seen ++ piece) later (min (served + n) (2 ^ 64 - 1))
     piece_more new after piece later n f = record {
       turns = h.turns ++ f.turns;
@@ -317,24 +316,22 @@ module _ {D : Type 0} (honest_source : Type 0) (has : Releases) (honest : D → 
     start = server unpinned before
 
     abbrev Out : Result ℕ ServeFault → Option (List ℕ) → StoreValue D → Type 0
-    Out result new after = IsServedIn result most honest_source has honest moments failures input rest old new before after begun made
+    Out result new after = IsServed result most source view (with_reads (streams input rest old new) begun made) before after
 
     out : (result : Result ℕ ServeFault) (new : Option (List ℕ)) (pins : List (Option ℕ)) (after : StoreValue D) (turns : List Turn)
-        → Run honest_source has honest moments failures start turns (server pins after) → IfSome input (AreLines result (lines_asked turns))
+        → Run source view start turns (server pins after) → IfSome input (AreLines result (lines_asked turns))
         → (came : List ℕ) → Consumes input rest came → length came ≤ most * 4096 → IsRead result most came rest (length turns) → IsWritten result old new turns → IsCount result (length turns)
         → (reads : List Reading) → Makes begun made reads → length reads ≤ most → came ≡ all_of reads → AreReads result most reads (length turns)
         → Out result new after
     out result new pins after turns run lines came consumed few read written count reads makes within all are = record {
-      served = record {
-        turns = turns;
-        pins = pins;
-        run = run;
-        lines = lines;
-        read = (came, consumed, read, few);
-        written = written;
-        count = count;
-        imports = run_imported honest moments failures honest_source has start (server pins after) turns run;
-      };
+      turns = turns;
+      pins = pins;
+      run = run;
+      lines = lines;
+      read = (came, consumed, read, few);
+      written = written;
+      count = count;
+      imports = run_imported view source start (server pins after) turns run;
       reads = reads;
       made = makes;
       few = within;
@@ -371,7 +368,7 @@ module _ {D : Type 0} (honest_source : Type 0) (has : Releases) (honest : D → 
           abbrev last : Turn
           last = turn outcome taken failed (server pins now) (server later after) h.part
 
-          last_run : Run honest_source has honest moments failures start (h.turns ++ last ∷ []) (server later after)
+          last_run : Run source view start (h.turns ++ last ∷ []) (server later after)
           last_run = run_more start (server pins now) (server later after) h.turns last h.run (gives_unended outcome taken failed (server pins now) (server later after) h.part buffer h.buffer_is g)
 
           last_lines : IfSome input (AreLines (Ok 0) (lines_asked (h.turns ++ last ∷ [])))
@@ -397,7 +394,7 @@ module _ {D : Type 0} (honest_source : Type 0) (has : Releases) (honest : D → 
 
     -- the reply to a line of a piece wasn't written whole
     pub unwritten : {E : Type 0} (fault : E) (mid new : Option (List ℕ)) (pins later : List (Option ℕ)) (now after : StoreValue D) (seen buffer piece left : List ℕ) (served : ℕ) (h : Progress old mid start (server pins now) seen buffer served)
-        → IsFed (Err fault) honest_source has honest moments failures h.part piece left (server pins now) (server later after) mid new
+        → IsFed (Err fault) source view (intake h.part piece left mid new) (server pins now) (server later after)
         → Consumes input rest (seen ++ piece) → length (seen ++ piece) ≤ most * 4096 → length piece ≤ 4096
         → (pieces : List Reading) → All IsPiece pieces → seen ≡ all_of pieces → Makes begun made (pieces ++ Gave piece ∷ []) → length pieces < most → Out (Err faults.Write) new after
     unwritten fault mid new pins later now after seen buffer piece left served h f c few short pieces each all makes lt =
@@ -425,7 +422,7 @@ module _ {D : Type 0} (honest_source : Type 0) (has : Releases) (honest : D → 
         (pieces, piece, each, short, refl, subst (λ (l : List ℕ). ends_in l < length turns) all more)
 
   -- no memory for the buffer
-  pub not_started : (most : ℕ) (input old : Option (List ℕ)) (begun : Option (List Reading)) (before : StoreValue D) → IsServedIn (Err faults.OutOfMemory) most honest_source has honest moments failures input input old old before before begun begun
+  pub not_started : (most : ℕ) (input old : Option (List ℕ)) (begun : Option (List Reading)) (before : StoreValue D) → IsServed (Err faults.OutOfMemory) most source view (with_reads (streams input input old old) begun begun) before before
   not_started most input old begun before =
       out most input input old begun begun before (Err faults.OutOfMemory) old unpinned before [] refl (first_lines input input [] [] [] faults.OutOfMemory (Consumes-nil input) (λ more. (lines_in more, refl)))
       [] (Consumes-nil input) (omega arith) (refl, refl) (Appends-nil old) tt

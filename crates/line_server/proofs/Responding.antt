@@ -1,14 +1,12 @@
 -- Commands that ask for no rows, as responses.
 use Rattle.std.proofs.Common.{◌≡◌, ◌≢◌, ◌⊎◌, ℕ, ◌≤◌, ◌<◌, length, Bool, true, false, List, [], ◌∷◌, refl, sym, ap, subst, ◌∙◌, get_or, IfSome, Result, Ok, Err, inl, inr, Option, Some, None, arith}
+use Rattle.disk_model.specs.DeviceView.{DeviceView}
 use Rattle.std.specs.Prelude.{decimal, slice_set, unwrap_or}
 use Rattle.std.proofs.lemmas.Bool.{false≢true}
-use Rattle.std.specs.List.{AllByRecursion}
 use Rattle.std.proofs.lemmas.List.Elements.{All-set}
-use Rattle.disk_model.specs.Disk.{Moments}
 use Rattle.history_model.specs.History.{rows_at}
 use Rattle.history_model.specs.Brought.{ImportReceiptOf}
 use Rattle.history_model.specs.Queries.{children}
-use Rattle.import_check.specs.declared.release.Release.{Release}
 use Rattle.history_store.specs.declared.refusal.Refusal.{Refusal}
 use Rattle.history_store.specs.declared.refusal.Refusal.TheVariants as store
 use Rattle.history_store.specs.StoreValue.{StoreValue}
@@ -16,15 +14,16 @@ use Rattle.history_store.specs.Answers.{CountsRefusal}
 use Rattle.line_commands.specs.declared.unread.Unread.{Unread}
 use Rattle.line_commands.specs.Commands.{Command, Children, Receipt as AskReceipt, Pin, Unpin, Status}
 use Rattle.line_commands.specs.Requests.{Asks, IsUnread}
-use Rattle.line_commands.proofs.Readings.{one_reading, asked_is_read}
+use Rattle.line_commands.proofs.Readings.{asked_is_read}
 use Rattle.line_server.specs.declared.refusal.LineRefusal.{LineRefusal}
 use Rattle.line_server.specs.declared.refusal.LineRefusal.TheVariants as refusals
 use Rattle.line_server.specs.Pins.{AreWithin, pin_of}
-use Rattle.line_server.specs.Sources.{Releases}
-use Rattle.line_server.specs.ReplyValue.{Answer, Ids, Done, ReplyValue, reply_value}
+use Rattle.line_server.specs.Sources.{Releases, SourceView, source_view}
+use Rattle.line_server.specs.ReplyValue.{Ids, Done, ReplyValue, reply_value}
 use Rattle.line_server.specs.Replies.{Server, IsAnswer, IsClosed, IsLacking, receipt_of, status_of, server}
-use Rattle.line_server.specs.Turns.{GoesBy, IsAnswered, LeavesDisk, IsAskedFor}
-use Rattle.line_server.specs.Private.{ComesOut, IsNamed, IsResponse, IsQueried, IsCarriedOut}
+use Rattle.line_server.specs.Turns.{IsAnswered}
+use Rattle.line_server.specs.Private.{IsResponse, IsQueried, IsCarriedOut}
+use Rattle.line_server.proofs.Alike.{turn_of}
 use Rattle.line_server.proofs.Imported.{none_imported}
 use Rattle.line_server.proofs.Queried.{responded}
 
@@ -38,106 +37,98 @@ fault_or_none _ = inr (λ same. false≢true (ap is_fault same))
 
 -- ---- identifiers
 
-module _ {D : Type 0} (honest : D → Type 0) (moments : D → Moments) (failures : D → ℕ) (concept date pin : ℕ) (s : StoreValue D) where
+module _ {D : Type 0} (view : DeviceView D) (concept date pin : ℕ) (s : StoreValue D) where
   pub children_found : (ids : List ℕ) (reply : ReplyValue) → s.needs_reopen ≡ false → ids ≡ children concept date (rows_at pin s.history.rows) → reply ≡ reply_value (Ok (Ids ids))
-      → IsQueried (Ok reply) honest moments failures (Children concept date) pin s s
+      → IsQueried (Ok reply) view (Children concept date) pin s s
   children_found ids reply still is told has session pins at =
       let seen = is ∙ ap (λ (k : ℕ). children concept date (rows_at k s.history.rows)) (sym at) in
-      responded honest moments failures (Ok reply) has session (Children concept date) (Ok (Ids ids)) (server pins s) (server pins s) told
-      (still, record { pins = refl; store = record { history = refl; catalog = refl; needs_reopen = refl } }, ap Ids seen) (none_imported honest moments s) refl (λ h. refl) (omega arith)
+      responded view (Ok reply) has session (Children concept date) (Ok (Ids ids)) (server pins s) (server pins s) told
+      (still, record { pins = refl; store = record { history = refl; catalog = refl; needs_reopen = refl } }, ap Ids seen) (none_imported view s) refl (λ h. refl) (omega arith)
 
   pub children_unfound : (refusal : Refusal) → ((refusal ≡ store.ReopenNeeded) × (s.needs_reopen ≡ true)) ⊎ ((refusal ≡ store.OutOfMemory) × (s.needs_reopen ≡ false))
-      → IsQueried (Err (refusals.Store refusal)) honest moments failures (Children concept date) pin s s
+      → IsQueried (Err (refusals.Store refusal)) view (Children concept date) pin s s
   children_unfound refusal why has session pins at =
-      responded honest moments failures (Err (refusals.Store refusal)) has session (Children concept date) (Err (refusals.Store refusal)) (server pins s) (server pins s) refl
-      (cause pins why) (none_imported honest moments s) (counted refusal why) (λ h. refl) (omega arith) where
+      responded view (Err (refusals.Store refusal)) has session (Children concept date) (Err (refusals.Store refusal)) (server pins s) (server pins s) refl
+      (cause pins why) (none_imported view s) (counted refusal why) (λ h. refl) (omega arith) where
         cause : (pins : List (Option ℕ)) → ((refusal ≡ store.ReopenNeeded) × (s.needs_reopen ≡ true)) ⊎ ((refusal ≡ store.OutOfMemory) × (s.needs_reopen ≡ false)) → IsClosed refusal (server pins s) (server pins s) ⊎ IsLacking refusal (server pins s) (server pins s)
         cause pins (inl w) = inl (w.0, w.1, refl)
         cause pins (inr w) = inr (w.0, w.1, record { pins = refl; store = record { history = refl; catalog = refl; needs_reopen = refl } })
 
-        counted : (e : Refusal) → ((e ≡ store.ReopenNeeded) × (s.needs_reopen ≡ true)) ⊎ ((e ≡ store.OutOfMemory) × (s.needs_reopen ≡ false)) → CountsRefusal e (failures s.disk) (failures s.disk)
-        counted e (inl w) = subst (λ (r : Refusal). CountsRefusal r (failures s.disk) (failures s.disk)) (sym w.0) refl
-        counted e (inr w) = subst (λ (r : Refusal). CountsRefusal r (failures s.disk) (failures s.disk)) (sym w.0) refl
+        counted : (e : Refusal) → ((e ≡ store.ReopenNeeded) × (s.needs_reopen ≡ true)) ⊎ ((e ≡ store.OutOfMemory) × (s.needs_reopen ≡ false)) → CountsRefusal e (view.failures s.disk) (view.failures s.disk)
+        counted e (inl w) = subst (λ (r : Refusal). CountsRefusal r (view.failures s.disk) (view.failures s.disk)) (sym w.0) refl
+        counted e (inr w) = subst (λ (r : Refusal). CountsRefusal r (view.failures s.disk) (view.failures s.disk)) (sym w.0) refl
 
-  pub children_untold : s.needs_reopen ≡ false → IsQueried (Err (refusals.Store store.OutOfMemory)) honest moments failures (Children concept date) pin s s
+  pub children_untold : s.needs_reopen ≡ false → IsQueried (Err (refusals.Store store.OutOfMemory)) view (Children concept date) pin s s
   children_untold still = children_unfound store.OutOfMemory (inr (refl, still))
 
 -- ---- STATUS
 
-module _ {D : Type 0} (honest : D → Type 0) (moments : D → Moments) (failures : D → ℕ) (s : StoreValue D) where
-  pub status_told : (reply : ReplyValue) → s.needs_reopen ≡ false → reply ≡ reply_value (Ok (Done (status_of s))) → IsCarriedOut (Ok reply) honest moments failures Status s s
+module _ {D : Type 0} (view : DeviceView D) (s : StoreValue D) where
+  pub status_told : (reply : ReplyValue) → s.needs_reopen ≡ false → reply ≡ reply_value (Ok (Done (status_of s))) → IsCarriedOut (Ok reply) view Status s s
   status_told reply still told has session pins =
-      responded honest moments failures (Ok reply) has session Status (Ok (Done (status_of s))) (server pins s) (server pins s) told (still, refl, refl) (none_imported honest moments s) refl (λ h. refl) (omega arith)
+      responded view (Ok reply) has session Status (Ok (Done (status_of s))) (server pins s) (server pins s) told (still, refl, refl) (none_imported view s) refl (λ h. refl) (omega arith)
 
-  pub status_closed : s.needs_reopen ≡ true → IsCarriedOut (Err (refusals.Store store.ReopenNeeded)) honest moments failures Status s s
+  pub status_closed : s.needs_reopen ≡ true → IsCarriedOut (Err (refusals.Store store.ReopenNeeded)) view Status s s
   status_closed needs has session pins =
-      responded honest moments failures (Err (refusals.Store store.ReopenNeeded)) has session Status (Err (refusals.Store store.ReopenNeeded)) (server pins s) (server pins s) refl
-      (refl, needs, refl) (none_imported honest moments s) refl (λ h. refl) (omega arith)
+      responded view (Err (refusals.Store store.ReopenNeeded)) has session Status (Err (refusals.Store store.ReopenNeeded)) (server pins s) (server pins s) refl
+      (refl, needs, refl) (none_imported view s) refl (λ h. refl) (omega arith)
 
 -- ---- whatever the source has
 
-pub any_source : {D : Type 0} (hs : Type 0) (honest : D → Type 0) (moments : D → Moments) (failures : D → ℕ) (result : Result ReplyValue LineRefusal) (has : Releases) (session : ℕ) (command : Command) (old new : Server D)
-    → IsResponse result (Unit {0}) has honest moments failures session command old new → IsResponse result hs has honest moments failures session command old new
-any_source hs honest moments failures result has session command old new r = record {
-  outcome = r.outcome;
-  taken = r.taken;
-  failed = r.failed;
-  told = r.told;
-  releases = r.releases;
-  out = r.out;
-  own = λ h. r.own tt;
-  imports = r.imports;
-  one = r.one;
-  counts = r.counts;
-  disk = r.disk;
+pub any_source : {D : Type 0} (source : SourceView) (view : DeviceView D) (result : Result ReplyValue LineRefusal) (session : ℕ) (command : Command) (old new : Server D)
+    → IsResponse result (source_view (Unit {0}) source.releases) view session command old new → IsResponse result source view session command old new
+any_source source view result session command old new r = record {
+  turned = λ line asks.
+      let t = r.turned line asks in
+      (t.0, t.1, record { releases = t.2.releases; goes = t.2.goes; own = λ h. t.2.own tt; imports = t.2.imports; one = t.2.one; counts = t.2.counts; disk = t.2.disk }, t.3);
   grows = r.grows;
 }
 
 -- ---- UNPIN
 
-module _ {D : Type 0} (hs : Type 0) (has : Releases) (honest : D → Type 0) (moments : D → Moments) (failures : D → ℕ) (session : ℕ) (pins : List (Option ℕ)) (s : StoreValue D) where
-  pub unpinned : (reply : ReplyValue) → reply ≡ reply_value (Ok (Done [])) → IsResponse (Ok reply) hs has honest moments failures session Unpin (server pins s) (server (slice_set pins session None) s)
-  unpinned reply told = any_source hs honest moments failures (Ok reply) has session Unpin (server pins s) (server (slice_set pins session None) s)
-      (responded honest moments failures (Ok reply) has session Unpin (Ok (Done [])) (server pins s) (server (slice_set pins session None) s) told (refl, refl) (none_imported honest moments s) refl (λ h. refl) (omega arith))
+module _ {D : Type 0} (source : SourceView) (view : DeviceView D) (session : ℕ) (pins : List (Option ℕ)) (s : StoreValue D) where
+  pub unpinned : (reply : ReplyValue) → reply ≡ reply_value (Ok (Done [])) → IsResponse (Ok reply) source view session Unpin (server pins s) (server (slice_set pins session None) s)
+  unpinned reply told = any_source source view (Ok reply) session Unpin (server pins s) (server (slice_set pins session None) s)
+      (responded view (Ok reply) source.releases session Unpin (Ok (Done [])) (server pins s) (server (slice_set pins session None) s) told (refl, refl) (none_imported view s) refl (λ h. refl) (omega arith))
 
 -- ---- PIN
 
-module _ {D : Type 0} (honest : D → Type 0) (moments : D → Moments) (failures : D → ℕ) (session : ℕ) (pins : List (Option ℕ)) (s : StoreValue D) (number : Option ℕ) (has : Releases) where
+module _ {D : Type 0} (view : DeviceView D) (session : ℕ) (pins : List (Option ℕ)) (s : StoreValue D) (number : Option ℕ) (has : Releases) where
   pub pinned : (pin : ℕ) (reply : ReplyValue) → (pin ≤ s.history.imports) × (pin ≡ unwrap_or number s.history.imports) → reply ≡ reply_value (Ok (Done (decimal pin ∷ [])))
-      → IsResponse (Ok reply) (Unit {0}) has honest moments failures session (Pin number) (server pins s) (server (slice_set pins session (Some pin)) s)
+      → IsResponse (Ok reply) (source_view (Unit {0}) has) view session (Pin number) (server pins s) (server (slice_set pins session (Some pin)) s)
   pinned pin reply h told =
-      responded honest moments failures (Ok reply) has session (Pin number) (Ok (Done (decimal pin ∷ []))) (server pins s) (server (slice_set pins session (Some pin)) s) told
-      (answered_so number h) (none_imported honest moments s) refl (λ h. refl) (omega arith) where
+      responded view (Ok reply) has session (Pin number) (Ok (Done (decimal pin ∷ []))) (server pins s) (server (slice_set pins session (Some pin)) s) told
+      (answered_so number h) (none_imported view s) refl (λ h. refl) (omega arith) where
         answered_so : (number : Option ℕ) → (pin ≤ s.history.imports) × (pin ≡ unwrap_or number s.history.imports)
-            → IsAnswer (honest s.disk) has session (Pin number) (Done (decimal pin ∷ [])) (server pins s) (server (slice_set pins session (Some pin)) s)
+            → IsAnswer (view.is_honest s.disk) has session (Pin number) (Done (decimal pin ∷ [])) (server pins s) (server (slice_set pins session (Some pin)) s)
         answered_so None h = (ap (λ (k : ℕ). server (slice_set pins session (Some k)) s) h.1, ap (λ (k : ℕ). Done (decimal k ∷ [])) h.1)
         answered_so (Some n) h = (subst (λ (k : ℕ). k ≤ s.history.imports) h.1 h.0, ap (λ (k : ℕ). server (slice_set pins session (Some k)) s) h.1, ap (λ (k : ℕ). Done (decimal k ∷ [])) h.1)
 
-  pub out_of_range : (n : ℕ) × (number ≡ Some n) × (s.history.imports < n) → IsResponse (Err refusals.PinRange) (Unit {0}) has honest moments failures session (Pin number) (server pins s) (server pins s)
+  pub out_of_range : (n : ℕ) × (number ≡ Some n) × (s.history.imports < n) → IsResponse (Err refusals.PinRange) (source_view (Unit {0}) has) view session (Pin number) (server pins s) (server pins s)
   out_of_range h =
-      responded honest moments failures (Err refusals.PinRange) has session (Pin number) (Err refusals.PinRange) (server pins s) (server pins s) refl
-      ((h.0, inl (ap Pin h.1, h.2)), refl) (none_imported honest moments s) refl (λ h. refl) (omega arith)
+      responded view (Err refusals.PinRange) has session (Pin number) (Err refusals.PinRange) (server pins s) (server pins s) refl
+      ((h.0, inl (ap Pin h.1, h.2)), refl) (none_imported view s) refl (λ h. refl) (omega arith)
 
 -- ---- RECEIPT
 
-module _ {D : Type 0} (honest : D → Type 0) (moments : D → Moments) (failures : D → ℕ) (number pin : ℕ) (s : StoreValue D) where
+module _ {D : Type 0} (view : DeviceView D) (number pin : ℕ) (s : StoreValue D) where
   pub import_told : (brought : ℕ) (latest : Option ℕ) (reply : ReplyValue) → number ≤ pin → s.needs_reopen ≡ false → ImportReceiptOf s.history number brought latest → reply ≡ reply_value (Ok (Done (receipt_of number brought latest)))
-      → IsQueried (Ok reply) honest moments failures (AskReceipt number) pin s s
+      → IsQueried (Ok reply) view (AskReceipt number) pin s s
   import_told brought latest reply within still receipt told has session pins at =
-      responded honest moments failures (Ok reply) has session (AskReceipt number) (Ok (Done (receipt_of number brought latest))) (server pins s) (server pins s) told
+      responded view (Ok reply) has session (AskReceipt number) (Ok (Done (receipt_of number brought latest))) (server pins s) (server pins s) told
       (record { open_still = still; seen = subst (λ (k : ℕ). number ≤ k) (sym at) within; brought = brought; latest = latest; receipt = receipt; answer_is = refl; unchanged = refl })
-      (none_imported honest moments s) refl (λ h. refl) (omega arith)
+      (none_imported view s) refl (λ h. refl) (omega arith)
 
-  pub import_closed : (refusal : Refusal) → number ≤ pin → (refusal ≡ store.ReopenNeeded) × (s.needs_reopen ≡ true) → IsQueried (Err (refusals.Store refusal)) honest moments failures (AskReceipt number) pin s s
+  pub import_closed : (refusal : Refusal) → number ≤ pin → (refusal ≡ store.ReopenNeeded) × (s.needs_reopen ≡ true) → IsQueried (Err (refusals.Store refusal)) view (AskReceipt number) pin s s
   import_closed refusal within why has session pins at =
-      responded honest moments failures (Err (refusals.Store refusal)) has session (AskReceipt number) (Err (refusals.Store refusal)) (server pins s) (server pins s) refl
-      (subst (λ (k : ℕ). number ≤ k) (sym at) within, (why.0, why.1, refl)) (none_imported honest moments s)
-      (subst (λ (r : Refusal). CountsRefusal r (failures s.disk) (failures s.disk)) (sym why.0) refl) (λ h. refl) (omega arith)
+      responded view (Err (refusals.Store refusal)) has session (AskReceipt number) (Err (refusals.Store refusal)) (server pins s) (server pins s) refl
+      (subst (λ (k : ℕ). number ≤ k) (sym at) within, (why.0, why.1, refl)) (none_imported view s)
+      (subst (λ (r : Refusal). CountsRefusal r (view.failures s.disk) (view.failures s.disk)) (sym why.0) refl) (λ h. refl) (omega arith)
 
-  pub import_unseen : pin < number → IsQueried (Err refusals.PinRange) honest moments failures (AskReceipt number) pin s s
+  pub import_unseen : pin < number → IsQueried (Err refusals.PinRange) view (AskReceipt number) pin s s
   import_unseen above has session pins at =
-      responded honest moments failures (Err refusals.PinRange) has session (AskReceipt number) (Err refusals.PinRange) (server pins s) (server pins s) refl
-      ((number, inr (refl, subst (λ (k : ℕ). k < number) (sym at) above)), refl) (none_imported honest moments s) refl (λ h. refl) (omega arith)
+      responded view (Err refusals.PinRange) has session (AskReceipt number) (Err refusals.PinRange) (server pins s) (server pins s) refl
+      ((number, inr (refl, subst (λ (k : ℕ). k < number) (sym at) above)), refl) (none_imported view s) refl (λ h. refl) (omega arith)
 
 -- ---- pins
 
@@ -160,59 +151,29 @@ pin_within imports pins session lt within = below (get_or pins session None) (wi
 
 -- ---- a line as its command
 
-module _ {D : Type 0} (hs : Type 0) (has : Releases) (honest : D → Type 0) (moments : D → Moments) (failures : D → ℕ) (line : List ℕ) where
-  asked_for : (releases : Releases) (session : ℕ) (command : Command) (release : Release) → Asks line session command → IsNamed releases command release → IsAskedFor releases line release
-  asked_for releases session command release asks named = (session, named.0, subst (λ (c : Command). Asks line session c) named.1 asks, named.2)
+module _ {D : Type 0} (source : SourceView) (view : DeviceView D) (line : List ℕ) where
+  -- a command that the line asks was carried out, and the reply says what came out
+  pub answered_ok : (reply : ReplyValue) (session : ℕ) (command : Command) (old new : Server D) → Asks line session command → IsResponse (Ok reply) source view session command old new → IsAnswered source view line reply old new
+  answered_ok reply session command old new asks r = r.turned line asks
 
-  goes_by : (disk : Type 0) (releases : Releases) (session : ℕ) (command : Command) (outcome : Result Answer LineRefusal) (taken : List Release) (failed : Option Release) (old new : Server D) → Asks line session command
-      → ComesOut disk releases session command outcome taken failed old new → GoesBy disk releases old (record { line = line; outcome = outcome; releases = taken; failed = failed }) new
-  goes_by disk releases session command outcome taken failed old new asks out = record {
-    replies = inl (session, command, asks, out.outcome_is);
-    imported = each taken out.imported;
-    failed = some failed out.failed_is;
-  } where
-    each : (taken : List Release) → AllByRecursion (IsNamed releases command) taken → AllByRecursion (IsAskedFor releases line) taken
-    each [] h = tt
-    each (r ∷ rs) h = (asked_for releases session command r asks h.0, each rs h.1)
-
-    some : (failed : Option Release) → IfSome failed (IsNamed releases command) → IfSome failed (IsAskedFor releases line)
-    some None h = tt
-    some (Some r) h = asked_for releases session command r asks h
-
-  -- a command that the line asks was carried out
-  pub answered : (result : Result ReplyValue LineRefusal) (reply : ReplyValue) (session : ℕ) (command : Command) (pins after : List (Option ℕ)) (old new : StoreValue D) → Asks line session command
-      → (r : IsResponse result hs has honest moments failures session command (server pins old) (server after new)) → reply ≡ reply_value r.outcome
-      → IsAnswered hs has honest moments failures line reply pins old after new
-  answered result reply session command pins after old new asks r told = record {
-    outcome = r.outcome;
-    releases = r.taken;
-    failed = r.failed;
-    reply_is = told;
-    turn = record {
-      releases = r.releases;
-      goes = goes_by (honest old.disk) r.releases session command r.outcome r.taken r.failed (server pins old) (server after new) asks r.out;
-      own = λ h. goes_by (honest old.disk) has session command r.outcome r.taken r.failed (server pins old) (server after new) asks (r.own h);
-      imports = r.imports;
-      one = r.one;
-      counts = r.counts;
-      disk = λ other asked also. subst (λ (c : Command). LeavesDisk honest moments c r.outcome old new) (one_reading line session other command asked asks also).1 r.disk;
-    };
-  }
+  -- it was refused, and the reply says why
+  pub answered_err : (refusal : LineRefusal) (reply : ReplyValue) (session : ℕ) (command : Command) (old new : Server D) → Asks line session command → IsResponse (Err refusal) source view session command old new
+      → reply ≡ reply_value (Err refusal) → IsAnswered source view line reply old new
+  answered_err refusal reply session command old new asks r told = let t = r.turned line asks in (t.0, t.1, t.2, told ∙ sym (ap reply_value t.3))
 
   -- the line asks nothing
-  pub nothing_asked : (reply : ReplyValue) (reason : Unread) (pins : List (Option ℕ)) (s : StoreValue D) → IsUnread line reason → reply ≡ reply_value (Err (refusals.Unread reason)) → IsAnswered hs has honest moments failures line reply pins s pins s
-  nothing_asked reply reason pins s is told = record {
-    outcome = Err (refusals.Unread reason);
-    releases = [];
-    failed = None;
-    reply_is = told;
-    turn = record {
-      releases = has;
+  pub nothing_asked : (reply : ReplyValue) (reason : Unread) (s : Server D) → IsUnread line reason → reply ≡ reply_value (Err (refusals.Unread reason)) → IsAnswered source view line reply s s
+  nothing_asked reply reason s is told = (
+    turn_of (Err (refusals.Unread reason)) [] None s s line,
+    refl,
+    record {
+      releases = source.releases;
       goes = record { replies = inr (reason, is, refl, refl); imported = tt; failed = tt };
       own = λ h. record { replies = inr (reason, is, refl, refl); imported = tt; failed = tt };
-      imports = none_imported honest moments s;
+      imports = none_imported view s.store;
       one = omega arith;
       counts = refl;
       disk = λ session command asks. absurd (asked_is_read line session command reason asks is);
-    };
-  }
+    },
+    told,
+  )

@@ -1,9 +1,9 @@
 -- What taking a piece of the input does.
 use Rattle.std.specs.Prelude.{◌≡◌, ◌⊎◌, ◌==◌, ◌^◌, ◌-◌, false, ℕ, List, [], ◌∷◌, ◌++◌, length, min, All, Option, Result, Ok, Err, IfOk, OnOk}
+use Rattle.disk_model.specs.DeviceView.{DeviceView}
 use Rattle.std.specs.Io.KnownBytes.{Appends}
-use Rattle.disk_model.specs.Disk.{Moments}
 use Rattle.rf2_rows.specs.File.{lines_in}
-use Rattle.line_server.specs.Sources.{Releases}
+use Rattle.line_server.specs.Sources.{SourceView}
 use Rattle.line_server.specs.ReplyValue.{reply_value, bytes_of}
 use Rattle.line_server.specs.Replies.{Server}
 use Rattle.line_server.specs.Imports.{IsFront, Imports}
@@ -32,24 +32,36 @@ AreReplied (Err e) old new turns =
     (done : List Turn) × (last : Turn) × (mid : Option (List ℕ)) × (turns ≡ done ++ last ∷ [])
     × Appends old mid (replies done) × AppendsSome mid new (bytes_of (reply_value last.outcome))
 
+-- What a piece of the input does: the part of a line that had come before, the piece, what is kept
+-- of the next line after it, and the bytes of the output before and after, where they are known.
+pub record Intake : Type 0 where
+  pub part : List ℕ
+  pub piece : List ℕ
+  pub buffer : List ℕ
+  pub old : Option (List ℕ)
+  pub new : Option (List ℕ)
+
+abbrev pub intake : List ℕ → List ℕ → List ℕ → Option (List ℕ) → Option (List ℕ) → Intake
+intake part piece buffer old new =
+    record { part = part; piece = piece; buffer = buffer; old = old; new = new }
+
 -- A piece of the input came behind a part of a line. Each line that ended in the piece was
 -- answered, in order, and its reply was written; what has come of the next line is kept. After a
 -- fault of the writer that is so of the piece up to the line whose reply wasn't written.
-pub record IsFed {D E : Type 0} (result : Result ℕ E) (honest_source : Type 0) (has : Releases)
-    (honest : D → Type 0) (moments : D → Moments) (failures : D → ℕ) (part piece buffer : List ℕ)
-    (before after : Server D) (old new : Option (List ℕ)) : Type 0 where
+pub record IsFed {D E : Type 0} (result : Result ℕ E) (source : SourceView) (view : DeviceView D)
+    (intake : Intake) (before after : Server D) : Type 0 where
   pub turns : List Turn
-  pub run : Run honest_source has honest moments failures before turns after
+  pub run : Run source view before turns after
   -- how far the piece was taken, and what has come of the next line there
   pub taken : List ℕ
   pub rest : List ℕ
-  pub front : IsFront taken piece
-  pub all : OnOk result (taken ≡ piece)
-  pub lines : AreCut (part ++ taken) (lines_asked turns) rest
+  pub front : IsFront taken intake.piece
+  pub all : OnOk result (taken ≡ intake.piece)
+  pub lines : AreCut (intake.part ++ taken) (lines_asked turns) rest
   pub number : length turns ≡ ends_in taken
-  pub kept_is : OnOk result (buffer ≡ kept rest)
-  pub replied : AreReplied result old new turns
+  pub kept_is : OnOk result (intake.buffer ≡ kept rest)
+  pub replied : AreReplied result intake.old intake.new turns
   pub count : IfOk result (λ n. n ≡ min (length turns) (2 ^ 64 - 1))
   -- a stop at any moment leaves the history from before with
   -- the first so many of the releases that the lines imported
-  pub imports : Imports honest moments before.store after.store (imported turns) (failed_in turns)
+  pub imports : Imports view before.store after.store (imported turns) (failed_in turns)

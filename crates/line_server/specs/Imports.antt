@@ -1,6 +1,7 @@
 -- What a stop may leave while lines are answered.
 use Rattle.std.specs.Prelude.{◌≡◌, ◌↔◌, ◌⊎◌, true, false, ℕ, List, [], ◌∷◌, ◌++◌, Option, Some, None}
-use Rattle.disk_model.specs.Disk.{Moments, EachImage, LeavesOnly}
+use Rattle.disk_model.specs.DeviceView.{DeviceView}
+use Rattle.disk_model.specs.Disk.{EachImage, LeavesOnly}
 use Rattle.rf2_values.specs.Row.{RowValue}
 use Rattle.history_model.specs.History.{History, Accepts, after_release}
 use Rattle.import_check.specs.declared.release.Release.{Release}
@@ -44,20 +45,20 @@ RepresentsAll h releases failed c = StandsAfter h releases c ⊎ StandsWithFaile
 
 -- One call on a store, or several, imported these releases one after the other;
 -- and in the import of one more, if there is one, the device failed.
-pub record Imports {D : Type 0} (honest : D → Type 0) (moments : D → Moments)
+pub record Imports {D : Type 0} (view : DeviceView D)
     (old new : StoreValue D) (releases : List Release) (failed : Option Release) : Type 0 where
-  pub history : honest old.disk → TakesAll old.history releases new.history
+  pub history : view.is_honest old.disk → TakesAll old.history releases new.history
   pub none_failed : new.needs_reopen ≡ false → failed ≡ None
   -- a store that has to be opened again stays as it is, and so does its disk
   pub closed : old.needs_reopen ≡ true → (new ≡ old) × (releases ≡ []) × (failed ≡ None)
-  pub honesty : honest old.disk ↔ honest new.disk
+  pub honesty : view.is_honest old.disk ↔ view.is_honest new.disk
   -- a stop at any moment leaves the history from before with the
   -- first so many of them, or with all and the one that failed
-  pub any_moment : honest old.disk → IsAcknowledged moments old
-      → LeavesOnly (moments old.disk) (moments new.disk)
+  pub any_moment : view.is_honest old.disk → IsAcknowledged view.moments old
+      → LeavesOnly (view.moments old.disk) (view.moments new.disk)
       (RepresentsSome old.history releases failed)
   -- a stop afterwards leaves all of them, and perhaps the one that failed
-  pub afterwards : honest old.disk → IsAcknowledged moments old
-      → EachImage (moments new.disk).state (RepresentsAll old.history releases failed)
-  pub acknowledged : honest old.disk → IsAcknowledged moments old → new.needs_reopen ≡ false
-      → IsAcknowledged moments new
+  pub afterwards : view.is_honest old.disk → IsAcknowledged view.moments old
+      → EachImage (view.moments new.disk).state (RepresentsAll old.history releases failed)
+  pub acknowledged : view.is_honest old.disk → IsAcknowledged view.moments old
+      → new.needs_reopen ≡ false → IsAcknowledged view.moments new

@@ -1,8 +1,9 @@
 -- What holds of every run of lines, on an honest disk.
 use Rattle.std.specs.Prelude.{◌≡◌, ◌⊎◌, ℕ, ◌++◌, false, ◌+◌, ◌≤◌, List, [], ◌∷◌, length, Option, Some, Result, Ok, Err, MatchResult, slice_index_or, None}
+use Rattle.disk_model.specs.DeviceView.{DeviceView}
 use Rattle.std.specs.List.{AllByRecursion}
 use Rattle.std.specs.Option.{option_or}
-use Rattle.disk_model.specs.Disk.{Moments, EachImage, LeavesOnly}
+use Rattle.disk_model.specs.Disk.{EachImage, LeavesOnly}
 use Rattle.history_model.specs.History.{History, rows_at}
 use Rattle.history_model.specs.Brought.{brought_by, ImportReceiptOf}
 use Rattle.history_model.specs.declared.receipt.Receipt.{Receipt}
@@ -16,7 +17,7 @@ use Rattle.line_commands.specs.Requests.{Asks}
 use Rattle.line_server.specs.declared.refusal.LineRefusal.{LineRefusal}
 use Rattle.line_server.specs.declared.refusal.LineRefusal.TheVariants as refusals
 use Rattle.line_server.specs.Pins.{pin_of}
-use Rattle.line_server.specs.Sources.{Releases}
+use Rattle.line_server.specs.Sources.{Releases, SourceView, source_view}
 use Rattle.line_server.specs.ReplyValue.{Answer, Done}
 use Rattle.line_server.specs.Replies.{Server, Replies, Same, found, shown, imports_seen, receipt_of, server}
 use Rattle.line_server.specs.Imports.{Imports, IsFront, TakesAll, RepresentsSome, RepresentsAll}
@@ -66,17 +67,17 @@ PinnedReceiptIsUndisturbed D honest = (releases others : Releases) (a b after ne
     → Replies (honest b.store.disk) others line two b next → one ≡ two
 
 -- a run imports what its turns import
-abbrev pub TurnsImport : (D : Type 0) → (D → Type 0) → (D → Moments) → (D → ℕ) → Type 0
-TurnsImport D honest moments failures = (has : Releases) (old new : Server D) (turns : List Turn)
-    → Run ⊥ has honest moments failures old turns new
-    → Imports honest moments old.store new.store (imported turns) (failed_in turns)
+abbrev pub TurnsImport : (D : Type 0) → DeviceView D → Type 0
+TurnsImport D view = (has : Releases) (old new : Server D) (turns : List Turn)
+    → Run (source_view ⊥ has) view old turns new
+    → Imports view old.store new.store (imported turns) (failed_in turns)
 
 -- what is imported by calls and then by others is imported by all of them together
-abbrev pub ImportsCompose : (D : Type 0) → (D → Type 0) → (D → Moments) → Type 0
-ImportsCompose D honest moments =
+abbrev pub ImportsCompose : (D : Type 0) → DeviceView D → Type 0
+ImportsCompose D view =
     (a b c : StoreValue D) (releases others : List Release) (failed more : Option Release)
-    → Imports honest moments a b releases failed → Imports honest moments b c others more
-    → Imports honest moments a c (releases ++ others) (option_or failed more)
+    → Imports view a b releases failed → Imports view b c others more
+    → Imports view a c (releases ++ others) (option_or failed more)
 
 abbrev pub IsSureImport : Result Receipt Refusal → Type 0
 IsSureImport (Err store.OutOfMemory) = ⊥
@@ -105,16 +106,17 @@ OneReply D honest = (releases : Releases) (line : List ℕ) (one two : Result An
 -- before, within or after that one represents the history from before with all releases that the
 -- lines before it imported, and perhaps with the first of its own, or the one in whose import the
 -- device failed.
-abbrev pub AcknowledgedImportsStay : (D : Type 0) → (D → Type 0) → (D → Moments) → (D → ℕ) → Type 0
-AcknowledgedImportsStay D honest moments failures =
+abbrev pub AcknowledgedImportsStay : (D : Type 0) → DeviceView D → Type 0
+AcknowledgedImportsStay D view =
     (has : Releases) (old mid new : Server D) (turns : List Turn) (turn : Turn)
-    → honest old.store.disk → IsAcknowledged moments old.store → mid.store.needs_reopen ≡ false
-    → Run ⊥ has honest moments failures old turns mid
-    → IsTurn ⊥ has honest moments failures mid turn new
+    → view.is_honest old.store.disk → IsAcknowledged view.moments old.store
+    → mid.store.needs_reopen ≡ false
+    → Run (source_view ⊥ has) view old turns mid
+    → IsTurn (source_view ⊥ has) view mid turn new
     → (after : History) × TakesAll old.store.history (imported turns) after
-    × LeavesOnly (moments mid.store.disk) (moments new.store.disk)
+    × LeavesOnly (view.moments mid.store.disk) (view.moments new.store.disk)
     (RepresentsSome after turn.releases turn.failed)
-    × EachImage (moments new.store.disk).state (RepresentsAll after turn.releases turn.failed)
+    × EachImage (view.moments new.store.disk).state (RepresentsAll after turn.releases turn.failed)
 
 -- the history after the first so many of the releases, or
 -- after all and the one in whose import the device failed
@@ -132,61 +134,62 @@ OpensWith D h releases failed bytes =
 
 -- Whatever a stop leaves before, within or after a line that is answered behind others is opened
 -- with all releases that the lines before it imported, and perhaps with its own.
-abbrev pub AcknowledgedImportsAreOpened : (D : Type 0) → (D → Type 0) → (D → Moments) → (D → ℕ)
+abbrev pub AcknowledgedImportsAreOpened : (D : Type 0) → DeviceView D
     → Type 0
-AcknowledgedImportsAreOpened D honest moments failures =
+AcknowledgedImportsAreOpened D view =
     (has : Releases) (old mid new : Server D) (turns : List Turn) (turn : Turn)
-    → honest old.store.disk → IsAcknowledged moments old.store → mid.store.needs_reopen ≡ false
-    → Run ⊥ has honest moments failures old turns mid
-    → IsTurn ⊥ has honest moments failures mid turn new
+    → view.is_honest old.store.disk → IsAcknowledged view.moments old.store
+    → mid.store.needs_reopen ≡ false
+    → Run (source_view ⊥ has) view old turns mid
+    → IsTurn (source_view ⊥ has) view mid turn new
     → (after : History) × TakesAll old.store.history (imported turns) after
-    × LeavesOnly (moments mid.store.disk) (moments new.store.disk)
+    × LeavesOnly (view.moments mid.store.disk) (view.moments new.store.disk)
     (OpensWith D after turn.releases turn.failed)
 
 -- an import that was answered OK is the one that its turn imported
-abbrev pub OkIsImported : (D : Type 0) → (D → Type 0) → (D → Moments) → (D → ℕ) → Type 0
-OkIsImported D honest moments failures =
+abbrev pub OkIsImported : (D : Type 0) → DeviceView D → Type 0
+OkIsImported D view =
     (has : Releases) (old new : Server D) (turn : Turn) (session : ℕ) (name : List ℕ)
     (answer : Answer)
-    → honest old.store.disk → Asks turn.line session (Import name) → turn.outcome ≡ Ok answer
-    → IsTurn ⊥ has honest moments failures old turn new
+    → view.is_honest old.store.disk → Asks turn.line session (Import name)
+    → turn.outcome ≡ Ok answer
+    → IsTurn (source_view ⊥ has) view old turn new
     → (release : Release) × (turn.releases ≡ release ∷ [])
 
 -- a line that was refused imported nothing
-abbrev pub RefusedIsNotImported : (D : Type 0) → (D → Type 0) → (D → Moments) → (D → ℕ) → Type 0
-RefusedIsNotImported D honest moments failures =
+abbrev pub RefusedIsNotImported : (D : Type 0) → DeviceView D → Type 0
+RefusedIsNotImported D view =
     (has : Releases) (old new : Server D) (turn : Turn) (refusal : LineRefusal)
-    → honest old.store.disk → turn.outcome ≡ Err refusal
-    → IsTurn ⊥ has honest moments failures old turn new → turn.releases ≡ []
+    → view.is_honest old.store.disk → turn.outcome ≡ Err refusal
+    → IsTurn (source_view ⊥ has) view old turn new → turn.releases ≡ []
 
 -- a release that a turn imported is one that its line asked to import, and the line was answered OK
-abbrev pub ImportedIsOk : (D : Type 0) → (D → Type 0) → (D → Moments) → (D → ℕ) → Type 0
-ImportedIsOk D honest moments failures =
+abbrev pub ImportedIsOk : (D : Type 0) → DeviceView D → Type 0
+ImportedIsOk D view =
     (has : Releases) (old new : Server D) (turn : Turn) (release : Release)
-    → honest old.store.disk → turn.releases ≡ release ∷ []
-    → IsTurn ⊥ has honest moments failures old turn new
+    → view.is_honest old.store.disk → turn.releases ≡ release ∷ []
+    → IsTurn (source_view ⊥ has) view old turn new
     → (session : ℕ) × (name : List ℕ) × (answer : Answer) × Asks turn.line session (Import name)
     × (turn.outcome ≡ Ok answer)
 
 -- what is said of a run where its source is honest holds without a word on the source
-abbrev pub RunNeedsNoSource : {D : Type 0} → Type 0 → Releases → (D → Type 0) → (D → Moments)
-    → (D → ℕ) → Type 0
-RunNeedsNoSource {D} honest_source has honest moments failures =
+abbrev pub RunNeedsNoSource : {D : Type 0} → SourceView → DeviceView D → Type 0
+RunNeedsNoSource {D} source view =
     (old new : Server D) (turns : List Turn)
-    → Run honest_source has honest moments failures old turns new
-    → Run ⊥ has honest moments failures old turns new
+    → Run source view old turns new
+    → Run (source_view ⊥ source.releases) view old turns new
 
 -- Over any number of stops and openings, and while lines are answered after the last of them, the
 -- history is the one from the beginning with each release whose import was answered OK, in order,
 -- and with at most one other for each stop: one in whose import the device failed, or whose line
 -- the stop cut off.
-abbrev pub EachLifeKeepsItsImports : (D : Type 0) → (D → Type 0) → (D → Moments) → (D → ℕ) → Type 0
-EachLifeKeepsItsImports D honest moments failures =
+abbrev pub EachLifeKeepsItsImports : (D : Type 0) → DeviceView D → Type 0
+EachLifeKeepsItsImports D view =
     (has : Releases) (first last : StoreValue D) (life : List Stage) (pins : List (Option ℕ))
     (turns : List Turn) (now : Server D)
-    → honest first.disk → IsAcknowledged moments first
-    → IsLife has honest moments failures first life last
-    → Run ⊥ has honest moments failures (server pins last) turns now
+    → view.is_honest first.disk → IsAcknowledged view.moments first
+    → IsLife has view first life last
+    → Run (source_view ⊥ has) view (server pins last) turns now
     → (releases : List Release) × AreKept life releases
     × TakesAll first.history (releases ++ imported turns) now.store.history
 
@@ -200,13 +203,13 @@ KeptAreAcknowledged = (life : List Stage) (releases : List Release) → AreKept 
 -- Over any number of stops and openings, whatever the next stop leaves is opened with the history
 -- from the beginning and the releases that the life keeps, unless the opening runs out of memory or
 -- the device fails.
-abbrev pub EachLifeIsOpened : (D : Type 0) → (D → Type 0) → (D → Moments) → (D → ℕ) → Type 0
-EachLifeIsOpened D honest moments failures =
+abbrev pub EachLifeIsOpened : (D : Type 0) → DeviceView D → Type 0
+EachLifeIsOpened D view =
     (has : Releases) (first last : StoreValue D) (life : List Stage) (pins : List (Option ℕ))
     (stage : Stage) (bytes : List ℕ) (result : StoreOr D)
-    → honest first.disk → IsAcknowledged moments first
-    → IsLife has honest moments failures first life last
-    → IsStage has honest moments failures (server pins last) stage bytes
+    → view.is_honest first.disk → IsAcknowledged view.moments first
+    → IsLife has view first life last
+    → IsStage has view (server pins last) stage bytes
     → IsOpeningOf result bytes
     → MatchResult result
     (λ s. (releases : List Release) × AreKept (life ++ stage ∷ []) releases
@@ -216,46 +219,47 @@ EachLifeIsOpened D honest moments failures =
 -- A session stays pinned while lines are answered none of which pins it or
 -- unpins it, and the history stays as it was up to the pin:
 -- the rows that the pin shows, and which of these each import brought.
-abbrev pub RunKeepsPin : (D : Type 0) → (D → Type 0) → (D → Moments) → (D → ℕ) → Type 0
-RunKeepsPin D honest moments failures =
+abbrev pub RunKeepsPin : (D : Type 0) → DeviceView D → Type 0
+RunKeepsPin D view =
     (has : Releases) (old new : Server D) (turns : List Turn) (session pin : ℕ)
-    → honest old.store.disk → IsAcknowledged moments old.store → IsPinnedTo old session pin
-    → Run ⊥ has honest moments failures old turns new → AllByRecursion (LeavesPin session) turns
+    → view.is_honest old.store.disk → IsAcknowledged view.moments old.store
+    → IsPinnedTo old session pin
+    → Run (source_view ⊥ has) view old turns new → AllByRecursion (LeavesPin session) turns
     → (slice_index_or new.pins session None ≡ Some pin)
     × AgreeUpTo pin new.store.history old.store.history
     × ((number : ℕ) → number ≤ pin → BroughtAlike number new.store.history old.store.history)
 
 -- As long as a session stays pinned, each of its queries is answered by what the pin showed in the
 -- beginning.
-abbrev pub PinnedSeesItsImports : (D : Type 0) → (D → Type 0) → (D → Moments) → (D → ℕ) → Type 0
-PinnedSeesItsImports D honest moments failures =
+abbrev pub PinnedSeesItsImports : (D : Type 0) → DeviceView D → Type 0
+PinnedSeesItsImports D view =
     (has : Releases) (session pin : ℕ) (start : Server D) (turns : List Turn) (turn : Turn)
     (command : Command) (query : Answer)
-    → StaysPinned has honest moments failures session pin start turns turn
+    → StaysPinned has view session pin start turns turn
     → Asks turn.line session command
     → found command (rows_at pin start.store.history.rows) ≡ Some query
     → IsSure turn.outcome → turn.outcome ≡ Ok query
 
 -- As long as a session stays pinned, a RECEIPT of an import that the pin shows is answered by what
 -- the import had brought in the beginning.
-abbrev pub PinnedSeesItsReceipts : (D : Type 0) → (D → Type 0) → (D → Moments) → (D → ℕ) → Type 0
-PinnedSeesItsReceipts D honest moments failures =
+abbrev pub PinnedSeesItsReceipts : (D : Type 0) → DeviceView D → Type 0
+PinnedSeesItsReceipts D view =
     (has : Releases) (session pin number brought : ℕ) (latest : Option ℕ)
     (start : Server D) (turns : List Turn) (turn : Turn)
-    → StaysPinned has honest moments failures session pin start turns turn
+    → StaysPinned has view session pin start turns turn
     → Asks turn.line session (AskReceipt number) → number ≤ pin
     → ImportReceiptOf start.store.history number brought latest
     → turn.outcome ≡ Ok (Done (receipt_of number brought latest))
 
 -- In any two runs from histories that agree up to its pin, a session is answered alike, whatever
 -- the other sessions do.
-abbrev pub PinnedRunsAreUndisturbed : (D : Type 0) → (D → Type 0) → (D → Moments) → (D → ℕ)
+abbrev pub PinnedRunsAreUndisturbed : (D : Type 0) → DeviceView D
     → Type 0
-PinnedRunsAreUndisturbed D honest moments failures =
+PinnedRunsAreUndisturbed D view =
     (has others : Releases) (session pin : ℕ) (a b : Server D) (before also : List Turn)
     (one two : Turn) (command : Command) (query : Answer)
-    → StaysPinned has honest moments failures session pin a before one
-    → StaysPinned others honest moments failures session pin b also two
+    → StaysPinned has view session pin a before one
+    → StaysPinned others view session pin b also two
     → AgreeUpTo pin a.store.history b.store.history
     → one.line ≡ two.line → Asks one.line session command
     → found command (rows_at pin a.store.history.rows) ≡ Some query
@@ -263,13 +267,13 @@ PinnedRunsAreUndisturbed D honest moments failures =
 
 -- In any two runs a RECEIPT of a pinned session is answered alike, where the import brought the
 -- same rows to both histories.
-abbrev pub PinnedReceiptsAreUndisturbed : (D : Type 0) → (D → Type 0) → (D → Moments) → (D → ℕ)
+abbrev pub PinnedReceiptsAreUndisturbed : (D : Type 0) → DeviceView D
     → Type 0
-PinnedReceiptsAreUndisturbed D honest moments failures =
+PinnedReceiptsAreUndisturbed D view =
     (has others : Releases) (session pin number : ℕ) (a b : Server D) (before also : List Turn)
     (one two : Turn)
-    → StaysPinned has honest moments failures session pin a before one
-    → StaysPinned others honest moments failures session pin b also two
+    → StaysPinned has view session pin a before one
+    → StaysPinned others view session pin b also two
     → BroughtAlike number a.store.history b.store.history
     → one.line ≡ two.line → Asks one.line session (AskReceipt number)
     → one.outcome ≡ two.outcome

@@ -55,8 +55,8 @@ abbrev pub found : Command → List RowValue → Option Answer
 found (Get kind id date) rows = Some (Rows (option_to_list (get kind id date rows)))
 found (History kind id) rows = Some (Rows (versions kind id rows))
 found (Children concept date) rows = Some (Ids (children concept date rows))
-found (Terms date limit prefix) rows = Some (Rows (terms prefix date limit rows))
-found (Search date after limit prefix) rows =
+found (Terms prefix date limit) rows = Some (Rows (terms prefix date limit rows))
+found (Search prefix date after limit) rows =
     Some (Rows (search_terms prefix date after limit rows))
 found (Replaced id date) rows = Some (Rows (replacements id date rows))
 found (About kind id date) rows = Some (Rows (about kind id date rows))

@@ -1,18 +1,18 @@
 -- What serving lines does.
 use Rattle.std.specs.Prelude.{◌≡◌, ◌^◌, ◌*◌, ◌-◌, ◌<◌, ◌≤◌, ℕ, List, [], ◌∷◌, ◌++◌, length, min, All, Option, IfSome, Result, Ok, Err}
+use Rattle.disk_model.specs.DeviceView.{DeviceView}
 use Rattle.std.specs.Io.KnownBytes.{Appends, Consumes, IsAtEnd}
-use Rattle.disk_model.specs.Disk.{Moments}
 use Rattle.rf2_rows.specs.File.{lines_in}
 use Rattle.history_store.specs.StoreValue.{StoreValue}
 use Rattle.line_server.specs.declared.serving.ServeFault.{ServeFault}
 use Rattle.line_server.specs.declared.serving.ServeFault.TheVariants as faults
-use Rattle.line_server.specs.Sources.{Releases}
+use Rattle.line_server.specs.Sources.{SourceView}
 use Rattle.line_server.specs.ReplyValue.{reply_value, bytes_of}
 use Rattle.line_server.specs.Pins.{unpinned}
 use Rattle.line_server.specs.Replies.{server}
 use Rattle.line_server.specs.Imports.{IsFront, Imports}
 use Rattle.line_server.specs.Turns.{Turn, Run, lines_asked, replies, imported, failed_in}
-use Rattle.line_server.specs.Streams.{ends_in, AppendsSome}
+use Rattle.line_server.specs.Streams.{Streams, ends_in, AppendsSome}
 use Rattle.line_server.specs.Reads.{Reading, Gave, Failed, all_of, IsPiece, Makes}
 
 -- after Ok the lines of the input, and after a fault the first of them
@@ -52,25 +52,6 @@ abbrev pub IsCount : Result ℕ ServeFault → ℕ → Type 0
 IsCount (Ok n) answered = n ≡ min answered (2 ^ 64 - 1)
 IsCount (Err fault) answered = Unit {0}
 
--- Lines were answered in order, from sessions that aren't pinned. Where the input is
--- known, they are its lines; where the output is known, their replies were written.
-pub record IsServed {D : Type 0} (result : Result ℕ ServeFault) (most : ℕ) (honest_source : Type 0)
-    (has : Releases) (honest : D → Type 0) (moments : D → Moments) (failures : D → ℕ)
-    (input rest old new : Option (List ℕ)) (before after : StoreValue D) : Type 0 where
-  pub turns : List Turn
-  pub pins : List (Option ℕ)
-  pub run : Run honest_source has honest moments failures (server unpinned before) turns
-      (server pins after)
-  pub lines : IfSome input (AreLines result (lines_asked turns))
-  -- no read is of more than 4,096 bytes
-  pub read : (came : List ℕ) × Consumes input rest came
-      × IsRead result most came rest (length turns) × (length came ≤ most * 4096)
-  pub written : IsWritten result old new turns
-  pub count : IsCount result (length turns)
-  -- a stop at any moment leaves the history from before with
-  -- the first so many of the releases that the lines imported
-  pub imports : Imports honest moments before after (imported turns) (failed_in turns)
-
 -- pieces of the input were read, and then once more, which gave this
 abbrev pub PiecesThen : Reading → List Reading → Type 0
 PiecesThen last reads =
@@ -95,16 +76,26 @@ AreReads (Err faults.Read) most reads answered = PiecesThen Failed reads
 AreReads (Err faults.Write) most reads answered = AreReadToLine answered reads
 AreReads (Err faults.Reads) most reads answered = All IsPiece reads × (length reads ≡ most)
 
--- lines were served, and to that end these reads were made and no others
-pub record IsServedIn {D : Type 0} (result : Result ℕ ServeFault) (most : ℕ)
-    (honest_source : Type 0) (has : Releases) (honest : D → Type 0) (moments : D → Moments)
-    (failures : D → ℕ) (input rest old new : Option (List ℕ)) (before after : StoreValue D)
-    (known known_after : Option (List Reading)) : Type 0 where
-  pub served : IsServed result most honest_source has honest moments failures input rest old new
-      before after
+-- Lines were answered in order, from sessions that aren't pinned. Where the input is known, they
+-- are its lines; where the output is known, their replies were written; and where the reads are
+-- known, these were made and no others.
+pub record IsServed {D : Type 0} (result : Result ℕ ServeFault) (most : ℕ) (source : SourceView)
+    (view : DeviceView D) (streams : Streams) (before after : StoreValue D) : Type 0 where
+  pub turns : List Turn
+  pub pins : List (Option ℕ)
+  pub run : Run source view (server unpinned before) turns (server pins after)
+  pub lines : IfSome streams.input (AreLines result (lines_asked turns))
+  -- no read is of more than 4,096 bytes
+  pub read : (came : List ℕ) × Consumes streams.input streams.rest came
+      × IsRead result most came streams.rest (length turns) × (length came ≤ most * 4096)
+  pub written : IsWritten result streams.old streams.new turns
+  pub count : IsCount result (length turns)
+  -- a stop at any moment leaves the history from before with
+  -- the first so many of the releases that the lines imported
+  pub imports : Imports view before after (imported turns) (failed_in turns)
+  -- the reads that were made, which gave the bytes that came of the input
   pub reads : List Reading
-  pub made : Makes known known_after reads
+  pub made : Makes streams.reads streams.reads_after reads
   pub few : length reads ≤ most
-  -- they gave the bytes that came of the input
-  pub bytes : served.read.0 ≡ all_of reads
-  pub rightly : AreReads result most reads (length served.turns)
+  pub bytes : read.0 ≡ all_of reads
+  pub rightly : AreReads result most reads (length turns)

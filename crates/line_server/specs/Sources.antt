@@ -1,5 +1,5 @@
 -- Where releases come from.
-use Rattle.std.specs.Prelude.{◌≡◌, ℕ, List, Option, Some, None, Result, Ok, Err}
+use Rattle.std.specs.Prelude.{◌≡◌, ⊤, ℕ, List, Option, Some, None, Result, Ok, Err}
 use Rattle.rf2_values.specs.declared.row.Kind.{Kind}
 use Rattle.import_check.specs.declared.release.Release.{Release}
 use Rattle.import_check.specs.Sample.{files_of}
@@ -9,6 +9,18 @@ use Rattle.line_server.specs.declared.source.SourceFault.TheVariants as faults
 -- the files of the release under each name that has one
 abbrev pub Releases : Type 0
 Releases = List ℕ → Option (List (Kind × List ℕ))
+
+-- a source as clauses see it: whether it has the releases that it says it has, and these
+pub record SourceView : Type 1 where
+  pub is_honest : Type 0
+  pub releases : Releases
+
+abbrev pub source_view : Type 0 → Releases → SourceView
+source_view is_honest releases = record { is_honest = is_honest; releases = releases }
+
+-- a source that has no release, and says so
+abbrev pub no_releases : SourceView
+no_releases = source_view ⊤ (λ _. None)
 
 -- the release under the name was given, or there is none; memory may run out
 abbrev pub IsGiven : Result Release SourceFault → Option (List (Kind × List ℕ)) → Type 0

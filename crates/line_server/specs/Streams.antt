@@ -1,7 +1,35 @@
 -- Bytes that come in, and bytes that go out.
-use Rattle.std.specs.Prelude.{◌≡◌, ◌==◌, ℕ, ◌≤◌, ◌++◌, List, length, Option, Result, Ok, Err}
+use Rattle.std.specs.Prelude.{◌≡◌, ◌==◌, ℕ, ◌≤◌, ◌++◌, List, length, Option, None, Result, Ok, Err}
 use Rattle.std.specs.List.{count_by}
 use Rattle.std.specs.Io.KnownBytes.{Appends}
+use Rattle.line_server.specs.Reads.{Reading}
+
+-- What a call reads and writes, as far as it is known: the bytes that its input gives from before
+-- the call on and from after it on, the reads of the input that were made by then, and the bytes of
+-- its output before and after.
+pub record Streams : Type 0 where
+  pub input : Option (List ℕ)
+  pub rest : Option (List ℕ)
+  pub reads : Option (List Reading)
+  pub reads_after : Option (List Reading)
+  pub old : Option (List ℕ)
+  pub new : Option (List ℕ)
+
+-- streams by the bytes of the input, and of the output; of the reads nothing is known
+abbrev pub streams : Option (List ℕ) → Option (List ℕ) → Option (List ℕ) → Option (List ℕ)
+    → Streams
+streams input rest old new = record {
+  input = input;
+  rest = rest;
+  reads = None;
+  reads_after = None;
+  old = old;
+  new = new;
+}
+
+-- the same, and the reads
+abbrev pub with_reads : Streams → Option (List Reading) → Option (List Reading) → Streams
+with_reads known reads reads_after = record known { reads = reads; reads_after = reads_after }
 
 -- how many lines end in the bytes: as many as have LF
 abbrev pub ends_in : List ℕ → ℕ

@@ -1,8 +1,8 @@
 -- Lines that are answered one after the other.
 use Rattle.std.specs.Prelude.{◌≡◌, ℕ, ◌≤◌, List, [], ◌∷◌, length, map, take, Option, Some, None, IfSome, Result, Ok, Err, OnOk}
+use Rattle.disk_model.specs.DeviceView.{DeviceView}
 use Rattle.std.specs.List.{flat_map, AllByRecursion}
 use Rattle.std.specs.Option.{option_or}
-use Rattle.disk_model.specs.Disk.{Moments}
 use Rattle.import_check.specs.declared.release.Release.{Release}
 use Rattle.import_check.specs.Sample.{files_of}
 use Rattle.history_store.specs.declared.refusal.Refusal.TheVariants as store
@@ -13,9 +13,9 @@ use Rattle.line_commands.specs.Commands.{Command, Import, Step, Publish, Trim}
 use Rattle.line_commands.specs.Requests.{Asks}
 use Rattle.line_server.specs.declared.refusal.LineRefusal.{LineRefusal}
 use Rattle.line_server.specs.declared.refusal.LineRefusal.TheVariants as refusals
-use Rattle.line_server.specs.Sources.{Releases}
+use Rattle.line_server.specs.Sources.{Releases, SourceView}
 use Rattle.line_server.specs.ReplyValue.{Answer, ReplyValue, reply_value, bytes_of}
-use Rattle.line_server.specs.Replies.{Server, Replies, server}
+use Rattle.line_server.specs.Replies.{Server, Replies}
 use Rattle.line_server.specs.Imports.{Imports}
 
 -- a line, how it is answered, the release that it imported,
@@ -53,55 +53,54 @@ IfRefused (Err refusal) so = so
 -- but not where they are refused for another reason than the device. After TRIM a read gives what
 -- it gave before, up to the last block that is listed or reserved, and nothing behind that. Every
 -- other command leaves what a stop may leave as it was.
-abbrev pub LeavesDisk : {D : Type 0} → (D → Type 0) → (D → Moments) → Command
-    → Result Answer LineRefusal → StoreValue D → StoreValue D → Type 0
-LeavesDisk honest moments (Import name) outcome old new =
-    honest old.disk → IfRefused outcome (moments new.disk ≡ moments old.disk)
-LeavesDisk honest moments (Step rows) outcome old new =
-    honest old.disk → IfRefused outcome (moments new.disk ≡ moments old.disk)
-LeavesDisk honest moments Publish outcome old new =
-    honest old.disk → IfRefused outcome (moments new.disk ≡ moments old.disk)
-LeavesDisk honest moments Trim outcome old new =
-    honest old.disk
-    → OnOk outcome ((moments new.disk).state.now ≡ take (trimmed_len old.catalog)
-    (moments old.disk).state.now) × IfRefused outcome (moments new.disk ≡ moments old.disk)
-LeavesDisk honest moments command outcome old new =
-    honest old.disk → moments new.disk ≡ moments old.disk
+abbrev pub LeavesDisk : {D : Type 0} → DeviceView D → Command → Result Answer LineRefusal
+    → StoreValue D → StoreValue D → Type 0
+LeavesDisk view (Import name) outcome old new =
+    view.is_honest old.disk → IfRefused outcome (view.moments new.disk ≡ view.moments old.disk)
+LeavesDisk view (Step rows) outcome old new =
+    view.is_honest old.disk → IfRefused outcome (view.moments new.disk ≡ view.moments old.disk)
+LeavesDisk view Publish outcome old new =
+    view.is_honest old.disk → IfRefused outcome (view.moments new.disk ≡ view.moments old.disk)
+LeavesDisk view Trim outcome old new =
+    view.is_honest old.disk
+    → OnOk outcome ((view.moments new.disk).state.now ≡ take (trimmed_len old.catalog)
+    (view.moments old.disk).state.now)
+    × IfRefused outcome (view.moments new.disk ≡ view.moments old.disk)
+LeavesDisk view command outcome old new =
+    view.is_honest old.disk → view.moments new.disk ≡ view.moments old.disk
 
 -- One line was answered: as if the source had certain releases, and where it is honest, as its own
 -- releases say.
-pub record IsTurn {D : Type 0} (honest_source : Type 0) (has : Releases) (honest : D → Type 0)
-    (moments : D → Moments) (failures : D → ℕ) (old : Server D) (turn : Turn)
-    (new : Server D) : Type 0 where
+pub record IsTurn {D : Type 0} (source : SourceView) (view : DeviceView D) (old : Server D)
+    (turn : Turn) (new : Server D) : Type 0 where
   pub releases : Releases
-  pub goes : GoesBy (honest old.store.disk) releases old turn new
-  pub own : honest_source → GoesBy (honest old.store.disk) has old turn new
-  pub imports : Imports honest moments old.store new.store turn.releases turn.failed
+  pub goes : GoesBy (view.is_honest old.store.disk) releases old turn new
+  pub own : source.is_honest → GoesBy (view.is_honest old.store.disk) source.releases old turn new
+  pub imports : Imports view old.store new.store turn.releases turn.failed
   pub one : length turn.releases ≤ 1
-  pub counts : CountsOutcome turn.outcome (failures old.store.disk) (failures new.store.disk)
+  pub counts : CountsOutcome turn.outcome (view.failures old.store.disk)
+      (view.failures new.store.disk)
   pub disk : (session : ℕ) (command : Command) → Asks turn.line session command
-      → LeavesDisk honest moments command turn.outcome old.store new.store
+      → LeavesDisk view command turn.outcome old.store new.store
+
+-- a line was answered by a turn of which this holds
+abbrev pub HasTurn : {D : Type 0} → SourceView → DeviceView D → List ℕ → Server D → Server D
+    → (Turn → Type 0) → Type 0
+HasTurn source view line old new holds =
+    (turn : Turn) × (turn.line ≡ line) × IsTurn source view old turn new × holds turn
 
 -- a line was answered with this reply
-pub record IsAnswered {D : Type 0} (honest_source : Type 0) (has : Releases) (honest : D → Type 0)
-    (moments : D → Moments) (failures : D → ℕ) (line : List ℕ) (reply : ReplyValue)
-    (pins : List (Option ℕ)) (store : StoreValue D) (pins_after : List (Option ℕ))
-    (store_after : StoreValue D) : Type 0 where
-  pub outcome : Result Answer LineRefusal
-  pub releases : List Release
-  pub failed : Option Release
-  pub reply_is : reply ≡ reply_value outcome
-  pub turn : IsTurn honest_source has honest moments failures (server pins store)
-      (record { line = line; outcome = outcome; releases = releases; failed = failed })
-      (server pins_after store_after)
+abbrev pub IsAnswered : {D : Type 0} → SourceView → DeviceView D → List ℕ → ReplyValue → Server D
+    → Server D → Type 0
+IsAnswered source view line reply old new =
+    HasTurn source view line old new (λ turn. reply ≡ reply_value turn.outcome)
 
 -- lines are answered one after the other
-abbrev pub Run : {D : Type 0} → Type 0 → Releases → (D → Type 0) → (D → Moments) → (D → ℕ)
-    → Server D → List Turn → Server D → Type 0
-Run {D} honest_source has honest moments failures old [] new = new ≡ old
-Run {D} honest_source has honest moments failures old (turn ∷ turns) new =
-    (mid : Server D) × IsTurn honest_source has honest moments failures old turn mid
-    × Run honest_source has honest moments failures mid turns new
+abbrev pub Run : {D : Type 0} → SourceView → DeviceView D → Server D → List Turn → Server D
+    → Type 0
+Run {D} source view old [] new = new ≡ old
+Run {D} source view old (turn ∷ turns) new =
+    (mid : Server D) × IsTurn source view old turn mid × Run source view mid turns new
 
 abbrev pub lines_asked : List Turn → List (List ℕ)
 lines_asked turns = map (λ turn. turn.line) turns

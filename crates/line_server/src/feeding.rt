@@ -1,11 +1,15 @@
 //! Pieces of the input.
 
 ghost use Rattle.std.specs.Prelude.{◌≡◌, ℕ, List};
+ghost use Rattle.line_server.specs.Sources.{source_view};
+ghost use Rattle.disk_model.specs.DeviceView.{device_view};
 ghost use Rattle.line_server.specs.Pins.{AreWithin};
 ghost use Rattle.line_server.specs.Replies.{server};
 ghost use Rattle.line_server.specs.Steps.{kept};
-ghost use Rattle.line_server.specs.Private.{IsLineServed};
-ghost use Rattle.line_server.specs.Feeding.{IsUnended, IsFed};
+ghost use Rattle.line_server.specs.ReplyValue.{reply_value, bytes_of};
+ghost use Rattle.line_server.specs.Turns.{HasTurn};
+ghost use Rattle.line_server.specs.Streams.{IsPut};
+ghost use Rattle.line_server.specs.Feeding.{IsUnended, IsFed, intake};
 
 use crate::answering::answer;
 use crate::buffer::LineBuffer;
@@ -28,10 +32,11 @@ pub(crate) fn answer_line<W: Write, S: Source, D: Disk>(
 ) -> Result<(), WriteFault>
     requires { AreWithin store.old.history.imports pins.old }
     ensures pins { AreWithin store.new.history.imports pins.new }
-    ensures served { IsLineServed result
-        (S.is_honest source.old) (S.releases source.old) D.is_honest D.moments D.failures
-        line.now pins.old store.old pins.new store.new
-        (W.contents writer.old) (W.contents writer.new) }
+    ensures served { HasTurn (source_view (S.is_honest source.old) (S.releases source.old))
+        (device_view D.is_honest D.moments D.failures) line.now
+        (server pins.old store.old) (server pins.new store.new)
+        (λ turn. IsPut result (W.contents writer.old) (W.contents writer.new)
+        (bytes_of (reply_value turn.outcome))) }
     ensures source { S.is_honest source.old → S.is_honest source.new }
     ensures stays { S.is_honest source.old → S.releases source.new ≡ S.releases source.old }
 {
@@ -56,9 +61,10 @@ pub fn feed<W: Write, S: Source, D: Disk>(
     ensures pins { AreWithin store.new.history.imports pins.new }
     // It holds whatever had come of a line before, of which the buffer keeps the first bytes.
     ensures fed { (part : List ℕ) → IsUnended part → line.old ≡ kept part → IsFed result
-        (S.is_honest source.old) (S.releases source.old) D.is_honest D.moments D.failures
-        part piece.now line.new (server pins.old store.old) (server pins.new store.new)
-        (W.contents writer.old) (W.contents writer.new) }
+        (source_view (S.is_honest source.old) (S.releases source.old))
+        (device_view D.is_honest D.moments D.failures)
+        (intake part piece.now line.new (W.contents writer.old) (W.contents writer.new))
+        (server pins.old store.old) (server pins.new store.new) }
     ensures source { S.is_honest source.old → S.is_honest source.new }
     ensures stays { S.is_honest source.old → S.releases source.new ≡ S.releases source.old }
 {

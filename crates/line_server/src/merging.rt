@@ -1,6 +1,7 @@
 //! The commands of a merge, and trimming: what the store says, as a reply.
 
 ghost use Rattle.line_commands.specs.Commands.{Merge, Step, Publish, Abandon, Trim};
+ghost use Rattle.disk_model.specs.DeviceView.{device_view};
 ghost use Rattle.line_server.specs.Private.{IsCarriedOut};
 
 use crate::refusal::LineRefusal;
@@ -15,7 +16,8 @@ pub(crate) fn begin_merge<D: Disk>(
     alloc: Global,
     store: &mut Store<D>,
 ) -> Result<Reply, LineRefusal>
-    ensures { IsCarriedOut result D.is_honest D.moments D.failures Merge store.old store.new }
+    ensures { IsCarriedOut result (device_view D.is_honest D.moments D.failures) Merge store.old
+        store.new }
 {
     let left = store.merge_begin()?;
     Ok(reply_number(alloc, left))
@@ -27,7 +29,8 @@ pub(crate) fn step_merge<D: Disk>(
     rows: u32,
     store: &mut Store<D>,
 ) -> Result<Reply, LineRefusal>
-    ensures { IsCarriedOut result D.is_honest D.moments D.failures (Step rows) store.old store.new }
+    ensures { IsCarriedOut result (device_view D.is_honest D.moments D.failures) (Step rows)
+        store.old store.new }
 {
     let left = store.merge_step(rows)?;
     Ok(reply_number(alloc, left))
@@ -38,7 +41,8 @@ pub(crate) fn publish_merge<D: Disk>(
     alloc: Global,
     store: &mut Store<D>,
 ) -> Result<Reply, LineRefusal>
-    ensures { IsCarriedOut result D.is_honest D.moments D.failures Publish store.old store.new }
+    ensures { IsCarriedOut result (device_view D.is_honest D.moments D.failures) Publish store.old
+        store.new }
 {
     store.merge_publish()?;
     Ok(reply_done(alloc))
@@ -49,7 +53,8 @@ pub(crate) fn abandon_merge<D: Disk>(
     alloc: Global,
     store: &mut Store<D>,
 ) -> Result<Reply, LineRefusal>
-    ensures { IsCarriedOut result D.is_honest D.moments D.failures Abandon store.old store.new }
+    ensures { IsCarriedOut result (device_view D.is_honest D.moments D.failures) Abandon store.old
+        store.new }
 {
     store.merge_abandon()?;
     Ok(reply_done(alloc))
@@ -57,7 +62,8 @@ pub(crate) fn abandon_merge<D: Disk>(
 
 /// Cuts off what nothing uses at the end of the disk.
 pub(crate) fn trim_store<D: Disk>(alloc: Global, store: &mut Store<D>) -> Result<Reply, LineRefusal>
-    ensures { IsCarriedOut result D.is_honest D.moments D.failures Trim store.old store.new }
+    ensures { IsCarriedOut result (device_view D.is_honest D.moments D.failures) Trim store.old
+        store.new }
 {
     let _bytes = store.trim()?;
     Ok(reply_done(alloc))

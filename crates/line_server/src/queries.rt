@@ -1,6 +1,7 @@
 //! Queries: what the store finds, as a reply.
 
 ghost use Rattle.std.specs.Prelude.{◌≤◌};
+ghost use Rattle.disk_model.specs.DeviceView.{device_view};
 ghost use Rattle.line_commands.specs.Commands.{Get, History, Children, Terms, Search, Replaced, About, Page, Receipt};
 ghost use Rattle.line_server.specs.Private.{IsQueried};
 
@@ -22,8 +23,8 @@ pub(crate) fn answer_get<D: Disk>(
     store: &mut Store<D>,
 ) -> Result<Reply, LineRefusal>
     requires { pin ≤ store.old.history.imports }
-    ensures { IsQueried result D.is_honest D.moments D.failures (Get kind id time) pin store.old
-        store.new }
+    ensures { IsQueried result (device_view D.is_honest D.moments D.failures) (Get kind id time) pin
+        store.old store.new }
 {
     let found = store.get(kind, id, time, pin)?;
     Ok(reply_rows(alloc, found.as_slice())?)
@@ -38,8 +39,8 @@ pub(crate) fn answer_history<D: Disk>(
     store: &mut Store<D>,
 ) -> Result<Reply, LineRefusal>
     requires { pin ≤ store.old.history.imports }
-    ensures { IsQueried result D.is_honest D.moments D.failures (History kind id) pin store.old
-        store.new }
+    ensures { IsQueried result (device_view D.is_honest D.moments D.failures) (History kind id) pin
+        store.old store.new }
 {
     let found = store.history(kind, id, pin)?;
     Ok(reply_rows(alloc, &found)?)
@@ -54,8 +55,8 @@ pub(crate) fn answer_children<D: Disk>(
     store: &mut Store<D>,
 ) -> Result<Reply, LineRefusal>
     requires { pin ≤ store.old.history.imports }
-    ensures { IsQueried result D.is_honest D.moments D.failures (Children concept time) pin
-        store.old store.new }
+    ensures { IsQueried result (device_view D.is_honest D.moments D.failures)
+        (Children concept time) pin store.old store.new }
 {
     let found = store.children(concept, time, pin)?;
     Ok(reply_ids(alloc, &found)?)
@@ -71,8 +72,8 @@ pub(crate) fn answer_terms<D: Disk>(
     store: &mut Store<D>,
 ) -> Result<Reply, LineRefusal>
     requires { pin ≤ store.old.history.imports }
-    ensures { IsQueried result D.is_honest D.moments D.failures (Terms time limit prefix.now) pin
-        store.old store.new }
+    ensures { IsQueried result (device_view D.is_honest D.moments D.failures)
+        (Terms prefix.now time limit) pin store.old store.new }
 {
     let found = store.terms(prefix, time, limit, pin)?;
     Ok(reply_rows(alloc, &found)?)
@@ -89,8 +90,8 @@ pub(crate) fn answer_search<D: Disk>(
     store: &mut Store<D>,
 ) -> Result<Reply, LineRefusal>
     requires { pin ≤ store.old.history.imports }
-    ensures { IsQueried result D.is_honest D.moments D.failures
-        (Search time after limit prefix.now) pin store.old store.new }
+    ensures { IsQueried result (device_view D.is_honest D.moments D.failures)
+        (Search prefix.now time after limit) pin store.old store.new }
 {
     let found = store.search(prefix, time, after, limit, pin)?;
     Ok(reply_rows(alloc, &found)?)
@@ -105,8 +106,8 @@ pub(crate) fn answer_replaced<D: Disk>(
     store: &mut Store<D>,
 ) -> Result<Reply, LineRefusal>
     requires { pin ≤ store.old.history.imports }
-    ensures { IsQueried result D.is_honest D.moments D.failures (Replaced id time) pin store.old
-        store.new }
+    ensures { IsQueried result (device_view D.is_honest D.moments D.failures) (Replaced id time) pin
+        store.old store.new }
 {
     let found = store.replacements(id, time, pin)?;
     Ok(reply_rows(alloc, &found)?)
@@ -122,8 +123,8 @@ pub(crate) fn answer_about<D: Disk>(
     store: &mut Store<D>,
 ) -> Result<Reply, LineRefusal>
     requires { pin ≤ store.old.history.imports }
-    ensures { IsQueried result D.is_honest D.moments D.failures (About kind id time) pin store.old
-        store.new }
+    ensures { IsQueried result (device_view D.is_honest D.moments D.failures) (About kind id time)
+        pin store.old store.new }
 {
     let found = store.about(kind, id, time, pin)?;
     Ok(reply_rows(alloc, &found)?)
@@ -140,8 +141,8 @@ pub(crate) fn answer_page<D: Disk>(
     store: &mut Store<D>,
 ) -> Result<Reply, LineRefusal>
     requires { pin ≤ store.old.history.imports }
-    ensures { IsQueried result D.is_honest D.moments D.failures (Page kind time after limit) pin
-        store.old store.new }
+    ensures { IsQueried result (device_view D.is_honest D.moments D.failures)
+        (Page kind time after limit) pin store.old store.new }
 {
     let found = store.page(kind, time, after, limit, pin)?;
     Ok(reply_rows(alloc, &found)?)
@@ -156,8 +157,8 @@ pub(crate) fn answer_receipt<D: Disk>(
 ) -> Result<Reply, LineRefusal>
     requires first { 1 ≤ number }
     requires within { pin ≤ store.now.history.imports }
-    ensures { IsQueried result D.is_honest D.moments D.failures (Receipt number) pin store.now
-        store.now }
+    ensures { IsQueried result (device_view D.is_honest D.moments D.failures) (Receipt number) pin
+        store.now store.now }
 {
     if number > pin {
         return Err(LineRefusal::PinRange);

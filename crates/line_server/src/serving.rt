@@ -1,8 +1,11 @@
 //! Lines in, replies out.
 
 ghost use Rattle.std.specs.Prelude.{◌≡◌, IsErrOf};
+ghost use Rattle.line_server.specs.Sources.{source_view};
+ghost use Rattle.disk_model.specs.DeviceView.{device_view};
 ghost use Rattle.line_server.specs.declared.serving.ServeFault.TheVariants.{OutOfMemory};
-ghost use Rattle.line_server.specs.Serving.{IsServed, IsServedIn};
+ghost use Rattle.line_server.specs.Serving.{IsServed};
+ghost use Rattle.line_server.specs.Streams.{streams, with_reads};
 
 use crate::buffer::LineBuffer;
 use crate::feeding::{answer_line, feed};
@@ -45,14 +48,11 @@ pub fn serve<R: PieceReader, W: Write, S: Source, D: Disk>(
     max_reads: u32,
 ) -> Result<u64, ServeFault>
     ensures served { IsServed result max_reads
-        (S.is_honest source.old) (S.releases source.old) D.is_honest D.moments D.failures
-        (R.remaining reader.old) (R.remaining reader.new)
-        (W.contents writer.old) (W.contents writer.new) store.old store.new }
-    ensures reads { IsServedIn result max_reads
-        (S.is_honest source.old) (S.releases source.old) D.is_honest D.moments D.failures
-        (R.remaining reader.old) (R.remaining reader.new)
-        (W.contents writer.old) (W.contents writer.new) store.old store.new
-        (R.reads reader.old) (R.reads reader.new) }
+        (source_view (S.is_honest source.old) (S.releases source.old))
+        (device_view D.is_honest D.moments D.failures)
+        (with_reads (streams (R.remaining reader.old) (R.remaining reader.new)
+        (W.contents writer.old) (W.contents writer.new)) (R.reads reader.old) (R.reads reader.new))
+        store.old store.new }
     // The buffer is made before anything else is done.
     ensures memory { IsErrOf result OutOfMemory
         → (reader.new ≡ reader.old) × (writer.new ≡ writer.old)

@@ -14,7 +14,7 @@ use rf2_rows::{EffectiveTime, Row, write_row};
 use std::alloc::{AllocError, Global};
 
 /// A last line that begins with this word.
-fn begun_with(word: &str) -> ArrayString<128>
+fn begin_line(word: &str) -> ArrayString<128>
     requires { length word.now ≤ 3 }
     ensures bytes { result.bytes ≡ word.now }
     ensures len { array_string_len result ≡ length word.now }
@@ -70,14 +70,14 @@ fn reply(body: Vec<u8>, text: ArrayString<128>) -> Reply
 pub fn reply_done(alloc: Global) -> Reply
     ensures { result ≡ reply_value (Ok (Done [])) }
 {
-    reply(Vec::new(alloc), begun_with("OK"))
+    reply(Vec::new(alloc), begin_line("OK"))
 }
 
 /// The reply that says a number.
 pub(crate) fn reply_number(alloc: Global, number: u64) -> Reply
     ensures { result ≡ reply_value (Ok (Done (decimal number ∷ []))) }
 {
-    let mut last = begun_with("OK");
+    let mut last = begin_line("OK");
     put_number(&mut last, number);
     reply(Vec::new(alloc), last)
 }
@@ -97,7 +97,7 @@ pub(crate) fn reply_receipt(alloc: Global, receipt: Receipt) -> Reply
     ensures { result ≡ reply_value (Ok (Done (decimal receipt.number ∷ decimal receipt.new ∷ decimal
         receipt.repeated ∷ []))) }
 {
-    let mut last = begun_with("OK");
+    let mut last = begin_line("OK");
     put_number(&mut last, u64::from(receipt.number));
     put_number(&mut last, receipt.new);
     put_number(&mut last, receipt.repeated);
@@ -108,7 +108,7 @@ pub(crate) fn reply_receipt(alloc: Global, receipt: Receipt) -> Reply
 pub(crate) fn reply_import(alloc: Global, number: u32, receipt: ImportReceipt) -> Reply
     ensures { result ≡ reply_value (Ok (Done (receipt_of number receipt.new receipt.latest))) }
 {
-    let mut last = begun_with("OK");
+    let mut last = begin_line("OK");
     put_number(&mut last, u64::from(number));
     put_number(&mut last, receipt.new);
     put_number_or_none(&mut last, number_of_date(receipt.latest));
@@ -126,7 +126,7 @@ pub(crate) fn reply_status(
     ensures { result ≡ reply_value (Ok (Done (decimal imports ∷ decimal rows ∷ decimal segments ∷
         number_or_none left ∷ []))) }
 {
-    let mut last = begun_with("OK");
+    let mut last = begin_line("OK");
     put_number(&mut last, u64::from(imports));
     put_number(&mut last, rows);
     put_number(&mut last, u64::from(segments));
@@ -138,7 +138,7 @@ pub(crate) fn reply_status(
 pub fn reply_refusal(alloc: Global, refusal: LineRefusal) -> Reply
     ensures { result ≡ reply_value (Err refusal) }
 {
-    let mut last = begun_with("ERR");
+    let mut last = begin_line("ERR");
     put_number(&mut last, u64::from(refusal.code()));
     put_word(&mut last, refusal.name());
     match refusal.place() {
@@ -156,7 +156,7 @@ fn end(count: usize) -> ArrayString<128>
     ensures bytes { result.bytes ++ 10 ∷ [] ≡ line (codes "END" ∷ decimal count ∷ []) }
     ensures short { array_string_len result < 128 }
 {
-    let mut last = begun_with("END");
+    let mut last = begin_line("END");
     put_number(&mut last, count as u64);
     last
 }

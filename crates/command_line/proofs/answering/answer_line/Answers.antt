@@ -5,11 +5,8 @@ pub returns : goal.returns
 returns g c =
     let t = c.answer-reply.ensures.turn in
     record {
-      turn = record { line = c.args.line.now; outcome = t.outcome; releases = t.releases; failed = t.failed };
       pins = c.answer-reply.new.pins;
       after = c.answer-reply.new.store;
-      line_is = refl;
-      answered = rw (← c.new-pins.ensures.none) t.turn;
-      told = c.tell.ensures t.outcome t.reply_is;
+      told = (t.0, t.1, rw (← c.new-pins.ensures.none) t.2, c.tell.ensures t.0.outcome t.3);
       left_so = refl;
     }

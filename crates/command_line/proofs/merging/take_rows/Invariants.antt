@@ -1,4 +1,5 @@
 use Rattle.std.proofs.Common.{◌≡◌}
+use Rattle.disk_model.specs.DeviceView.{device_view}
 use Rattle.line_server.specs.Pins.{AreWithin}
 use Rattle.line_server.specs.Replies.{server}
 use Rattle.command_line.specs.Merging.{segments_of}
@@ -8,6 +9,6 @@ use Rattle.command_line.proofs.merging.take_rows.Given as goal
 -- lines of the merge were answered, of as many segments
 abbrev pub invariant-loop : goal.invariant-loop
 invariant-loop g l =
-    HaveMerged g.D.Disk.is_honest g.D.Disk.moments g.D.Disk.failures (server l.fn.pins l.fn.store) (server l.pins l.store)
+    HaveMerged (device_view g.D.Disk.is_honest g.D.Disk.moments g.D.Disk.failures) (server l.fn.pins l.fn.store) (server l.pins l.store)
     × (segments_of (server l.pins l.store) ≡ segments_of (server l.fn.pins l.fn.store))
     × AreWithin l.store.history.imports l.pins

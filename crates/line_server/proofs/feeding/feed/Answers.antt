@@ -1,36 +1,37 @@
 use Rattle.std.proofs.Common.{refl, get_or, drop, ◌+◌, [], ◌++◌, take, sym, ◌∙◌, append-nil}
+use Rattle.line_server.specs.Sources.{source_view}
+use Rattle.disk_model.specs.DeviceView.{device_view}
 use Rattle.std.proofs.lemmas.Bool.{ne_eqb}
 use Rattle.std.proofs.lemmas.List.{take_all}
-use Rattle.line_server.proofs.Alike.{turn_now}
+use Rattle.line_server.proofs.Alike.{turn_now, turn_on}
 use Rattle.line_server.proofs.Progressing.{begins, fed, not_replied, line_more, byte_more, next_seen, all_seen}
 use Rattle.line_server.proofs.feeding.feed.Goals.{then-byte-eq10+in-Ok, else-byte-eq10}
 use Rattle.line_server.proofs.feeding.feed.Goals as goal
 
 pub loop-byte-init : goal.loop-byte-init
 loop-byte-init g c =
-    let hs = g.S.Source.is_honest c.args.source.now in
-    let has = g.S.Source.releases c.args.source.now in
-    (λ part free is. rw (append-nil part) (begins hs has g.D.Disk.is_honest g.D.Disk.moments g.D.Disk.failures _ _ part _ free is), c.requires, λ h. (h, refl))
+    let source = source_view (g.S.Source.is_honest c.args.source.now) (g.S.Source.releases c.args.source.now) in
+    (λ part free is. rw (append-nil part) (begins source (device_view g.D.Disk.is_honest g.D.Disk.moments g.D.Disk.failures) _ _ part _ free is), c.requires, λ h. (h, refl))
 
 pub answer_line-requires : goal.answer_line-requires
 answer_line-requires g c = c.loop-byte.invariant.1
 
 pub returns-in-Err-clause-fed : goal.returns-in-Err-clause-fed
 returns-in-Err-clause-fed g c =
-    let hs = g.S.Source.is_honest c.args.source.now in
-    let has = g.S.Source.releases c.args.source.now in
+    let source = source_view (g.S.Source.is_honest c.args.source.now) (g.S.Source.releases c.args.source.now) in
     let i = c.loop-byte.invariant in
     let piece = c.args.piece.now in
     let at = c.loop-byte.byte-index in
     let step = c.answer_line.ensures.served in
-    let turn = rw c.ended.ensures at step.turn in
-    let gives = turn_now step.outcome step.releases step.failed _ _ hs has g.D.Disk.is_honest g.D.Disk.moments g.D.Disk.failures _ _ _ i.2 turn in
+    let line_is = rw c.ended.ensures at step.1 in
+    let turn = turn_on _ _ _ _ step.0 _ line_is step.2 in
+    let gives = turn_now step.0.outcome step.0.releases step.0.failed _ _ source (device_view g.D.Disk.is_honest g.D.Disk.moments g.D.Disk.failures) _ _ i.2 turn in
     λ part free is.
-    not_replied hs has g.D.Disk.is_honest g.D.Disk.moments g.D.Disk.failures _ _ _ _ part piece free _ _ _ (take at piece) (drop (at + 1) piece) _ _ _ step.outcome step.releases step.failed
+    not_replied source (device_view g.D.Disk.is_honest g.D.Disk.moments g.D.Disk.failures) _ _ _ _ part piece free _ _ _ (take at piece) (drop (at + 1) piece) _ _ _ step.0.outcome step.0.releases step.0.failed
     (i.0 part free is)
     (sym (all_seen [] piece at 10 c.loop-byte-test.true c.if-byte-eq10.true))
     gives
-    (rw c.in-Err.is at step.put)
+    (rw c.in-Err.is at step.3)
 
 pub returns-in-Err-clause-source : goal.returns-in-Err-clause-source
 returns-in-Err-clause-source g c = λ h. c.answer_line.ensures.source (c.loop-byte.invariant.2 h).0
@@ -40,24 +41,24 @@ returns-in-Err-clause-stays g c = λ h. c.answer_line.ensures.stays (c.loop-byte
 
 pub loop-byte-preserved : goal.loop-byte-preserved
 loop-byte-preserved g c =
-    let hs = g.S.Source.is_honest c.args.source.now in
-    let has = g.S.Source.releases c.args.source.now in
+    let source = source_view (g.S.Source.is_honest c.args.source.now) (g.S.Source.releases c.args.source.now) in
     let i = c.loop-byte.invariant in
     let piece = c.args.piece.now in
     let at = c.loop-byte.byte-index in
     elim c.if-byte-eq10.branch [
       | then-byte-eq10+in-Ok w ↦
           let step = w.answer_line.ensures in
-          let turn = rw w.ended.ensures at step.served.turn in
-          let gives = turn_now step.served.outcome step.served.releases step.served.failed _ _ hs has g.D.Disk.is_honest g.D.Disk.moments g.D.Disk.failures _ _ _ i.2 turn in (
+          let line_is = rw w.ended.ensures at step.served.1 in
+          let turn = turn_on _ _ _ _ step.served.0 _ line_is step.served.2 in
+          let gives = turn_now step.served.0.outcome step.served.0.releases step.served.0.failed _ _ source (device_view g.D.Disk.is_honest g.D.Disk.moments g.D.Disk.failures) _ _ i.2 turn in (
             λ part free is. rw (w.writer-is, w.pins-is, w.store-is, w.line-is, w.clear.ensures, w.answered-is, w.saturating_add-answered.ensures, ← next_seen part piece at 10 c.loop-byte-test.true w.if-byte-eq10.true)
-                (line_more hs has g.D.Disk.is_honest g.D.Disk.moments g.D.Disk.failures step.served.outcome step.served.releases step.served.failed _ _ _ _ _ _ (part ++ take at piece) _ _ (i.0 part free is) gives (rw w.in-Ok.is at step.served.put)),
+                (line_more source (device_view g.D.Disk.is_honest g.D.Disk.moments g.D.Disk.failures) step.served.0.outcome step.served.0.releases step.served.0.failed _ _ _ _ _ _ (part ++ take at piece) _ _ (i.0 part free is) gives (rw w.in-Ok.is at step.served.3)),
             rw (w.pins-is, w.store-is) step.pins,
             λ h. rw w.source-is (step.source (i.2 h).0, step.stays (i.2 h).0 ∙ (i.2 h).1),
           )
       | else-byte-eq10 w ↦ (
         λ part free is. rw (w.writer-is, w.pins-is, w.store-is, w.line-is, w.push.ensures, w.answered-is, ← next_seen part piece at (get_or piece at 0) c.loop-byte-test.true refl)
-            (byte_more hs has g.D.Disk.is_honest g.D.Disk.moments g.D.Disk.failures _ _ _ _ (part ++ take at piece) _ _ (get_or piece at 0) (i.0 part free is) (ne_eqb _ 10 w.if-byte-eq10.false)),
+            (byte_more source (device_view g.D.Disk.is_honest g.D.Disk.moments g.D.Disk.failures) _ _ _ _ (part ++ take at piece) _ _ (get_or piece at 0) (i.0 part free is) (ne_eqb _ 10 w.if-byte-eq10.false)),
         rw (w.pins-is, w.store-is) i.1,
         λ h. rw w.source-is (i.2 h),
       )
@@ -68,10 +69,9 @@ returns-clause-pins g c = c.loop-byte.invariant.1
 
 pub returns-clause-fed : goal.returns-clause-fed
 returns-clause-fed g c =
-    let hs = g.S.Source.is_honest c.args.source.now in
-    let has = g.S.Source.releases c.args.source.now in
+    let source = source_view (g.S.Source.is_honest c.args.source.now) (g.S.Source.releases c.args.source.now) in
     λ part free is.
-    fed hs has g.D.Disk.is_honest g.D.Disk.moments g.D.Disk.failures _ _ _ _ part c.args.piece.now free _ _
+    fed source (device_view g.D.Disk.is_honest g.D.Disk.moments g.D.Disk.failures) _ _ _ _ part c.args.piece.now free _ _
     (rw (take_all c.loop-byte.byte-index c.args.piece.now c.loop-byte-test.false) at (c.loop-byte.invariant.0 part free is))
 
 pub returns-clause-source : goal.returns-clause-source

@@ -12,7 +12,7 @@ use Rattle.clap.proofs.WalkLemmas.{first_value-rows}
 use Rattle.command_line.specs.declared.words.Task.{Task}
 use Rattle.command_line.specs.declared.words.Task.TheVariants as tasks
 use Rattle.command_line.specs.Words.{IsImportOf, Reads}
-use Rattle.command_line.proofs.words.named.Goals as goal
+use Rattle.command_line.proofs.words.task_in.Goals as goal
 
 abbrev pair : Text → List Row → Option (Text × List Row)
 pair name rows = Some (name, rows)
