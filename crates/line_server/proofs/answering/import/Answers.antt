@@ -18,8 +18,8 @@ returns-in-Ok-import-clause-response g c session pins =
     taking (source_view (g.S.Source.is_honest c.args.source.now) (g.S.Source.releases c.args.source.now)) (device_view g.D.Disk.is_honest g.D.Disk.moments g.D.Disk.failures) c.args.name.now session pins c.args.store.now c.import.new.self c.in-Ok.release
     (λ h. c.in-Ok.ensures.given h) e.any_moment e.acknowledged e.honesty c.in-Ok-import.receipt c.reply_receipt.result e.kept e.answer e.failures c.reply_receipt.ensures
 
-pub returns-clause-response : goal.returns-clause-response
-returns-clause-response g c session pins =
+pub returns-in-Err-clause-response : goal.returns-in-Err-clause-response
+returns-in-Err-clause-response g c session pins =
     let e = c.in-Err.ensures in
     refusing (source_view (g.S.Source.is_honest c.args.source.now) (g.S.Source.releases c.args.source.now)) (device_view g.D.Disk.is_honest g.D.Disk.moments g.D.Disk.failures) c.args.name.now session pins c.args.store.now c.import.new.self c.in-Ok.release
     (λ h. c.in-Ok.ensures.given h) e.any_moment e.acknowledged e.honesty c.in-Err.refusal e.kept e.answer e.failures e.closed e.refused
