@@ -8,8 +8,8 @@ use Rattle.history_model.specs.History.{stamped_cmp}
 use Rattle.history_model.proofs.InOrder.{Has-append_left, Has-append_right, Has-append_cases}
 use Rattle.history_model.proofs.Filtered.{Has-map, Has-map_from}
 use Rattle.segment.proofs.Posting.{Says, placed, row_there, says}
-use Rattle.segment.specs.Records.{record_of, segment_of}
-use Rattle.segment.proofs.SegmentLaws.{pieces_join}
+use Rattle.segment.specs.Records.{record_of, segment_of, IsStamped}
+use Rattle.segment.proofs.SegmentLaws.{pieces_join, segment_push, all_push}
 use Rattle.segment.specs.Standing.{record_len, row_place, with_places, places_of}
 use Rattle.segment.specs.declared.place.RowPlace.{RowPlace}
 use Rattle.as_of_index.specs.Places.{place_cmp, ShareNoKey, EachApart, ArePlaces}
@@ -91,6 +91,16 @@ segment_begins rows done left split =
 pub middle_all : {X : Type 0} (P : X → Type 0) (xs : List X) (x : X) (ys : List X) → AllByRecursion P (xs ++ x ∷ ys) → P x
 middle_all P [] x ys all = all.0
 middle_all P (y ∷ xs) x ys all = middle_all P xs x ys all.1
+
+-- with the record of one row more
+pub more_placed : (rows placed next left rest : List StampedRow) (bytes more : List ℕ) (s : StampedRow) → rows ≡ placed ++ left → left ≡ s ∷ rest → bytes ≡ segment_of placed → AllByRecursion IsStamped placed → next ≡ placed ++ s ∷ [] → more ≡ bytes ++ record_of s → IsStamped s
+    → (rows ≡ next ++ rest) × (more ≡ segment_of next) × AllByRecursion IsStamped next
+more_placed rows placed next left rest bytes more s split steps bytes_are each next_is more_is stamped =
+    let grown = sym next_is in (
+      split ∙ ap (λ (l : List StampedRow). placed ++ l) steps ∙ sym (append_assoc placed (s ∷ []) rest) ∙ ap (λ (l : List StampedRow). l ++ rest) grown,
+      more_is ∙ ap (λ (b : List ℕ). b ++ record_of s) bytes_are ∙ sym (segment_push placed s) ∙ ap segment_of grown,
+      subst (AllByRecursion IsStamped) grown (all_push IsStamped placed s each stamped),
+    )
 
 -- ---- rows of lists, and their places
 
