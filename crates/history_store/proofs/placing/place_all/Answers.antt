@@ -1,11 +1,8 @@
-use Rattle.std.proofs.Common.{◌≡◌, ◌≤◌, ◌<◌, ◌^◌, ℕ, ◌++◌, ◌∷◌, [], List, length, sym, ap, subst, ◌∙◌, arith, append_assoc, append-nil}
+use Rattle.std.proofs.Common.{◌≤◌, ◌++◌, ◌∷◌, [], List, sym, ap, subst, ◌∙◌, arith, append_assoc}
 use Rattle.std.specs.List.{AllByRecursion}
 use Rattle.history_model.specs.declared.stamped.StampedRow.{StampedRow}
-use Rattle.history_model.specs.InOrder.{IsAscending}
-use Rattle.history_model.specs.History.{stamped_cmp}
-use Rattle.segment.specs.Records.{segment_of, record_of, IsStamped}
-use Rattle.segment.proofs.SegmentLaws.{segment_push, no_rows, all_push}
-use Rattle.segment_index.specs.Indexed.{IsIndexOf}
+use Rattle.segment.specs.Records.{segment_of, IsStamped}
+use Rattle.segment.proofs.SegmentLaws.{no_rows}
 use Rattle.history_store.proofs.Places.{segment_begins, middle_all, more_placed}
 use Rattle.history_store.proofs.placing.place_all.Goals as goal
 

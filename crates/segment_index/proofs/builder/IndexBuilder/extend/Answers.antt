@@ -1,4 +1,4 @@
-use Rattle.std.proofs.Common.{◌<◌, ◌^◌, arith}
+use Rattle.std.proofs.Common.{arith}
 use Rattle.segment.proofs.SegmentLaws.{taken_more}
 use Rattle.segment_index.proofs.Built.{next_fits}
 use Rattle.segment_index.proofs.builder.IndexBuilder.extend.Goals as goal
