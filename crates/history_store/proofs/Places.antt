@@ -1,19 +1,17 @@
 -- Rows, their places, and lists of them.
-use Rattle.std.proofs.Common.{◌≡◌, ℕ, zero, suc, ◌+◌, ◌≤◌, List, [], ◌∷◌, ◌++◌, length, take, map, slice_get, Some, inl, inr, refl, sym, ap, subst, ◌∙◌, arith, length-append, append-nil}
+use Rattle.std.proofs.Common.{◌≡◌, ℕ, zero, suc, ◌+◌, ◌≤◌, List, [], ◌∷◌, ◌++◌, length, take, map, slice_get, Some, inl, inr, sym, ap, subst, ◌∙◌, arith, length-append, append-nil}
 use Rattle.std.specs.List.{AllByRecursion}
-use Rattle.std.proofs.lemmas.List.{map-append, append_assoc}
+use Rattle.std.proofs.lemmas.List.{append_assoc}
 use Rattle.history_model.specs.declared.stamped.StampedRow.{StampedRow}
 use Rattle.history_model.specs.InOrder.{Has, IsAscending, joined}
-use Rattle.history_model.specs.History.{stamped_cmp}
 use Rattle.history_model.proofs.InOrder.{Has-append_left, Has-append_right, Has-append_cases}
 use Rattle.history_model.proofs.Filtered.{Has-map, Has-map_from}
 use Rattle.segment.proofs.Posting.{Says, placed, row_there, says}
 use Rattle.segment.specs.Records.{record_of, segment_of, IsStamped}
 use Rattle.segment.proofs.SegmentLaws.{pieces_join, segment_push, all_push}
-use Rattle.segment.specs.Standing.{record_len, row_place, with_places, places_of}
+use Rattle.segment.specs.Standing.{with_places, places_of}
 use Rattle.segment.specs.declared.place.RowPlace.{RowPlace}
 use Rattle.as_of_index.specs.Places.{place_cmp, ShareNoKey, EachApart, ArePlaces}
-use Rattle.as_of_index.proofs.Storing.{places_of_lists}
 
 all_before : {X : Type 0} (P : X → Type 0) (xs ys : List X) → AllByRecursion P (xs ++ ys) → AllByRecursion P xs
 all_before P [] ys all = tt
