@@ -156,6 +156,12 @@ CALLS = [
          "test_index", "a_street_is_replaced_once_an_association_says_so"),
     Call("associations", "about", "subjects.rt", "pub fn about<", READ,
          "test_index", "what_is_about_a_street"),
+    Call("segment_index", "IndexBuilder::with_capacity", "builder.rt", "pub fn with_capacity(", ALLOC,
+         "test_index", "an_index_is_built_of_rows"),
+    Call("segment_index", "IndexBuilder::push", "builder.rt", "pub fn push(", ALLOC,
+         "test_index", "an_index_is_built_of_rows"),
+    Call("segment_index", "IndexBuilder::extend", "builder.rt", "pub fn extend(", ALLOC,
+         "test_index", "an_index_is_built_of_rows"),
     # The store.
     Call("history_store", "Store::create", "store.rt", "pub fn create(", BACK,
          "test_store", "nothing_is_found_in_an_empty_store"),

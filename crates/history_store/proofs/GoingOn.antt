@@ -33,7 +33,7 @@ use Rattle.history_store.specs.MergeInProgress.{IsMergeOf, IsMergingOf, IsWritte
 use Rattle.history_store.specs.Private.Prepared.{IsPlacedAt}
 use Rattle.history_store.proofs.Alike.{alike_bytes}
 
-module _ (honest : Type 0) (d : DirectoryValue) (lists : List (List StampedRow)) (i j : ℕ) (entry : Entry) (places : MergeProgress) (rows : List StampedRow) (written : ℕ) (is : IsMergeOf honest d lists i j entry places rows written) where
+module _ (honest : Type 0) (d : DirectoryValue) (lists : List (List StampedRow)) (i j : ℕ) (entry : Entry) (places : MergeProgress) (rows : List StampedRow) (is : IsMergeOf honest d lists i j entry places rows) where
   -- what is written fits
   pub written_fits : length (segment_of rows) ≤ entry.bytes
   written_fits =
@@ -61,42 +61,38 @@ outside_entry entry other i is is_other beside ge lt = elim (one_ends (extent_of
 written_published : (honest : Type 0) (d : DirectoryValue) (lists : List (List StampedRow)) (merge : Option MergeInProgress) (slot : Slot) (old new : List ℕ) → IsMergingOf honest d lists merge → SameOutside (slot_range slot ∷ []) old new → IsWritten merge old → IsWritten merge new
 written_published honest d lists None slot old new is same written = tt
 written_published honest d lists (Some m) slot old new is same written =
-    begins_elsewhere (extent_of m.entry) (slot_range slot ∷ []) (segment_of m.shown) old new same
-    (λ i ge lt. All-cons (IsOutside i) (slot_range slot) [] (outside_slot m.entry slot i is.0.is_entry ge) (All-nil (IsOutside i))) written
+    begins_elsewhere (extent_of m.entry) (slot_range slot ∷ []) (segment_of m.taken) old new same
+    (λ i ge lt. All-cons (IsOutside i) (slot_range slot) [] (outside_slot m.entry slot i is.is_entry ge) (All-nil (IsOutside i))) written
 
 -- while a segment is added beside it
 written_added : (honest : Type 0) (d : DirectoryValue) (lists : List (List StampedRow)) (merge : Option MergeInProgress) (other : Entry) (slot : Slot) (old new : List ℕ) → IsMergingOf honest d lists merge → IsEntry other → ((m : MergeInProgress) → merge ≡ Some m → AreBeside (extent_of m.entry) (extent_of other))
     → SameOutside (byte_range (extent_of other) ∷ slot_range slot ∷ []) old new → IsWritten merge old → IsWritten merge new
 written_added honest d lists None other slot old new is is_other beside same written = tt
 written_added honest d lists (Some m) other slot old new is is_other beside same written =
-    let fits = written_fits honest d lists m.i m.j m.entry m.places m.shown m.written is.0 in
-    begins_elsewhere (extent_of m.entry) (byte_range (extent_of other) ∷ slot_range slot ∷ []) (segment_of m.shown) old new same
-    (λ i ge lt. All-cons (IsOutside i) (byte_range (extent_of other)) (slot_range slot ∷ []) (outside_entry m.entry other i is.0.is_entry is_other (beside m refl) ge (omega (arith, lt, fits)))
-    (All-cons (IsOutside i) (slot_range slot) [] (outside_slot m.entry slot i is.0.is_entry ge) (All-nil (IsOutside i)))) written
+    let fits = written_fits honest d lists m.i m.j m.entry m.places m.taken is in
+    begins_elsewhere (extent_of m.entry) (byte_range (extent_of other) ∷ slot_range slot ∷ []) (segment_of m.taken) old new same
+    (λ i ge lt. All-cons (IsOutside i) (byte_range (extent_of other)) (slot_range slot ∷ []) (outside_entry m.entry other i is.is_entry is_other (beside m refl) ge (omega (arith, lt, fits)))
+    (All-cons (IsOutside i) (slot_range slot) [] (outside_slot m.entry slot i is.is_entry ge) (All-nil (IsOutside i)))) written
 
 -- ---- it goes on beside the next directory
 
 pub merging_on : (before after : Type 0) (d e : DirectoryValue) (lists : List (List StampedRow)) (merge : Option MergeInProgress) → (after → before) → e.entries ≡ d.entries → IsMergingOf before d lists merge → IsMergingOf after e lists merge
 merging_on before after d e lists None back same is = tt
-merging_on before after d e lists (Some m) back same (is, kept) = (
-  record {
-    a = is.a;
-    b = is.b;
-    below = is.below;
-    within = subst (λ (l : List Entry). m.j < length l) (sym same) is.within;
-    a_is = is.a_is;
-    b_is = is.b_is;
-    lengths = is.lengths;
-    taken = λ up. is.taken (back up);
-    alike = is.alike;
-    each = is.each;
-    segment = is.segment;
-    is_entry = is.is_entry;
-    beside = subst (λ (l : List Entry). AllByRecursion (AreBeside (extent_of m.entry)) (extents_of l)) (sym same) is.beside;
-    written_is = is.written_is;
-  },
-  kept,
-)
+merging_on before after d e lists (Some m) back same is = record {
+  a = is.a;
+  b = is.b;
+  below = is.below;
+  within = subst (λ (l : List Entry). m.j < length l) (sym same) is.within;
+  a_is = is.a_is;
+  b_is = is.b_is;
+  lengths = is.lengths;
+  taken = λ up. is.taken (back up);
+  alike = is.alike;
+  each = is.each;
+  segment = is.segment;
+  is_entry = is.is_entry;
+  beside = subst (λ (l : List Entry). AllByRecursion (AreBeside (extent_of m.entry)) (extents_of l)) (sym same) is.beside;
+}
 
 -- a new segment shares no block with the extent that the merge reserves
 beside_reserved : (d : DirectoryValue) (merge : Option MergeInProgress) (rows : List StampedRow) (other : Entry) → IsPlacedAt d (merge_of merge) rows other → (m : MergeInProgress) → merge ≡ Some m → AreBeside (extent_of m.entry) (extent_of other)
@@ -123,25 +119,21 @@ all_pushed P (e ∷ es) other all is = (all.0, all_pushed P es other all.1 is)
 merging_added : (before after : Type 0) (d e : DirectoryValue) (lists : List (List StampedRow)) (more : List StampedRow) (merge : Option MergeInProgress) (other : Entry) → (after → before) → e.entries ≡ d.entries ++ other ∷ [] → ((m : MergeInProgress) → merge ≡ Some m → AreBeside (extent_of m.entry) (extent_of other))
     → IsMergingOf before d lists merge → IsMergingOf after e (lists ++ more ∷ []) merge
 merging_added before after d e lists more None other back same beside is = tt
-merging_added before after d e lists more (Some m) other back same beside (is, kept) = (
-  record {
-    a = is.a;
-    b = is.b;
-    below = is.below;
-    within = subst (λ (l : List Entry). m.j < length l) (sym same) (let long = length-append d.entries (other ∷ []) in omega (arith, long, is.within));
-    a_is = get_pushed lists is.a more m.i is.a_is;
-    b_is = get_pushed lists is.b more m.j is.b_is;
-    lengths = is.lengths;
-    taken = λ up. is.taken (back up);
-    alike = is.alike;
-    each = is.each;
-    segment = is.segment;
-    is_entry = is.is_entry;
-    beside = subst (λ (l : List Entry). AllByRecursion (AreBeside (extent_of m.entry)) (extents_of l)) (sym same) (all_pushed (AreBeside (extent_of m.entry)) d.entries other is.beside (beside m refl));
-    written_is = is.written_is;
-  },
-  kept,
-)
+merging_added before after d e lists more (Some m) other back same beside is = record {
+  a = is.a;
+  b = is.b;
+  below = is.below;
+  within = subst (λ (l : List Entry). m.j < length l) (sym same) (let long = length-append d.entries (other ∷ []) in omega (arith, long, is.within));
+  a_is = get_pushed lists is.a more m.i is.a_is;
+  b_is = get_pushed lists is.b more m.j is.b_is;
+  lengths = is.lengths;
+  taken = λ up. is.taken (back up);
+  alike = is.alike;
+  each = is.each;
+  segment = is.segment;
+  is_entry = is.is_entry;
+  beside = subst (λ (l : List Entry). AllByRecursion (AreBeside (extent_of m.entry)) (extents_of l)) (sym same) (all_pushed (AreBeside (extent_of m.entry)) d.entries other is.beside (beside m refl));
+}
 
 -- ---- what a store holds of it
 

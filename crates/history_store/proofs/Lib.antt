@@ -22,7 +22,6 @@ pub mod FreshRows
 pub mod Imported
 pub mod Reopened
 pub mod Likeness
-pub mod PostedRows
 pub mod SteppedMerge
 pub mod SteppedStore
 pub mod StepWrites

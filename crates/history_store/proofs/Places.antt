@@ -1,23 +1,17 @@
 -- Rows, their places, and lists of them.
-use Rattle.std.proofs.Common.{◌≡◌, ℕ, zero, suc, ◌+◌, ◌≤◌, List, [], ◌∷◌, ◌++◌, length, take, map, slice_get, Some, inl, inr, refl, sym, ap, subst, ◌∙◌, arith, length-append, append-nil}
+use Rattle.std.proofs.Common.{◌≡◌, ℕ, zero, suc, ◌+◌, ◌≤◌, List, [], ◌∷◌, ◌++◌, length, take, map, slice_get, Some, inl, inr, sym, ap, subst, ◌∙◌, arith, length-append, append-nil}
 use Rattle.std.specs.List.{AllByRecursion}
-use Rattle.std.proofs.lemmas.List.{map-append, append_assoc}
+use Rattle.std.proofs.lemmas.List.{append_assoc}
 use Rattle.history_model.specs.declared.stamped.StampedRow.{StampedRow}
 use Rattle.history_model.specs.InOrder.{Has, IsAscending, joined}
-use Rattle.history_model.specs.History.{stamped_cmp}
 use Rattle.history_model.proofs.InOrder.{Has-append_left, Has-append_right, Has-append_cases}
 use Rattle.history_model.proofs.Filtered.{Has-map, Has-map_from}
 use Rattle.segment.proofs.Posting.{Says, placed, row_there, says}
-use Rattle.segment.specs.Records.{record_of, segment_of}
-use Rattle.segment.proofs.SegmentLaws.{pieces_join}
-use Rattle.segment.specs.Standing.{record_len, row_place, with_places, places_of}
+use Rattle.segment.specs.Records.{record_of, segment_of, IsStamped}
+use Rattle.segment.proofs.SegmentLaws.{pieces_join, segment_push, all_push}
+use Rattle.segment.specs.Standing.{with_places, places_of}
 use Rattle.segment.specs.declared.place.RowPlace.{RowPlace}
 use Rattle.as_of_index.specs.Places.{place_cmp, ShareNoKey, EachApart, ArePlaces}
-use Rattle.as_of_index.proofs.Storing.{places_of_lists}
-
--- the places of rows in order are in order
-pub ascending_places : (rows : List StampedRow) → IsAscending stamped_cmp rows → IsAscending place_cmp (places_of rows)
-ascending_places rows up = (places_of_lists (rows ∷ []) (record { ascending = (up, tt); apart = (tt, tt) })).ascending.0
 
 all_before : {X : Type 0} (P : X → Type 0) (xs ys : List X) → AllByRecursion P (xs ++ ys) → AllByRecursion P xs
 all_before P [] ys all = tt
@@ -39,43 +33,6 @@ last_all P (y ∷ xs) x all = last_all P xs x all.1
 pub last_ascends : (xs : List (List RowPlace)) (x : List RowPlace) → ArePlaces (xs ++ x ∷ []) → IsAscending place_cmp x
 last_ascends xs x are = last_all (λ places. IsAscending place_cmp places) xs x are.ascending
 
--- ---- the places of one row more
-
-pub posted_bytes : (s : StampedRow) (at : ℕ) → (row_place s at).bytes ≡ length (record_of s)
-unfolding row_place
-posted_bytes s at = refl
-
--- its record stands behind those of the others
-pub with_places_push : (at : ℕ) (rows : List StampedRow) (s : StampedRow) → with_places at (rows ++ s ∷ []) ≡ with_places at rows ++ (s, row_place s (at + length (segment_of rows))) ∷ []
-unfolding segment_of
-with_places_push at [] s = let none : at ≡ at + length (segment_of []) = omega arith in ap (λ n. (s, row_place s n) ∷ []) none
-with_places_push at (r ∷ rows) s =
-    let both = length-append (record_of r) (segment_of rows) in
-    let same : at + record_len r + length (segment_of rows) ≡ at + length (segment_of (r ∷ rows)) = omega (arith, both) in
-    ap (λ l. (r, row_place r at) ∷ l) (with_places_push (at + record_len r) rows s ∙ ap (λ n. with_places (at + record_len r) rows ++ (s, row_place s n) ∷ []) same)
-
-pub places_push : (rows : List StampedRow) (s : StampedRow) (at : ℕ) → at ≡ length (segment_of rows) → places_of (rows ++ s ∷ []) ≡ places_of rows ++ row_place s at ∷ []
-places_push rows s at here =
-    ap (map (λ (x : StampedRow × RowPlace). x.1)) (with_places_push 0 rows s)
-    ∙ map-append (λ (x : StampedRow × RowPlace). x.1) (with_places 0 rows) ((s, row_place s (0 + length (segment_of rows))) ∷ [])
-    ∙ ap (λ n. places_of rows ++ row_place s n ∷ []) (let same : 0 + length (segment_of rows) ≡ at = omega (arith, here) in same)
-
-pub taken_push : (rows : List StampedRow) (s : StampedRow) (at : ℕ) → at ≡ length (segment_of rows) → with_places 0 (rows ++ s ∷ []) ≡ with_places 0 rows ++ (s, row_place s at) ∷ []
-taken_push rows s at here =
-    let same : 0 + length (segment_of rows) ≡ at = omega (arith, here) in
-    with_places_push 0 rows s ∙ ap (λ n. with_places 0 rows ++ (s, row_place s n) ∷ []) same
-
--- the first of some rows have no more bytes than all of them
-pub segment_within : (n : ℕ) (rows : List StampedRow) → length (segment_of (take n rows)) ≤ length (segment_of rows)
-unfolding segment_of
-segment_within zero rows = omega arith
-segment_within (suc n) [] = omega arith
-segment_within (suc n) (r ∷ rows) =
-    let rest = segment_within n rows in
-    let some = length-append (record_of r) (segment_of (take n rows)) in
-    let all = length-append (record_of r) (segment_of rows) in
-    omega (arith, rest, some, all)
-
 -- ---- rows that are taken one after the other
 
 pub one_record : (s : StampedRow) → segment_of (s ∷ []) ≡ record_of s
@@ -91,6 +48,16 @@ segment_begins rows done left split =
 pub middle_all : {X : Type 0} (P : X → Type 0) (xs : List X) (x : X) (ys : List X) → AllByRecursion P (xs ++ x ∷ ys) → P x
 middle_all P [] x ys all = all.0
 middle_all P (y ∷ xs) x ys all = middle_all P xs x ys all.1
+
+-- with the record of one row more
+pub more_placed : (rows placed next left rest : List StampedRow) (bytes more : List ℕ) (s : StampedRow) → rows ≡ placed ++ left → left ≡ s ∷ rest → bytes ≡ segment_of placed → AllByRecursion IsStamped placed → next ≡ placed ++ s ∷ [] → more ≡ bytes ++ record_of s → IsStamped s
+    → (rows ≡ next ++ rest) × (more ≡ segment_of next) × AllByRecursion IsStamped next
+more_placed rows placed next left rest bytes more s split steps bytes_are each next_is more_is stamped =
+    let grown = sym next_is in (
+      split ∙ ap (λ (l : List StampedRow). placed ++ l) steps ∙ sym (append_assoc placed (s ∷ []) rest) ∙ ap (λ (l : List StampedRow). l ++ rest) grown,
+      more_is ∙ ap (λ (b : List ℕ). b ++ record_of s) bytes_are ∙ sym (segment_push placed s) ∙ ap segment_of grown,
+      subst (AllByRecursion IsStamped) grown (all_push IsStamped placed s each stamped),
+    )
 
 -- ---- rows of lists, and their places
 

@@ -68,26 +68,26 @@ left_count m a b of are =
 abbrev pub IsOneWrite : {T E : Type 0} → Result T E → ℕ → List ℕ → Moments → Moments → Type 0
 IsOneWrite result at bytes old new = MatchResult result (λ _. new ≡ followed_by old (after_write old.state at bytes)) (λ _. Fails old (after_write old.state at bytes) new)
 
-module _ (honest : Type 0) (d : DirectoryValue) (lists : List (List StampedRow)) (m : MergeInProgress) (is : IsMergeOf honest d lists m.i m.j m.entry m.places m.shown m.written) (kept : IsKept d lists) (n : ℕ) (up : honest) where
+module _ (honest : Type 0) (d : DirectoryValue) (lists : List (List StampedRow)) (m : MergeInProgress) (is : IsMergeOf honest d lists m.i m.j m.entry m.places m.taken) (kept : IsKept d lists) (n : ℕ) (up : honest) where
   abbrev rest : List StampedRow
   rest = rows_left m.places is.a is.b
 
-  all_rows : m.shown ++ take n rest ++ drop n rest ≡ union is.a is.b
-  all_rows = append_assoc m.shown (take n rest) (drop n rest) ∙ ap (λ (l : List StampedRow). m.shown ++ l) (take-append-drop n rest) ∙ is.taken up
+  all_rows : m.taken ++ take n rest ++ drop n rest ≡ union is.a is.b
+  all_rows = append_assoc m.taken (take n rest) (drop n rest) ∙ ap (λ (l : List StampedRow). m.taken ++ l) (take-append-drop n rest) ∙ is.taken up
 
   rest_count : length rest ≡ count_left m.places
   rest_count = left_count m.places is.a is.b is.lengths (two_lists lists m.i m.j is.a is.b kept.apart is.below is.a_is is.b_is)
 
   of_history : (s : StampedRow) → Has (take n rest) s → Has (listed lists) s
   of_history s h =
-      let in_all : Has (m.shown ++ take n rest ++ drop n rest) s = Has-append_left (m.shown ++ take n rest) (drop n rest) s (Has-append_right m.shown (take n rest) s h) in
+      let in_all : Has (m.taken ++ take n rest ++ drop n rest) s = Has-append_left (m.taken ++ take n rest) (drop n rest) s (Has-append_right m.taken (take n rest) s h) in
       Has-listed_from lists s kept.apart
       (elim (Has-union_cases is.a is.b s (subst (λ (l : List StampedRow). Has l s) all_rows in_all)) [
         | inl p ↦ has_joined lists m.i is.a s is.a_is p
         | inr q ↦ has_joined lists m.j is.b s is.b_is q
       ])
 
-  are_next : (now : List ℕ) → AreThere d.entries lists now → BeginsWith (extent_of m.entry) (segment_of m.shown) now → AreNext n (catalog_of d (merge_of (Some m))) (record { i = m.i; j = m.j; output = extent_of m.entry; left = count_left m.places }) m.shown (take n rest) now
+  are_next : (now : List ℕ) → AreThere d.entries lists now → BeginsWith (extent_of m.entry) (segment_of m.taken) now → AreNext n (catalog_of d (merge_of (Some m))) (record { i = m.i; j = m.j; output = extent_of m.entry; left = count_left m.places }) m.taken (take n rest) now
   are_next now there behind = record {
     a = is.a;
     b = is.b;
@@ -101,20 +101,19 @@ module _ (honest : Type 0) (d : DirectoryValue) (lists : List (List StampedRow))
     count_left = omega (arith, length-drop n rest, rest_count);
   }
 
-  pub writes_next : {T E : Type 0} (result : Result T E) (old mid new : Moments) (bytes : List ℕ) → AreThere d.entries lists old.state.now → BeginsWith (extent_of m.entry) (segment_of m.shown) old.state.now → mid ≡ old → bytes ≡ segment_of (take n (rows_left m.places is.a is.b))
-      → IsOneWrite result (start_of (extent_of m.entry) + m.written) bytes mid new → WritesNext result n (catalog_of d (merge_of (Some m))) (history_of d lists) old new
+  pub writes_next : {T E : Type 0} (result : Result T E) (old mid new : Moments) (bytes : List ℕ) → AreThere d.entries lists old.state.now → BeginsWith (extent_of m.entry) (segment_of m.taken) old.state.now → mid ≡ old → bytes ≡ segment_of (take n (rows_left m.places is.a is.b))
+      → IsOneWrite result (start_of (extent_of m.entry) + length (segment_of m.taken)) bytes mid new → WritesNext result n (catalog_of d (merge_of (Some m))) (history_of d lists) old new
   writes_next {T} {E} result old mid new bytes there behind same bytes_are one =
-      let P : Moments → Type 0 = λ x. IsOneWrite result (start_of (extent_of m.entry) + m.written) bytes x new in
-      let Q : List ℕ → Type 0 = λ l. IsOneWrite result (start_of (extent_of m.entry) + m.written) l old new in
-      let R : ℕ → Type 0 = λ k. IsOneWrite result (start_of (extent_of m.entry) + k) (segment_of (take n rest)) old new in
+      let P : Moments → Type 0 = λ x. IsOneWrite result (start_of (extent_of m.entry) + length (segment_of m.taken)) bytes x new in
+      let Q : List ℕ → Type 0 = λ l. IsOneWrite result (start_of (extent_of m.entry) + length (segment_of m.taken)) l old new in
       record {
         merge = record { i = m.i; j = m.j; output = extent_of m.entry; left = count_left m.places };
         goes_on = refl;
-        taken = m.shown;
+        taken = m.taken;
         rows = take n rest;
         next = are_next old.state.now there behind;
         of_history = of_history;
-        write = subst R is.written_is (subst Q bytes_are (subst P same one));
+        write = subst Q bytes_are (subst P same one);
       }
 
 -- ---- as a store shows it

@@ -44,15 +44,15 @@ begins_cut extent (byte ∷ bytes) old len first fits begins =
 written_cut : (honest : Type 0) (d : DirectoryValue) (lists : List (List StampedRow)) (merge : Option MergeInProgress) (entries : List Entry) (len : ℕ) (old new : List ℕ) → IsMergingOf honest d lists merge → 4096 * end_of_taken (extents_of entries ++ option_to_list (reserved_by (merge_of merge))) ≤ len → new ≡ take len old → IsWritten merge old → IsWritten merge new
 written_cut honest d lists None entries len old new is below cut written = tt
 written_cut honest d lists (Some m) entries len old new is below cut written =
-    let fits = written_fits honest d lists m.i m.j m.entry m.places m.shown m.written is.0 in
+    let fits = written_fits honest d lists m.i m.j m.entry m.places m.taken is in
     let end = end_reserved entries (extent_of m.entry) in
-    let P : List ℕ → Type 0 = λ l. BeginsWith (extent_of m.entry) (segment_of m.shown) l in
-    subst P (sym cut) (begins_cut (extent_of m.entry) (segment_of m.shown) old len is.0.is_entry.first (omega (arith, fits, end, below, blocks_cover m.entry.bytes)) written)
+    let P : List ℕ → Type 0 = λ l. BeginsWith (extent_of m.entry) (segment_of m.taken) l in
+    subst P (sym cut) (begins_cut (extent_of m.entry) (segment_of m.taken) old len is.is_entry.first (omega (arith, fits, end, below, blocks_cover m.entry.bytes)) written)
 
 -- nothing that is taken ends above the last block
 pub end_limit : (honest : Type 0) (d : DirectoryValue) (lists : List (List StampedRow)) (merge : Option MergeInProgress) → IsListing d → IsMergingOf honest d lists merge → end_of_taken (extents_of d.entries ++ option_to_list (reserved_by (merge_of merge))) ≤ 4194304
 end_limit honest d lists None listing is = end_within (extents_of d.entries ++ []) 4194304 (omega arith) (entries_within d.entries [] listing.entries tt)
-end_limit honest d lists (Some m) listing is = end_within (extents_of d.entries ++ extent_of m.entry ∷ []) 4194304 (omega arith) (entries_within d.entries (extent_of m.entry ∷ []) listing.entries (is.0.is_entry.end_is, tt))
+end_limit honest d lists (Some m) listing is = end_within (extents_of d.entries ++ extent_of m.entry ∷ []) 4194304 (omega arith) (entries_within d.entries (extent_of m.entry ∷ []) listing.entries (is.is_entry.end_is, tt))
 
 -- the end of all that is taken, as it was computed
 pub end_is : (d : DirectoryValue) (merge : Option MergeInProgress) (entries : List Entry) (reserved : Option Extent) (end : ℕ) → entries ≡ d.entries → reserved ≡ reserved_by (merge_of merge) → end ≡ end_of_taken (taken entries reserved) → end ≡ end_of_taken (taken d.entries (reserved_by (merge_of merge)))

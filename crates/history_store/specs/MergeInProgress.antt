@@ -1,5 +1,5 @@
--- A merge that goes on: in memory stand the places of the rows taken so far and what is
--- posted of them, and their bytes stand where the output is to lie, as a read gives them.
+-- A merge that goes on: in memory stands the index of the rows taken so far, and their bytes
+-- stand where the output is to lie, as a read gives them.
 use Rattle.std.specs.Prelude.{◌≡◌, ℕ, ◌<◌, ◌++◌, Bool, false, List, length, Option, Some, None, slice_get}
 use Rattle.std.specs.List.{AllByRecursion, AllZip}
 use Rattle.rf2_values.specs.Key.{key_of}
@@ -10,13 +10,8 @@ use Rattle.directory.specs.Listings.{DirectoryValue, IsEntry}
 use Rattle.directory.specs.Places.{AreBeside, extent_of, extents_of}
 use Rattle.merge.specs.declared.MergeProgress.{MergeProgress}
 use Rattle.merge.specs.Merged.{IsOf, count_left, rows_left}
-use Rattle.segment.specs.declared.place.RowPlace.{RowPlace}
 use Rattle.segment.specs.Records.{IsStamped, segment_of}
-use Rattle.segment.specs.Standing.{record_len, places_of, with_places}
-use Rattle.as_of_index.specs.Postings.{posted_all}
-use Rattle.term_prefix.specs.Terms.{TermAt}
-use Rattle.term_prefix.specs.Pushed.{posted_term}
-use Rattle.associations.specs.Edges.{Edges, posted_edges}
+use Rattle.segment.specs.Standing.{record_len}
 use Rattle.store_image.specs.Says.{IsSegmentOf}
 use Rattle.store_image.specs.Ahead.{BeginsWith}
 use Rattle.history_store.specs.declared.merge_in_progress.MergeInProgress.{MergeInProgress}
@@ -39,7 +34,7 @@ pub record IsLike (s other : StampedRow) : Type 0 where
 -- shares no block with a segment that is listed.
 pub record IsMergeOf (honest : Type 0) (d : DirectoryValue) (lists : List (List StampedRow))
     (i j : ℕ) (entry : Entry)
-    (places : MergeProgress) (rows : List StampedRow) (written : ℕ) : Type 0 where
+    (places : MergeProgress) (rows : List StampedRow) : Type 0 where
   pub a : List StampedRow
   pub b : List StampedRow
   pub below : i < j
@@ -53,27 +48,18 @@ pub record IsMergeOf (honest : Type 0) (d : DirectoryValue) (lists : List (List 
   pub segment : IsSegmentOf entry (union a b)
   pub is_entry : IsEntry entry
   pub beside : AllByRecursion (AreBeside (extent_of entry)) (extents_of d.entries)
-  pub written_is : written ≡ length (segment_of rows)
-
--- what is kept of rows that were taken: their places in the output, and what is posted of them
-pub record AreTaken (rows : List StampedRow) (listed : List RowPlace) (terms : List TermAt)
-    (edges : Edges) : Type 0 where
-  pub listed_are : listed ≡ places_of rows
-  pub terms_are : terms ≡ posted_all posted_term (with_places 0 rows)
-  pub edges_are : edges ≡ posted_edges (with_places 0 rows)
 
 -- a merge that goes on is of two of the segments that are listed
 abbrev pub IsMergingOf : Type 0 → DirectoryValue → List (List StampedRow) → Option MergeInProgress
     → Type 0
 IsMergingOf honest d lists None = Unit {0}
 IsMergingOf honest d lists (Some m) =
-    IsMergeOf honest d lists m.i m.j m.entry m.places m.shown m.written
-    × AreTaken m.shown m.listed.items m.terms m.edges
+    IsMergeOf honest d lists m.i m.j m.entry m.places m.taken
 
 -- a read gives what was written of the output; a stop may still lose it
 abbrev pub IsWritten : Option MergeInProgress → List ℕ → Type 0
 IsWritten None now = Unit {0}
-IsWritten (Some m) now = BeginsWith (extent_of m.entry) (segment_of m.shown) now
+IsWritten (Some m) now = BeginsWith (extent_of m.entry) (segment_of m.taken) now
 
 -- A merge that goes on is of two of these segments. As long
 -- as no call has failed, a read gives what was written of it.

@@ -9,8 +9,8 @@ use crate::merge_in_progress::MergeInProgress;
 use crate::refusal::Refusal;
 use blocks::Extent;
 use directory::{Directory, Entry, first_fit};
-use history_model::GhostRows;
 use merge::MergeProgress;
+use segment_index::IndexBuilder;
 use std::alloc::Global;
 
 /// Whether the segment at the one place has fewer rows than the one at the other.
@@ -79,10 +79,6 @@ pub(crate) fn begin(alloc: Global, directory: &Directory) -> Result<MergeInProgr
             rows: a.rows + b.rows,
         },
         places: MergeProgress::new(a.rows as usize, b.rows as usize),
-        listed: Vec::new(alloc),
-        shown: GhostRows::new(alloc),
-        terms: term_prefix::Postings::new(alloc),
-        edges: associations::Postings::new(alloc),
-        written: 0,
+        taken: IndexBuilder::new(alloc),
     })
 }

@@ -1,9 +1,8 @@
 //! A merge that goes on, as it stands in memory.
 
 use directory::Entry;
-use history_model::GhostRows;
 use merge::MergeProgress;
-use segment::RowPlace;
+use segment_index::IndexBuilder;
 
 /// A merge of two segments into one, of which some rows are taken.
 #[derive(Drop)]
@@ -14,13 +13,6 @@ pub(crate) struct MergeInProgress {
     /// Its output, as the directory is going to list it.
     pub(crate) entry: Entry,
     pub(crate) places: MergeProgress,
-    /// Where the rows that were taken lie in the output.
-    pub(crate) listed: Vec<RowPlace>,
-    /// These rows, which only clauses read.
-    pub(crate) shown: GhostRows,
-    /// What is posted of them.
-    pub(crate) terms: term_prefix::Postings,
-    pub(crate) edges: associations::Postings,
-    /// How many bytes of the output are written.
-    pub(crate) written: u32,
+    /// What is kept of the rows that were taken. Their records are written.
+    pub(crate) taken: IndexBuilder,
 }

@@ -21,6 +21,7 @@ use disk_model::Disk;
 use history_model::{GhostRows, Receipt};
 use import_check::{ImportFault, NewRows, Release};
 use rf2_rows::EffectiveTime;
+use segment_index::SegmentIndex;
 use std::alloc::Global;
 use std::marker::Model;
 use store_image::{Loaded, add_segment, load, publish_directory};
@@ -273,12 +274,12 @@ impl<D: Disk> Store<D> {
         requires still { self.old.needs_reopen ≡ false }
         requires prepared { IsPreparedFor self.old prepared }
         ensures step { IsStep result self.old self.new
-            (with_rows self.old.history prepared.shown)
+            (with_rows self.old.history prepared.index.rows)
             (catalog_of prepared.directory self.old.catalog.merge) }
         ensures any_moment { D.is_honest self.old.disk
             → LeavesOnly (D.moments self.old.disk) (D.moments self.new.disk)
             (λ c. StandsAs self.old.catalog.layout self.old.history c ⊎ StandsAs layouts.Two
-            (with_rows self.old.history prepared.shown) c) }
+            (with_rows self.old.history prepared.index.rows) c) }
         ensures refused { D.is_honest self.old.disk
             → KeepsMoments D.moments result self.old self.new }
         ensures elsewhere { D.is_honest self.old.disk → OnOk result
@@ -295,12 +296,15 @@ impl<D: Disk> Store<D> {
         let Prepared {
             directory,
             entry,
-            places,
-            shown,
-            terms,
-            edges,
+            index,
             bytes,
         } = prepared;
+        let SegmentIndex {
+            places,
+            terms,
+            links,
+            rows,
+        } = index;
         self.shown.reserve(1)?;
         match add_segment(&mut self.disk, self.slot, &directory, entry, &bytes) {
             Ok(slot) => {
@@ -310,8 +314,8 @@ impl<D: Disk> Store<D> {
                 self.directory = directory;
                 self.index.add(places);
                 self.terms.add(terms);
-                self.links.add(edges);
-                let Ok(()) = self.shown.push(shown) else {
+                self.links.add(links);
+                let Ok(()) = self.shown.push(rows) else {
                     unreachable!()
                 };
                 Ok(())

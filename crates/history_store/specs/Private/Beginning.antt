@@ -6,7 +6,6 @@ use Rattle.directory.specs.declared.entry.Entry.{Entry}
 use Rattle.directory.specs.Listings.{DirectoryValue}
 use Rattle.directory.specs.Fit.{fit}
 use Rattle.merge.specs.Merged.{IsNew}
-use Rattle.associations.specs.Edges.{no_edges}
 use Rattle.history_store.specs.declared.refusal.Refusal.{Refusal}
 use Rattle.history_store.specs.declared.refusal.Refusal.TheVariants as refusals
 use Rattle.history_store.specs.declared.merge_in_progress.MergeInProgress.{MergeInProgress}
@@ -29,11 +28,7 @@ pub record IsNewMerge (d : DirectoryValue) (m : MergeInProgress) : Type 0 where
   pub rows_fit : m.entry.rows < 2 ^ 32
   pub place : fit (div_ceil m.entry.bytes 4096) d.entries None ≡ Some m.entry.first
   pub places : IsNew m.places a.rows b.rows
-  pub none_listed : m.listed.items ≡ []
-  pub none_shown : m.shown ≡ []
-  pub no_term : m.terms ≡ []
-  pub no_edge : m.edges ≡ no_edges
-  pub unwritten : m.written ≡ 0
+  pub none_taken : m.taken ≡ []
 
 -- why no merge begins
 abbrev pub IsUnbegun : Refusal → List Entry → Type 0

@@ -7,10 +7,8 @@ use Rattle.directory.specs.declared.entry.Entry.{Entry}
 use Rattle.directory.specs.declared.layout.Layout.TheVariants as layouts
 use Rattle.directory.specs.Listings.{DirectoryValue, IsListing, IsEntry, most_entries}
 use Rattle.segment.specs.Records.{segment_of}
-use Rattle.segment.specs.Standing.{places_of}
 use Rattle.store_image.specs.Says.{IsSegmentOf}
-use Rattle.term_prefix.specs.Pushed.{IsPosted}
-use Rattle.associations.specs.Laws.{ArePostingsOf}
+use Rattle.segment_index.specs.Indexed.{IsIndexOf}
 use Rattle.history_store.specs.declared.refusal.Refusal.{Refusal}
 use Rattle.history_store.specs.declared.refusal.Refusal.TheVariants as refusals
 use Rattle.history_store.specs.declared.preparing.Prepared.{Prepared}
@@ -30,10 +28,7 @@ pub record IsPlacedAt (d : DirectoryValue) (merge : Option Merge) (rows : List S
 -- the segment of these rows, and the directory with it
 pub record IsPrepared (d : DirectoryValue) (merge : Option Merge) (rows : List StampedRow)
     (p : Prepared) : Type 0 where
-  pub shown_is : p.shown ≡ rows
-  pub places_are : p.places ≡ places_of rows
-  pub terms_are : IsPosted rows p.terms
-  pub edges_are : ArePostingsOf rows p.edges
+  pub index_is : IsIndexOf rows p.index
   pub bytes_are : p.bytes.items ≡ segment_of rows
   pub entry_is : IsEntry p.entry
   pub segment : IsSegmentOf p.entry rows
@@ -56,8 +51,8 @@ IsUnprepared _ rows catalog = ⊥
 
 -- what is prepared goes with the store
 pub record IsPreparedFor {D : Type 0} (s : StoreValue D) (p : Prepared) : Type 0 where
-  pub apart : AreLists (s.history.rows ∷ p.shown ∷ [])
-  pub history : IsHistory (with_rows s.history p.shown)
+  pub apart : AreLists (s.history.rows ∷ p.index.rows ∷ [])
+  pub history : IsHistory (with_rows s.history p.index.rows)
   pub prepared : IsPrepared
       (record {
         layout = s.catalog.layout;
@@ -65,4 +60,4 @@ pub record IsPreparedFor {D : Type 0} (s : StoreValue D) (p : Prepared) : Type 0
         imports = s.history.imports;
         entries = s.catalog.entries;
       })
-      s.catalog.merge p.shown p
+      s.catalog.merge p.index.rows p

@@ -12,15 +12,13 @@ use Rattle.segment.specs.Records.{IsStamped, segment_of}
 use Rattle.segment.specs.Standing.{StandsAt}
 use Rattle.merge.specs.declared.Taken.{Taken}
 use Rattle.merge.specs.Merged.{IsOf, count_left, rows_left}
-use Rattle.associations.specs.Edges.{count_of, first_edges}
 use Rattle.history_store.specs.declared.refusal.Refusal.{Refusal}
 use Rattle.history_store.specs.declared.refusal.Refusal.TheVariants as refusals
 use Rattle.history_store.specs.declared.merge_in_progress.MergeInProgress.{MergeInProgress}
 use Rattle.history_store.specs.declared.stepping.Part.{Part}
-use Rattle.history_store.specs.declared.stepping.Lengths.{Lengths}
 use Rattle.history_store.specs.Private.Reading.{IsOfPlace}
 use Rattle.history_store.specs.StoreValue.{IsHeld}
-use Rattle.history_store.specs.MergeInProgress.{IsLike, AreTaken, HasMerge}
+use Rattle.history_store.specs.MergeInProgress.{IsLike, HasMerge}
 
 -- the row stands at the place, in the one or the other of two lists
 abbrev pub StandsIn : List (List StampedRow) → ℕ → ℕ → Taken → StampedRow → Type 0
@@ -58,57 +56,18 @@ IsUnread e = (e ≡ refusals.OutOfMemory) ⊎ (e ≡ refusals.DiskFault) ⊎ (e 
 abbrev pub IsUnwritten : Refusal → Type 0
 IsUnwritten e = (e ≡ refusals.OutOfMemory) ⊎ (e ≡ refusals.DiskFault)
 
--- how much is kept of the rows that were taken
-pub record AreLengths (m : MergeInProgress) (l : Lengths) : Type 0 where
-  pub listed : l.listed ≡ length m.listed.items
-  pub shown : l.shown ≡ length m.shown
-  pub terms : l.terms ≡ length m.terms
-  pub edges : l.edges ≡ count_of m.edges
-
--- the same merge, in which more may be listed and posted behind what was
-pub record IsLonger (m next : MergeInProgress) : Type 0 where
-  pub i : next.i ≡ m.i
-  pub j : next.j ≡ m.j
-  pub entry : next.entry ≡ m.entry
-  pub places : next.places ≡ m.places
-  pub written : next.written ≡ m.written
-  pub listed : take (length m.listed.items) next.listed.items ≡ m.listed.items
-  pub shown : take (length m.shown) next.shown ≡ m.shown
-  pub terms : take (length m.terms) next.terms ≡ m.terms
-  pub edges : first_edges (count_of m.edges) next.edges ≡ m.edges
-
--- the same merge, though there may be more room in memory
-pub record IsSame (m next : MergeInProgress) : Type 0 where
-  pub i : next.i ≡ m.i
-  pub j : next.j ≡ m.j
-  pub entry : next.entry ≡ m.entry
-  pub places : next.places ≡ m.places
-  pub written : next.written ≡ m.written
-  pub listed : next.listed.items ≡ m.listed.items
-  pub shown : next.shown ≡ m.shown
-  pub terms : next.terms ≡ m.terms
-  pub edges : next.edges ≡ m.edges
-
--- the rows and their places, with what is posted of them, are those of a merge
-abbrev pub Keeps : MergeInProgress → Type 0
-Keeps m = AreTaken m.shown m.listed.items m.terms m.edges
-
 -- the merge with these rows more
 pub record IsGrown (m next : MergeInProgress) (p : Part) : Type 0 where
   pub i : next.i ≡ m.i
   pub j : next.j ≡ m.j
   pub entry : next.entry ≡ m.entry
   pub places : next.places ≡ p.places
-  pub written : next.written ≡ m.written + length p.bytes.items
-  pub shown : next.shown ≡ m.shown ++ p.rows.items
-  pub keeps : Keeps next
+  pub taken : next.taken ≡ m.taken ++ p.rows.items
 
--- what is written of a merge lies within its output, and its rows can be posted
+-- the records of more rows lie within the output of a merge, behind those that are written
 pub record HasRoom (m : MergeInProgress) (p : Part) : Type 0 where
-  pub keeps : Keeps m
-  pub written : m.written ≡ length (segment_of m.shown)
   pub bytes : p.bytes.items ≡ segment_of p.rows.items
-  pub inside : m.written + length p.bytes.items ≤ m.entry.bytes
+  pub inside : length (segment_of m.taken) + length p.bytes.items ≤ m.entry.bytes
 
 -- the call failed at the device
 abbrev pub is_fault : Result (Unit {0}) Refusal → Bool
@@ -124,4 +83,4 @@ UnlessFault _ P = P
 abbrev pub IsStepOf : Result (Unit {0}) Refusal → MergeInProgress → MergeInProgress → ℕ → Type 0
 IsStepOf (Ok done) m next n = (next.i ≡ m.i) × (next.j ≡ m.j) × (next.entry ≡ m.entry)
     × (count_left next.places ≡ count_left m.places - n)
-IsStepOf (Err e) m next n = IsUnread e × (1 ≤ n) × (1 ≤ count_left m.places) × IsSame m next
+IsStepOf (Err e) m next n = IsUnread e × (1 ≤ n) × (1 ≤ count_left m.places) × (next ≡ m)

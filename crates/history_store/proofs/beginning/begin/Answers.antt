@@ -43,9 +43,5 @@ returns-clause-begun c =
       rows_fit = omega (arith, sum.0, all_at (λ e. e.rows ≤ e.bytes) c.args.directory.now.entries c.in-Some.i a c.requires a_is, all_at (λ e. e.rows ≤ e.bytes) c.args.directory.now.entries c.in-Some.j b c.requires b_is);
       place = ap (λ (x : List Entry). fit (div_ceil c.in-Some-checked_add.bytes 4096) x None) (sym same) ∙ ap (λ n. fit n l None) (sym c.blocks-2.ensures) ∙ c.in_ok-first.ensures.fit;
       places = c.new.ensures;
-      none_listed = c.new-2.ensures.items;
-      none_shown = c.new-3.ensures;
-      no_term = c.new-4.ensures;
-      no_edge = c.new-5.ensures;
-      unwritten = refl;
+      none_taken = c.new-2.ensures;
     }

@@ -18,7 +18,7 @@ use Rattle.history_store.proofs.stepping.next_part.Goals as goal
 pub take-requires : goal.take-requires
 take-requires g c =
     let h = c.requires.held in
-    let is = c.requires.merge.merging.0 in
+    let is = c.requires.merge.merging in
     let m = c.args.merge.now in
     let a = list_is c.args.index.now c.args.shown.now m.i is.a c.list-a.result.now h.places is.a_is c.list-a.ensures in
     let b = list_is c.args.index.now c.args.shown.now m.j is.b c.list-b.result.now h.places is.b_is c.list-b.ensures in
@@ -27,7 +27,7 @@ take-requires g c =
 pub returns-in-Err-clause-undamaged : goal.returns-in-Err-clause-undamaged
 returns-in-Err-clause-undamaged g c up =
     let h = c.requires.held in
-    let is = c.requires.merge.merging.0 in
+    let is = c.requires.merge.merging in
     let m = c.args.merge.now in
     let lists = c.args.shown.now in
     let a = list_is c.args.index.now lists m.i is.a c.list-a.result.now h.places is.a_is c.list-a.ensures in
@@ -44,7 +44,7 @@ returns-in-Err-clause-agrees g c up = c.read_taken.ensures.agrees up (c.requires
 pub encode-requires-clause-ascending : goal.encode-requires-clause-ascending
 encode-requires-clause-ascending g c =
     let h = c.requires.held in
-    let is = c.requires.merge.merging.0 in
+    let is = c.requires.merge.merging in
     let m = c.args.merge.now in
     let lists = c.args.shown.now in
     let a = list_is c.args.index.now lists m.i is.a c.list-a.result.now h.places is.a_is c.list-a.ensures in
@@ -66,7 +66,7 @@ returns-in_err-bytes-clause-agrees g c up = c.read_taken.ensures.agrees up (c.re
 pub returns-clause-part : goal.returns-clause-part
 returns-clause-part g c a b is_a is_b =
     let h = c.requires.held in
-    let is = c.requires.merge.merging.0 in
+    let is = c.requires.merge.merging in
     let m = c.args.merge.now in
     let lists = c.args.shown.now in
     let first = list_is c.args.index.now lists m.i a c.list-a.result.now h.places is_a c.list-a.ensures in

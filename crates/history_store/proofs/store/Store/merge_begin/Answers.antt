@@ -3,6 +3,7 @@ use Rattle.std.proofs.lemmas.Result.{err_from_is_err_and}
 use Rattle.history_store.specs.MergeInProgress.{merge_of}
 use Rattle.history_store.proofs.GoingOn.{goes_on, goes_not_on}
 use Rattle.history_store.proofs.BegunMerge.{segments_long, begun_merge, is_begun, not_begun, unbegun_refused}
+use Rattle.history_store.proofs.Held.{held_stands}
 use Rattle.history_store.proofs.store.Store.merge_begin.Goals as goal
 
 pub begin-requires : goal.begin-requires
@@ -30,3 +31,7 @@ pub returns-clause-answer : goal.returns-clause-answer
 returns-clause-answer g c =
     let none = goes_not_on c.self.inside.merge (sym c.is_some.ensures ∙ c.if-is_some.false) in
     rw (← c.self.view_is) (is_begun c.self.inside.directory c.in_ok-merge.merge c.in_ok-merge.ensures.begun c.self.inside.merge c.left-left.result none c.left-left.ensures, record { history = refl; was_open = c.if-self.false; open_still = c.if-self.false })
+
+pub returns-clause-acknowledged : goal.returns-clause-acknowledged
+returns-clause-acknowledged g c =
+    rw (← c.self.view_is) (λ honest still. record { open_still = still; each = held_stands _ _ _ _ _ _ _ _ c.self.invariant.0 honest still })

@@ -37,23 +37,23 @@ pub add-requires-clause-places : goal.add-requires-clause-places
 add-requires-clause-places g c =
     let for = subst (λ (s : StoreValue g.row.D.Denot). IsPreparedFor s c.args.prepared) (sym c.self.view_is) c.requires.prepared in
     let added = is_added _ c.self.inside.directory c.self.inside.shown.items c.args.prepared c.self.invariant.0.kept refl refl refl refl for in
-    subst ArePlaces (map-append places_of c.self.inside.shown.items (c.args.prepared.shown ∷ []) ∙ ap (λ i. i ++ places_of c.args.prepared.shown ∷ []) (sym c.self.invariant.0.places) ∙ ap (λ p. c.self.inside.index ++ p ∷ []) (sym for.prepared.places_are))
-    (places_of_lists (c.self.inside.shown.items ++ c.args.prepared.shown ∷ []) added.apart)
+    subst ArePlaces (map-append places_of c.self.inside.shown.items (c.args.prepared.index.rows ∷ []) ∙ ap (λ i. i ++ places_of c.args.prepared.index.rows ∷ []) (sym c.self.invariant.0.places) ∙ ap (λ p. c.self.inside.index ++ p ∷ []) (sym for.prepared.index_is.places_are))
+    (places_of_lists (c.self.inside.shown.items ++ c.args.prepared.index.rows ∷ []) added.apart)
 
 pub invariant_of-self-in-Ok-1 : goal.invariant_of-self-in-Ok-1
 invariant_of-self-in-Ok-1 g c =
     let for = subst (λ (s : StoreValue g.row.D.Denot). IsPreparedFor s c.args.prepared) (sym c.self.view_is) c.requires.prepared in
     let added = is_added _ c.self.inside.directory c.self.inside.shown.items c.args.prepared c.self.invariant.0.kept refl refl refl refl for in (
-      held_added _ (g.D.Disk.is_honest c.add_segment.new.disk) _ (g.D.Disk.moments c.add_segment.new.disk).state c.self.inside.cache c.forget.new.self c.forget-in-Ok.new.self _ c.in-Ok.slot c.self.inside.directory c.args.prepared.directory c.args.prepared.entry c.self.inside.index c.add.new.self c.self.inside.shown.items _ c.args.prepared.shown c.self.inside.needs_reopen c.self.invariant.0 c.add_segment.ensures.honesty.1 added c.in-Ok.ensures.next
+      held_added _ (g.D.Disk.is_honest c.add_segment.new.disk) _ (g.D.Disk.moments c.add_segment.new.disk).state c.self.inside.cache c.forget.new.self c.forget-in-Ok.new.self _ c.in-Ok.slot c.self.inside.directory c.args.prepared.directory c.args.prepared.entry c.self.inside.index c.add.new.self c.self.inside.shown.items _ c.args.prepared.index.rows c.self.inside.needs_reopen c.self.invariant.0 c.add_segment.ensures.honesty.1 added c.in-Ok.ensures.next
           (λ honest given lists segment on is same. c.in-Ok.ensures.on_disk honest given lists segment on is (c.deref.ensures.value ∙ for.prepared.bytes_are ∙ ap segment_of (sym same)))
           c.in-Ok.ensures.elsewhere (subst (λ x. Forgets (is_in x) c.self.inside.cache c.forget.new.self) c.extent.ensures c.forget.ensures) (subst (λ x. Forgets (is_in x) c.forget.new.self c.forget-in-Ok.new.self) c.extent-in-Ok.ensures c.forget-in-Ok.ensures)
-          (c.add.ensures ∙ ap (λ p. c.self.inside.index ++ p ∷ []) for.prepared.places_are)
-          (c.in-Ok-push.ensures.items ∙ ap (λ (l : List (List StampedRow)). l ++ c.args.prepared.shown ∷ []) c.in_ok-reserve.ensures.items),
-      more_terms c.self.inside.shown.items _ c.self.inside.terms _ c.args.prepared.shown c.args.prepared.terms c.self.invariant.1 for.prepared.terms_are (c.in-Ok-push.ensures.items ∙ ap (λ (l : List (List StampedRow)). l ++ c.args.prepared.shown ∷ []) c.in_ok-reserve.ensures.items) c.add-in-Ok.ensures,
-      more_links c.self.inside.shown.items _ c.self.inside.links _ c.args.prepared.shown c.args.prepared.edges c.self.invariant.2 for.prepared.edges_are (c.in-Ok-push.ensures.items ∙ ap (λ (l : List (List StampedRow)). l ++ c.args.prepared.shown ∷ []) c.in_ok-reserve.ensures.items) c.add-in-Ok-2.ensures,
-      merge_added _ (g.D.Disk.is_honest c.add_segment.new.disk) _ (g.D.Disk.moments c.add_segment.new.disk).state.now (other c.self.inside.slot) c.self.inside.directory c.args.prepared.directory c.args.prepared.entry c.self.inside.shown.items _ c.args.prepared.shown c.self.inside.merge c.self.inside.needs_reopen c.self.invariant.3 c.add_segment.ensures.honesty.1
+          (c.add.ensures ∙ ap (λ p. c.self.inside.index ++ p ∷ []) for.prepared.index_is.places_are)
+          (c.in-Ok-push.ensures.items ∙ ap (λ (l : List (List StampedRow)). l ++ c.args.prepared.index.rows ∷ []) c.in_ok-reserve.ensures.items),
+      more_terms c.self.inside.shown.items _ c.self.inside.terms _ c.args.prepared.index.rows c.args.prepared.index.terms c.self.invariant.1 for.prepared.index_is.terms_are (c.in-Ok-push.ensures.items ∙ ap (λ (l : List (List StampedRow)). l ++ c.args.prepared.index.rows ∷ []) c.in_ok-reserve.ensures.items) c.add-in-Ok.ensures,
+      more_links c.self.inside.shown.items _ c.self.inside.links _ c.args.prepared.index.rows c.args.prepared.index.links c.self.invariant.2 for.prepared.index_is.links_are (c.in-Ok-push.ensures.items ∙ ap (λ (l : List (List StampedRow)). l ++ c.args.prepared.index.rows ∷ []) c.in_ok-reserve.ensures.items) c.add-in-Ok-2.ensures,
+      merge_added _ (g.D.Disk.is_honest c.add_segment.new.disk) _ (g.D.Disk.moments c.add_segment.new.disk).state.now (other c.self.inside.slot) c.self.inside.directory c.args.prepared.directory c.args.prepared.entry c.self.inside.shown.items _ c.args.prepared.index.rows c.self.inside.merge c.self.inside.needs_reopen c.self.invariant.3 c.add_segment.ensures.honesty.1
           (ap (λ (l : DirectoryValue). l.entries) for.prepared.directory_is) for.prepared.entry_is for.prepared.at_fit c.in-Ok.ensures.elsewhere
-          (c.in-Ok-push.ensures.items ∙ ap (λ (l : List (List StampedRow)). l ++ c.args.prepared.shown ∷ []) c.in_ok-reserve.ensures.items),
+          (c.in-Ok-push.ensures.items ∙ ap (λ (l : List (List StampedRow)). l ++ c.args.prepared.index.rows ∷ []) c.in_ok-reserve.ensures.items),
     )
 
 pub returns-in-Ok-push-clause-step : goal.returns-in-Ok-push-clause-step
@@ -61,25 +61,25 @@ returns-in-Ok-push-clause-step g c =
     let for = subst (λ (s : StoreValue g.row.D.Denot). IsPreparedFor s c.args.prepared) (sym c.self.view_is) c.requires.prepared in
     let added = is_added _ c.self.inside.directory c.self.inside.shown.items c.args.prepared c.self.invariant.0.kept refl refl refl refl for in
     let still = subst (λ (s : StoreValue g.row.D.Denot). s.needs_reopen ≡ false) (sym c.self.view_is) c.requires.still in
-    rw (← c.self.view_is) (with_more c.self.inside.directory c.args.prepared.directory c.self.inside.shown.items _ c.args.prepared.shown c.self.invariant.0.kept (c.in-Ok-push.ensures.items ∙ ap (λ (l : List (List StampedRow)). l ++ c.args.prepared.shown ∷ []) c.in_ok-reserve.ensures.items) for.apart (ap (λ (l : DirectoryValue). l.imports) for.prepared.directory_is), refl, still)
+    rw (← c.self.view_is) (with_more c.self.inside.directory c.args.prepared.directory c.self.inside.shown.items _ c.args.prepared.index.rows c.self.invariant.0.kept (c.in-Ok-push.ensures.items ∙ ap (λ (l : List (List StampedRow)). l ++ c.args.prepared.index.rows ∷ []) c.in_ok-reserve.ensures.items) for.apart (ap (λ (l : DirectoryValue). l.imports) for.prepared.directory_is), refl, still)
 
 pub returns-in-Ok-push-clause-any_moment : goal.returns-in-Ok-push-clause-any_moment
 returns-in-Ok-push-clause-any_moment g c =
     let still = subst (λ (s : StoreValue g.row.D.Denot). s.needs_reopen ≡ false) (sym c.self.view_is) c.requires.still in
     let for = subst (λ (s : StoreValue g.row.D.Denot). IsPreparedFor s c.args.prepared) (sym c.self.view_is) c.requires.prepared in
     let added = is_added _ c.self.inside.directory c.self.inside.shown.items c.args.prepared c.self.invariant.0.kept refl refl refl refl for in
-    rw (← c.self.view_is) (λ up. leaves_added _ _ _ c.self.inside.cache _ c.self.inside.directory c.args.prepared.directory c.args.prepared.entry _ _ c.args.prepared.shown _ c.self.invariant.0 up still added for.apart (ap (λ (l : DirectoryValue). l.imports) for.prepared.directory_is)
+    rw (← c.self.view_is) (λ up. leaves_added _ _ _ c.self.inside.cache _ c.self.inside.directory c.args.prepared.directory c.args.prepared.entry _ _ c.args.prepared.index.rows _ c.self.invariant.0 up still added for.apart (ap (λ (l : DirectoryValue). l.imports) for.prepared.directory_is)
     (λ honest given lists segment on is same. c.in-Ok.ensures.any_moment honest given lists segment on is (c.deref.ensures.value ∙ for.prepared.bytes_are ∙ ap segment_of (sym same))))
 
 pub returns-in-Ok-push-clause-acknowledged : goal.returns-in-Ok-push-clause-acknowledged
 returns-in-Ok-push-clause-acknowledged g c =
     let for = subst (λ (s : StoreValue g.row.D.Denot). IsPreparedFor s c.args.prepared) (sym c.self.view_is) c.requires.prepared in
     let added = is_added _ c.self.inside.directory c.self.inside.shown.items c.args.prepared c.self.invariant.0.kept refl refl refl refl for in
-    let held = held_added _ (g.D.Disk.is_honest c.add_segment.new.disk) _ (g.D.Disk.moments c.add_segment.new.disk).state c.self.inside.cache c.forget.new.self c.forget-in-Ok.new.self _ c.in-Ok.slot c.self.inside.directory c.args.prepared.directory c.args.prepared.entry c.self.inside.index c.add.new.self c.self.inside.shown.items _ c.args.prepared.shown c.self.inside.needs_reopen c.self.invariant.0 c.add_segment.ensures.honesty.1 added c.in-Ok.ensures.next
+    let held = held_added _ (g.D.Disk.is_honest c.add_segment.new.disk) _ (g.D.Disk.moments c.add_segment.new.disk).state c.self.inside.cache c.forget.new.self c.forget-in-Ok.new.self _ c.in-Ok.slot c.self.inside.directory c.args.prepared.directory c.args.prepared.entry c.self.inside.index c.add.new.self c.self.inside.shown.items _ c.args.prepared.index.rows c.self.inside.needs_reopen c.self.invariant.0 c.add_segment.ensures.honesty.1 added c.in-Ok.ensures.next
     (λ honest given lists segment on is same. c.in-Ok.ensures.on_disk honest given lists segment on is (c.deref.ensures.value ∙ for.prepared.bytes_are ∙ ap segment_of (sym same)))
     c.in-Ok.ensures.elsewhere (subst (λ x. Forgets (is_in x) c.self.inside.cache c.forget.new.self) c.extent.ensures c.forget.ensures) (subst (λ x. Forgets (is_in x) c.forget.new.self c.forget-in-Ok.new.self) c.extent-in-Ok.ensures c.forget-in-Ok.ensures)
-    (c.add.ensures ∙ ap (λ p. c.self.inside.index ++ p ∷ []) for.prepared.places_are)
-    (c.in-Ok-push.ensures.items ∙ ap (λ (l : List (List StampedRow)). l ++ c.args.prepared.shown ∷ []) c.in_ok-reserve.ensures.items) in
+    (c.add.ensures ∙ ap (λ p. c.self.inside.index ++ p ∷ []) for.prepared.index_is.places_are)
+    (c.in-Ok-push.ensures.items ∙ ap (λ (l : List (List StampedRow)). l ++ c.args.prepared.index.rows ∷ []) c.in_ok-reserve.ensures.items) in
     rw (← c.self.view_is) (λ honest still. record { open_still = still; each = held_stands _ _ _ _ _ _ _ _ held (c.add_segment.ensures.honesty.0 honest) still })
 
 pub returns-in-Err-clause-any_moment : goal.returns-in-Err-clause-any_moment
@@ -87,7 +87,7 @@ returns-in-Err-clause-any_moment g c =
     let still = subst (λ (s : StoreValue g.row.D.Denot). s.needs_reopen ≡ false) (sym c.self.view_is) c.requires.still in
     let for = subst (λ (s : StoreValue g.row.D.Denot). IsPreparedFor s c.args.prepared) (sym c.self.view_is) c.requires.prepared in
     let added = is_added _ c.self.inside.directory c.self.inside.shown.items c.args.prepared c.self.invariant.0.kept refl refl refl refl for in
-    rw (← c.self.view_is) (λ up. leaves_added _ _ _ c.self.inside.cache _ c.self.inside.directory c.args.prepared.directory c.args.prepared.entry _ _ c.args.prepared.shown _ c.self.invariant.0 up still added for.apart (ap (λ (l : DirectoryValue). l.imports) for.prepared.directory_is)
+    rw (← c.self.view_is) (λ up. leaves_added _ _ _ c.self.inside.cache _ c.self.inside.directory c.args.prepared.directory c.args.prepared.entry _ _ c.args.prepared.index.rows _ c.self.invariant.0 up still added for.apart (ap (λ (l : DirectoryValue). l.imports) for.prepared.directory_is)
     (λ honest given lists segment on is same. c.in-Err.ensures.any_moment honest given lists segment on is (c.deref.ensures.value ∙ for.prepared.bytes_are ∙ ap segment_of (sym same))))
 
 pub add-requires-in-Ok : goal.add-requires-in-Ok

@@ -1,0 +1,143 @@
+-- What is kept of rows, with one row more and cut back.
+use Rattle.std.proofs.Common.{◌≡◌, ℕ, zero, suc, ◌+◌, ◌≤◌, List, [], ◌∷◌, ◌++◌, length, take, map, refl, sym, ap, ◌∙◌, arith, length-append, append-nil, append_assoc}
+use Rattle.std.proofs.lemmas.List.{map-append, take_all, take-append-le}
+use Rattle.rf2_values.specs.Row.{RowValue}
+use Rattle.history_model.specs.declared.stamped.StampedRow.{StampedRow}
+use Rattle.history_model.specs.InOrder.{IsAscending}
+use Rattle.history_model.specs.History.{stamped_cmp}
+use Rattle.segment.specs.declared.place.RowPlace.{RowPlace}
+use Rattle.segment.specs.Records.{record_of, segment_of}
+use Rattle.segment.specs.Standing.{record_len, row_place, with_places, places_of}
+use Rattle.segment.proofs.SegmentLaws.{segment_push, no_rows, pieces_join}
+use Rattle.as_of_index.specs.Places.{place_cmp}
+use Rattle.as_of_index.specs.Postings.{posted_all}
+use Rattle.as_of_index.proofs.Storing.{places_of_lists}
+use Rattle.term_prefix.specs.Terms.{TermAt}
+use Rattle.term_prefix.specs.Pushed.{posted_term}
+use Rattle.associations.specs.Edges.{Edges, no_edges, edges_of, joined_edges, first_edges, posted_edges, posted_link, posted_reference, posted_subject}
+use Rattle.associations.proofs.Posted.{pushed_one_by_one}
+use Rattle.segment_index.specs.declared.builder.IndexLength.{IndexLength}
+use Rattle.segment_index.specs.Indexed.{terms_of, links_of, length_of, IsBuilt}
+
+-- ---- no rows
+
+pub none_built : (rows : List StampedRow) (places : List RowPlace) (terms : List TermAt) (links : Edges) → rows ≡ [] → places ≡ [] → terms ≡ [] → links ≡ no_edges → IsBuilt rows places terms links 0
+none_built rows places terms links none no_places no_terms no_links = record {
+  places_are = no_places ∙ sym (ap places_of none);
+  terms_are = no_terms ∙ sym (ap terms_of none);
+  links_are = no_links ∙ sym (ap links_of none);
+  bytes_are = sym (ap (λ (l : List StampedRow). length (segment_of l)) none ∙ ap length no_rows);
+}
+
+-- ---- one row more
+
+pub place_bytes : (s : StampedRow) (at : ℕ) → (row_place s at).bytes ≡ length (record_of s)
+unfolding row_place
+place_bytes s at = refl
+
+-- its record stands behind those of the others
+with_places_push : (at : ℕ) (rows : List StampedRow) (s : StampedRow) → with_places at (rows ++ s ∷ []) ≡ with_places at rows ++ (s, row_place s (at + length (segment_of rows))) ∷ []
+unfolding segment_of
+with_places_push at [] s = let none : at ≡ at + length (segment_of []) = omega arith in ap (λ n. (s, row_place s n) ∷ []) none
+with_places_push at (r ∷ rows) s =
+    let both = length-append (record_of r) (segment_of rows) in
+    let same : at + record_len r + length (segment_of rows) ≡ at + length (segment_of (r ∷ rows)) = omega (arith, both) in
+    ap (λ l. (r, row_place r at) ∷ l) (with_places_push (at + record_len r) rows s ∙ ap (λ n. with_places (at + record_len r) rows ++ (s, row_place s n) ∷ []) same)
+
+placed_push : (rows : List StampedRow) (s : StampedRow) (at : ℕ) (place : RowPlace) → at ≡ length (segment_of rows) → place ≡ row_place s at → with_places 0 (rows ++ s ∷ []) ≡ with_places 0 rows ++ (s, place) ∷ []
+placed_push rows s at place here is =
+    let same : 0 + length (segment_of rows) ≡ at = omega (arith, here) in
+    with_places_push 0 rows s ∙ ap (λ n. with_places 0 rows ++ (s, row_place s n) ∷ []) same ∙ sym (ap (λ (p : RowPlace). with_places 0 rows ++ (s, p) ∷ []) is)
+
+terms_pushed : (rows : List (StampedRow × RowPlace)) (x : StampedRow × RowPlace) → posted_all posted_term (rows ++ x ∷ []) ≡ posted_all posted_term rows ++ posted_term x.0.row x.1
+terms_pushed [] x = append-nil (posted_term x.0.row x.1)
+terms_pushed (y ∷ rows) x = ap (λ l. posted_term y.0.row y.1 ++ l) (terms_pushed rows x) ∙ sym (append_assoc (posted_term y.0.row y.1) (posted_all posted_term rows) (posted_term x.0.row x.1))
+
+pub built_push : (rows next : List StampedRow) (places more : List RowPlace) (terms terms' : List TermAt) (links links' : Edges) (bytes bytes' : ℕ) (row : StampedRow) (place : RowPlace) → IsBuilt rows places terms links bytes → place ≡ row_place row bytes
+    → next ≡ rows ++ row ∷ [] → more ≡ places ++ place ∷ [] → terms' ≡ terms ++ posted_term row.row place → links' ≡ joined_edges links (edges_of row.row place) → bytes' ≡ bytes + place.bytes → IsBuilt next more terms' links' bytes'
+built_push rows next places more terms terms' links links' bytes bytes' row place is place_is next_is more_is terms_is links_is bytes_is =
+    let with : with_places 0 next ≡ with_places 0 rows ++ (row, place) ∷ [] = ap (with_places 0) next_is ∙ placed_push rows row bytes place is.bytes_are place_is in
+    let len = ap (λ (p : RowPlace). p.bytes) place_is ∙ place_bytes row bytes in
+    let whole = ap (λ (l : List StampedRow). length (segment_of l)) next_is ∙ ap length (segment_push rows row) ∙ length-append (segment_of rows) (record_of row) in
+    record {
+      places_are = more_is ∙ ap (λ (p : List RowPlace). p ++ place ∷ []) is.places_are ∙ sym (ap (map (λ (x : StampedRow × RowPlace). x.1)) with ∙ map-append (λ (x : StampedRow × RowPlace). x.1) (with_places 0 rows) ((row, place) ∷ []));
+      terms_are = terms_is ∙ ap (λ (t : List TermAt). t ++ posted_term row.row place) is.terms_are ∙ sym (ap (posted_all posted_term) with ∙ terms_pushed (with_places 0 rows) (row, place));
+      links_are = links_is ∙ ap (λ (e : Edges). joined_edges e (edges_of row.row place)) is.links_are ∙ sym (ap posted_edges with ∙ pushed_one_by_one (with_places 0 rows) (row, place));
+      bytes_are = omega (arith, len, whole, bytes_is, is.bytes_are);
+    }
+
+-- where a row's record ends, behind those of the others
+pub ends_within : (rows : List StampedRow) (row : StampedRow) (at : ℕ) (place : RowPlace) → at ≡ length (segment_of rows) → place ≡ row_place row at → at + place.bytes ≡ length (segment_of (rows ++ row ∷ []))
+ends_within rows row at place here is =
+    let len = ap (λ (p : RowPlace). p.bytes) is ∙ place_bytes row at in
+    let whole = ap length (segment_push rows row) ∙ length-append (segment_of rows) (record_of row) in
+    omega (arith, len, whole, here)
+
+-- ---- the first rows
+
+first_places : (n at : ℕ) (rows : List StampedRow) → take n (map (λ (x : StampedRow × RowPlace). x.1) (with_places at rows)) ≡ map (λ (x : StampedRow × RowPlace). x.1) (with_places at (take n rows))
+first_places zero at rows = refl
+first_places (suc n) at [] = refl
+first_places (suc n) at (r ∷ rows) = ap (λ (l : List RowPlace). row_place r at ∷ l) (first_places n (at + record_len r) rows)
+
+first_past : {X : Type 0} (xs ys zs : List X) → take (length (xs ++ ys)) (xs ++ zs) ≡ xs ++ take (length ys) zs
+first_past [] ys zs = refl
+first_past {X = X} (x ∷ xs) ys zs = ap (λ (l : List X). x ∷ l) (first_past xs ys zs)
+
+first_posted : {X : Type 0} (posted : RowValue → RowPlace → List X) (n at : ℕ) (rows : List StampedRow) → take (length (posted_all posted (with_places at (take n rows)))) (posted_all posted (with_places at rows)) ≡ posted_all posted (with_places at (take n rows))
+first_posted posted zero at rows = refl
+first_posted posted (suc n) at [] = refl
+first_posted {X = X} posted (suc n) at (r ∷ rows) =
+    let first = posted r.row (row_place r at) in
+    let rest = first_posted posted n (at + record_len r) rows in
+    first_past first (posted_all posted (with_places (at + record_len r) (take n rows))) (posted_all posted (with_places (at + record_len r) rows)) ∙ ap (λ (l : List X). first ++ l) rest
+
+first_links : (n : ℕ) (rows : List StampedRow) → first_edges (length_of (take n rows)).links (links_of rows) ≡ links_of (take n rows)
+first_links n rows =
+    let links = first_posted posted_link n 0 rows in
+    let references = first_posted posted_reference n 0 rows in
+    let subjects = first_posted posted_subject n 0 rows in
+    λ k. record { links = links k; references = references k; subjects = subjects k }
+
+pub built_cut : (rows next : List StampedRow) (places less : List RowPlace) (terms terms' : List TermAt) (links links' : Edges) (bytes : ℕ) (len : IndexLength) → IsBuilt rows places terms links bytes → len ≡ length_of (take len.rows rows)
+    → next ≡ take len.rows rows → less ≡ take len.rows places → terms' ≡ take len.terms terms → links' ≡ first_edges len.links links → IsBuilt next less terms' links' len.bytes
+built_cut rows next places less terms terms' links links' bytes len is len_is next_is less_is terms_is links_is = record {
+  places_are = less_is ∙ ap (take len.rows) is.places_are ∙ first_places len.rows 0 rows ∙ sym (ap places_of next_is);
+  terms_are = terms_is ∙ ap (take len.terms) is.terms_are ∙ ap (λ (l : IndexLength). take l.terms (terms_of rows)) len_is ∙ first_posted posted_term len.rows 0 rows ∙ sym (ap terms_of next_is);
+  links_are = links_is ∙ ap (first_edges len.links) is.links_are ∙ ap (λ (l : IndexLength). first_edges l.links (links_of rows)) len_is ∙ first_links len.rows rows ∙ sym (ap links_of next_is);
+  bytes_are = ap (λ (l : IndexLength). l.bytes) len_is ∙ sym (ap (λ (l : List StampedRow). length (segment_of l)) next_is);
+}
+
+-- rows that were pushed behind others are taken away again
+pub cut_back : (old more now : List StampedRow) (len : IndexLength) → len ≡ length_of old → now ≡ old ++ more → take len.rows now ≡ old
+cut_back old more now len len_is now_is =
+    let rows : len.rows ≡ length old = ap (λ (l : IndexLength). l.rows) len_is in
+    ap (λ n. take n now) rows ∙ ap (take (length old)) now_is ∙ take-append-le (length old) old more (omega arith) ∙ take_all (length old) old (omega arith)
+
+pub may_cut : (old more now : List StampedRow) (len : IndexLength) → len ≡ length_of old → now ≡ old ++ more → len ≡ length_of (take len.rows now)
+may_cut old more now len len_is now_is = len_is ∙ ap length_of (sym (cut_back old more now len len_is now_is))
+
+-- ---- rows one after the other
+
+-- the first of some rows have no more bytes than all of them
+segment_within : (n : ℕ) (rows : List StampedRow) → length (segment_of (take n rows)) ≤ length (segment_of rows)
+unfolding segment_of
+segment_within zero rows = omega arith
+segment_within (suc n) [] = omega arith
+segment_within (suc n) (r ∷ rows) =
+    let rest = segment_within n rows in
+    let some = length-append (record_of r) (segment_of (take n rows)) in
+    let all = length-append (record_of r) (segment_of rows) in
+    omega (arith, rest, some, all)
+
+pub next_fits : (old so_far rows : List StampedRow) (i : ℕ) (row : StampedRow) → so_far ≡ old ++ take i rows → take (i + 1) rows ≡ take i rows ++ row ∷ [] → length (segment_of (so_far ++ row ∷ [])) ≤ length (segment_of (old ++ rows))
+next_fits old so_far rows i row is one =
+    let next : so_far ++ row ∷ [] ≡ old ++ take (i + 1) rows = ap (λ (l : List StampedRow). l ++ row ∷ []) is ∙ append_assoc old (take i rows) (row ∷ []) ∙ ap (λ (l : List StampedRow). old ++ l) (sym one) in
+    let first = ap (λ (l : List StampedRow). length (segment_of l)) next ∙ ap length (pieces_join old (take (i + 1) rows)) ∙ length-append (segment_of old) (segment_of (take (i + 1) rows)) in
+    let all = ap length (pieces_join old rows) ∙ length-append (segment_of old) (segment_of rows) in
+    omega (arith, first, all, segment_within (i + 1) rows)
+
+-- ---- in order
+
+pub ascending_places : (rows : List StampedRow) → IsAscending stamped_cmp rows → IsAscending place_cmp (places_of rows)
+ascending_places rows up = (places_of_lists (rows ∷ []) (record { ascending = (up, tt); apart = (tt, tt) })).ascending.0

@@ -1,0 +1,9 @@
+//! What is kept in memory of the rows of one segment: the place of each row, and what is posted of
+//! it, its folded term, its link or reference, and its subject.
+#![tactic(auto)]
+
+mod builder;
+mod sealed;
+
+pub use builder::{IndexBuilder, IndexLength};
+pub use sealed::SegmentIndex;
