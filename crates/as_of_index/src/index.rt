@@ -173,8 +173,8 @@ impl Index {
         self.place_near(None, kind, id, time, pin)
     }
 
-    /// The place in a list of the row whose record begins at this byte, with its number in the list,
-    /// by one bisection.
+    /// The place in a list of the row whose record begins at this byte, with its number in the
+    /// list, by one bisection.
     fn place_from_byte(&self, segment: usize, byte: u32) -> Option<(usize, RowPlace)>
         // Where a row's record begins at the byte, its place is the answer.
         ensures found { (lists : List (List StampedRow)) → Lists self.now lists
@@ -193,7 +193,8 @@ impl Index {
     }
 
     /// Whether the version that stands at the place is the one at the date, of those that the pin
-    /// shows. Where the list and the number of the place in it are given, that list costs no bisection.
+    /// shows. Where the list and the number of the place in it are given, that list costs no
+    /// bisection.
     fn is_current_near(
         &self,
         near: Option<(usize, usize)>,
@@ -224,8 +225,8 @@ impl Index {
         self.is_current_near(None, segment, &at, time, pin)
     }
 
-    /// The place in a list of the row whose record begins at this byte, if its version is the one at
-    /// the date, of those that the pin shows. It makes one bisection a list, and reads no row.
+    /// The place in a list of the row whose record begins at this byte, if its version is the one
+    /// at the date, of those that the pin shows. It makes one bisection a list, and reads no row.
     pub fn current_from_byte(
         &self,
         segment: usize,
