@@ -4,7 +4,7 @@
 use crate::lists::{index_of, places_of, reader_of};
 use crate::releases::{example, lists_of, rows_of_imports, three_lists};
 use crate::rows::{
-    LAST_DAY, MEMBER, OTHER, ROOT, SAME_AS, STREET, THIRD, association, concept, day, is_same,
+    MEMBER, OTHER, ROOT, SAME_AS, STREET, THIRD, association, concept, day, is_same,
 };
 use as_of_index::{Chosen, Index, MAX_LISTS, PlaceList, ReadFault, RowReader, laws, read_all};
 use history_model::{StampedRow, plain};
@@ -278,52 +278,6 @@ fn lists_are_added(rt: HostRuntime) -> Result<(), Fail> {
     laws::places_of_lists();
     laws::lists_more();
     laws::lists_merged();
-    Ok(())
-}
-
-#[test]
-fn a_current_place_is_found_from_its_byte(rt: HostRuntime) -> Result<(), Fail> {
-    let alloc = rt.alloc();
-    let lists = three_lists(alloc)?;
-    let index = index_of(alloc, &lists)?;
-    for (segment, rows) in lists.iter().enumerate() {
-        let mut end = 0u32;
-        for place in places_of(alloc, rows)? {
-            let time = place.key.time;
-            let found = index.current_from_byte(segment, place.at, time, place.import);
-            assert_eq!(rt; found, Some(place));
-            let inside = place.at.saturating_add(1);
-            assert_eq!(rt;
-                index.current_from_byte(segment, inside, time, place.import),
-                None
-            );
-            let before = place.import.saturating_sub(1);
-            assert_eq!(rt;
-                index.current_from_byte(segment, place.at, time, before),
-                None
-            );
-            end = place.at.saturating_add(place.bytes);
-        }
-        assert!(rt; end > 0);
-        assert_eq!(rt;
-            index.current_from_byte(segment, end, day(LAST_DAY)?, u32::MAX),
-            None
-        );
-        assert_eq!(rt;
-            index.current_from_byte(segment, u32::MAX, day(LAST_DAY)?, u32::MAX),
-            None
-        );
-    }
-    let last = day(LAST_DAY)?;
-    assert_eq!(rt; index.current_from_byte(3, 0, last, u32::MAX), None);
-    assert_eq!(rt;
-        index.current_from_byte(usize::MAX, 0, last, u32::MAX),
-        None
-    );
-    assert_eq!(rt;
-        Index::new(alloc)?.current_from_byte(0, 0, last, u32::MAX),
-        None
-    );
     Ok(())
 }
 
