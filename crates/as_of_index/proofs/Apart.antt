@@ -6,7 +6,8 @@ use Rattle.history_model.specs.InOrder.{Has, IsAscending}
 use Rattle.history_model.proofs.InOrder.{Has-append_left, Has-append_right, Has-append_cases}
 use Rattle.segment.specs.declared.place.RowPlace.{RowPlace}
 use Rattle.segment.proofs.SegmentLaws.{all_push}
-use Rattle.as_of_index.specs.Places.{place_cmp, ShareNoKey, EachApart, ArePlaces}
+use Rattle.as_of_index.specs.Places.{place_cmp, EachApart, ArePlaces}
+use Rattle.as_of_index.specs.Private.Search.{ShareNoKey}
 
 pub one_more : {X : Type 0} (xs : List X) (i : ℕ) (x : X) → i < length xs → x ≡ get_or xs i x → take (i + 1) xs ≡ take i xs ++ x ∷ []
 one_more xs i x lt is = take_more xs i x lt ∙ ap (λ y. take i xs ++ y ∷ []) (sym is)

@@ -16,5 +16,6 @@ pub mod Apart
 pub mod Current
 pub mod Early
 pub mod Pushing
-pub mod ByByte
+pub mod Numbered
 pub mod Near
+pub mod Hinted

@@ -16,7 +16,8 @@ use Rattle.rf2_values.specs.Private.{keys_total}
 use Rattle.segment.specs.declared.place.RowPlace.{RowPlace}
 use Rattle.segment.specs.Standing.{with_places, places_of, StandsAt}
 use Rattle.segment.proofs.Posting.{says}
-use Rattle.as_of_index.specs.Places.{place_cmp, ShareNoKey, ArePlaces}
+use Rattle.as_of_index.specs.Places.{place_cmp, ArePlaces}
+use Rattle.as_of_index.specs.Private.Search.{ShareNoKey}
 use Rattle.as_of_index.specs.Private.Search.{in_segment, all_places}
 use Rattle.as_of_index.specs.Private.Current.{is_same_place}
 use Rattle.as_of_index.proofs.Ordered.{places_total}

@@ -1,5 +1,5 @@
--- What was pushed of each row, with the row's own place, stands for rows of its list, and none is left out.
-use Rattle.std.proofs.Common.{◌≡◌, ℕ, zero, suc, ◌+◌, Bool, true, List, [], ◌∷◌, ◌++◌, map, refl, sym, ap, subst, inl, inr, ◌∙◌, arith}
+-- What was pushed of each row, with the row's number in its list, is of rows of its list, and none is left out.
+use Rattle.std.proofs.Common.{◌≡◌, ℕ, zero, suc, ◌+◌, Bool, true, List, [], ◌∷◌, ◌++◌, length, map, refl, sym, ap, subst, inl, inr, ◌∙◌, arith, append-nil, append_assoc}
 use Rattle.std.specs.Prelude.{Some, slice_get, slice_set, remove}
 use Rattle.std.specs.List.Sorted.{IsPermutation}
 use Rattle.std.proofs.lemmas.List.Sorted.{IsPermutation-sym}
@@ -15,34 +15,34 @@ use Rattle.history_model.specs.Queries.{snapshot}
 use Rattle.history_model.proofs.InOrder.{Has-all, all_from_has, Has-append_left, Has-append_right, Has-append_cases}
 use Rattle.history_model.proofs.Filtered.{Has-map, Has-map_from}
 use Rattle.history_model.proofs.Snapshots.{current_from_snapshot, Has-listed_cases, Has-rows_at_cases}
-use Rattle.segment.specs.declared.place.RowPlace.{RowPlace}
-use Rattle.segment.specs.Standing.{with_places, StandsAt}
-use Rattle.segment.proofs.Posting.{says, placed}
+use Rattle.as_of_index.specs.Places.{item_at}
 use Rattle.as_of_index.specs.Current.{is_among}
-use Rattle.as_of_index.specs.Postings.{posted_all, numbered, AllPosted}
+use Rattle.as_of_index.specs.Postings.{posted_all, numbered, posted_keys, AllPosted}
 use Rattle.as_of_index.proofs.Among.{among_from}
+use Rattle.as_of_index.proofs.Numbered.{key_posted}
 
 pub Has-permuted : {X : Type 0} (xs ys : List X) → IsPermutation xs ys → (z : X) → Has ys z → Has xs z
 Has-permuted xs ys p z h = Has-all (λ w. Has xs w) ys z (recursion_from_All (λ w. Has xs w) ys (All-permutation (λ w. Has xs w) xs ys p (All-from_recursion (λ w. Has xs w) xs (all_from_has (λ w. Has xs w) xs (λ w k. k))))) h
 
-module _ {X : Type 0} (posted : RowValue → RowPlace → List X) (Is : X → RowValue → RowPlace → Type 0) (of_row : (row : RowValue) (at : RowPlace) (t : X) → Has (posted row at) t → Is t row at) where
-  of_rows : (xs : List (StampedRow × RowPlace)) (t : X) → Has (posted_all posted xs) t → (x : StampedRow × RowPlace) × Has xs x × Is t x.0.row x.1
-  of_rows [] t h = absurd h
-  of_rows (x ∷ xs) t h = elim (Has-append_cases (posted x.0.row x.1) (posted_all posted xs) t h) [
-    | inl l ↦ (x, inl refl, of_row x.0.row x.1 t l)
-    | inr r ↦ (let w = of_rows xs t r in (w.0, inr w.1, w.2))
+module _ {X : Type 0} (posted : RowValue → ℕ → List X) (Is : X → RowValue → ℕ → Type 0) (of_row : (row : RowValue) (i : ℕ) (t : X) → Has (posted row i) t → Is t row i) where
+  of_rows : (from : ℕ) (rows : List StampedRow) (t : X) → Has (posted_all posted from rows) t → (i : ℕ) × (s : StampedRow) × (slice_get rows i ≡ Some s) × Is t s.row (from + i)
+  of_rows from [] t h = absurd h
+  of_rows from (r ∷ rows) t h = elim (Has-append_cases (posted r.row from) (posted_all posted (from + 1) rows) t h) [
+    | inl l ↦ (let same : from ≡ from + 0 = omega arith in (0, r, refl, subst (λ n. Is t r.row n) same (of_row r.row from t l)))
+    | inr k ↦ (
+        let w = of_rows (from + 1) rows t k in
+        let same : (from + 1) + w.0 ≡ from + suc w.0 = omega arith in
+        (suc w.0, w.1, w.2, subst (λ n. Is t w.1.row n) same w.3))
   ]
 
-  -- the row of a posting, and its place
+  -- the row of a posting, and its number
   record IsRowOf (k : ℕ) (lists : List (List StampedRow)) (x : ℕ × X) : Type 0 where
+    n : ℕ
     i : ℕ
-    rows : List StampedRow
     s : StampedRow
-    at : RowPlace
-    number_is : x.0 ≡ k + i
-    list_is : slice_get lists i ≡ Some rows
-    there : Has (with_places 0 rows) (s, at)
-    is : Is x.1 s.row at
+    list_is : x.0 ≡ k + n
+    there : item_at lists n i ≡ Some s
+    is : Is x.1 s.row i
 
   posted_from : (k : ℕ) (lists : List (List StampedRow)) (terms : List (List X)) → AllPosted posted lists terms → (x : ℕ × X) → Has (numbered k terms) x → IsRowOf k lists x
   posted_from k [] [] a x h = absurd h
@@ -52,103 +52,112 @@ module _ {X : Type 0} (posted : RowValue → RowPlace → List X) (Is : X → Ro
     | inl l ↦ (
         let m = Has-map (λ (t : X). (k, t)) ts x l in
         let t_is = ap (λ (y : ℕ × X). y.1) m.2 in
-        let w = of_rows (with_places 0 rows) m.0 (Has-permuted (posted_all posted (with_places 0 rows)) ts a.0 m.0 m.1) in
+        let w = of_rows 0 rows m.0 (Has-permuted (posted_all posted 0 rows) ts a.0 m.0 m.1) in
         let number : x.0 ≡ k + 0 = (let e = ap (λ (y : ℕ × X). y.0) m.2 in omega arith) in
-        record { i = 0; rows = rows; s = w.0.0; at = w.0.1; number_is = number; list_is = refl; there = w.1; is = subst (λ t. Is t w.0.0.row w.0.1) t_is w.2 })
+        let same : 0 + w.0 ≡ w.0 = omega arith in
+        record { n = 0; i = w.0; s = w.1; list_is = number; there = w.2; is = subst (λ t. Is t w.1.row w.0) t_is (subst (λ i. Is m.0 w.1.row i) same w.3) })
     | inr r ↦ (
         let w = posted_from (k + 1) lists terms a.1 x r in
-        let number : x.0 ≡ k + suc w.i = (let e = w.number_is in omega arith) in
-        record { i = suc w.i; rows = w.rows; s = w.s; at = w.at; number_is = number; list_is = w.list_is; there = w.there; is = w.is })
+        let number : x.0 ≡ k + suc w.n = (let e = w.list_is in omega arith) in
+        record { n = suc w.n; i = w.i; s = w.s; list_is = number; there = w.there; is = w.is })
   ]
 
-  pub row_of_posting : (lists : List (List StampedRow)) (terms : List (List X)) → AllPosted posted lists terms → (x : ℕ × X) → Has (numbered 0 terms) x → (s : StampedRow) × (at : RowPlace) × StandsAt lists x.0 at s × Is x.1 s.row at
+  pub row_of_posting : (lists : List (List StampedRow)) (terms : List (List X)) → AllPosted posted lists terms → (x : ℕ × X) → Has (numbered 0 terms) x → (i : ℕ) × (s : StampedRow) × (item_at lists x.0 i ≡ Some s) × Is x.1 s.row i
   row_of_posting lists terms a x h =
       let w = posted_from 0 lists terms a x h in
-      (w.s, w.at, record { rows = w.rows; list_is = subst (λ i. slice_get lists i ≡ Some w.rows) (let e = w.number_is in omega arith) w.list_is; there = w.there }, w.is)
+      let same : w.n ≡ x.0 = (let e = w.list_is in omega arith) in
+      (w.i, w.s, subst (λ n. item_at lists n w.i ≡ Some w.s) same w.there, w.is)
 
--- of postings that hold their places
-pub stands : {X : Type 0} (posted : RowValue → RowPlace → List X) (place : X → RowPlace) (Is : X → RowValue → Type 0) → ((row : RowValue) (at : RowPlace) (t : X) → Has (posted row at) t → Is t row × (place t ≡ at)) → (lists : List (List StampedRow)) (terms : List (List X)) → AllPosted posted lists terms → (x : ℕ × X) → Has (numbered 0 terms) x → (s : StampedRow) × StandsAt lists x.0 (place x.1) s × Is x.1 s.row
-stands posted place Is of_row lists terms a x h =
-    let w = row_of_posting posted (λ t row at. Is t row × (place t ≡ at)) of_row lists terms a x h in
-    (w.0, subst (λ (p : RowPlace). StandsAt lists x.0 p w.0) (sym w.3.1) w.2, w.3.0)
+-- of postings that hold the numbers of their rows
+pub stands : {X : Type 0} (posted : RowValue → ℕ → List X) (number : X → ℕ) (Is : X → RowValue → Type 0) → ((row : RowValue) (i : ℕ) (t : X) → Has (posted row i) t → Is t row × (number t ≡ i)) → (lists : List (List StampedRow)) (terms : List (List X)) → AllPosted posted lists terms → (x : ℕ × X) → Has (numbered 0 terms) x → (s : StampedRow) × (item_at lists x.0 (number x.1) ≡ Some s) × Is x.1 s.row
+stands posted number Is of_row lists terms a x h =
+    let w = row_of_posting posted (λ t row i. Is t row × (number t ≡ i)) of_row lists terms a x h in
+    (w.1, subst (λ i. item_at lists x.0 i ≡ Some w.1) (sym w.3.1) w.2, w.3.0)
 
 -- ---- none is left out
 
-rows_posted : {X : Type 0} (posted : RowValue → RowPlace → List X) (xs : List (StampedRow × RowPlace)) (x : StampedRow × RowPlace) (t : X) → Has xs x → Has (posted x.0.row x.1) t → Has (posted_all posted xs) t
-rows_posted posted [] x t h k = absurd h
-rows_posted posted (y ∷ xs) x t h k = elim h [
-  | inl e ↦ Has-append_left (posted y.0.row y.1) (posted_all posted xs) t (subst (λ (z : StampedRow × RowPlace). Has (posted z.0.row z.1) t) (sym e) k)
-  | inr r ↦ Has-append_right (posted y.0.row y.1) (posted_all posted xs) t (rows_posted posted xs x t r k)
-]
+rows_posted : {X : Type 0} (posted : RowValue → ℕ → List X) (from : ℕ) (rows : List StampedRow) (i : ℕ) (s : StampedRow) (t : X) → slice_get rows i ≡ Some s → Has (posted s.row (from + i)) t → Has (posted_all posted from rows) t
+rows_posted posted from [] i s t e h = absurd (cc)
+rows_posted posted from (r ∷ rows) zero s t e h =
+    let row : s ≡ r = cc in
+    let same : from + 0 ≡ from = omega arith in
+    Has-append_left (posted r.row from) (posted_all posted (from + 1) rows) t (subst (λ n. Has (posted r.row n) t) same (subst (λ (z : StampedRow). Has (posted z.row (from + 0)) t) row h))
+rows_posted posted from (r ∷ rows) (suc i) s t e h =
+    let same : from + suc i ≡ (from + 1) + i = omega arith in
+    Has-append_right (posted r.row from) (posted_all posted (from + 1) rows) t (rows_posted posted (from + 1) rows i s t e (subst (λ n. Has (posted s.row n) t) same h))
 
-list_posted_there : {X : Type 0} (posted : RowValue → RowPlace → List X) (rows : List StampedRow) (ts : List X) (s : StampedRow) (at : RowPlace) (t : X) → IsPermutation (posted_all posted (with_places 0 rows)) ts → Has (with_places 0 rows) (s, at) → Has (posted s.row at) t → Has ts t
-list_posted_there posted rows ts s at t p h k = Has-permuted ts (posted_all posted (with_places 0 rows)) (IsPermutation-sym (posted_all posted (with_places 0 rows)) ts p) t (rows_posted posted (with_places 0 rows) (s, at) t h k)
-
--- what is posted of a row that stands at a place is in the list with the same number
-pub posting_there : {X : Type 0} (posted : RowValue → RowPlace → List X) (lists : List (List StampedRow)) (terms : List (List X)) → AllPosted posted lists terms → (n : ℕ) (at : RowPlace) (s : StampedRow) → StandsAt lists n at s → (t : X) → Has (posted s.row at) t → Has {X = ℕ × X} (numbered 0 terms) (n, t)
-posting_there {X} posted lists terms a n at s w t h =
+-- what is posted of a row is in the list with the same number
+pub posting_there : {X : Type 0} (posted : RowValue → ℕ → List X) (lists : List (List StampedRow)) (terms : List (List X)) → AllPosted posted lists terms → (n i : ℕ) (s : StampedRow) → item_at lists n i ≡ Some s → (t : X) → Has (posted s.row i) t → Has {X = ℕ × X} (numbered 0 terms) (n, t)
+posting_there {X} posted lists terms a n i s e t h =
     let number : 0 + n ≡ n = omega arith in
-    subst (λ m. Has {X = ℕ × X} (numbered 0 terms) (m, t)) number (by 0 n lists terms a w.rows w.list_is w.there) where
-      by : (k i : ℕ) (lists : List (List StampedRow)) (terms : List (List X)) → AllPosted posted lists terms → (rows : List StampedRow) → slice_get lists i ≡ Some rows → Has (with_places 0 rows) (s, at) → Has {X = ℕ × X} (numbered k terms) (k + i, t)
-      by k i [] terms a rows e g = absurd (cc)
-      by k i (r ∷ lists) [] a rows e g = absurd a
-      by k zero (r ∷ lists) (ts ∷ terms) a rows e g =
-          let same : rows ≡ r = cc in
+    subst (λ m. Has {X = ℕ × X} (numbered 0 terms) (m, t)) number (by 0 n lists terms a e) where
+      by : (k n : ℕ) (lists : List (List StampedRow)) (terms : List (List X)) → AllPosted posted lists terms → item_at lists n i ≡ Some s → Has {X = ℕ × X} (numbered k terms) (k + n, t)
+      by k n [] terms a e = absurd (cc)
+      by k n (r ∷ lists) [] a e = absurd a
+      by k zero (rows ∷ lists) (ts ∷ terms) a e =
           let number : k ≡ k + 0 = omega arith in
-          let there = list_posted_there posted r ts s at t a.0 (subst (λ rs. Has (with_places 0 rs) (s, at)) same g) h in
+          let same : i ≡ 0 + i = omega arith in
+          let posted_there = rows_posted posted 0 rows i s t e (subst (λ j. Has (posted s.row j) t) same h) in
+          let there = Has-permuted ts (posted_all posted 0 rows) (IsPermutation-sym (posted_all posted 0 rows) ts a.0) t posted_there in
           Has-append_left (map (λ (u : X). (k, u)) ts) (numbered (k + 1) terms) (k + 0, t) (subst (λ m. Has {X = ℕ × X} (map (λ (u : X). (k, u)) ts) (m, t)) number (Has-map_from (λ (u : X). (k, u)) ts t there))
-      by k (suc i) (r ∷ lists) (ts ∷ terms) a rows e g =
-          let number : (k + 1) + i ≡ k + suc i = omega arith in
-          Has-append_right (map (λ (u : X). (k, u)) ts) (numbered (k + 1) terms) (k + suc i, t) (subst (λ m. Has {X = ℕ × X} (numbered (k + 1) terms) (m, t)) number (by (k + 1) i lists terms a.1 rows e g))
+      by k (suc n) (rows ∷ lists) (ts ∷ terms) a e =
+          let number : (k + 1) + n ≡ k + suc n = omega arith in
+          Has-append_right (map (λ (u : X). (k, u)) ts) (numbered (k + 1) terms) (k + suc n, t) (subst (λ m. Has {X = ℕ × X} (numbered (k + 1) terms) (m, t)) number (by (k + 1) n lists terms a.1 e))
 
--- and each row stands somewhere
-pub stands_somewhere : (lists : List (List StampedRow)) (s : StampedRow) → Has (joined lists) s → (n : ℕ) × (at : RowPlace) × StandsAt lists n at s
-stands_somewhere [] s h = absurd h
-stands_somewhere (rows ∷ lists) s h = elim (Has-append_cases rows (joined lists) s h) [
-  | inl l ↦ (let p = placed 0 rows s l in (0, p.0, record { rows = rows; list_is = refl; there = p.1 }))
-  | inr r ↦ (let w = stands_somewhere lists s r in (suc w.0, w.1, record { rows = w.2.rows; list_is = w.2.list_is; there = w.2.there }))
+-- and each row has a number
+number_of_row : (rows : List StampedRow) (s : StampedRow) → Has rows s → (i : ℕ) × (slice_get rows i ≡ Some s)
+number_of_row [] s h = absurd h
+number_of_row (r ∷ rows) s h = elim h [
+  | inl e ↦ (0, ap Some e)
+  | inr t ↦ (let w = number_of_row rows s t in (suc w.0, w.1))
 ]
 
-module _ {X : Type 0} (posted : RowValue → RowPlace → List X) (place : X → RowPlace) (test : RowValue → Bool) (complete : (row : RowValue) (at : RowPlace) → test row ≡ true → (t : X) × Has (posted row at) t × (place t ≡ at)) where
-  list_posted : (lists : List (List StampedRow)) (terms : List (List X)) → AllPosted posted lists terms → (s : StampedRow) → Has (joined lists) s → test s.row ≡ true → (t : X) × Has (joined terms) t × ((place t).key ≡ key_of s.row)
-  list_posted [] [] a s h e = absurd h
-  list_posted [] (ts ∷ terms) a s h e = absurd a
-  list_posted (rows ∷ lists) [] a s h e = absurd a
-  list_posted (rows ∷ lists) (ts ∷ terms) a s h e = elim (Has-append_cases rows (joined lists) s h) [
-    | inl l ↦ (
-        let p = placed 0 rows s l in
-        let t = complete s.row p.0 e in
-        let there = list_posted_there posted rows ts s p.0 t.0 a.0 p.1 t.1 in (
-          t.0,
-          Has-append_left ts (joined terms) t.0 there,
-          ap (λ (q : RowPlace). q.key) t.2 ∙ (says 0 rows (s, p.0) p.1).key_is,
-        ))
-    | inr r ↦ (let w = list_posted lists terms a.1 s r e in (w.0, Has-append_right ts (joined terms) w.0 w.1, w.2))
-  ]
+pub numbers_of_row : (lists : List (List StampedRow)) (s : StampedRow) → Has (joined lists) s → (n : ℕ) × (i : ℕ) × (item_at lists n i ≡ Some s)
+numbers_of_row [] s h = absurd h
+numbers_of_row (rows ∷ lists) s h = elim (Has-append_cases rows (joined lists) s h) [
+  | inl l ↦ (let w = number_of_row rows s l in (0, w.0, w.1))
+  | inr r ↦ (let w = numbers_of_row lists s r in (suc w.0, w.1, w.2))
+]
 
-  pub among_all : (lists : List (List StampedRow)) (terms : List (List X)) (date pin : ℕ) → AllPosted posted lists terms → (row : RowValue) → Has (snapshot (rows_at pin (listed lists)) date) row → test row ≡ true → is_among (map (λ t. (place t).key) (joined terms)) row ≡ true
+module _ {X : Type 0} (posted : RowValue → ℕ → List X) (number : X → ℕ) (test : RowValue → Bool) (complete : (row : RowValue) (i : ℕ) → test row ≡ true → (t : X) × Has (posted row i) t × (number t ≡ i)) where
+  pub among_all : (lists : List (List StampedRow)) (terms : List (List X)) (date pin : ℕ) → AllPosted posted lists terms → (row : RowValue) → Has (snapshot (rows_at pin (listed lists)) date) row → test row ≡ true → is_among (posted_keys number lists terms) row ≡ true
   among_all lists terms date pin a row h e =
       let current = current_from_snapshot (rows_at pin (listed lists)) date row h in
       let w = Has-rows_at_cases pin (listed lists) row current.known in
-      let t = list_posted lists terms a w.stamped_row (Has-listed_cases lists w.stamped_row w.known) (subst (λ (r : RowValue). test r ≡ true) (sym w.same) e) in
-      among_from (map (λ t. (place t).key) (joined terms)) row (place t.0).key (Has-map_from (λ t. (place t).key) (joined terms) t.0 t.1) (t.2 ∙ ap key_of w.same)
+      let s = w.stamped_row in
+      let p = numbers_of_row lists s (Has-listed_cases lists s w.known) in
+      let t = complete s.row p.1 (subst (λ (r : RowValue). test r ≡ true) (sym w.same) e) in
+      let there = posting_there posted lists terms a p.0 p.1 s p.2 t.0 t.1 in
+      let row_there = subst (λ i. item_at lists p.0 i ≡ Some s) (sym t.2) p.2 in
+      among_from (posted_keys number lists terms) row (key_of s.row) (key_posted number lists terms (p.0, t.0) s there row_there) (ap key_of w.same)
+
+-- ---- one row more
+
+pub posted_push : {X : Type 0} (posted : RowValue → ℕ → List X) (from : ℕ) (rows : List StampedRow) (row : StampedRow) → posted_all posted from (rows ++ row ∷ []) ≡ posted_all posted from rows ++ posted row.row (from + length rows)
+posted_push posted from [] row =
+    let same : from ≡ from + 0 = omega arith in
+    append-nil (posted row.row from) ∙ ap (posted row.row) same
+posted_push posted from (r ∷ rows) row =
+    let same : (from + 1) + length rows ≡ from + suc (length rows) = omega arith in
+    ap (λ xs. posted r.row from ++ xs) (posted_push posted (from + 1) rows row ∙ ap (λ n. posted_all posted (from + 1) rows ++ posted row.row n) same)
+    ∙ sym (append_assoc (posted r.row from) (posted_all posted (from + 1) rows) (posted row.row (from + suc (length rows))))
 
 -- ---- lists that change
 
-pub all_more : {X : Type 0} (posted : RowValue → RowPlace → List X) (lists : List (List StampedRow)) (terms : List (List X)) (rows : List StampedRow) (ts : List X) → AllPosted posted lists terms → IsPermutation (posted_all posted (with_places 0 rows)) ts → AllPosted posted (lists ++ rows ∷ []) (terms ++ ts ∷ [])
+pub all_more : {X : Type 0} (posted : RowValue → ℕ → List X) (lists : List (List StampedRow)) (terms : List (List X)) (rows : List StampedRow) (ts : List X) → AllPosted posted lists terms → IsPermutation (posted_all posted 0 rows) ts → AllPosted posted (lists ++ rows ∷ []) (terms ++ ts ∷ [])
 all_more posted [] [] rows ts a p = (p, tt)
 all_more posted [] (us ∷ terms) rows ts a p = absurd a
 all_more posted (xs ∷ lists) [] rows ts a p = absurd a
 all_more posted (xs ∷ lists) (us ∷ terms) rows ts a p = (a.0, all_more posted lists terms rows ts a.1 p)
 
-pub all_set : {X : Type 0} (posted : RowValue → RowPlace → List X) (lists : List (List StampedRow)) (terms : List (List X)) (i : ℕ) (rows : List StampedRow) (ts : List X) → AllPosted posted lists terms → IsPermutation (posted_all posted (with_places 0 rows)) ts → AllPosted posted (slice_set lists i rows) (slice_set terms i ts)
+pub all_set : {X : Type 0} (posted : RowValue → ℕ → List X) (lists : List (List StampedRow)) (terms : List (List X)) (i : ℕ) (rows : List StampedRow) (ts : List X) → AllPosted posted lists terms → IsPermutation (posted_all posted 0 rows) ts → AllPosted posted (slice_set lists i rows) (slice_set terms i ts)
 all_set posted [] [] i rows ts a p = a
 all_set posted [] (us ∷ terms) i rows ts a p = absurd a
 all_set posted (xs ∷ lists) [] i rows ts a p = absurd a
 all_set posted (xs ∷ lists) (us ∷ terms) zero rows ts a p = (p, a.1)
 all_set posted (xs ∷ lists) (us ∷ terms) (suc i) rows ts a p = (a.0, all_set posted lists terms i rows ts a.1 p)
 
-pub all_removed : {X : Type 0} (posted : RowValue → RowPlace → List X) (lists : List (List StampedRow)) (terms : List (List X)) (j : ℕ) → AllPosted posted lists terms → AllPosted posted (remove lists j) (remove terms j)
+pub all_removed : {X : Type 0} (posted : RowValue → ℕ → List X) (lists : List (List StampedRow)) (terms : List (List X)) (j : ℕ) → AllPosted posted lists terms → AllPosted posted (remove lists j) (remove terms j)
 all_removed posted [] [] zero a = tt
 all_removed posted [] [] (suc j) a = tt
 all_removed posted [] (us ∷ terms) j a = absurd a

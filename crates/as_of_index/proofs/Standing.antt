@@ -12,7 +12,8 @@ use Rattle.history_model.specs.declared.stamped.StampedRow.{StampedRow}
 use Rattle.history_model.specs.InOrder.{Has, IsAscending, joined}
 use Rattle.history_model.specs.History.{stamped_cmp, rows_at}
 use Rattle.history_model.specs.Lists.{listed, AreLists}
-use Rattle.history_model.specs.Lists.{ShareNoKey as RowsShareNoKey, EachApart as RowsApart}
+use Rattle.history_model.specs.Lists.{EachApart as RowsApart}
+use Rattle.history_model.specs.Private.{ShareNoKey as RowsShareNoKey}
 use Rattle.history_model.specs.Queries.{get}
 use Rattle.history_model.proofs.InOrder.{Has-all, all_from_has, Has-append_left, Has-append_right, Has-append_cases}
 use Rattle.history_model.proofs.Filtered.{Has-map, Has-map_from}
@@ -21,7 +22,8 @@ use Rattle.history_model.proofs.Snapshots.{IsVersionOf, get_is, get_none, IsCons
 use Rattle.segment.specs.Standing.{record_len}
 use Rattle.segment.specs.declared.place.RowPlace.{RowPlace}
 use Rattle.segment.specs.Standing.{row_place, with_places, places_of, StandsAt}
-use Rattle.as_of_index.specs.Places.{place_cmp, ShareNoKey, EachApart, ArePlaces}
+use Rattle.as_of_index.specs.Places.{place_cmp, EachApart, ArePlaces}
+use Rattle.as_of_index.specs.Private.Search.{ShareNoKey}
 use Rattle.segment.proofs.Posting.{Says, says_posted, says, placed, row_there}
 use Rattle.as_of_index.specs.Search.{IsPlaceOf}
 use Rattle.as_of_index.specs.Private.Search.{in_segment, all_places, is_candidate, IsPick}

@@ -8,13 +8,15 @@ use Rattle.rf2_values.specs.Key.{key_of, key_cmp}
 use Rattle.history_model.specs.declared.stamped.StampedRow.{StampedRow}
 use Rattle.history_model.specs.InOrder.{IsAscending}
 use Rattle.history_model.specs.History.{stamped_cmp}
-use Rattle.history_model.specs.Lists.{ShareNoKey as RowsShareNoKey, EachApart as RowsApart}
+use Rattle.history_model.specs.Lists.{EachApart as RowsApart}
+use Rattle.history_model.specs.Private.{ShareNoKey as RowsShareNoKey}
 use Rattle.history_model.proofs.InOrder.{Has-all, all_from_has}
 use Rattle.history_model.proofs.Filtered.{Has-map}
 use Rattle.segment.specs.Standing.{record_len}
 use Rattle.segment.specs.declared.place.RowPlace.{RowPlace}
 use Rattle.segment.specs.Standing.{row_place, with_places, places_of}
-use Rattle.as_of_index.specs.Places.{place_cmp, ShareNoKey, EachApart, PlacesOfLists, ListsMore, ListsMerged}
+use Rattle.as_of_index.specs.Places.{place_cmp, EachApart, PlacesOfLists, ListsMore, ListsMerged}
+use Rattle.as_of_index.specs.Private.Search.{ShareNoKey}
 use Rattle.segment.proofs.Posting.{says, row_there}
 
 -- ---- the places of lists are places

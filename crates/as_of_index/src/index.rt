@@ -1,28 +1,30 @@
 //! Lists of places, and the answers from them.
 
-ghost use Rattle.std.specs.Prelude.{◌≡◌, ◌<◌, ◌++◌, ◌∷◌, [], List, IfOk, length, Some, None, remove, slice_set, slice_get};
+ghost use Rattle.std.specs.Prelude.{◌≡◌, ◌<◌, ◌++◌, ◌∷◌, [], List, IfOk, length, Some, None};
+ghost use Rattle.std.specs.Prelude.{remove, slice_set, slice_get};
 ghost use Rattle.history_model.specs.InOrder.{IsAscending};
 ghost use Rattle.std.specs.Prelude.{◌↔◌, ◌≢◌, ◌≤◌, ◌+◌, ℕ, IfErr, IsTrue};
 ghost use Rattle.std.specs.List.{sum_by};
-ghost use Rattle.std.specs.Option.{option_to_list};
+ghost use Rattle.std.specs.Option.{option_map, option_to_list};
 ghost use Rattle.history_model.specs.declared.stamped.StampedRow.{StampedRow};
 ghost use Rattle.history_model.specs.History.{rows_at};
 ghost use Rattle.history_model.specs.Lists.{listed};
 ghost use Rattle.history_model.specs.Queries.{get, versions, page};
-ghost use Rattle.segment.specs.Standing.{StandsAt};
 ghost use Rattle.segment.specs.declared.place.RowPlace.{RowPlace};
-ghost use Rattle.as_of_index.specs.Places.{max_lists, ArePlaces, Lists};
+ghost use Rattle.as_of_index.specs.Places.{max_lists, item_at, ArePlaces, Lists};
 ghost use Rattle.fault_counts.specs.Counting.{Counts, CountsDiskFault, CountsDamage};
-ghost use Rattle.as_of_index.specs.Current.{IsCurrentAt};
+ghost use Rattle.as_of_index.specs.Current.{IsPlaceOfRow, IsCurrentAt};
 ghost use Rattle.as_of_index.specs.Private.Current.{is_same_place};
 ghost use Rattle.as_of_index.specs.Search.{IsPlaceOf};
-ghost use Rattle.as_of_index.specs.Private.Search.{all_places, IsPick, IsNext, IsNextId, IsNextVersion};
+ghost use Rattle.as_of_index.specs.Private.Search.{all_places, IsPick, IsNext, IsNextId};
+ghost use Rattle.as_of_index.specs.Private.Search.{IsNextVersion};
 ghost use Rattle.fault_counts.specs.declared.fault.ReadFault.TheVariants as readfault;
 
 use crate::cursors::{cursors_at, latest_on, next_id};
+use crate::hints::{Hints, latest_from_hints};
 use crate::place_list::PlaceList;
 use crate::reader::RowReader;
-use crate::search::{Start, from_byte};
+use crate::search::{Start, nth_place};
 use crate::several::{is_apart, latest, next_version};
 use fault_counts::ReadFault;
 use rf2_values::{EffectiveTime, Kind, Row};
@@ -173,22 +175,43 @@ impl Index {
         self.place_near(None, kind, id, time, pin)
     }
 
-    /// The place in a list of the row whose record begins at this byte, with its number in the
-    /// list, by one bisection.
-    fn place_from_byte(&self, segment: usize, byte: u32) -> Option<(usize, RowPlace)>
-        // Where a row's record begins at the byte, its place is the answer.
+    /// The same place as `place_at` gives. Where components are asked for in key order, a search in
+    /// a list begins where the one before it ended, and the way from there is bisected.
+    pub fn place_by(
+        &self,
+        hints: &mut Hints,
+        kind: Kind,
+        id: u128,
+        time: EffectiveTime,
+        pin: u32,
+    ) -> Option<(usize, RowPlace)>
+        // Whatever the hints are.
+        ensures places { ArePlaces self.now }
         ensures found { (lists : List (List StampedRow)) → Lists self.now lists
-            → (at : RowPlace) (s : StampedRow) → StandsAt lists segment at s → at.at ≡ byte
-            → (n : ℕ) × (result ≡ Some (n, at)) }
-        ensures only { (lists : List (List StampedRow)) → Lists self.now lists
-            → (n : ℕ) (at : RowPlace) → result ≡ Some (n, at)
-            → (at.at ≡ byte) × (s : StampedRow) × StandsAt lists segment at s }
+            → IsPlaceOf lists (get kind id time (rows_at pin (listed lists))) result }
+    {
+        latest_from_hints(self.lists.as_slice(), hints, kind, id, time, pin)
+    }
+
+    /// The place with a number in the list with a number, if there are both.
+    fn place_of_row(&self, segment: usize, number: usize) -> Option<RowPlace>
+        ensures { result ≡ item_at self.now segment number }
     {
         let lists = self.lists.as_slice();
         if segment < lists.len() {
-            from_byte(lists[segment].places(), byte)
+            nth_place(lists[segment].places(), number)
         } else {
             None
+        }
+    }
+
+    /// The id of the row with this number in a list, if there is one. It makes no bisection.
+    pub fn id_at(&self, segment: usize, number: u32) -> Option<u128>
+        ensures { result ≡ option_map (λ at. at.key.id) (item_at self.now segment number) }
+    {
+        match self.place_of_row(segment, number as usize) {
+            Some(at) => Some(at.key.id),
+            None => None,
         }
     }
 
@@ -206,6 +229,7 @@ impl Index {
         ensures { (lists : List (List StampedRow)) → Lists self.now lists
             → IsTrue result ↔ IsCurrentAt lists time pin segment at.now }
     {
+        // Its contract says that no key is listed twice.
         let _listed = self.lists();
         if !is_early(at, time, pin) {
             return false;
@@ -216,29 +240,22 @@ impl Index {
         }
     }
 
-    /// Whether the version that stands at the place is the one
-    /// at the date, of those that the pin shows. No row is read.
-    pub fn is_current(&self, segment: usize, at: RowPlace, time: EffectiveTime, pin: u32) -> bool
-        ensures { (lists : List (List StampedRow)) → Lists self.now lists
-            → IsTrue result ↔ IsCurrentAt lists time pin segment at }
-    {
-        self.is_current_near(None, segment, &at, time, pin)
-    }
-
-    /// The place in a list of the row whose record begins at this byte, if its version is the one
-    /// at the date, of those that the pin shows. It makes one bisection a list, and reads no row.
-    pub fn current_from_byte(
+    /// The place of the row with this number in a list, if its version is the one at the date, of
+    /// those that the pin shows. It makes one bisection in each other list, and reads no row.
+    pub fn current_at(
         &self,
         segment: usize,
-        byte: u32,
+        number: u32,
         time: EffectiveTime,
         pin: u32,
     ) -> Option<RowPlace>
         ensures { (lists : List (List StampedRow)) → Lists self.now lists → (at : RowPlace)
-            → (result ≡ Some at) ↔ ((at.at ≡ byte) × IsCurrentAt lists time pin segment at) }
+            → (result ≡ Some at)
+            ↔ (IsPlaceOfRow lists segment number at × IsCurrentAt lists time pin segment at) }
     {
-        match self.place_from_byte(segment, byte) {
-            Some((number, at)) => {
+        let number = number as usize;
+        match self.place_of_row(segment, number) {
+            Some(at) => {
                 if self.is_current_near(Some((segment, number)), segment, &at, time, pin) {
                     Some(at)
                 } else {

@@ -4,6 +4,7 @@
 
 mod chosen;
 mod cursors;
+mod hints;
 mod index;
 mod kept;
 pub mod laws;
@@ -15,6 +16,7 @@ mod several;
 
 pub use chosen::{Chosen, read_all};
 pub use fault_counts::ReadFault;
+pub use hints::Hints;
 pub use index::{Index, MAX_LISTS};
 pub use kept::KeptRows;
 pub use per_list::PerList;

@@ -1,14 +1,18 @@
 //! Searches in one list of places, by bisection.
 
-ghost use Rattle.std.specs.Prelude.{◌≡◌, ◌≤◌, ◌++◌, ◌∷◌, [], ℕ, ◌↔◌, length, IsTrue, find, reverse, take, drop, true, slice_get, Some, None};
+ghost use Rattle.std.specs.Prelude.{◌≡◌, ◌≤◌, ◌++◌, ◌∷◌, [], ℕ, ◌↔◌, length, IsTrue, find, reverse};
+ghost use Rattle.std.specs.Prelude.{take, drop, true, slice_get, Some, None};
 ghost use Rattle.std.specs.List.{AllByRecursion};
 ghost use Rattle.std.specs.Option.{option_copied};
 ghost use Rattle.std.specs.declared.cmp.Ordering.TheVariants.{Equal};
 ghost use Rattle.rf2_values.specs.Key.{kind_place, key_cmp};
 ghost use Rattle.history_model.specs.InOrder.{Has, IsAscending};
 ghost use Rattle.history_model.specs.Queries.{is_above};
-ghost use Rattle.as_of_index.specs.Places.{place_cmp, ShareNoKey};
-ghost use Rattle.as_of_index.specs.Private.Search.{byte_cmp, is_under, is_of, is_before, SplitsAt, stops, IsPassed, IsPick, id_of_kind, later_of, lesser_of, IsNext, sooner_of};
+ghost use Rattle.as_of_index.specs.Places.{place_cmp};
+ghost use Rattle.as_of_index.specs.Private.Search.{ShareNoKey, is_under, is_of, is_before};
+ghost use Rattle.as_of_index.specs.Private.Search.{SplitsAt, stops, IsPassed, IsPick};
+ghost use Rattle.as_of_index.specs.Private.Search.{id_of_kind, later_of, lesser_of, IsNext};
+ghost use Rattle.as_of_index.specs.Private.Search.{sooner_of};
 ghost use Rattle.as_of_index.specs.declared.search.Start.TheVariants as starts;
 ghost use Rattle.segment.specs.declared.place.RowPlace.{RowPlace};
 
@@ -63,7 +67,7 @@ pub(crate) fn is_of(kind: Kind, id: u128, p: &RowPlace) -> bool
     p.key.kind as u8 == kind as u8 && p.key.id == id
 }
 
-fn is_before(start: Start, p: &RowPlace) -> bool
+pub(crate) fn is_before(start: Start, p: &RowPlace) -> bool
     ensures { result ≡ is_before start p.now }
 {
     match start {
@@ -233,20 +237,6 @@ pub(crate) fn nth_place(list: &[RowPlace], i: usize) -> Option<RowPlace>
     ensures { result ≡ slice_get list.now i }
 {
     list.get(i).copied()
-}
-
-/// The place at this byte and its number, in a list in which the bytes ascend.
-pub(crate) fn from_byte(list: &[RowPlace], byte: u32) -> Option<(usize, RowPlace)>
-    ensures found { IsAscending byte_cmp list.now → (p : RowPlace) → Has list.now p → p.at ≡ byte
-        → (n : ℕ) × (result ≡ Some (n, p)) }
-    ensures only { (n : ℕ) (p : RowPlace) → result ≡ Some (n, p)
-        → Has list.now p × (p.at ≡ byte) }
-{
-    let first = list.partition_point(|p| p.at < byte);
-    match nth_place(list, first) {
-        Some(p) if p.at == byte => Some((first, p)),
-        _ => None,
-    }
 }
 
 /// The first place of the list that isn't passed over.

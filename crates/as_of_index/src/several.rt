@@ -3,8 +3,9 @@
 ghost use Rattle.std.specs.Prelude.{◌≡◌, ◌↔◌, IsTrue};
 ghost use Rattle.std.specs.List.{AllByRecursion};
 ghost use Rattle.history_model.specs.InOrder.{IsAscending};
-ghost use Rattle.as_of_index.specs.Places.{place_cmp, ShareNoKey};
-ghost use Rattle.as_of_index.specs.Private.Search.{all_places, number_in, IsPick, IsNext, IsNextVersion};
+ghost use Rattle.as_of_index.specs.Places.{place_cmp};
+ghost use Rattle.as_of_index.specs.Private.Search.{ShareNoKey, all_places, number_in, IsPick};
+ghost use Rattle.as_of_index.specs.Private.Search.{IsNext, IsNextVersion};
 
 use crate::place_list::PlaceList;
 use crate::search::{Start, is_of, later, latest_in, next_in, share_no_key, sooner};

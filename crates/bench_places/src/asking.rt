@@ -3,8 +3,8 @@
 use crate::making::{Made, ROOT, day, one_association, other, sctid};
 use crate::watch::Watch;
 use as_of_index::{Index, ReadFault, RowPlace, RowReader};
-use associations::{about, children};
 use history_model::StampedRow;
+use links::{about, children};
 use rf2_values::Kind;
 use std::alloc::Global;
 use std::io;

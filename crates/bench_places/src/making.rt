@@ -2,8 +2,8 @@
 
 use crate::asking::scramble;
 use as_of_index::{Index, MAX_LISTS, PlaceList, RowPlace};
-use associations::Links;
 use history_model::{IS_A, StampedRow};
+use links::Links;
 use rf2_values::{
     Association, Body, Description, EffectiveTime, Key, Kind, Relationship, Row, Sctid, Text,
 };
@@ -48,7 +48,7 @@ pub(crate) struct Made {
 struct Pushed {
     places: Vec<RowPlace>,
     terms: term_prefix::Postings,
-    links: associations::Postings,
+    links: links::Postings,
     /// The byte at which the next record begins.
     end: u32,
 }
@@ -136,7 +136,7 @@ impl Pushed {
         Pushed {
             places: Vec::new(alloc),
             terms: term_prefix::Postings::new(alloc),
-            links: associations::Postings::new(alloc),
+            links: links::Postings::new(alloc),
             end: 0,
         }
     }
@@ -145,9 +145,11 @@ impl Pushed {
     fn push(&mut self, row: &StampedRow) -> io::Result<()> {
         let place = RowPlace::new(row, self.end);
         self.end = self.end.wrapping_add(place.bytes);
-        let (of_term, of_link) = (place, place);
-        self.terms.push(row, of_term)?;
-        self.links.push(row, of_link)?;
+        let Ok(number) = u32::try_from(self.places.len()) else {
+            return Err(other("too many rows"));
+        };
+        self.terms.push(row, number)?;
+        self.links.push(row, number)?;
         self.places.push(place)?;
         Ok(())
     }

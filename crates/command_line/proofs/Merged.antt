@@ -9,7 +9,7 @@ use Rattle.std.proofs.lemmas.Option.{slice_get_within}
 use Rattle.std.proofs.lemmas.List.{length-set, append_assoc}
 use Rattle.std.proofs.lemmas.List.Edits.{length-remove}
 use Rattle.import_check.specs.declared.release.Release.{Release}
-use Rattle.import_check.specs.Sample.{files_of}
+use Rattle.import_check.specs.Release.{files_of}
 use Rattle.history_store.specs.Catalog.{Catalog}
 use Rattle.history_store.specs.Merging.{IsBegun, IsStepped, IsPublished}
 use Rattle.history_store.specs.StoreValue.{StoreValue}

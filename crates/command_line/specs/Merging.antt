@@ -1,5 +1,6 @@
 -- What merging the segments of a store does.
-use Rattle.std.specs.Prelude.{◌≡◌, ◌⊎◌, ℕ, List, [], ◌∷◌, ◌++◌, length, min, codes, Option, IsOk, IsErr}
+use Rattle.std.specs.Prelude.{◌≡◌, ◌⊎◌, ℕ, List, [], ◌∷◌, ◌++◌, length, min, codes, Option, IsOk}
+use Rattle.std.specs.Prelude.{IsErr}
 use Rattle.line_server.specs.Sources.{no_releases}
 use Rattle.disk_model.specs.DeviceView.{DeviceView}
 use Rattle.std.specs.List.{AllByRecursion}

@@ -1,11 +1,12 @@
 -- What the program does of what its words ask for.
-use Rattle.std.specs.Prelude.{◌≡◌, ◌≢◌, ◌⊎◌, ◌≤◌, ℕ, List, [], Option, Some, None, Result, Ok, Err, ⊤}
+use Rattle.std.specs.Prelude.{◌≡◌, ◌≢◌, ◌⊎◌, ◌≤◌, ℕ, List, [], Option, Some, None, Result, Ok, Err}
+use Rattle.std.specs.Prelude.{⊤}
 use Rattle.std.specs.Io.KnownBytes.{Keeps}
 use Rattle.disk_model.specs.DeviceView.{DeviceView, device_view}
 use Rattle.disk_model.specs.Change.{made}
 use Rattle.disk_model.specs.MemDisk.{memory_moments, failure_count}
 use Rattle.disk_model.specs.declared.memory.MemDisk.{MemDisk}
-use Rattle.import_check.specs.Sample.{sample_files}
+use Rattle.samples.specs.Sample.{sample_files}
 use Rattle.clap.specs.Values.{kind_of}
 use Rattle.clap.specs.declared.error.kind.ErrorKind.{ErrorKind}
 use Rattle.clap.specs.declared.error.kind.ErrorKind.TheVariants.{DisplayHelp, DisplayVersion}
@@ -27,7 +28,7 @@ use Rattle.command_line.specs.Tasks.{IsMade, IsImport, IsStatus, IsServing, IsSe
 
 -- What the words can name, as clauses see it: which device stands under a name, or is made there,
 -- and whether it can't be had or doesn't stay; and the releases of each folder, if they are honest.
-pub record PlacesView (D : Type 0) : Type 1 where
+pub record SystemView (D : Type 0) : Type 1 where
   pub stands : List ℕ → D → Type 0
   pub withholds : List ℕ → Type 0
   pub makes : List ℕ → D → Type 0
@@ -38,8 +39,8 @@ pub record PlacesView (D : Type 0) : Type 1 where
   pub device : DeviceView D
 
 -- the source that a folder of releases is
-abbrev pub source_in : {D : Type 0} → PlacesView D → List ℕ → SourceView
-source_in places dir = source_view places.is_honest (places.releases dir)
+abbrev pub source_in : {D : Type 0} → SystemView D → List ℕ → SourceView
+source_in system dir = source_view system.is_honest (system.releases dir)
 
 -- it was told that what is asked for under a name can't be had
 abbrev pub IsMissing : Report → Type 0
@@ -65,49 +66,49 @@ pub record IsDemonstrated (script : List ℕ) (report : Report) : Type 0 where
 -- how each task is done, and how its device is left: a store is made on what was made under its
 -- name and keeps it, and all else is done on what was under its name; only a server reads, and the
 -- demonstration has no device
-abbrev pub Does : {D : Type 0} → PlacesView D → List ℕ → Task → Option D
+abbrev pub Does : {D : Type 0} → SystemView D → List ℕ → Task → Option D
     → Result Ending ServeFault → Streams → Type 0
-Does places script (tasks.Init store) left ended streams =
-    IsDoneAt (λ device. places.makes store.now device × places.keeps store.now)
-    (λ device after. IsMade places.device device after (report ended streams.old streams.new))
-    (IsMissing (report ended streams.old streams.new) × places.loses store.now) left
+Does system script (tasks.Init store) left ended streams =
+    IsDoneAt (λ device. system.makes store.now device × system.keeps store.now)
+    (λ device after. IsMade system.device device after (report ended streams.old streams.new))
+    (IsMissing (report ended streams.old streams.new) × system.loses store.now) left
     × (streams.rest ≡ streams.input)
-Does places script (tasks.Import store releases name quiet) left ended streams =
-    IsDoneAt (places.stands store.now)
-    (λ device after. IsImport (source_in places releases.now) places.device name.now device after
+Does system script (tasks.Import store releases name quiet) left ended streams =
+    IsDoneAt (system.stands store.now)
+    (λ device after. IsImport (source_in system releases.now) system.device name.now device after
     (report ended streams.old streams.new))
-    (IsMissing (report ended streams.old streams.new) × places.withholds store.now) left
+    (IsMissing (report ended streams.old streams.new) × system.withholds store.now) left
     × (streams.rest ≡ streams.input)
-Does places script (tasks.Status store) left ended streams =
-    IsDoneAt (places.stands store.now)
-    (λ device after. IsStatus places.device device after (report ended streams.old streams.new))
-    (IsMissing (report ended streams.old streams.new) × places.withholds store.now) left
+Does system script (tasks.Status store) left ended streams =
+    IsDoneAt (system.stands store.now)
+    (λ device after. IsStatus system.device device after (report ended streams.old streams.new))
+    (IsMissing (report ended streams.old streams.new) × system.withholds store.now) left
     × (streams.rest ≡ streams.input)
-Does places script (tasks.Serve store releases) left ended streams =
-    IsDoneAt (places.stands store.now)
-    (λ device after. IsServing (source_in places releases.now) places.device device after ended
+Does system script (tasks.Serve store releases) left ended streams =
+    IsDoneAt (system.stands store.now)
+    (λ device after. IsServing (source_in system releases.now) system.device device after ended
     streams)
     (IsMissing (report ended streams.old streams.new) × (streams.rest ≡ streams.input)
-    × places.withholds store.now) left
-Does places script (tasks.Merge store segments) left ended streams =
-    IsDoneAt (places.stands store.now)
-    (λ device after. IsMergedOnDisk places.device segments device after
+    × system.withholds store.now) left
+Does system script (tasks.Merge store segments) left ended streams =
+    IsDoneAt (system.stands store.now)
+    (λ device after. IsMergedOnDisk system.device segments device after
     (report ended streams.old streams.new))
-    (IsMissing (report ended streams.old streams.new) × places.withholds store.now) left
+    (IsMissing (report ended streams.old streams.new) × system.withholds store.now) left
     × (streams.rest ≡ streams.input)
-Does places script tasks.Demo left ended streams =
+Does system script tasks.Demo left ended streams =
     IsDemonstrated script (report ended streams.old streams.new) × (left ≡ None)
     × (streams.rest ≡ streams.input)
 
 -- The words ask for a task, and it was done. The status is 0 only where it ended so.
-pub record IsRun {D : Type 0} (places : PlacesView D) (script : List ℕ) (words : List (List ℕ))
+pub record IsRun {D : Type 0} (system : SystemView D) (script : List ℕ) (words : List (List ℕ))
     (left : Option D) (status : ℕ) (known : Streams) : Type 0 where
   pub task : Task
   pub asked : AskFor words task
   pub ended : Result Ending ServeFault
   -- what was written, and went out at the end
   pub written : Option (List ℕ)
-  pub does : Does places script task left ended (streams known.input known.rest known.old written)
+  pub does : Does system script task left ended (streams known.input known.rest known.old written)
   pub kept : Keeps written known.new
   pub at_most : status ≤ 1
   pub done : status ≡ 0 → ended ≡ Ok Done

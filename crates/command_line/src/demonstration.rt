@@ -1,4 +1,10 @@
-//! The script that the demonstration serves.
+//! The demonstration: the script that it serves, and the releases that the script imports.
+
+use history_store::Refusal;
+use import_check::Release;
+use line_server::{Source, SourceFault};
+use samples::sample;
+use std::alloc::Global;
 
 /// Imports of three releases, one of them while a merge goes on; what two
 /// sessions, of which one is pinned, are then told; and two refusals.
@@ -22,3 +28,26 @@ pub const SCRIPT: &[u8] = b"0 STATUS\n\
 0 REPLACED 1000004 20210131\n\
 1 PIN 9\n\
 0 IMPORT r9\n";
+
+/// The sample releases, and no others.
+#[derive(Clone, Copy)]
+pub(crate) struct Samples;
+
+impl Source for Samples {
+    ghost use Rattle.std.specs.Prelude.{⊤};
+    ghost use Rattle.samples.specs.Sample.{sample_files};
+
+    ghost is_honest = { λ _. ⊤ };
+
+    ghost releases = { λ _ name. sample_files name };
+
+    fn release(&mut self, alloc: Global, name: &str) -> Result<Release, SourceFault> {
+        match sample(alloc, name) {
+            Ok(Some(release)) => Ok(release),
+            Ok(None) => Err(SourceFault::NoFolder),
+            Err(_) => Err(SourceFault::OutOfMemory),
+        }
+    }
+
+    fn note_refusal(&mut self, _alloc: Global, _name: &str, _refusal: Refusal) {}
+}

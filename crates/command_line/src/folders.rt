@@ -1,7 +1,7 @@
 //! Releases in unpacked folders.
 
-use crate::places::Places;
 use crate::progress::tell_taken;
+use crate::system::System;
 use crate::telling::{Scene, Told, is_about_row, tell_row, tell_why};
 use history_store::Refusal;
 use import_check::Release;
@@ -11,8 +11,8 @@ use std::io::{self, Write};
 
 /// The releases in the folders below one folder.
 #[derive(Drop)]
-pub struct FolderSource<'a, P: Places, E: Write> {
-    pub places: &'a P,
+pub struct FolderSource<'a, P: System, E: Write> {
+    pub system: &'a P,
     /// The folder that the releases' folders lie in.
     pub dir: &'a str,
     /// Takes what stood in the way of a release, and what is told while it is imported.
@@ -21,25 +21,25 @@ pub struct FolderSource<'a, P: Places, E: Write> {
     pub quiet: bool,
 }
 
-impl<P: Places, E: Write> FolderSource<'_, P, E> {
+impl<P: System, E: Write> FolderSource<'_, P, E> {
     /// Tells why a task on the store under a name was refused, if it was.
     pub(crate) fn tell_why(&mut self, told: Told, store: &str, left: &P::Device) {
         let scene = Scene {
             store,
-            said: self.places.said(left),
+            said: self.system.said(left),
         };
         tell_why(told, &scene, self.faults);
     }
 }
 
-impl<P: Places, E: Write> Source for FolderSource<'_, P, E> {
-    ghost is_honest = { λ s. P.is_honest s.places.now };
+impl<P: System, E: Write> Source for FolderSource<'_, P, E> {
+    ghost is_honest = { λ s. P.is_honest s.system.now };
 
-    ghost releases = { λ s. P.releases s.places.now s.dir.now };
+    ghost releases = { λ s. P.releases s.system.now s.dir.now };
 
     fn release(&mut self, alloc: Global, name: &str) -> Result<Release, SourceFault> {
         let given = self
-            .places
+            .system
             .release(alloc, self.dir, name, self.quiet, self.faults);
         if let Ok(release) = &given {
             tell_taken(release, self.quiet, self.faults);
@@ -53,7 +53,7 @@ impl<P: Places, E: Write> Source for FolderSource<'_, P, E> {
         }
         // What there is to say of the folder was said when it was read first.
         let again = self
-            .places
+            .system
             .release(alloc, self.dir, name, true, &mut io::sink());
         match again {
             Ok(release) => tell_row(&release.files, refusal, self.faults),

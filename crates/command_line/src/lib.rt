@@ -12,13 +12,13 @@ mod inspecting;
 mod making;
 mod merging;
 mod paths;
-mod places;
 mod progress;
 mod running;
 mod serving;
+mod system;
 mod telling;
 mod words;
 
 pub use demonstration::SCRIPT;
-pub use places::Places;
 pub use running::run;
+pub use system::System;

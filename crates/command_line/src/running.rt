@@ -7,30 +7,31 @@ ghost use Rattle.line_server.specs.Sources.{source_view};
 ghost use Rattle.disk_model.specs.DeviceView.{device_view};
 ghost use Rattle.command_line.specs.Tasks.{IsMade, IsImport, IsStatus, IsServing};
 ghost use Rattle.command_line.specs.Merging.{IsMergedOnDisk};
-ghost use Rattle.command_line.specs.Runs.{IsDoneAt, IsMissing, IsDemonstrated, Does, IsRun, IsNoTask, IsExplained};
+ghost use Rattle.command_line.specs.Runs.{IsDoneAt, IsMissing, IsDemonstrated, Does, IsRun};
+ghost use Rattle.command_line.specs.Runs.{IsNoTask, IsExplained};
 
-use crate::demonstration::SCRIPT;
+use crate::demonstration::{SCRIPT, Samples};
 use crate::endings::{Ending, fail, finish, refuse};
 use crate::folders::FolderSource;
 use crate::importing::import;
 use crate::inspecting::status;
 use crate::making::init;
 use crate::merging::merge;
-use crate::places::Places;
 use crate::serving::{serve_device, serve_new};
+use crate::system::System;
 use crate::telling::{Scene, Told, tell_figures, tell_why};
 use crate::words::{Refused, Task, task_of};
 use disk_model::{DiskFault, MemDisk};
 use history_store::Refusal;
-use line_server::{Sample, ServeFault};
+use line_server::ServeFault;
 use std::alloc::Global;
 use std::io::{Read, Write};
 
 /// Does what the words ask for, of which the first is the program's name, and answers the status of
 /// the program: 0 where it was done; 1 where it was refused, or a stream or the memory failed; 2
 /// where the words are no command. The device that the task was done on comes back as it was left.
-pub fn run<P: Places, I: Read, O: Write, E: Write>(
-    places: &P,
+pub fn run<P: System, I: Read, O: Write, E: Write>(
+    system: &P,
     alloc: Global,
     words: &[String],
     input: &mut I,
@@ -41,13 +42,13 @@ pub fn run<P: Places, I: Read, O: Write, E: Write>(
     // Words that are no command do nothing but to be told.
     ensures no_command { result.0 ≡ 2 → (input.new ≡ input.old) × (output.new ≡ output.old) }
     ensures done { IsRun (record {
-      stands = P.stands places.now;
-      withholds = P.withholds places.now;
-      makes = P.makes places.now;
-      keeps = P.keeps places.now;
-      loses = P.loses places.now;
-      is_honest = P.is_honest places.now;
-      releases = P.releases places.now;
+      stands = P.stands system.now;
+      withholds = P.withholds system.now;
+      makes = P.makes system.now;
+      keeps = P.keeps system.now;
+      loses = P.loses system.now;
+      is_honest = P.is_honest system.now;
+      releases = P.releases system.now;
       device = device_view P.Device.is_honest P.Device.moments P.Device.failures;
     }) SCRIPT.now (map string_bytes words.now) result.1 result.0
         (streams (I.remaining input.old) (I.remaining input.new)
@@ -58,7 +59,7 @@ pub fn run<P: Places, I: Read, O: Write, E: Write>(
 {
     match task_of(alloc, words) {
         Ok(task) => {
-            let (ended, left) = perform(places, alloc, &task, input, output, faults);
+            let (ended, left) = perform(system, alloc, &task, input, output, faults);
             (finish(ended, output, faults), left)
         }
         Err(refused) => (explain(&refused, output, faults), None),
@@ -69,8 +70,8 @@ pub fn run<P: Places, I: Read, O: Write, E: Write>(
 type Ended<D> = (Result<Ending, ServeFault>, Option<D>);
 
 /// Does a task. Where it is refused, `faults` is told why.
-fn perform<P: Places, I: Read, O: Write, E: Write>(
-    places: &P,
+fn perform<P: System, I: Read, O: Write, E: Write>(
+    system: &P,
     alloc: Global,
     task: &Task<'_>,
     input: &mut I,
@@ -78,34 +79,34 @@ fn perform<P: Places, I: Read, O: Write, E: Write>(
     faults: &mut E,
 ) -> Ended<P::Device>
     ensures { Does (record {
-      stands = P.stands places.now;
-      withholds = P.withholds places.now;
-      makes = P.makes places.now;
-      keeps = P.keeps places.now;
-      loses = P.loses places.now;
-      is_honest = P.is_honest places.now;
-      releases = P.releases places.now;
+      stands = P.stands system.now;
+      withholds = P.withholds system.now;
+      makes = P.makes system.now;
+      keeps = P.keeps system.now;
+      loses = P.loses system.now;
+      is_honest = P.is_honest system.now;
+      releases = P.releases system.now;
       device = device_view P.Device.is_honest P.Device.moments P.Device.failures;
     }) SCRIPT.now task.now result.1 result.0
         (streams (I.remaining input.old) (I.remaining input.new)
         (O.contents output.old) (O.contents output.new)) }
 {
     match task {
-        Task::Init { store } => init_at(places, alloc, *store, output, faults),
+        Task::Init { store } => init_at(system, alloc, *store, output, faults),
         Task::Import {
             store,
             releases,
             name,
             quiet,
         } => import_at(
-            places, alloc, *store, *releases, *name, *quiet, output, faults,
+            system, alloc, *store, *releases, *name, *quiet, output, faults,
         ),
         Task::Serve { store, releases } => {
-            serve_at(places, alloc, *store, *releases, input, output, faults)
+            serve_at(system, alloc, *store, *releases, input, output, faults)
         }
-        Task::Status { store } => status_at(places, alloc, *store, output, faults),
+        Task::Status { store } => status_at(system, alloc, *store, output, faults),
         Task::Merge { store, segments } => {
-            merge_at(places, alloc, *store, *segments, output, faults)
+            merge_at(system, alloc, *store, *segments, output, faults)
         }
         Task::Demo => (demo(alloc, output), None),
     }
@@ -113,43 +114,43 @@ fn perform<P: Places, I: Read, O: Write, E: Write>(
 
 /// What stands under a name, or a new one where nothing does. Its name is seen to stay
 /// before anything is written, so that a store that was made is found after a stop.
-fn new_device<P: Places, E: Write>(
-    places: &P,
+fn new_device<P: System, E: Write>(
+    system: &P,
     alloc: Global,
     path: &str,
     faults: &mut E,
 ) -> Result<P::Device, DiskFault>
-    ensures had { IfOk result (P.makes places.now path.now) }
-    ensures kept { IfOk result (λ _. P.keeps places.now path.now) }
-    ensures missing { IfErr result (λ _. P.loses places.now path.now) }
+    ensures had { IfOk result (P.makes system.now path.now) }
+    ensures kept { IfOk result (λ _. P.keeps system.now path.now) }
+    ensures missing { IfErr result (λ _. P.loses system.now path.now) }
 {
-    let device = places.device_or_new(path, faults)?;
-    places.settle(alloc, path, faults)?;
+    let device = system.device_or_new(path, faults)?;
+    system.settle(alloc, path, faults)?;
     Ok(device)
 }
 
 /// Makes a store under a name.
-fn init_at<P: Places, O: Write, E: Write>(
-    places: &P,
+fn init_at<P: System, O: Write, E: Write>(
+    system: &P,
     alloc: Global,
     path: &str,
     output: &mut O,
     faults: &mut E,
 ) -> Ended<P::Device>
     ensures { IsDoneAt
-        (λ device. P.makes places.now path.now device × P.keeps places.now path.now)
+        (λ device. P.makes system.now path.now device × P.keeps system.now path.now)
         (λ device after. IsMade (device_view P.Device.is_honest P.Device.moments P.Device.failures)
         device after (report result.0 (O.contents output.old) (O.contents output.new)))
         (IsMissing (report result.0 (O.contents output.old) (O.contents output.new))
-        × P.loses places.now path.now) result.1 }
+        × P.loses system.now path.now) result.1 }
 {
     let mut told = Told::new();
-    match new_device(places, alloc, path, faults) {
+    match new_device(system, alloc, path, faults) {
         Ok(device) => {
             let (ended, left) = init(alloc, device, output, &mut told);
             let scene = Scene {
                 store: path,
-                said: places.said(&left),
+                said: system.said(&left),
             };
             tell_why(told, &scene, faults);
             (ended, Some(left))
@@ -159,8 +160,8 @@ fn init_at<P: Places, O: Write, E: Write>(
 }
 
 /// Imports a release into the store under a name.
-fn import_at<P: Places, O: Write, E: Write>(
-    places: &P,
+fn import_at<P: System, O: Write, E: Write>(
+    system: &P,
     alloc: Global,
     path: &str,
     dir: &str,
@@ -169,20 +170,20 @@ fn import_at<P: Places, O: Write, E: Write>(
     output: &mut O,
     faults: &mut E,
 ) -> Ended<P::Device>
-    ensures { IsDoneAt (P.stands places.now path.now)
+    ensures { IsDoneAt (P.stands system.now path.now)
         (λ device after. IsImport
-        (source_view (P.is_honest places.now) (P.releases places.now dir.now))
+        (source_view (P.is_honest system.now) (P.releases system.now dir.now))
         (device_view P.Device.is_honest P.Device.moments P.Device.failures)
         name.now device after (report result.0 (O.contents output.old) (O.contents output.new)))
         (IsMissing (report result.0 (O.contents output.old) (O.contents output.new))
-        × P.withholds places.now path.now) result.1 }
+        × P.withholds system.now path.now) result.1 }
 {
     let mut told = Told::new();
-    let had = places.device(path, faults);
+    let had = system.device(path, faults);
     match had {
         Ok(device) => {
             let mut source = FolderSource {
-                places,
+                system,
                 dir,
                 faults,
                 quiet,
@@ -196,8 +197,8 @@ fn import_at<P: Places, O: Write, E: Write>(
 }
 
 /// Answers the lines of the input from the store under a name.
-fn serve_at<P: Places, I: Read, O: Write, E: Write>(
-    places: &P,
+fn serve_at<P: System, I: Read, O: Write, E: Write>(
+    system: &P,
     alloc: Global,
     path: &str,
     dir: &str,
@@ -205,21 +206,21 @@ fn serve_at<P: Places, I: Read, O: Write, E: Write>(
     output: &mut O,
     faults: &mut E,
 ) -> Ended<P::Device>
-    ensures { IsDoneAt (P.stands places.now path.now)
+    ensures { IsDoneAt (P.stands system.now path.now)
         (λ device after. IsServing
-        (source_view (P.is_honest places.now) (P.releases places.now dir.now))
+        (source_view (P.is_honest system.now) (P.releases system.now dir.now))
         (device_view P.Device.is_honest P.Device.moments P.Device.failures)
         device after result.0 (streams (I.remaining input.old) (I.remaining input.new)
         (O.contents output.old) (O.contents output.new)))
         (IsMissing (report result.0 (O.contents output.old) (O.contents output.new))
         × (I.remaining input.new ≡ I.remaining input.old)
-        × P.withholds places.now path.now) result.1 }
+        × P.withholds system.now path.now) result.1 }
 {
     let mut told = Told::new();
-    match places.device(path, faults) {
+    match system.device(path, faults) {
         Ok(device) => {
             let mut source = FolderSource {
-                places,
+                system,
                 dir,
                 faults,
                 quiet: true,
@@ -233,29 +234,29 @@ fn serve_at<P: Places, I: Read, O: Write, E: Write>(
 }
 
 /// Tells the status of the store under a name.
-fn status_at<P: Places, O: Write, E: Write>(
-    places: &P,
+fn status_at<P: System, O: Write, E: Write>(
+    system: &P,
     alloc: Global,
     path: &str,
     output: &mut O,
     faults: &mut E,
 ) -> Ended<P::Device>
-    ensures { IsDoneAt (P.stands places.now path.now)
+    ensures { IsDoneAt (P.stands system.now path.now)
         (λ device after. IsStatus
         (device_view P.Device.is_honest P.Device.moments P.Device.failures) device after
         (report result.0 (O.contents output.old) (O.contents output.new)))
         (IsMissing (report result.0 (O.contents output.old) (O.contents output.new))
-        × P.withholds places.now path.now) result.1 }
+        × P.withholds system.now path.now) result.1 }
 {
     let mut told = Told::new();
-    let found = places.device(path, faults);
+    let found = system.device(path, faults);
     match found {
         Ok(device) => {
-            let size = places.size(path);
+            let size = system.size(path);
             let (ended, left, figures) = status(alloc, device, output, &mut told);
             let scene = Scene {
                 store: path,
-                said: places.said(&left),
+                said: system.said(&left),
             };
             tell_why(told, &scene, faults);
             tell_figures(path, figures, size, faults);
@@ -266,29 +267,29 @@ fn status_at<P: Places, O: Write, E: Write>(
 }
 
 /// Merges the segments of the store under a name.
-fn merge_at<P: Places, O: Write, E: Write>(
-    places: &P,
+fn merge_at<P: System, O: Write, E: Write>(
+    system: &P,
     alloc: Global,
     path: &str,
     most: u32,
     output: &mut O,
     faults: &mut E,
 ) -> Ended<P::Device>
-    ensures { IsDoneAt (P.stands places.now path.now)
+    ensures { IsDoneAt (P.stands system.now path.now)
         (λ device after. IsMergedOnDisk
         (device_view P.Device.is_honest P.Device.moments P.Device.failures) most device after
         (report result.0 (O.contents output.old) (O.contents output.new)))
         (IsMissing (report result.0 (O.contents output.old) (O.contents output.new))
-        × P.withholds places.now path.now) result.1 }
+        × P.withholds system.now path.now) result.1 }
 {
     let mut told = Told::new();
-    let stands = places.device(path, faults);
+    let stands = system.device(path, faults);
     match stands {
         Ok(device) => {
             let (ended, left) = merge(alloc, device, path, most, output, &mut told, faults);
             let scene = Scene {
                 store: path,
-                said: places.said(&left),
+                said: system.said(&left),
             };
             tell_why(told, &scene, faults);
             (ended, Some(left))
@@ -307,7 +308,7 @@ fn demo<O: Write>(alloc: Global, output: &mut O) -> Result<Ending, ServeFault>
     let (ended, _) = serve_new(
         alloc,
         MemDisk::new(alloc),
-        &mut Sample,
+        &mut Samples,
         &mut script,
         output,
         &mut told,

@@ -8,7 +8,8 @@ ghost use Rattle.clap.specs.Walk.{first_of, rows_of};
 ghost use Rattle.command_line.specs.Words.{IsImportOf, Reads, AskFor, AskForNone};
 ghost use Rattle.command_line.specs.Private.{IsArgument, IsCommand};
 ghost use Rattle.command_line.specs.Words.{wanted, option, optional, flag, segments_option};
-ghost use Rattle.command_line.specs.Words.{init_command, import_command, serve_command, status_command, merge_command, demo_command};
+ghost use Rattle.command_line.specs.Words.{init_command, import_command, serve_command};
+ghost use Rattle.command_line.specs.Words.{status_command, merge_command, demo_command};
 ghost use Rattle.command_line.specs.Words.{empty_program, program};
 
 use crate::helps;

@@ -1,5 +1,6 @@
 -- Where a segment of so many blocks finds room.
-use Rattle.std.specs.Prelude.{◌≡◌, ◌↔◌, ℕ, ◌+◌, ◌-◌, ◌≤◌, max, min, Bool, ◌&&◌, not, nat_lt, nat_le, List, Option, Some, None}
+use Rattle.std.specs.Prelude.{◌≡◌, ◌↔◌, ℕ, ◌+◌, ◌-◌, ◌≤◌, max, min, Bool, ◌&&◌, not, nat_lt, nat_le}
+use Rattle.std.specs.Prelude.{List, Option, Some, None}
 use Rattle.std.specs.List.{AllByRecursion, find, list_any, range_with_len}
 use Rattle.blocks.specs.Extents.{block_count, block_limit}
 use Rattle.blocks.specs.declared.extent.Extent.{Extent}

@@ -1,4 +1,5 @@
-ghost use Rattle.std.specs.Prelude.{◌≡◌, ◌+◌, ◌-◌, ◌≤◌, ◌<◌, ◌^◌, ◌++◌, [], length, replicate, IfOk, MatchResult};
+ghost use Rattle.std.specs.Prelude.{◌≡◌, ◌+◌, ◌-◌, ◌≤◌, ◌<◌, ◌^◌, ◌++◌, [], length, replicate};
+ghost use Rattle.std.specs.Prelude.{IfOk, MatchResult};
 
 use crate::decoding::{read_entries, split_header};
 use crate::encoding::{write_entries, write_header};
@@ -69,7 +70,8 @@ impl From<AllocError> for DirectoryFault {
 }
 
 impl Directory {
-    ghost use Rattle.directory.specs.Listings.{DirectoryValue, IsListing, number_of, upgraded, with_entry, with_two_replaced, with_two_back};
+    ghost use Rattle.directory.specs.Listings.{DirectoryValue, IsListing, number_of, upgraded};
+    ghost use Rattle.directory.specs.Listings.{with_entry, with_two_replaced, with_two_back};
     ghost use Rattle.directory.specs.Content.{Lists, listing_bytes};
     ghost use Rattle.directory.specs.declared.layout.Layout.TheVariants as layouts;
     ghost use Rattle.directory.specs.declared.listing.DirectoryFault.TheVariants as faults;

@@ -1,6 +1,8 @@
 -- What a disk in memory has on record, and the moments that follow from it.
-use Rattle.std.specs.Prelude.{ℕ, zero, suc, ◌+◌, Bool, true, false, List, [], ◌∷◌, take, if◌then◌else◌, count_by}
-use Rattle.disk_model.specs.Disk.{DiskState, Moments, followed_by, settled, put, after_write, after_cut, reading}
+use Rattle.std.specs.Prelude.{ℕ, zero, suc, ◌+◌, Bool, true, false, List, [], ◌∷◌, take}
+use Rattle.std.specs.Prelude.{if◌then◌else◌, count_by}
+use Rattle.disk_model.specs.Disk.{DiskState, Moments, followed_by, settled, put, after_write}
+use Rattle.disk_model.specs.Disk.{after_cut, reading}
 
 -- a call that changed the disk, or that failed where it may have changed it
 pub data Change : Type 0 where

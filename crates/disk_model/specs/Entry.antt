@@ -2,7 +2,8 @@
 use Rattle.std.specs.Prelude.{ℕ, List, slice_range}
 use Rattle.disk_model.specs.Change.{Change, Write, Cut, Sync, FailedWrite, FailedCut}
 use Rattle.disk_model.specs.declared.memory.record.Entry.{Entry}
-use Rattle.disk_model.specs.declared.memory.record.Entry.TheVariants.{Written, Shortened, Synced, WriteFailed, CutFailed}
+use Rattle.disk_model.specs.declared.memory.record.Entry.TheVariants.{Written, Shortened, Synced}
+use Rattle.disk_model.specs.declared.memory.record.Entry.TheVariants.{WriteFailed, CutFailed}
 
 abbrev pub change_of : List ℕ → Entry → Change
 change_of bytes (Written at from end) = Write at (slice_range bytes from end)

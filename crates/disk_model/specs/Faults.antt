@@ -1,5 +1,6 @@
 -- The failures that a disk in memory was asked for, and what they make of a call.
-use Rattle.std.specs.Prelude.{ℕ, zero, suc, nat_lt, Bool, true, false, if◌then◌else◌, Option, Some, None, List, [], ◌∷◌}
+use Rattle.std.specs.Prelude.{ℕ, zero, suc, nat_lt, Bool, true, false, if◌then◌else◌, Option, Some}
+use Rattle.std.specs.Prelude.{None, List, [], ◌∷◌}
 use Rattle.disk_model.specs.Change.{Change, Write, Cut, Sync, FailedWrite, FailedCut}
 use Rattle.disk_model.specs.declared.memory.faults.Faults.{Faults}
 use Rattle.disk_model.specs.declared.memory.faults.Fate.{Fate}

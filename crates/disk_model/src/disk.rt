@@ -1,5 +1,7 @@
-ghost use Rattle.std.specs.Prelude.{◌≡◌, ◌↔◌, ◌+◌, ◌-◌, ◌≤◌, ◌++◌, ℕ, List, length, take, drop, min, IfOk, OnOk, OnErr, MatchResult};
-ghost use Rattle.disk_model.specs.Disk.{Moments, IsImage, Fails, followed_by, settled, after_write, after_cut, raised_by};
+ghost use Rattle.std.specs.Prelude.{◌≡◌, ◌↔◌, ◌+◌, ◌-◌, ◌≤◌, ◌++◌, ℕ, List, length, take, drop};
+ghost use Rattle.std.specs.Prelude.{min, IfOk, OnOk, OnErr, MatchResult};
+ghost use Rattle.disk_model.specs.Disk.{Moments, IsImage, Fails, followed_by, settled, after_write};
+ghost use Rattle.disk_model.specs.Disk.{after_cut, raised_by};
 ghost use Rattle.fault_counts.specs.Counting.{CountsEach};
 
 use thiserror::Error;

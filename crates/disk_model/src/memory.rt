@@ -1,6 +1,8 @@
-ghost use Rattle.std.specs.Prelude.{◌≡◌, ◌⊎◌, ◌↔◌, ℕ, ◌+◌, ◌-◌, ◌≤◌, ◌++◌, [], ◌∷◌, Some, length, take, drop, min};
+ghost use Rattle.std.specs.Prelude.{◌≡◌, ◌⊎◌, ◌↔◌, ℕ, ◌+◌, ◌-◌, ◌≤◌, ◌++◌, [], ◌∷◌, Some, length};
+ghost use Rattle.std.specs.Prelude.{take, drop, min};
 ghost use Rattle.std.specs.Prelude.{IsTrue, IsOk, IfOk, IsErr, OnOk, OnErr, Contains};
-ghost use Rattle.disk_model.specs.Disk.{IsImage, Fails, followed_by, settled, after_write, after_cut, raised_by};
+ghost use Rattle.disk_model.specs.Disk.{IsImage, Fails, followed_by, settled, after_write};
+ghost use Rattle.disk_model.specs.Disk.{after_cut, raised_by};
 ghost use Rattle.fault_counts.specs.Counting.{CountsEach};
 ghost use Rattle.disk_model.specs.Change.{made, replayed};
 ghost use Rattle.disk_model.specs.Choice.{IsChosen};
@@ -38,8 +40,10 @@ pub struct MemDisk {
 }
 
 impl MemDisk {
-    ghost use Rattle.disk_model.specs.MemDisk.{memory_moments, first_bytes, record_of, faults_of, changes_of, state_after};
-    ghost use Rattle.disk_model.specs.MemDisk.{failure_count, bytes_read_of, SameRecord, HasRoomFor, KeepsRoom, UsesRoom};
+    ghost use Rattle.disk_model.specs.MemDisk.{memory_moments, first_bytes, record_of, faults_of};
+    ghost use Rattle.disk_model.specs.MemDisk.{changes_of, state_after};
+    ghost use Rattle.disk_model.specs.MemDisk.{failure_count, bytes_read_of, SameRecord};
+    ghost use Rattle.disk_model.specs.MemDisk.{HasRoomFor, KeepsRoom, UsesRoom};
     ghost use Rattle.disk_model.specs.Faults.{no_faults, written_as, cut_as, synced_as};
 
     /// An empty disk.
@@ -270,10 +274,12 @@ impl MemDisk {
 }
 
 impl Disk for MemDisk {
-    ghost use Rattle.disk_model.specs.MemDisk.{memory_moments, first_bytes, record_of, faults_of, failure_count, bytes_read_of};
+    ghost use Rattle.disk_model.specs.MemDisk.{memory_moments, first_bytes, record_of, faults_of};
+    ghost use Rattle.disk_model.specs.MemDisk.{failure_count, bytes_read_of};
     ghost use Rattle.disk_model.specs.MemDisk.{SameRecord, HasRoomFor, KeepsRoom, UsesRoom};
     ghost use Rattle.disk_model.specs.Change.{Write, Cut, Sync};
-    ghost use Rattle.disk_model.specs.Faults.{fate_of, after_change_call, passes_read, after_read_call, written_as, cut_as, synced_as};
+    ghost use Rattle.disk_model.specs.Faults.{fate_of, after_change_call, passes_read};
+    ghost use Rattle.disk_model.specs.Faults.{after_read_call, written_as, cut_as, synced_as};
 
     ghost moments = { memory_moments };
 

@@ -8,7 +8,8 @@ use Rattle.rf2_values.specs.Key.{key_of}
 use Rattle.history_model.specs.declared.stamped.StampedRow.{StampedRow}
 use Rattle.history_model.specs.InOrder.{Has, IsAscending, placed, put, put_all}
 use Rattle.history_model.specs.History.{stamped_cmp}
-use Rattle.history_model.specs.Lists.{ShareNoKey, union}
+use Rattle.history_model.specs.Lists.{union}
+use Rattle.history_model.specs.Private.{ShareNoKey}
 use Rattle.history_model.proofs.InOrder.{Has-all, Has-append_cases, Has-put_cases}
 use Rattle.history_model.proofs.Keys.{same_key, tie_of_same}
 

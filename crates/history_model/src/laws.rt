@@ -1,16 +1,24 @@
 //! Laws of the definitions, each the contract of a function that does nothing.
 
-ghost use Rattle.history_model.specs.Laws.{EachChainIsAHistory, EachHistoryIsAChain, OneHistoryForAChain};
-ghost use Rattle.history_model.specs.Laws.{OrderIsFree, PinnedStays, ReleaseAddsItsRows, ReleaseLeavesAHistory};
-ghost use Rattle.history_model.specs.Laws.{EachReleaseHasAReceipt, NewRowsAreUnknown, OneReceiptForARelease, ReceiptCountsTheUnknown};
+ghost use Rattle.history_model.specs.Laws.{EachChainIsAHistory, EachHistoryIsAChain};
+ghost use Rattle.history_model.specs.Laws.{OneHistoryForAChain};
+ghost use Rattle.history_model.specs.Laws.{OrderIsFree, PinnedStays, ReleaseAddsItsRows};
+ghost use Rattle.history_model.specs.Laws.{ReleaseLeavesAHistory};
+ghost use Rattle.history_model.specs.Laws.{EachReleaseHasAReceipt, NewRowsAreUnknown};
+ghost use Rattle.history_model.specs.Laws.{OneReceiptForARelease, ReceiptCountsTheUnknown};
 ghost use Rattle.history_model.specs.Laws.{MergeLeavesListed, ReleaseIsOneList};
-ghost use Rattle.history_model.specs.Laws.{AnswersAscend, ChildrenAreAll, OneRowOfAComponent, ReplacementsAreAll, WhatIsShownAscends};
+ghost use Rattle.history_model.specs.Laws.{AnswersAscend, ChildrenAreAll, OneRowOfAComponent};
+ghost use Rattle.history_model.specs.Laws.{ReplacementsAreAll, WhatIsShownAscends};
 ghost use Rattle.history_model.specs.Laws.{PageAndTheRest, PagesAreAll, PagesEnd, ShortPageIsLast};
 ghost use Rattle.history_model.specs.Laws.{AboutAscends, AboutIsAll, AboutStays, EachIsAboutOne};
-ghost use Rattle.history_model.specs.Laws.{SearchAndTheRest, SearchAscends, SearchFromTheFirst, SearchStays};
-ghost use Rattle.history_model.specs.Laws.{SearchesAreAll, SearchesAreTerms, SearchesEnd, ShortSearchIsLast};
-ghost use Rattle.history_model.specs.Laws.{BothReceiptsCountTheSame, EachImportHasAReceipt, ImportReceiptStays};
-ghost use Rattle.history_model.specs.Laws.{OneReceiptForAnImport, ReceiptsCountTheRows, ReceiptsCountWhatIsShown};
+ghost use Rattle.history_model.specs.Laws.{SearchAndTheRest, SearchAscends, SearchFromTheFirst};
+ghost use Rattle.history_model.specs.Laws.{SearchStays};
+ghost use Rattle.history_model.specs.Laws.{SearchesAreAll, SearchesAreTerms, SearchesEnd};
+ghost use Rattle.history_model.specs.Laws.{ShortSearchIsLast};
+ghost use Rattle.history_model.specs.Laws.{BothReceiptsCountTheSame, EachImportHasAReceipt};
+ghost use Rattle.history_model.specs.Laws.{ImportReceiptStays};
+ghost use Rattle.history_model.specs.Laws.{OneReceiptForAnImport, ReceiptsCountTheRows};
+ghost use Rattle.history_model.specs.Laws.{ReceiptsCountWhatIsShown};
 
 /// A history is a chain of row sets, each within the next.
 pub fn each_history_is_a_chain()

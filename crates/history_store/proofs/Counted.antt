@@ -19,7 +19,7 @@ use Rattle.directory.specs.Listings.{DirectoryValue, IsEntry, most_entries}
 use Rattle.segment.specs.declared.place.RowPlace.{RowPlace}
 use Rattle.segment.specs.Standing.{record_len, with_places, places_of}
 use Rattle.as_of_index.specs.Places.{Lists}
-use Rattle.store_image.specs.Says.{AreSegments, IsKept}
+use Rattle.store_image.specs.Kept.{AreSegments, IsKept}
 use Rattle.history_store.proofs.Sorted.{flips, untied_joined}
 
 pub length-more : {X : Type 0} (p : X → Bool) (x : X) (xs : List X) → length (filter p (x ∷ xs)) ≡ cond (p x) 1 0 + length (filter p xs)

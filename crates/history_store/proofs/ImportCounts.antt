@@ -23,13 +23,13 @@ length-with_rows h rows are =
     ap (λ (l : List StampedRow). length (in_order stamped_cmp (h.rows ++ l))) (append-nil rows)
     ∙ length-union h.rows rows are.ascending.0 are.ascending.1.0 are.apart.0.0
 
-pub counted_extended : {D : Type 0} (old mid new : StoreValue D) (fresh : List RowValue) (p : Prepared) (k number n repeated : ℕ) → IsStill old mid → IsPreparedFor mid p → p.index.rows ≡ stamped k fresh → 1 ≤ length fresh → new.history ≡ with_rows mid.history p.index.rows → new.catalog ≡ catalog_of p.directory mid.catalog.merge → n ≡ length fresh
+pub counted_extended : {D : Type 0} (old mid new : StoreValue D) (fresh : List RowValue) (p : Prepared) (k number n repeated : ℕ) → IsStill old mid → IsPreparedFor mid p → p.index ≡ stamped k fresh → 1 ≤ length fresh → new.history ≡ with_rows mid.history p.index → new.catalog ≡ catalog_of p.directory mid.catalog.merge → n ≡ length fresh
     → IsCounted old new (record { number = number; new = n; repeated = repeated })
 counted_extended old mid new fresh p k number n repeated still prep shown some history catalog count =
-    let long : length p.index.rows ≡ length fresh = ap length shown ∙ length-stamped k fresh in
-    let all : length new.history.rows ≡ length mid.history.rows + length p.index.rows = ap (λ (h : History). length h.rows) history ∙ length-with_rows mid.history p.index.rows prep.apart in
+    let long : length p.index ≡ length fresh = ap length shown ∙ length-stamped k fresh in
+    let all : length new.history.rows ≡ length mid.history.rows + length p.index = ap (λ (h : History). length h.rows) history ∙ length-with_rows mid.history p.index prep.apart in
     let before = ap (λ (h : History). length h.rows) still.history in
-    let entry_rows : p.entry.rows ≡ length p.index.rows = ap (λ (e : Entry). e.rows) prep.prepared.at_fit.entry_is in
+    let entry_rows : p.entry.rows ≡ length p.index = ap (λ (e : Entry). e.rows) prep.prepared.at_fit.entry_is in
     record {
       rows = omega (arith, all, before, long, count);
       without_new = λ zero. absurd (omega (arith, some, count, zero));

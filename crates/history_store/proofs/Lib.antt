@@ -8,6 +8,7 @@ pub mod Places
 pub mod Taken
 pub mod NewSegment
 pub mod Refusing
+pub mod Lent
 pub mod Querying
 pub mod Alike
 pub mod GoingOn

@@ -3,7 +3,7 @@ use Rattle.std.proofs.Common.{◌≡◌, ℕ, zero, suc, ◌+◌, ◌≤◌, Lis
 use Rattle.std.specs.List.{AllByRecursion}
 use Rattle.std.proofs.lemmas.List.{append_assoc}
 use Rattle.history_model.specs.declared.stamped.StampedRow.{StampedRow}
-use Rattle.history_model.specs.InOrder.{Has, IsAscending, joined}
+use Rattle.history_model.specs.InOrder.{Has, joined}
 use Rattle.history_model.proofs.InOrder.{Has-append_left, Has-append_right, Has-append_cases}
 use Rattle.history_model.proofs.Filtered.{Has-map, Has-map_from}
 use Rattle.segment.proofs.Posting.{Says, placed, row_there, says}
@@ -11,27 +11,6 @@ use Rattle.segment.specs.Records.{record_of, segment_of, IsStamped}
 use Rattle.segment.proofs.SegmentLaws.{pieces_join, segment_push, all_push}
 use Rattle.segment.specs.Standing.{with_places, places_of}
 use Rattle.segment.specs.declared.place.RowPlace.{RowPlace}
-use Rattle.as_of_index.specs.Places.{place_cmp, ShareNoKey, EachApart, ArePlaces}
-
-all_before : {X : Type 0} (P : X → Type 0) (xs ys : List X) → AllByRecursion P (xs ++ ys) → AllByRecursion P xs
-all_before P [] ys all = tt
-all_before P (x ∷ xs) ys all = (all.0, all_before P xs ys all.1)
-
-apart_before : (xs ys : List (List RowPlace)) → EachApart (xs ++ ys) → EachApart xs
-apart_before [] ys apart = tt
-apart_before (x ∷ xs) ys apart = (all_before (λ others. ShareNoKey x others) xs ys apart.0, apart_before xs ys apart.1)
-
--- of lists of places the first are such
-pub places_before : (xs ys : List (List RowPlace)) → ArePlaces (xs ++ ys) → ArePlaces xs
-places_before xs ys are = record { ascending = all_before (λ places. IsAscending place_cmp places) xs ys are.ascending; apart = apart_before xs ys are.apart }
-
-last_all : {X : Type 0} (P : X → Type 0) (xs : List X) (x : X) → AllByRecursion P (xs ++ x ∷ []) → P x
-last_all P [] x all = all.0
-last_all P (y ∷ xs) x all = last_all P xs x all.1
-
--- and each of them is in order
-pub last_ascends : (xs : List (List RowPlace)) (x : List RowPlace) → ArePlaces (xs ++ x ∷ []) → IsAscending place_cmp x
-last_ascends xs x are = last_all (λ places. IsAscending place_cmp places) xs x are.ascending
 
 -- ---- rows that are taken one after the other
 

@@ -35,10 +35,11 @@ answered_so P Q (Ok x) result is so h = subst (λ r. IfOk r Q) (sym is) (so x h)
 answered_so P Q (Err fault) result is so h = subst (λ r. IfOk r Q) (sym is) tt
 
 -- no more bytes are read for what is answered than for what was read
-pub answered_bytes : {T D : Type 0} (bytes_read : D → ℕ) (cost : T → ℕ) (before : ℕ) (left disk : D) (read : Result T ReadFault) (result : Result T Refusal) → IsAnswerOf read result → left ≡ disk
-    → IfOk read (λ x. bytes_read disk ≤ before + cost x) → IfOk result (λ x. bytes_read left ≤ before + cost x)
-answered_bytes bytes_read cost before left disk read result is same h =
-    answered_so (λ x. bytes_read disk ≤ before + cost x) (λ x. bytes_read left ≤ before + cost x) read result is (λ x le. subst (λ d. bytes_read d ≤ before + cost x) (sym same) le) h
+pub answered_bytes : {T D : Type 0} (bytes_read : D → ℕ) (cost : T → ℕ) (before lent left disk : D) (read : Result T ReadFault) (result : Result T Refusal) → IsAnswerOf read result → lent ≡ before → left ≡ disk
+    → IfOk read (λ x. bytes_read disk ≤ bytes_read lent + cost x) → IfOk result (λ x. bytes_read left ≤ bytes_read before + cost x)
+answered_bytes bytes_read cost before lent left disk read result is lent_is same h =
+    answered_so (λ x. bytes_read disk ≤ bytes_read lent + cost x) (λ x. bytes_read left ≤ bytes_read before + cost x) read result is
+    (λ x le. subst (λ d. bytes_read d ≤ bytes_read before + cost x) (sym same) (subst (λ d. bytes_read disk ≤ bytes_read d + cost x) lent_is le)) h
 
 undamaged_answer : {T : Type 0} (read : Result T ReadFault) → IfErr read (λ e. e ≢ readfault.Damaged) → IfErr (answer_of read) (λ e. e ≢ refusals.Damaged)
 undamaged_answer (Ok x) other = tt
@@ -61,21 +62,24 @@ read_beside (Err readfault.DiskFault) old new disk cache r = (r.0, refused_besid
 read_beside (Err readfault.Damaged) old new disk cache r = (r.0, refused_beside _ old new disk cache r.1)
 
 -- the rows were read, and what was read is answered
-pub answered_query : {T D : Type 0} (honest : D → Type 0) (moments : D → Moments) (failures : D → ℕ) (old new : StoreValue D) (disk : D) (cache : LruCache ℕ (List ℕ)) (read : Result T ReadFault) (result : Result T Refusal)
-    → old.needs_reopen ≡ false → MomentsStay (honest old.disk) (honest disk) (moments old.disk) (moments disk) → CountsBy CountsDiskFault read (failures old.disk) (failures disk)
+pub answered_query : {T D : Type 0} (honest : D → Type 0) (moments : D → Moments) (failures : D → ℕ) (old new : StoreValue D) (lent disk : D) (cache : LruCache ℕ (List ℕ)) (read : Result T ReadFault) (result : Result T Refusal)
+    → old.needs_reopen ≡ false → lent ≡ old.disk → MomentsStay (honest lent) (honest disk) (moments lent) (moments disk) → CountsBy CountsDiskFault read (failures lent) (failures disk)
     → (honest old.disk → IfErr read (λ e. e ≢ readfault.Damaged))
     → IsAnswerOf read result → IsReadingOf result (record old { disk = disk; cache = cache }) new → new.disk ≡ disk → (honest disk → new.needs_reopen ≡ false → IsAcknowledged moments new)
     → IsQuery result honest moments failures old new
-answered_query honest moments failures old new disk cache read result still stay counts undamaged answers left same acknowledged = let is = is_answer read result answers in record {
-  undamaged = λ up. subst (λ r. IfErr r (λ e. e ≢ refusals.Damaged)) (sym is) (undamaged_answer read (undamaged up));
-  read = subst (λ r. IsReadingOf r old new) (sym is) (read_beside read old new disk cache (subst (λ r. IsReadingOf r (record old { disk = disk; cache = cache }) new) is left));
-  closed = λ closed. absurd (false≢true (sym still ∙ closed));
-  moments = λ up. ap moments same ∙ stay.1 up;
-  acknowledged = λ up. acknowledged (stay.0.0 up);
-  honesty = subst (λ d. honest old.disk ↔ honest d) (sym same) stay.0;
-  failures = subst (λ d. Counts result (failures old.disk) (failures d)) (sym same)
-      (subst (λ r. Counts r (failures old.disk) (failures disk)) (sym is) (counted_answer read (failures old.disk) (failures disk) counts));
-}
+answered_query honest moments failures old new lent disk cache read result still lent_is stays counted undamaged answers left same acknowledged =
+    let is = is_answer read result answers in
+    let stay = subst (λ x. MomentsStay (honest x) (honest disk) (moments x) (moments disk)) lent_is stays in
+    let counts = subst (λ x. CountsBy CountsDiskFault read (failures x) (failures disk)) lent_is counted in record {
+      undamaged = λ up. subst (λ r. IfErr r (λ e. e ≢ refusals.Damaged)) (sym is) (undamaged_answer read (undamaged up));
+      read = subst (λ r. IsReadingOf r old new) (sym is) (read_beside read old new disk cache (subst (λ r. IsReadingOf r (record old { disk = disk; cache = cache }) new) is left));
+      closed = λ closed. absurd (false≢true (sym still ∙ closed));
+      moments = λ up. ap moments same ∙ stay.1 up;
+      acknowledged = λ up. acknowledged (stay.0.0 up);
+      honesty = subst (λ d. honest old.disk ↔ honest d) (sym same) stay.0;
+      failures = subst (λ d. Counts result (failures old.disk) (failures d)) (sym same)
+          (subst (λ r. Counts r (failures old.disk) (failures disk)) (sym is) (counted_answer read (failures old.disk) (failures disk) counts));
+    }
 
 -- a store that has to be opened again isn't touched
 pub closed_query : {T D : Type 0} (honest : D → Type 0) (moments : D → Moments) (failures : D → ℕ) (s : StoreValue D) → s.needs_reopen ≡ true → IsQuery {T = T} (Err refusals.ReopenNeeded) honest moments failures s s
@@ -90,9 +94,11 @@ closed_query honest moments failures s needs = record {
 }
 
 -- the rows were read through the cache
-pub through_cache : {D : Type 0} (bytes_read : D → ℕ) (entries listed : List Entry) (old cache new : LruCache ℕ (List ℕ)) (before : ℕ) (disk left : D) → entries ≡ listed → new ≡ cache → left ≡ disk
-    → LooksUpSome (is_listed entries) old cache before (bytes_read disk) → LooksUpSome (is_listed listed) old new before (bytes_read left)
-through_cache bytes_read entries listed old cache new before disk left is kept same looked_up =
-    subst (λ d. LooksUpSome (is_listed listed) old new before (bytes_read d)) (sym same)
-    (subst (λ c. LooksUpSome (is_listed listed) old c before (bytes_read disk)) (sym kept)
-    (subst (λ e. LooksUpSome (is_listed e) old cache before (bytes_read disk)) is looked_up))
+pub through_cache : {D : Type 0} (bytes_read : D → ℕ) (entries listed : List Entry) (lent_cache old cache new : LruCache ℕ (List ℕ)) (lent before disk left : D) → entries ≡ listed → lent_cache ≡ old → lent ≡ before → new ≡ cache → left ≡ disk
+    → LooksUpSome (is_listed entries) lent_cache cache (bytes_read lent) (bytes_read disk) → LooksUpSome (is_listed listed) old new (bytes_read before) (bytes_read left)
+through_cache bytes_read entries listed lent_cache old cache new lent before disk left is was lent_is kept same looked_up =
+    subst (λ d. LooksUpSome (is_listed listed) old new (bytes_read before) (bytes_read d)) (sym same)
+    (subst (λ c. LooksUpSome (is_listed listed) old c (bytes_read before) (bytes_read disk)) (sym kept)
+    (subst (λ d. LooksUpSome (is_listed listed) old cache (bytes_read d) (bytes_read disk)) lent_is
+    (subst (λ c. LooksUpSome (is_listed listed) c cache (bytes_read lent) (bytes_read disk)) was
+    (subst (λ e. LooksUpSome (is_listed e) lent_cache cache (bytes_read lent) (bytes_read disk)) is looked_up))))

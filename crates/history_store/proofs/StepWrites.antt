@@ -20,8 +20,8 @@ use Rattle.directory.specs.Places.{extent_of}
 use Rattle.merge.specs.declared.MergeProgress.{MergeProgress}
 use Rattle.merge.specs.Merged.{IsOf, count_left, rows_left}
 use Rattle.segment.specs.Records.{segment_of}
-use Rattle.store_image.specs.Stands.{Holds, HoldsAll}
-use Rattle.store_image.specs.Says.{AreSegments, IsKept, pieces_of, history_of}
+use Rattle.store_image.specs.Pieces.{Holds, HoldsAll}
+use Rattle.store_image.specs.Kept.{AreSegments, IsKept, pieces_of, history_of}
 use Rattle.store_image.specs.Ahead.{BeginsWith}
 use Rattle.history_store.specs.declared.merge_in_progress.MergeInProgress.{MergeInProgress}
 use Rattle.history_store.specs.Catalog.{Merge, Catalog, catalog_of}
@@ -129,11 +129,10 @@ some_rows d merge m value going = let same : count_left m.places ≡ going.0.lef
 pub none_unfinished : (d : DirectoryValue) (merge : Option MergeInProgress) → merge ≡ None → IsUnfinished (catalog_of d (merge_of merge)) → ⊥
 none_unfinished d merge none going = let e : None ≡ Some going.0 = sym (ap merge_of none) ∙ going.1 in absurd cc
 
-pub wrote_shown : {T E : Type 0} (result : Result T E) (n : ℕ) (d : DirectoryValue) (lists lent : List (List StampedRow)) (merge : Option MergeInProgress) (m : MergeInProgress) (old new : Moments) → Some m ≡ merge → lent ≡ lists
-    → WritesNext result n (catalog_of d (merge_of (Some m))) (history_of d lent) old new → WritesNext result n (catalog_of d (merge_of merge)) (history_of d lists) old new
-wrote_shown {T} {E} result n d lists lent merge m old new value same w =
-    subst (λ (o : Option MergeInProgress). WritesNext result n (catalog_of d (merge_of o)) (history_of d lists) old new) value
-    (subst (λ (l : List (List StampedRow)). WritesNext result n (catalog_of d (merge_of (Some m))) (history_of d l) old new) same w)
+pub wrote_shown : {T E : Type 0} (result : Result T E) (n : ℕ) (d : DirectoryValue) (lists : List (List StampedRow)) (merge : Option MergeInProgress) (m : MergeInProgress) (old new : Moments) → Some m ≡ merge
+    → WritesNext result n (catalog_of d (merge_of (Some m))) (history_of d lists) old new → WritesNext result n (catalog_of d (merge_of merge)) (history_of d lists) old new
+wrote_shown {T} {E} result n d lists merge m old new value w =
+    subst (λ (o : Option MergeInProgress). WritesNext result n (catalog_of d (merge_of o)) (history_of d lists) old new) value w
 
 -- ---- by another name of what is answered
 

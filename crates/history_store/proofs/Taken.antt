@@ -1,29 +1,48 @@
 -- What was posted of the rows of segments, list by list.
-use Rattle.std.proofs.Common.{◌≡◌, suc, List, [], ◌∷◌, ◌++◌, length, map, refl, sym, ap, subst, ◌∙◌, append_assoc, append-nil}
+use Rattle.std.proofs.Common.{◌≡◌, ℕ, suc, ◌+◌, List, [], ◌∷◌, ◌++◌, length, map, refl, sym, ap, subst, ◌∙◌, arith, length-append}
 use Rattle.std.specs.List.Sorted.{IsPermutation}
 use Rattle.history_model.specs.declared.stamped.StampedRow.{StampedRow}
 use Rattle.segment.specs.declared.place.RowPlace.{RowPlace}
-use Rattle.segment.specs.Standing.{with_places}
+use Rattle.segment.specs.Standing.{record_len, with_places}
 use Rattle.as_of_index.specs.Postings.{posted_all}
+use Rattle.as_of_index.proofs.Pushing.{posted_push}
 use Rattle.term_prefix.specs.Terms.{TermAt}
-use Rattle.term_prefix.specs.Pushed.{posted_term, IsPosted, ArePosted}
-use Rattle.term_prefix.proofs.Posted.{posted_terms_more}
-use Rattle.associations.specs.Edges.{Edges, AreSameEdges, posted_edges}
-use Rattle.associations.specs.Laws.{ArePostingsOf, EachPosted}
-use Rattle.associations.proofs.Posted.{edges_more}
-use Rattle.history_store.specs.Private.Taken.{TermsTaken, EdgesTaken}
+use Rattle.term_prefix.specs.Pushed.{posted_term, ArePosted}
+use Rattle.links.specs.Edges.{Edges, AreSameEdges, edges_of, joined_edges, posted_edges}
+use Rattle.links.specs.Laws.{EachPosted}
+use Rattle.links.proofs.Posted.{pushed_one_by_one}
+use Rattle.history_store.specs.Private.Taken.{rows_in, TermsTaken, EdgesTaken}
 
-pub terms_pushed : (rows : List (StampedRow × RowPlace)) (x : StampedRow × RowPlace) → posted_all posted_term (rows ++ x ∷ []) ≡ posted_all posted_term rows ++ posted_term x.0.row x.1
-terms_pushed [] x = append-nil (posted_term x.0.row x.1)
-terms_pushed (y ∷ rows) x = ap (λ l. posted_term y.0.row y.1 ++ l) (terms_pushed rows x) ∙ sym (append_assoc (posted_term y.0.row y.1) (posted_all posted_term rows) (posted_term x.0.row x.1))
+rows_more : (rows : List (StampedRow × RowPlace)) (x : StampedRow × RowPlace) → rows_in (rows ++ x ∷ []) ≡ rows_in rows ++ x.0 ∷ []
+rows_more [] x = refl
+rows_more (y ∷ rows) x = ap (λ l. y.0 ∷ l) (rows_more rows x)
 
-pub terms_sealed : (segments : List (List (StampedRow × RowPlace))) (terms : List (List TermAt)) (rows : List (StampedRow × RowPlace)) (ts : List TermAt) → TermsTaken segments terms → IsPermutation (posted_all posted_term rows) ts → TermsTaken (segments ++ rows ∷ []) (terms ++ ts ∷ [])
+rows_counted : (rows : List (StampedRow × RowPlace)) → length (rows_in rows) ≡ length rows
+rows_counted [] = refl
+rows_counted (x ∷ rows) = ap (λ n. suc n) (rows_counted rows)
+
+rows_placed : (at : ℕ) (rows : List StampedRow) → rows_in (with_places at rows) ≡ rows
+rows_placed at [] = refl
+rows_placed at (s ∷ rows) = ap (λ l. s ∷ l) (rows_placed (at + record_len s) rows)
+
+pub terms_pushed : (rows : List (StampedRow × RowPlace)) (x : StampedRow × RowPlace) → posted_all posted_term 0 (rows_in (rows ++ x ∷ [])) ≡ posted_all posted_term 0 (rows_in rows) ++ posted_term x.0.row (length rows)
+terms_pushed rows x =
+    let count : 0 + length (rows_in rows) ≡ length rows = omega (arith, rows_counted rows) in
+    ap (posted_all posted_term 0) (rows_more rows x) ∙ posted_push posted_term 0 (rows_in rows) x.0 ∙ ap (λ n. posted_all posted_term 0 (rows_in rows) ++ posted_term x.0.row n) count
+
+pub edges_pushed : (rows : List (StampedRow × RowPlace)) (x : StampedRow × RowPlace) → posted_edges (rows_in (rows ++ x ∷ [])) ≡ joined_edges (posted_edges (rows_in rows)) (edges_of x.0.row (length rows))
+edges_pushed rows x = ap posted_edges (rows_more rows x) ∙ pushed_one_by_one (rows_in rows) x.0 ∙ ap (λ n. joined_edges (posted_edges (rows_in rows)) (edges_of x.0.row n)) (rows_counted rows)
+
+pub count_pushed : (rows : List (StampedRow × RowPlace)) (x : StampedRow × RowPlace) → length (rows ++ x ∷ []) ≡ length rows + 1
+count_pushed rows x = length-append rows (x ∷ [])
+
+pub terms_sealed : (segments : List (List (StampedRow × RowPlace))) (terms : List (List TermAt)) (rows : List (StampedRow × RowPlace)) (ts : List TermAt) → TermsTaken segments terms → IsPermutation (posted_all posted_term 0 (rows_in rows)) ts → TermsTaken (segments ++ rows ∷ []) (terms ++ ts ∷ [])
 terms_sealed [] [] rows ts taken is = (is, tt)
 terms_sealed [] (us ∷ terms) rows ts taken is = absurd taken
 terms_sealed (s ∷ segments) [] rows ts taken is = absurd taken
 terms_sealed (s ∷ segments) (us ∷ terms) rows ts taken is = (taken.0, terms_sealed segments terms rows ts taken.1 is)
 
-pub edges_sealed : (segments : List (List (StampedRow × RowPlace))) (edges : List Edges) (rows : List (StampedRow × RowPlace)) (e : Edges) → EdgesTaken segments edges → AreSameEdges (posted_edges rows) e → EdgesTaken (segments ++ rows ∷ []) (edges ++ e ∷ [])
+pub edges_sealed : (segments : List (List (StampedRow × RowPlace))) (edges : List Edges) (rows : List (StampedRow × RowPlace)) (e : Edges) → EdgesTaken segments edges → AreSameEdges (posted_edges (rows_in rows)) e → EdgesTaken (segments ++ rows ∷ []) (edges ++ e ∷ [])
 edges_sealed [] [] rows e taken is = (is, tt)
 edges_sealed [] (f ∷ edges) rows e taken is = absurd taken
 edges_sealed (s ∷ segments) [] rows e taken is = absurd taken
@@ -34,43 +53,17 @@ pub terms_posted : (lists : List (List StampedRow)) (terms : List (List TermAt))
 terms_posted [] [] taken = tt
 terms_posted [] (ts ∷ terms) taken = absurd taken
 terms_posted (rows ∷ lists) [] taken = absurd taken
-terms_posted (rows ∷ lists) (ts ∷ terms) taken = (taken.0, terms_posted lists terms taken.1)
+terms_posted (rows ∷ lists) (ts ∷ terms) taken = (subst (λ (l : List StampedRow). IsPermutation (posted_all posted_term 0 l) ts) (rows_placed 0 rows) taken.0, terms_posted lists terms taken.1)
 
 pub edges_posted : (lists : List (List StampedRow)) (edges : List Edges) → EdgesTaken (map (with_places 0) lists) edges → EachPosted lists edges
 edges_posted [] [] taken = tt
 edges_posted [] (e ∷ edges) taken = absurd taken
 edges_posted (rows ∷ lists) [] taken = absurd taken
-edges_posted (rows ∷ lists) (e ∷ edges) taken = (taken.0, edges_posted lists edges taken.1)
-
--- there are as many
-pub terms_count : (lists : List (List StampedRow)) (terms : List (List TermAt)) → ArePosted lists terms → length terms ≡ length lists
-terms_count [] [] are = refl
-terms_count [] (ts ∷ terms) are = absurd are
-terms_count (rows ∷ lists) [] are = absurd are
-terms_count (rows ∷ lists) (ts ∷ terms) are = ap (λ n. suc n) (terms_count lists terms are.1)
-
-pub edges_count : (lists : List (List StampedRow)) (edges : List Edges) → EachPosted lists edges → length edges ≡ length lists
-edges_count [] [] are = refl
-edges_count [] (e ∷ edges) are = absurd are
-edges_count (rows ∷ lists) [] are = absurd are
-edges_count (rows ∷ lists) (e ∷ edges) are = ap (λ n. suc n) (edges_count lists edges are.1)
+edges_posted (rows ∷ lists) (e ∷ edges) taken = (subst (λ (l : List StampedRow). AreSameEdges (posted_edges l) e) (rows_placed 0 rows) taken.0, edges_posted lists edges taken.1)
 
 -- nothing is posted of no rows
-pub none_posted : (lists : List (List StampedRow)) (terms : List (List TermAt)) → lists ≡ [] → terms ≡ [] → ArePosted lists terms
-none_posted lists terms none same = subst (λ t. ArePosted lists t) (sym same) (subst (λ l. ArePosted l []) (sym none) tt)
-
-pub none_linked : (lists : List (List StampedRow)) (edges : List Edges) → lists ≡ [] → edges ≡ [] → EachPosted lists edges
-none_linked lists edges none same = subst (λ e. EachPosted lists e) (sym same) (subst (λ l. EachPosted l []) (sym none) tt)
-
 pub no_terms : (terms : List (List TermAt)) → terms ≡ [] → TermsTaken [] terms
 no_terms terms same = subst (λ t. TermsTaken [] t) (sym same) tt
 
 pub no_links : (edges : List Edges) → edges ≡ [] → EdgesTaken [] edges
 no_links edges same = subst (λ e. EdgesTaken [] e) (sym same) tt
-
--- one segment more
-pub more_terms : (lists more : List (List StampedRow)) (terms all : List (List TermAt)) (rows : List StampedRow) (ts : List TermAt) → ArePosted lists terms → IsPosted rows ts → more ≡ lists ++ rows ∷ [] → all ≡ terms ++ ts ∷ [] → ArePosted more all
-more_terms lists more terms all rows ts are is first second = subst (λ l. ArePosted l all) (sym first) (subst (λ t. ArePosted (lists ++ rows ∷ []) t) (sym second) (posted_terms_more lists terms rows ts are is))
-
-pub more_links : (lists more : List (List StampedRow)) (edges all : List Edges) (rows : List StampedRow) (e : Edges) → EachPosted lists edges → ArePostingsOf rows e → more ≡ lists ++ rows ∷ [] → all ≡ edges ++ e ∷ [] → EachPosted more all
-more_links lists more edges all rows e are is first second = subst (λ l. EachPosted l all) (sym first) (subst (λ t. EachPosted (lists ++ rows ∷ []) t) (sym second) (edges_more lists edges rows e are is))

@@ -17,8 +17,7 @@ use Rattle.directory.specs.declared.entry.Entry.{Entry}
 use Rattle.directory.specs.Listings.{DirectoryValue, IsListing}
 use Rattle.directory.specs.Places.{extent_of, extents_of, taken}
 use Rattle.segment.specs.Records.{segment_of}
-use Rattle.segment.specs.declared.place.RowPlace.{RowPlace}
-use Rattle.store_image.specs.Shown.{IsOnDisk}
+use Rattle.store_image.specs.OnDisk.{IsOnDisk}
 use Rattle.store_image.specs.Trimmed.{EndBelow}
 use Rattle.store_image.specs.Ahead.{BeginsWith}
 use Rattle.store_image.proofs.Unlisted.{begins_holds}
@@ -63,11 +62,10 @@ pub kept_below : (d : DirectoryValue) (merge : Option MergeInProgress) (end : �
 kept_below d merge end is = ends_below d.entries (option_to_list (reserved_by (merge_of merge))) (4096 * end) (omega (arith, is))
 
 -- what is held of a disk that was cut
-pub trimmed_held : (before after : Type 0) (old new : DiskState) (cache left : LruCache ℕ (List ℕ)) (slot : Slot) (d : DirectoryValue) (index : List (List RowPlace)) (lists : List (List StampedRow)) (needs : Bool) (end : ℕ) → IsHeld before old cache slot d index lists needs → (after → before)
-    → (before → IsOnDisk old slot d lists → IsOnDisk new slot d lists) → (before → new.now ≡ take (4096 * end) old.now) → Forgets (nat_le end) cache left → IsHeld after new left slot d index lists needs
-trimmed_held before after old new cache left slot d index lists needs end held back on cut forgets = record {
+pub trimmed_held : (before after : Type 0) (old new : DiskState) (cache left : LruCache ℕ (List ℕ)) (slot : Slot) (d : DirectoryValue) (lists : List (List StampedRow)) (needs : Bool) (end : ℕ) → IsHeld before old cache slot d lists needs → (after → before)
+    → (before → IsOnDisk old slot d lists → IsOnDisk new slot d lists) → (before → new.now ≡ take (4096 * end) old.now) → Forgets (nat_le end) cache left → IsHeld after new left slot d lists needs
+trimmed_held before after old new cache left slot d lists needs end held back on cut forgets = record {
   kept = held.kept;
-  places = held.places;
   on_disk = λ up still. on (back up) (held.on_disk (back up) still);
   agrees = λ up still. subst (λ file. AgreesWith left file) (sym (cut (back up))) (cut_agrees end cache left old.now (held.agrees (back up) still) forgets);
 }

@@ -1,12 +1,14 @@
 -- What the calls of a store answer.
-use Rattle.std.specs.Prelude.{◌≡◌, ◌≢◌, ◌⊎◌, ℕ, ◌+◌, ◌<◌, ◌≤◌, true, false, List, [], ◌∷◌, ◌++◌, length, None, Result, Ok, Err}
+use Rattle.std.specs.Prelude.{◌≡◌, ◌≢◌, ◌⊎◌, ℕ, ◌+◌, ◌<◌, ◌≤◌, true, false, List, [], ◌∷◌, ◌++◌}
+use Rattle.std.specs.Prelude.{length, None, Result, Ok, Err}
 use Rattle.fault_counts.specs.Counting.{HasRisen}
 use Rattle.disk_model.specs.Disk.{Moments}
 use Rattle.rf2_values.specs.Row.{RowValue}
 use Rattle.rf2_values.specs.declared.key.Key.{Key}
 use Rattle.history_model.specs.declared.stamped.StampedRow.{StampedRow}
 use Rattle.history_model.specs.declared.receipt.Receipt.{Receipt}
-use Rattle.history_model.specs.History.{History, IsHistory, Accepts, after_release, ReceiptOf, no_history, full}
+use Rattle.history_model.specs.History.{History, IsHistory, Accepts, after_release, ReceiptOf}
+use Rattle.history_model.specs.History.{no_history, full}
 use Rattle.history_model.specs.Lists.{new_rows}
 use Rattle.directory.specs.declared.layout.Layout.{Layout}
 use Rattle.directory.specs.declared.layout.Layout.TheVariants as layouts
@@ -17,7 +19,7 @@ use Rattle.import_check.specs.Release.{IsReleaseOf, IsFaultOfRelease, HasContrad
 use Rattle.import_check.specs.NewRows.{IsRead}
 use Rattle.store_image.specs.declared.fault.LoadFault.{LoadFault}
 use Rattle.store_image.specs.Answers.{synced, IsNotOpened as IsNotLoaded}
-use Rattle.store_image.specs.Images.{Represents, StandsAs}
+use Rattle.store_image.specs.Images.{Represents, RepresentsAs}
 use Rattle.history_store.specs.declared.refusal.Refusal.{Refusal}
 use Rattle.history_store.specs.declared.refusal.Refusal.TheVariants as refusals
 use Rattle.history_store.specs.Catalog.{Catalog, IsCatalogAfter, HasNoEntry, HasNoPlace}
@@ -191,16 +193,16 @@ IsImportOf (Ok receipt) old new release =
 IsImportOf (Err e) old new release = IsImportRefusal e old release × IsRefused e old new
 
 -- the bytes represent the history with an accepted release, in version 2
-pub record StandsWith (h : History) (release : Release) (c : List ℕ) : Type 0 where
+pub record RepresentsWith (h : History) (release : Release) (c : List ℕ) : Type 0 where
   pub rows : List RowValue
   pub is_release : IsReleaseOf release rows
   pub accepted : Accepts h rows
-  pub stands : StandsAs layouts.Two (after_release h rows) c
+  pub stands : RepresentsAs layouts.Two (after_release h rows) c
 
 -- what a stop inside an import may leave: the history
 -- from before in its version, or the one after it in version 2
 abbrev pub IsBeforeOrAfter : Layout → History → Release → List ℕ → Type 0
-IsBeforeOrAfter layout h release c = StandsAs layout h c ⊎ StandsWith h release c
+IsBeforeOrAfter layout h release c = RepresentsAs layout h c ⊎ RepresentsWith h release c
 
 -- why a call that only reads is refused
 abbrev pub IsReadRefusal : {D : Type 0} → Refusal → StoreValue D → Type 0

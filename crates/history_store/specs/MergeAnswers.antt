@@ -4,7 +4,8 @@ use Rattle.history_store.specs.declared.refusal.Refusal.{Refusal}
 use Rattle.history_store.specs.declared.refusal.Refusal.TheVariants as refusals
 use Rattle.history_store.specs.StoreValue.{StoreValue, last_epoch}
 use Rattle.history_store.specs.Answers.{IsRefused}
-use Rattle.history_store.specs.Merging.{IsBegun, IsStepped, HasNoOutput, GoesOn, IsUnfinished, IsFinished, IsPublished}
+use Rattle.history_store.specs.Merging.{IsBegun, IsStepped, HasNoOutput, GoesOn, IsUnfinished}
+use Rattle.history_store.specs.Merging.{IsFinished, IsPublished}
 
 -- a call that is answered leaves the history, and the store open
 pub record IsDone {D : Type 0} (old new : StoreValue D) : Type 0 where

@@ -1,6 +1,7 @@
 -- A merge that goes on: in memory stands the index of the rows taken so far, and their bytes
 -- stand where the output is to lie, as a read gives them.
-use Rattle.std.specs.Prelude.{◌≡◌, ℕ, ◌<◌, ◌++◌, Bool, false, List, length, Option, Some, None, slice_get}
+use Rattle.std.specs.Prelude.{◌≡◌, ℕ, ◌<◌, ◌++◌, Bool, false, List, length, Option, Some, None}
+use Rattle.std.specs.Prelude.{slice_get}
 use Rattle.std.specs.List.{AllByRecursion, AllZip}
 use Rattle.rf2_values.specs.Key.{key_of}
 use Rattle.history_model.specs.declared.stamped.StampedRow.{StampedRow}
@@ -12,7 +13,7 @@ use Rattle.merge.specs.declared.MergeProgress.{MergeProgress}
 use Rattle.merge.specs.Merged.{IsOf, count_left, rows_left}
 use Rattle.segment.specs.Records.{IsStamped, segment_of}
 use Rattle.segment.specs.Standing.{record_len}
-use Rattle.store_image.specs.Says.{IsSegmentOf}
+use Rattle.store_image.specs.Kept.{IsSegmentOf}
 use Rattle.store_image.specs.Ahead.{BeginsWith}
 use Rattle.history_store.specs.declared.merge_in_progress.MergeInProgress.{MergeInProgress}
 use Rattle.history_store.specs.Catalog.{Merge}

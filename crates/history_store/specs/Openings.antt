@@ -6,7 +6,9 @@ use Rattle.blocks.specs.Outside.{StemsWithin}
 use Rattle.blocks.specs.Slots.{slots_range}
 use Rattle.store_image.specs.Answers.{IsNewStore}
 use Rattle.history_store.specs.StoreValue.{IsAcknowledged, no_blocks}
-use Rattle.history_store.specs.Answers.{StoreOr, IsNew, IsReady, IsMakingOf, IsMakingCause, IsOpeningOf, IsOpeningCause, HandsBack, SyncsOnce, CountsOpening, device_of}
+use Rattle.history_store.specs.Answers.{StoreOr, IsNew, IsReady, IsMakingOf, IsMakingCause}
+use Rattle.history_store.specs.Answers.{IsOpeningOf, IsOpeningCause, HandsBack, SyncsOnce}
+use Rattle.history_store.specs.Answers.{CountsOpening, device_of}
 
 -- A store was made on a device, or it is said why there is none and the device comes back.
 pub record IsMaking {D : Type 0} (result : StoreOr D) (is_honest : D → Type 0)

@@ -5,13 +5,11 @@ use Rattle.blocks.specs.declared.slots.Slot.{Slot}
 use Rattle.history_model.specs.declared.stamped.StampedRow.{StampedRow}
 use Rattle.history_model.specs.History.{History}
 use Rattle.directory.specs.Listings.{DirectoryValue}
-use Rattle.store_image.specs.Says.{IsKept}
+use Rattle.store_image.specs.Kept.{IsKept}
 use Rattle.store_image.specs.Images.{Represents}
-use Rattle.store_image.specs.Shown.{IsOnDisk}
+use Rattle.store_image.specs.OnDisk.{IsOnDisk}
 use Rattle.lru.specs.LruCache.{LruCache, lru_cache}
 use Rattle.blocks.specs.Cache.{AgreesWith}
-use Rattle.segment.specs.declared.place.RowPlace.{RowPlace}
-use Rattle.as_of_index.specs.Places.{Lists}
 use Rattle.history_store.specs.Catalog.{Catalog}
 
 -- the device, the history, where its segments lie, whether a call failed so that the
@@ -37,14 +35,11 @@ pub record IsAcknowledged {D : Type 0} (moments : D → Moments) (s : StoreValue
   pub each : EachImage (moments s.disk).state
       (λ c. Represents c s.history s.catalog.layout s.catalog.epoch s.catalog.entries)
 
--- What is kept in memory fits together: the index lists the places of these rows. As long
--- as no call has failed, the disk has them, and what is kept of it is as a read gives it.
+-- What is kept in memory fits together: the directory may list segments of these rows. As long as
+-- no call has failed, the disk has them, and what is kept of it is as a read gives it.
 pub record IsHeld (honest : Type 0) (state : DiskState) (cache : LruCache ℕ (List ℕ)) (slot : Slot)
-    (d : DirectoryValue)
-    (index : List (List RowPlace)) (lists : List (List StampedRow))
-    (needs_reopen : Bool) : Type 0 where
+    (d : DirectoryValue) (lists : List (List StampedRow)) (needs_reopen : Bool) : Type 0 where
   pub kept : IsKept d lists
-  pub places : Lists index lists
   pub on_disk : honest → needs_reopen ≡ false → IsOnDisk state slot d lists
   pub agrees : honest → needs_reopen ≡ false → AgreesWith cache state.now
 

@@ -1,5 +1,6 @@
 -- Which bytes of the disk the calls of a store write.
-use Rattle.std.specs.Prelude.{◌≡◌, ℕ, ◌+◌, ◌-◌, min, List, ◌++◌, length, map, drop, Some, slice_get, Result, MatchResult}
+use Rattle.std.specs.Prelude.{◌≡◌, ℕ, ◌+◌, ◌-◌, min, List, ◌++◌, length, map, drop, Some, slice_get}
+use Rattle.std.specs.Prelude.{Result, MatchResult}
 use Rattle.std.specs.Option.{option_to_list}
 use Rattle.disk_model.specs.Disk.{DiskState, Moments, followed_by, after_write, Fails}
 use Rattle.blocks.specs.Extents.{byte_range, start_of}
@@ -10,7 +11,7 @@ use Rattle.history_model.specs.Lists.{union}
 use Rattle.directory.specs.declared.entry.Entry.{Entry}
 use Rattle.directory.specs.Places.{extent_of, extents_of}
 use Rattle.segment.specs.Records.{segment_of}
-use Rattle.store_image.specs.Says.{IsSegmentOf}
+use Rattle.store_image.specs.Kept.{IsSegmentOf}
 use Rattle.store_image.specs.Ahead.{BeginsWith}
 use Rattle.history_store.specs.Catalog.{Merge, Catalog, reserved_by}
 

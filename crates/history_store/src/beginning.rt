@@ -1,6 +1,7 @@
 //! The beginning of a merge: which two segments it takes, and where its output is to lie.
 
-ghost use Rattle.std.specs.Prelude.{◌≡◌, ◌<◌, ◌≤◌, length, IfOk, IfErr, IfSome, IsNone, IsSome, nat_lt};
+ghost use Rattle.std.specs.Prelude.{◌≡◌, ◌<◌, ◌≤◌, length, IfOk, IfErr, IfSome, IsNone, IsSome};
+ghost use Rattle.std.specs.Prelude.{nat_lt};
 ghost use Rattle.directory.specs.Listings.{IsListing};
 ghost use Rattle.history_store.specs.Merging.{AreFewest, rows_at_place};
 ghost use Rattle.history_store.specs.Private.Beginning.{AreLong, IsNewMerge, IsUnbegun};

@@ -5,7 +5,6 @@ ghost use Rattle.std.specs.List.{AllByRecursion};
 ghost use Rattle.history_model.specs.InOrder.{IsAscending};
 ghost use Rattle.history_model.specs.History.{stamped_cmp};
 ghost use Rattle.segment.specs.Records.{record_of, segment_of, IsStamped, IsSegment};
-ghost use Rattle.segment_index.specs.Indexed.{IsIndexOf};
 
 use history_model::StampedRow;
 use segment::encode;
@@ -32,8 +31,8 @@ fn add_record(alloc: Global, bytes: &mut Vec<u8>, row: &StampedRow) -> Result<()
     Ok(())
 }
 
-/// The segment of rows that has so many bytes, and its index. Each row is dropped once its record is
-/// made: rows and records never stand all beside each other in memory.
+/// The segment of rows that has so many bytes, and its index. Each row is dropped once its record
+/// is made: rows and records never stand all beside each other in memory.
 pub(crate) fn place_all(
     alloc: Global,
     rows: Vec<StampedRow>,
@@ -42,7 +41,7 @@ pub(crate) fn place_all(
     requires short { length (segment_of rows.items) < 2 ^ 32 }
     requires ascending { IsAscending stamped_cmp rows.items }
     requires from_one { AllByRecursion (λ s. 1 ≤ s.import) rows.items }
-    ensures index { IfOk result (λ placed. IsIndexOf rows.items placed.index) }
+    ensures index { IfOk result (λ placed. placed.index ≡ rows.items) }
     ensures segment { IfOk result (λ placed. IsSegment rows.items placed.bytes.items) }
 {
     let mut bytes = Vec::with_capacity(alloc, len as usize)?;

@@ -8,9 +8,9 @@ use crate::reading::DiskRows;
 use crate::refusal::Refusal;
 use crate::store::Store;
 use as_of_index::ReadFault;
-use associations::{about, children, replacements};
 use disk_model::Disk;
 use history_model::ImportReceipt;
+use links::{about, children, replacements};
 use rf2_rows::{EffectiveTime, Kind, Row, Sctid};
 use term_prefix::find;
 
@@ -73,14 +73,13 @@ impl<D: Disk> Store<D> {
         if self.needs_reopen {
             return Err(Refusal::ReopenNeeded);
         }
-        let mut reader = DiskRows {
-            disk: &mut self.disk,
-            cache: &mut self.cache,
-            entries: self.directory.entries(),
-            shown: self.shown.as_slice(),
-            damages: 0,
-        };
-        let read = self.index.get(&mut reader, kind, id, time, pin);
+        let mut reader = DiskRows::new(
+            &mut self.disk,
+            &mut self.cache,
+            &self.directory,
+            &self.index,
+        );
+        let read = self.index.places().get(&mut reader, kind, id, time, pin);
         self.answered(read)
     }
 
@@ -100,14 +99,13 @@ impl<D: Disk> Store<D> {
         if self.needs_reopen {
             return Err(Refusal::ReopenNeeded);
         }
-        let mut reader = DiskRows {
-            disk: &mut self.disk,
-            cache: &mut self.cache,
-            entries: self.directory.entries(),
-            shown: self.shown.as_slice(),
-            damages: 0,
-        };
-        let read = self.index.history(&mut reader, kind, id, pin);
+        let mut reader = DiskRows::new(
+            &mut self.disk,
+            &mut self.cache,
+            &self.directory,
+            &self.index,
+        );
+        let read = self.index.places().history(&mut reader, kind, id, pin);
         self.answered(read)
     }
 
@@ -135,14 +133,16 @@ impl<D: Disk> Store<D> {
         if self.needs_reopen {
             return Err(Refusal::ReopenNeeded);
         }
-        let mut reader = DiskRows {
-            disk: &mut self.disk,
-            cache: &mut self.cache,
-            entries: self.directory.entries(),
-            shown: self.shown.as_slice(),
-            damages: 0,
-        };
-        let read = self.index.page(&mut reader, kind, time, after, limit, pin);
+        let mut reader = DiskRows::new(
+            &mut self.disk,
+            &mut self.cache,
+            &self.directory,
+            &self.index,
+        );
+        let read = self
+            .index
+            .places()
+            .page(&mut reader, kind, time, after, limit, pin);
         self.answered(read)
     }
 
@@ -169,17 +169,16 @@ impl<D: Disk> Store<D> {
         if self.needs_reopen {
             return Err(Refusal::ReopenNeeded);
         }
-        let mut reader = DiskRows {
-            disk: &mut self.disk,
-            cache: &mut self.cache,
-            entries: self.directory.entries(),
-            shown: self.shown.as_slice(),
-            damages: 0,
-        };
+        let mut reader = DiskRows::new(
+            &mut self.disk,
+            &mut self.cache,
+            &self.directory,
+            &self.index,
+        );
         let read = about(
             self.alloc,
-            &self.links,
-            &self.index,
+            self.index.links(),
+            self.index.places(),
             &mut reader,
             kind,
             id,
@@ -213,17 +212,16 @@ impl<D: Disk> Store<D> {
         if self.needs_reopen {
             return Err(Refusal::ReopenNeeded);
         }
-        let mut reader = DiskRows {
-            disk: &mut self.disk,
-            cache: &mut self.cache,
-            entries: self.directory.entries(),
-            shown: self.shown.as_slice(),
-            damages: 0,
-        };
+        let mut reader = DiskRows::new(
+            &mut self.disk,
+            &mut self.cache,
+            &self.directory,
+            &self.index,
+        );
         let read = find(
             self.alloc,
-            &self.terms,
-            &self.index,
+            self.index.terms(),
+            self.index.places(),
             &mut reader,
             prefix,
             time,
@@ -276,7 +274,14 @@ impl<D: Disk> Store<D> {
         if self.needs_reopen {
             return Err(Refusal::ReopenNeeded);
         }
-        let found = children(self.alloc, &self.links, &self.index, id, time, pin)?;
+        let found = children(
+            self.alloc,
+            self.index.links(),
+            self.index.places(),
+            id,
+            time,
+            pin,
+        )?;
         Ok(found)
     }
 
@@ -301,17 +306,16 @@ impl<D: Disk> Store<D> {
         if self.needs_reopen {
             return Err(Refusal::ReopenNeeded);
         }
-        let mut reader = DiskRows {
-            disk: &mut self.disk,
-            cache: &mut self.cache,
-            entries: self.directory.entries(),
-            shown: self.shown.as_slice(),
-            damages: 0,
-        };
+        let mut reader = DiskRows::new(
+            &mut self.disk,
+            &mut self.cache,
+            &self.directory,
+            &self.index,
+        );
         let read = replacements(
             self.alloc,
-            &self.links,
-            &self.index,
+            self.index.links(),
+            self.index.places(),
             &mut reader,
             id,
             time,
@@ -333,6 +337,6 @@ impl<D: Disk> Store<D> {
         if self.needs_reopen {
             return Err(Refusal::ReopenNeeded);
         }
-        Ok(receipt_of(&self.index, number))
+        Ok(receipt_of(self.index.places(), number))
     }
 }

@@ -1,27 +1,30 @@
 //! An empty store, and what a store keeps in memory beside its directory.
 
-ghost use Rattle.std.specs.Prelude.{◌≡◌, ◌≢◌, ◌↔◌, ◌<◌, ◌≤◌, [], length, map, vec_items, IfOk, IfErr, OnOk};
+ghost use Rattle.std.specs.Prelude.{◌≡◌, ◌≢◌, ◌↔◌, ◌≤◌, [], length, map, vec_items, IfOk, IfErr};
+ghost use Rattle.std.specs.Prelude.{OnOk};
 ghost use Rattle.lru.specs.LruCache.{lru_cache};
 ghost use Rattle.disk_model.specs.Disk.{LeavesOnly};
 ghost use Rattle.blocks.specs.Calls.{MakesCalls};
 ghost use Rattle.blocks.specs.Outside.{StemsWithin};
 ghost use Rattle.blocks.specs.Slots.{slots_range};
-ghost use Rattle.as_of_index.specs.Places.{ArePlaces, max_lists};
-ghost use Rattle.store_image.specs.Shown.{IsOnDisk};
+ghost use Rattle.history_model.specs.Lists.{AreLists};
+ghost use Rattle.as_of_index.specs.Places.{max_lists};
+ghost use Rattle.segment_index.specs.Indexed.{AreIndexed};
+ghost use Rattle.store_image.specs.OnDisk.{IsOnDisk};
 ghost use Rattle.store_image.specs.Answers.{empty_listing, IsNewStore};
 ghost use Rattle.history_store.specs.Answers.{Counts, IsMakingCause, IsNotMade};
 ghost use Rattle.history_store.specs.declared.refusal.Refusal.TheVariants as refusals;
 
-use crate::posting::{Posting, links_of, terms_of};
+use crate::posting::Posting;
 use crate::refusal::Refusal;
-use as_of_index::{Index, PlaceList, RowPlace};
-use associations::Links;
+use as_of_index::RowPlace;
 use blocks::{BlockCache, Slot};
 use directory::Directory;
 use disk_model::Disk;
+use history_model::GhostRows;
+use segment_index::StoreIndex;
 use std::alloc::{AllocError, Global};
 use store_image::{Made, check_empty, make};
-use term_prefix::Terms;
 
 /// How many blocks of the disk are kept in memory: 4 MiB.
 const KEPT_BLOCKS: usize = 1024;
@@ -29,9 +32,7 @@ const KEPT_BLOCKS: usize = 1024;
 /// What a store keeps in memory beside its directory.
 #[derive(Drop)]
 pub(crate) struct Room {
-    pub(crate) index: Index,
-    pub(crate) terms: Terms,
-    pub(crate) links: Links,
+    pub(crate) index: StoreIndex,
     pub(crate) cache: BlockCache,
 }
 
@@ -40,57 +41,38 @@ pub(crate) struct Room {
 pub(crate) struct Started {
     pub(crate) slot: Slot,
     pub(crate) directory: Directory,
-    pub(crate) index: Index,
-    pub(crate) terms: Terms,
-    pub(crate) links: Links,
+    pub(crate) index: StoreIndex,
     pub(crate) cache: BlockCache,
 }
 
-/// An index of these places.
-fn index_of(alloc: Global, places: Vec<Vec<RowPlace>>) -> Result<Index, AllocError>
-    requires few { length places.items ≤ max_lists }
-    requires places { ArePlaces (map vec_items places.items) }
-    ensures { IfOk result (λ index. index ≡ map vec_items places.items) }
-{
-    let mut index = Index::new(alloc)?;
-    for list in places {
-        index.add(PlaceList::new(list));
-    }
-    Ok(index)
-}
-
-/// An index of these places, these postings, and a cache that keeps no block.
+/// An index of rows that were read, and a cache that keeps no block.
 pub(crate) fn room_for(
     alloc: Global,
     places: Vec<Vec<RowPlace>>,
-    terms: Vec<term_prefix::Sealed>,
-    edges: Vec<associations::Sealed>,
+    posting: Posting,
+    rows: Vec<GhostRows>,
 ) -> Result<Room, AllocError>
-    requires few { length places.items ≤ max_lists }
-    requires few_terms { length terms.items ≤ max_lists }
-    requires few_edges { length edges.items ≤ max_lists }
-    requires places { ArePlaces (map vec_items places.items) }
-    ensures index { IfOk result (λ room. room.index ≡ map vec_items places.items) }
-    ensures terms { IfOk result (λ room. room.terms ≡ terms.items) }
-    ensures links { IfOk result (λ room. room.links ≡ edges.items) }
+    requires few { length rows.items ≤ max_lists }
+    requires lists { AreLists rows.items }
+    requires indexed { AreIndexed rows.items (map vec_items places.items)
+        posting.sealed_terms.items posting.sealed_edges.items }
+    ensures index { IfOk result (λ room. room.index ≡ rows.items) }
     ensures cache { IfOk result (λ room. room.cache ≡ lru_cache [] 1024) }
 {
-    let index = index_of(alloc, places)?;
-    let terms = terms_of(alloc, terms)?;
-    let links = links_of(alloc, edges)?;
+    let Posting {
+        sealed_terms,
+        sealed_edges,
+        ..
+    } = posting;
+    let index = StoreIndex::of_parts(alloc, places, sealed_terms, sealed_edges, rows)?;
     let cache = BlockCache::new(alloc, KEPT_BLOCKS)?;
-    Ok(Room {
-        index,
-        terms,
-        links,
-        cache,
-    })
+    Ok(Room { index, cache })
 }
 
 /// Makes a store on an empty disk.
 pub(crate) fn start<D: Disk>(alloc: Global, disk: &mut D) -> Result<Started, Refusal>
     ensures empty { IfOk result (λ s. (s.directory ≡ empty_listing) × (s.index ≡ [])
-        × (s.cache ≡ lru_cache [] 1024) × (s.terms ≡ []) × (s.links ≡ [])) }
+        × (s.cache ≡ lru_cache [] 1024)) }
     ensures made { D.is_honest disk.old → OnOk result (length (D.moments disk.old).state.now ≡ 0) }
     ensures on_disk { D.is_honest disk.old
         → IfOk result (λ s. IsOnDisk (D.moments disk.new).state s.slot s.directory []) }
@@ -111,25 +93,13 @@ pub(crate) fn start<D: Disk>(alloc: Global, disk: &mut D) -> Result<Started, Ref
     ensures failures { Counts result (D.failures disk.old) (D.failures disk.new) }
 {
     check_empty(disk)?;
-    let nothing = Posting::new(alloc);
-    let Posting {
-        sealed_terms,
-        sealed_edges,
-        ..
-    } = nothing;
-    let Room {
-        index,
-        terms,
-        links,
-        cache,
-    } = room_for(alloc, Vec::new(alloc), sealed_terms, sealed_edges)?;
+    let index = StoreIndex::new(alloc)?;
+    let cache = BlockCache::new(alloc, KEPT_BLOCKS)?;
     let Made { slot, directory } = make(alloc, disk)?;
     Ok(Started {
         slot,
         directory,
         index,
-        terms,
-        links,
         cache,
     })
 }

@@ -13,19 +13,17 @@ use crate::preparing::{Prepared, is_spent, prepare, with_next_import};
 use crate::reading::DiskRows;
 use crate::refusal::Refusal;
 use crate::starting::{Room, Started, room_for, start};
-use as_of_index::{Index, ReadFault};
-use associations::Links;
+use as_of_index::ReadFault;
 use blocks::{BlockCache, Slot};
 use directory::Directory;
 use disk_model::Disk;
-use history_model::{GhostRows, Receipt};
+use history_model::Receipt;
 use import_check::{ImportFault, NewRows, Release};
 use rf2_rows::EffectiveTime;
-use segment_index::SegmentIndex;
+use segment_index::StoreIndex;
 use std::alloc::Global;
 use std::marker::Model;
 use store_image::{Loaded, add_segment, load, publish_directory};
-use term_prefix::Terms;
 
 /// The release history of a terminology, on a disk.
 #[derive(Drop)]
@@ -35,13 +33,8 @@ pub struct Store<D: Disk> {
     pub(crate) cache: BlockCache,
     pub(crate) slot: Slot,
     pub(crate) directory: Directory,
-    /// Where the rows of each segment lie, in the directory's order.
-    pub(crate) index: Index,
-    /// What is posted of the rows of each segment.
-    pub(crate) terms: Terms,
-    pub(crate) links: Links,
-    /// The rows of each segment, which only clauses read.
-    pub(crate) shown: Vec<GhostRows>,
+    /// What is kept of the rows of each segment, in the directory's order.
+    pub(crate) index: StoreIndex,
     /// The merge that goes on.
     pub(crate) merge: Option<MergeInProgress>,
     pub(crate) needs_reopen: bool,
@@ -52,24 +45,21 @@ impl<D: Disk> Model for Store<D> {
     ghost use Rattle.history_store.specs.Catalog.{catalog_of};
     ghost use Rattle.history_store.specs.StoreValue.{StoreValue, IsHeld};
     ghost use Rattle.history_store.specs.MergeInProgress.{merge_of, HasMerge};
-    ghost use Rattle.term_prefix.specs.Pushed.{ArePosted};
-    ghost use Rattle.associations.specs.Laws.{EachPosted};
 
     ghost Value = { StoreValue D };
 
     ghost view = { λ s. record {
       disk = s.disk;
-      history = record { imports = s.directory.imports; rows = listed s.shown.items };
+      history = record { imports = s.directory.imports; rows = listed s.index };
       catalog = catalog_of s.directory (merge_of s.merge);
       needs_reopen = s.needs_reopen;
       cache = s.cache;
     } };
 
     ghost invariant = { λ s. IsHeld (D.is_honest s.disk) (D.moments s.disk).state
-        s.cache s.slot s.directory s.index s.shown.items s.needs_reopen
-        × ArePosted s.shown.items s.terms × EachPosted s.shown.items s.links
+        s.cache s.slot s.directory s.index s.needs_reopen
         × HasMerge (D.is_honest s.disk) (D.moments s.disk).state.now
-        s.directory s.shown.items s.merge s.needs_reopen };
+        s.directory s.index s.merge s.needs_reopen };
 }
 
 impl<D: Disk> Store<D> {
@@ -79,7 +69,7 @@ impl<D: Disk> Store<D> {
     ghost use Rattle.directory.specs.Listings.{number_of};
     ghost use Rattle.import_check.specs.NewRows.{IsAcceptedAs, IsRead};
     ghost use Rattle.import_check.specs.NewRows.{IsApart};
-    ghost use Rattle.store_image.specs.Images.{Represents, StandsAs};
+    ghost use Rattle.store_image.specs.Images.{Represents, RepresentsAs};
     ghost use Rattle.history_store.specs.Catalog.{catalog_of, blocks_in_use};
     ghost use Rattle.history_store.specs.StoreValue.{IsAcknowledged};
     ghost use Rattle.history_store.specs.Private.StoreValue.{with_rows};
@@ -88,7 +78,7 @@ impl<D: Disk> Store<D> {
     ghost use Rattle.blocks.specs.Calls.{MakesCalls};
     ghost use Rattle.blocks.specs.Outside.{SameOutside};
     ghost use Rattle.blocks.specs.Slots.{slots_range, slots_read};
-    ghost use Rattle.store_image.specs.Says.{bytes_listed};
+    ghost use Rattle.store_image.specs.Kept.{bytes_listed};
     ghost use Rattle.history_store.specs.Written.{added_ranges};
     ghost use Rattle.history_store.specs.Calls.{MakesImportCalls};
     ghost use Rattle.history_store.specs.Answers.{Counts};
@@ -111,8 +101,6 @@ impl<D: Disk> Store<D> {
                     slot,
                     directory,
                     index,
-                    terms,
-                    links,
                     cache,
                 },
             ) => Ok(Store {
@@ -122,9 +110,6 @@ impl<D: Disk> Store<D> {
                 slot,
                 directory,
                 index,
-                terms,
-                links,
-                shown: Vec::new(alloc),
                 merge: None,
                 needs_reopen: false,
             }),
@@ -151,29 +136,14 @@ impl<D: Disk> Store<D> {
             Ok(loaded) => loaded,
             Err(fault) => return Err((Refusal::from(fault), disk)),
         };
-        let Posting {
-            sealed_terms,
-            sealed_edges,
-            ..
-        } = posting;
-        match room_for(alloc, places, sealed_terms, sealed_edges) {
-            Ok(
-                Room {
-                    index,
-                    terms,
-                    links,
-                    cache,
-                },
-            ) => Ok(Store {
+        match room_for(alloc, places, posting, shown) {
+            Ok(Room { index, cache }) => Ok(Store {
                 alloc,
                 disk,
                 cache,
                 slot,
                 directory,
                 index,
-                terms,
-                links,
-                shown,
                 merge: None,
                 needs_reopen: false,
             }),
@@ -200,14 +170,13 @@ impl<D: Disk> Store<D> {
         ensures failures { Counts result (D.failures self.old.disk) (D.failures self.new.disk) }
     {
         let pin = self.directory.imports();
-        let mut reader = DiskRows {
-            disk: &mut self.disk,
-            cache: &mut self.cache,
-            entries: self.directory.entries(),
-            shown: self.shown.as_slice(),
-            damages: 0,
-        };
-        match find_new_rows(self.alloc, release, &self.index, &mut reader, pin) {
+        let mut reader = DiskRows::new(
+            &mut self.disk,
+            &mut self.cache,
+            &self.directory,
+            &self.index,
+        );
+        match find_new_rows(self.alloc, release, self.index.places(), &mut reader, pin) {
             Ok(fresh) => Ok(fresh),
             Err(fault) => {
                 if matches!(fault, ImportFault::Known(ReadFault::DiskFault)) {
@@ -240,7 +209,7 @@ impl<D: Disk> Store<D> {
             }) }
         ensures any_moment { D.is_honest self.old.disk
             → LeavesOnly (D.moments self.old.disk) (D.moments self.new.disk)
-            (λ c. StandsAs self.old.catalog.layout self.old.history c ⊎ StandsAs layouts.Two
+            (λ c. RepresentsAs self.old.catalog.layout self.old.history c ⊎ RepresentsAs layouts.Two
             (record { imports = self.old.history.imports + 1; rows = self.old.history.rows }) c) }
         ensures refused { D.is_honest self.old.disk
             → KeepsMoments D.moments result self.old self.new }
@@ -274,12 +243,12 @@ impl<D: Disk> Store<D> {
         requires still { self.old.needs_reopen ≡ false }
         requires prepared { IsPreparedFor self.old prepared }
         ensures step { IsStep result self.old self.new
-            (with_rows self.old.history prepared.index.rows)
+            (with_rows self.old.history prepared.index)
             (catalog_of prepared.directory self.old.catalog.merge) }
         ensures any_moment { D.is_honest self.old.disk
             → LeavesOnly (D.moments self.old.disk) (D.moments self.new.disk)
-            (λ c. StandsAs self.old.catalog.layout self.old.history c ⊎ StandsAs layouts.Two
-            (with_rows self.old.history prepared.index.rows) c) }
+            (λ c. RepresentsAs self.old.catalog.layout self.old.history c ⊎ RepresentsAs layouts.Two
+            (with_rows self.old.history prepared.index) c) }
         ensures refused { D.is_honest self.old.disk
             → KeepsMoments D.moments result self.old self.new }
         ensures elsewhere { D.is_honest self.old.disk → OnOk result
@@ -299,25 +268,13 @@ impl<D: Disk> Store<D> {
             index,
             bytes,
         } = prepared;
-        let SegmentIndex {
-            places,
-            terms,
-            links,
-            rows,
-        } = index;
-        self.shown.reserve(1)?;
         match add_segment(&mut self.disk, self.slot, &directory, entry, &bytes) {
             Ok(slot) => {
                 self.cache.forget(entry.extent());
                 self.cache.forget(slot.extent());
                 self.slot = slot;
                 self.directory = directory;
-                self.index.add(places);
-                self.terms.add(terms);
-                self.links.add(links);
-                let Ok(()) = self.shown.push(rows) else {
-                    unreachable!()
-                };
+                self.index.add(index);
                 Ok(())
             }
             Err(fault) => {
@@ -425,7 +382,7 @@ impl<D: Disk> Store<D> {
     pub fn latest_time(&self) -> Option<EffectiveTime>
         ensures { IsLatestDay result self.now.history.rows }
     {
-        latest_time(&self.index)
+        latest_time(self.index.places())
     }
 
     /// Whether the device failed in a call, so that the store has to be opened again.

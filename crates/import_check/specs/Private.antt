@@ -3,4 +3,3 @@
 pub mod Search
 pub mod Parsed
 pub mod Sweep
-pub mod SampleFiles

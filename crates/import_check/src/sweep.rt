@@ -1,7 +1,8 @@
 //! One pass over the lines of a release in key order.
 
 ghost use Rattle.std.specs.Prelude.{◌≡◌, ◌+◌, ◌≤◌, ◌<◌, ◌⊎◌, ◌++◌, ◌↔◌, [], ◌∷◌, List, length};
-ghost use Rattle.std.specs.Prelude.{IsTrue, Some, IsSomeAnd, OnOk, IfOk, IfErr, MatchResult, option_copied};
+ghost use Rattle.std.specs.Prelude.{IsTrue, Some, IsSomeAnd, OnOk, IfOk, IfErr, MatchResult};
+ghost use Rattle.std.specs.Prelude.{option_copied};
 ghost use Rattle.history_model.specs.InOrder.{IsAscending};
 ghost use Rattle.rf2_values.specs.Row.{RowValue};
 ghost use Rattle.rf2_values.specs.Key.{key_of};
@@ -9,8 +10,10 @@ ghost use Rattle.import_check.specs.declared.release.PlacedLine.{PlacedLine};
 ghost use Rattle.fault_counts.specs.Counting.{Counts};
 ghost use Rattle.import_check.specs.NewRows.{IsTaken, IsApart, CountsAnyDiskFault, CountsAnyDamage};
 ghost use Rattle.import_check.specs.Release.{rows_of};
-ghost use Rattle.import_check.specs.Private.Sweep.{StandsBy, IsEarlierOf, IsVerdict, standing_of, IsSwept, TakesLine, IsOutcome};
-ghost use Rattle.import_check.specs.Private.Sweep.{KeepsApart, IsCutShort, IsRefusalOf, IsRising, place_cmp, rank_cmp};
+ghost use Rattle.import_check.specs.Private.Sweep.{StandsBy, IsEarlierOf, IsVerdict, standing_of};
+ghost use Rattle.import_check.specs.Private.Sweep.{IsSwept, TakesLine, IsOutcome};
+ghost use Rattle.import_check.specs.Private.Sweep.{KeepsApart, IsCutShort, IsRefusalOf, IsRising};
+ghost use Rattle.import_check.specs.Private.Sweep.{place_cmp, rank_cmp};
 
 use crate::fault::ImportFault;
 use crate::found::NewRows;
@@ -252,6 +255,6 @@ pub(crate) fn unite<K: Known>(
         (K.damages known.old) (K.damages known.new) }
 {
     let count = lines.len();
-    sort(&mut lines);
+    sort(alloc, &mut lines);
     take_all(alloc, lines, known)?.finish(count)
 }

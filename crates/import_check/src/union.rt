@@ -2,7 +2,8 @@
 
 ghost use Rattle.std.specs.Prelude.{◌≡◌, IfOk, IfErr};
 ghost use Rattle.fault_counts.specs.Counting.{Counts};
-ghost use Rattle.import_check.specs.NewRows.{IsApart, IsRead, IsAcceptedAs, IsRefusal, CountsAnyDiskFault, CountsAnyDamage};
+ghost use Rattle.import_check.specs.NewRows.{IsApart, IsRead, IsAcceptedAs, IsRefusal};
+ghost use Rattle.import_check.specs.NewRows.{CountsAnyDiskFault, CountsAnyDamage};
 
 use crate::fault::ImportFault;
 use crate::found::NewRows;

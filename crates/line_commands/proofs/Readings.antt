@@ -10,6 +10,7 @@ use Rattle.rf2_values.specs.declared.row.Kind.{Kind}
 use Rattle.rf2_values.specs.declared.row.Kind.TheVariants as kinds
 use Rattle.rf2_values.specs.Time.{IsTime}
 use Rattle.rf2_values.specs.Row.{IsIdOf, SpellsId, IsConcept, IsComponent}
+use Rattle.rf2_values.proofs.Ids.{same_ids}
 use Rattle.line_commands.specs.declared.unread.Unread.TheVariants as unread
 use Rattle.line_commands.specs.Commands.{Command, Import, Get, History, Children, Terms, Search, Replaced, About, Page, Receipt, Pin, Unpin, Merge, Step, Publish, Abandon, Trim, Status, word_of, letter, IsSubjectOf, SpellsArguments, SpellsAfter}
 use Rattle.line_commands.specs.Requests.{with_rest, sessions, Asks, HasSession, HasCommand}
@@ -39,29 +40,6 @@ same_components m n h g e =
     let low = h.sctid.high in
     let high = g.sctid.high in
     decimal_injective m n (omega arith) (omega arith) e
-
--- a text spells one identifier of a kind
-same_ids : (kind : Kind) (m n : ℕ) (text : List ℕ) → IsIdOf kind m → IsIdOf kind n → SpellsId kind m text → SpellsId kind n text → m ≡ n
-same_ids kinds.Concept m n text hm hn sm sn =
-    let low = hm.sctid.high in
-    let high = hn.sctid.high in
-    decimal_injective m n (omega arith) (omega arith) (sym sm ∙ sn)
-same_ids kinds.Description m n text hm hn sm sn =
-    let low = hm.sctid.high in
-    let high = hn.sctid.high in
-    decimal_injective m n (omega arith) (omega arith) (sym sm ∙ sn)
-same_ids kinds.Relationship m n text hm hn sm sn =
-    let low = hm.sctid.high in
-    let high = hn.sctid.high in
-    decimal_injective m n (omega arith) (omega arith) (sym sm ∙ sn)
-same_ids kinds.Association m n text hm hn sm sn =
-    let both : Some sm.value.0 ≡ Some sn.value.0 = sym sm.value.1 ∙ sn.value.1 in
-    let bytes : sm.value.0 ≡ sn.value.0 = cc in
-    sm.value.2 ∙ ap (from_be_bytes w128) bytes ∙ sym sn.value.2
-same_ids kinds.Concrete m n text hm hn sm sn =
-    let low = hm.sctid.high in
-    let high = hn.sctid.high in
-    decimal_injective m n (omega arith) (omega arith) (sym sm ∙ sn)
 
 same_ids_of : (k l : Kind) (m n : ℕ) (t u : List ℕ) → k ≡ l → t ≡ u → IsIdOf k m → IsIdOf l n → SpellsId k m t → SpellsId l n u → m ≡ n
 same_ids_of k l m n t u kind text hm hn sm sn =

@@ -12,10 +12,10 @@ use Rattle.import_check.specs.declared.release.Release.{Release}
 use Rattle.history_store.specs.declared.refusal.Refusal.{Refusal}
 use Rattle.history_store.specs.declared.refusal.Refusal.TheVariants as store
 use Rattle.history_store.specs.StoreValue.{StoreValue, IsAcknowledged}
-use Rattle.history_store.specs.Answers.{IsOpeningOf, StandsWith}
+use Rattle.history_store.specs.Answers.{IsOpeningOf, RepresentsWith}
 use Rattle.line_server.specs.Sources.{Releases, SourceView, source_view}
 use Rattle.line_server.specs.Replies.{Server, server}
-use Rattle.line_server.specs.Imports.{TakesAll, StandsAfter, RepresentsSome, RepresentsAll, StandsWithFailed}
+use Rattle.line_server.specs.Imports.{TakesAll, RepresentsAfter, RepresentsSome, RepresentsAll, RepresentsWithFailed}
 use Rattle.line_server.specs.Turns.{Turn, IsTurn, Run, imported, failed_in}
 use Rattle.line_server.specs.Life.{StopLeaves, Stage, IsStage, IsReopened, IsLife, MayRemain, AreKept, IsSubsequence, acknowledged}
 use Rattle.line_server.specs.Laws.{EachLifeKeepsItsImports, KeptAreAcknowledged, EachLifeIsOpened}
@@ -35,7 +35,7 @@ left_has old new P bytes run left =
 
 -- what remains of a stage stands in the bytes
 abbrev Remains : Stage → History → List ℕ → Type 0
-Remains stage h bytes = (other : List Release) × MayRemain stage other × StandsAfter h (imported stage.answered ++ other) bytes
+Remains stage h bytes = (other : List Release) × MayRemain stage other × RepresentsAfter h (imported stage.answered ++ other) bytes
 
 -- a front part of one at most
 short_front : (front rest whole : List Release) → whole ≡ front ++ rest → length whole ≤ 1 → (front ≡ []) ⊎ ((release : Release) × (front ≡ release ∷ []) × (whole ≡ release ∷ []))
@@ -47,13 +47,13 @@ short_front (r ∷ s ∷ more) rest whole is few =
     let n : length whole ≡ length (r ∷ s ∷ (more ++ rest)) = ap length is in absurd (omega (arith, n, few))
 
 -- with one release more
-one_more : (h g : History) (xs : List Release) (release : Release) (bytes : List ℕ) → TakesAll h xs g → StandsWith g release bytes → StandsAfter h (xs ++ release ∷ []) bytes
+one_more : (h g : History) (xs : List Release) (release : Release) (bytes : List ℕ) → TakesAll h xs g → RepresentsWith g release bytes → RepresentsAfter h (xs ++ release ∷ []) bytes
 one_more h g xs release bytes takes w =
     (after_release g w.rows, takes_more h g (after_release g w.rows) xs (release ∷ []) takes (w.rows, w.is_release, w.accepted, refl), (layouts.Two, w.stands))
 
 module _ (stage : Stage) (h : History) (bytes : List ℕ) where
-  none_remains : StandsAfter h (imported stage.answered) bytes → Remains stage h bytes
-  none_remains s = ([], inl refl, subst (λ (l : List Release). StandsAfter h l bytes) (sym (append-nil (imported stage.answered))) s)
+  none_remains : RepresentsAfter h (imported stage.answered) bytes → Remains stage h bytes
+  none_remains s = ([], inl refl, subst (λ (l : List Release). RepresentsAfter h l bytes) (sym (append-nil (imported stage.answered))) s)
 
   -- the device failed before
   failed_remains : (failed : Option Release) → failed_in stage.answered ≡ failed → RepresentsAll h (imported stage.answered) failed bytes → Remains stage h bytes
@@ -63,13 +63,13 @@ module _ (stage : Stage) (h : History) (bytes : List ℕ) where
 
   module _ (g : History) (takes : TakesAll h (imported stage.answered) g) (few : length (imported stage.cut_off) ≤ 1) where
     -- the line that was cut off fails
-    cut_failed : (failed : Option Release) → failed_in stage.cut_off ≡ failed → ((release : Release) → failed ≡ Some release → imported stage.cut_off ≡ []) → StandsWithFailed g (imported stage.cut_off) failed bytes → Remains stage h bytes
+    cut_failed : (failed : Option Release) → failed_in stage.cut_off ≡ failed → ((release : Release) → failed ≡ Some release → imported stage.cut_off ≡ []) → RepresentsWithFailed g (imported stage.cut_off) failed bytes → Remains stage h bytes
     cut_failed None is none w = absurd w
     cut_failed (Some release) is none w =
         let at : g ≡ w.0 = sym (subst (λ (l : List Release). TakesAll g l w.0) (none release refl) w.1) in
-        (release ∷ [], inr (release, refl, inr (inl is)), one_more h g (imported stage.answered) release bytes takes (subst (λ (k : History). StandsWith k release bytes) (sym at) w.2))
+        (release ∷ [], inr (release, refl, inr (inl is)), one_more h g (imported stage.answered) release bytes takes (subst (λ (k : History). RepresentsWith k release bytes) (sym at) w.2))
 
-    cut_front : (front : List Release) → StandsAfter g front bytes → (front ≡ []) ⊎ ((release : Release) × (front ≡ release ∷ []) × (imported stage.cut_off ≡ release ∷ [])) → Remains stage h bytes
+    cut_front : (front : List Release) → RepresentsAfter g front bytes → (front ≡ []) ⊎ ((release : Release) × (front ≡ release ∷ []) × (imported stage.cut_off ≡ release ∷ [])) → Remains stage h bytes
     cut_front front s (inl none) =
         let at : s.0 ≡ g = subst (λ (l : List Release). TakesAll g l s.0) none s.1 in
         none_remains (s.0, subst (λ (k : History). TakesAll h (imported stage.answered) k) (sym at) takes, s.2)

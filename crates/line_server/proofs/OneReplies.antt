@@ -17,7 +17,7 @@ use Rattle.line_server.specs.declared.refusal.LineRefusal.{LineRefusal}
 use Rattle.line_server.specs.declared.refusal.LineRefusal.TheVariants as refusals
 use Rattle.line_server.specs.Pins.{pin_of}
 use Rattle.line_server.specs.Sources.{Releases}
-use Rattle.import_check.specs.Sample.{files_of}
+use Rattle.import_check.specs.Release.{files_of}
 use Rattle.line_server.specs.ReplyValue.{Answer, Rows, Ids, Done}
 use Rattle.line_server.specs.Replies.{Server, Same, found, shown, left_of, IsFinding, IsAnswer, IsImported, IsUnfound, IsClosed, IsLacking, IsStoreRefusal, IsOutcome, Replies}
 use Rattle.line_server.specs.Laws.{OneReply, IsSure, IsSureImport}

@@ -1,5 +1,6 @@
 -- What a stop may leave while lines are answered.
-use Rattle.std.specs.Prelude.{◌≡◌, ◌↔◌, ◌⊎◌, true, false, ℕ, List, [], ◌∷◌, ◌++◌, Option, Some, None}
+use Rattle.std.specs.Prelude.{◌≡◌, ◌↔◌, ◌⊎◌, true, false, ℕ, List, [], ◌∷◌, ◌++◌, Option, Some}
+use Rattle.std.specs.Prelude.{None}
 use Rattle.disk_model.specs.DeviceView.{DeviceView}
 use Rattle.disk_model.specs.Disk.{EachImage, LeavesOnly}
 use Rattle.rf2_values.specs.Row.{RowValue}
@@ -8,7 +9,7 @@ use Rattle.import_check.specs.declared.release.Release.{Release}
 use Rattle.import_check.specs.Release.{IsReleaseOf}
 use Rattle.store_image.specs.Images.{RepresentsHistory}
 use Rattle.history_store.specs.StoreValue.{StoreValue, IsAcknowledged}
-use Rattle.history_store.specs.Answers.{StandsWith}
+use Rattle.history_store.specs.Answers.{RepresentsWith}
 
 -- the releases are accepted one after the other, and this is the history after them
 abbrev pub TakesAll : History → List Release → History → Type 0
@@ -21,27 +22,29 @@ abbrev pub IsFront : {X : Type 0} → List X → List X → Type 0
 IsFront {X} front whole = (rest : List X) × (whole ≡ front ++ rest)
 
 -- the bytes represent the history with these releases
-abbrev pub StandsAfter : History → List Release → List ℕ → Type 0
-StandsAfter h releases c = (after : History) × TakesAll h releases after × RepresentsHistory after c
+abbrev pub RepresentsAfter : History → List Release → List ℕ → Type 0
+RepresentsAfter h releases c =
+    (after : History) × TakesAll h releases after × RepresentsHistory after c
 
 -- the bytes represent the history with the first so many of these releases
 abbrev pub RepresentsFront : History → List Release → List ℕ → Type 0
 RepresentsFront h releases c =
-    (front : List Release) × IsFront front releases × StandsAfter h front c
+    (front : List Release) × IsFront front releases × RepresentsAfter h front c
 
 -- the bytes represent the history with all of these releases and one more, in whose import the
 -- device failed
-abbrev pub StandsWithFailed : History → List Release → Option Release → List ℕ → Type 0
-StandsWithFailed h releases None c = ⊥
-StandsWithFailed h releases (Some release) c =
-    (after : History) × TakesAll h releases after × StandsWith after release c
+abbrev pub RepresentsWithFailed : History → List Release → Option Release → List ℕ → Type 0
+RepresentsWithFailed h releases None c = ⊥
+RepresentsWithFailed h releases (Some release) c =
+    (after : History) × TakesAll h releases after × RepresentsWith after release c
 
 abbrev pub RepresentsSome : History → List Release → Option Release → List ℕ → Type 0
 RepresentsSome h releases failed c =
-    RepresentsFront h releases c ⊎ StandsWithFailed h releases failed c
+    RepresentsFront h releases c ⊎ RepresentsWithFailed h releases failed c
 
 abbrev pub RepresentsAll : History → List Release → Option Release → List ℕ → Type 0
-RepresentsAll h releases failed c = StandsAfter h releases c ⊎ StandsWithFailed h releases failed c
+RepresentsAll h releases failed c =
+    RepresentsAfter h releases c ⊎ RepresentsWithFailed h releases failed c
 
 -- One call on a store, or several, imported these releases one after the other;
 -- and in the import of one more, if there is one, the device failed.

@@ -1,5 +1,6 @@
 -- What holds of every run of lines, on an honest disk.
-use Rattle.std.specs.Prelude.{◌≡◌, ◌⊎◌, ℕ, ◌++◌, false, ◌+◌, ◌≤◌, List, [], ◌∷◌, length, Option, Some, Result, Ok, Err, MatchResult, slice_index_or, None}
+use Rattle.std.specs.Prelude.{◌≡◌, ◌⊎◌, ℕ, ◌++◌, false, ◌+◌, ◌≤◌, List, [], ◌∷◌, length, Option}
+use Rattle.std.specs.Prelude.{Some, Result, Ok, Err, MatchResult, slice_index_or, None}
 use Rattle.disk_model.specs.DeviceView.{DeviceView}
 use Rattle.std.specs.List.{AllByRecursion}
 use Rattle.std.specs.Option.{option_or}
@@ -19,7 +20,8 @@ use Rattle.line_server.specs.declared.refusal.LineRefusal.TheVariants as refusal
 use Rattle.line_server.specs.Pins.{pin_of}
 use Rattle.line_server.specs.Sources.{Releases, SourceView, source_view}
 use Rattle.line_server.specs.ReplyValue.{Answer, Done}
-use Rattle.line_server.specs.Replies.{Server, Replies, Same, found, shown, imports_seen, receipt_of, server}
+use Rattle.line_server.specs.Replies.{Server, Replies, Same, found, shown, imports_seen, receipt_of}
+use Rattle.line_server.specs.Replies.{server}
 use Rattle.line_server.specs.Imports.{Imports, IsFront, TakesAll, RepresentsSome, RepresentsAll}
 use Rattle.line_server.specs.Turns.{Turn, IsTurn, Run, imported, failed_in}
 use Rattle.line_server.specs.Pinning.{IsPinnedTo, LeavesPin, StaysPinned}

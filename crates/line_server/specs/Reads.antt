@@ -1,5 +1,6 @@
 -- What the reads of an input gave.
-use Rattle.std.specs.Prelude.{◌≡◌, ⊤, ℕ, ◌≤◌, List, [], ◌++◌, length, take, Option, Some, None, Result, Ok, Err}
+use Rattle.std.specs.Prelude.{◌≡◌, ⊤, ℕ, ◌≤◌, List, [], ◌++◌, length, take, Option, Some, None}
+use Rattle.std.specs.Prelude.{Result, Ok, Err}
 use Rattle.std.specs.List.{flat_map}
 
 -- what a read gave: bytes, of which none is the end of the input; or it failed

@@ -1,20 +1,26 @@
 -- When a line has which answer, and what the server is afterwards.
-use Rattle.std.specs.Prelude.{◌≡◌, ◌≢◌, ℕ, ◌≤◌, ◌<◌, ◌⊎◌, true, false, List, [], ◌∷◌, length, codes, decimal, slice_set, option_map, Option, Some, None, Result, Ok, Err, option_to_list}
+use Rattle.std.specs.Prelude.{◌≡◌, ◌≢◌, ℕ, ◌≤◌, ◌<◌, ◌⊎◌, true, false, List, [], ◌∷◌, length, codes}
+use Rattle.std.specs.Prelude.{decimal, slice_set, option_map, Option, Some, None, Result, Ok, Err}
+use Rattle.std.specs.Prelude.{option_to_list}
 use Rattle.rf2_values.specs.Row.{RowValue}
 use Rattle.history_model.specs.declared.receipt.Receipt.{Receipt}
 use Rattle.history_model.specs.History.{rows_at}
 use Rattle.history_model.specs.Brought.{ImportReceiptOf}
-use Rattle.history_model.specs.Queries.{get, versions, page, terms, search_terms, children, replacements, about}
+use Rattle.history_model.specs.Queries.{get, versions, page, terms, search_terms, children}
+use Rattle.history_model.specs.Queries.{replacements, about}
 use Rattle.import_check.specs.declared.release.Release.{Release}
-use Rattle.import_check.specs.Sample.{files_of}
+use Rattle.import_check.specs.Release.{files_of}
 use Rattle.history_store.specs.declared.refusal.Refusal.{Refusal}
 use Rattle.history_store.specs.declared.refusal.Refusal.TheVariants as store
 use Rattle.history_store.specs.Catalog.{Merge as CatalogMerge}
 use Rattle.history_store.specs.StoreValue.{StoreValue}
 use Rattle.history_store.specs.Answers.{IsImportOf, IsImportOnAnyDisk, IsReadRefusal, IsRefused}
-use Rattle.history_store.specs.MergeAnswers.{IsBeginningOf, IsSteppingOf, IsPublishingOf, IsAbandoningOf, IsTrimmingOf}
+use Rattle.history_store.specs.MergeAnswers.{IsBeginningOf, IsSteppingOf, IsPublishingOf}
+use Rattle.history_store.specs.MergeAnswers.{IsAbandoningOf, IsTrimmingOf}
 use Rattle.line_commands.specs.declared.unread.Unread.{Unread}
-use Rattle.line_commands.specs.Commands.{Command, Import, Get, History, Children, Terms, Search, Replaced, About, Page, Receipt as AskReceipt, Pin, Unpin, Merge, Step, Publish, Abandon, Trim, Status}
+use Rattle.line_commands.specs.Commands.{Command, Import, Get, History, Children, Terms, Search}
+use Rattle.line_commands.specs.Commands.{Replaced, About, Page, Receipt as AskReceipt, Pin, Unpin}
+use Rattle.line_commands.specs.Commands.{Merge, Step, Publish, Abandon, Trim, Status}
 use Rattle.line_commands.specs.Requests.{Asks, IsUnread}
 use Rattle.line_server.specs.declared.refusal.LineRefusal.{LineRefusal}
 use Rattle.line_server.specs.declared.refusal.LineRefusal.TheVariants as refusals

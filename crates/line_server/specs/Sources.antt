@@ -2,7 +2,7 @@
 use Rattle.std.specs.Prelude.{◌≡◌, ⊤, ℕ, List, Option, Some, None, Result, Ok, Err}
 use Rattle.rf2_values.specs.declared.row.Kind.{Kind}
 use Rattle.import_check.specs.declared.release.Release.{Release}
-use Rattle.import_check.specs.Sample.{files_of}
+use Rattle.import_check.specs.Release.{files_of}
 use Rattle.line_server.specs.declared.source.SourceFault.{SourceFault}
 use Rattle.line_server.specs.declared.source.SourceFault.TheVariants as faults
 

@@ -1,11 +1,15 @@
 //! Laws of the definitions, each the contract of a function that does nothing.
 
-ghost use Rattle.line_server.specs.Laws.{PinnedIsUndisturbed, PinnedReceiptIsUndisturbed, TurnsImport, ImportsCompose, OneImport, OneReply};
+ghost use Rattle.line_server.specs.Laws.{PinnedIsUndisturbed, PinnedReceiptIsUndisturbed};
+ghost use Rattle.line_server.specs.Laws.{TurnsImport, ImportsCompose, OneImport, OneReply};
 ghost use Rattle.disk_model.specs.DeviceView.{device_view};
 ghost use Rattle.line_server.specs.Sources.{source_view};
-ghost use Rattle.line_server.specs.Laws.{AcknowledgedImportsStay, AcknowledgedImportsAreOpened, OkIsImported, RefusedIsNotImported, ImportedIsOk};
-ghost use Rattle.line_server.specs.Laws.{RunNeedsNoSource, EachLifeKeepsItsImports, KeptAreAcknowledged, EachLifeIsOpened};
-ghost use Rattle.line_server.specs.Laws.{RunKeepsPin, PinnedSeesItsImports, PinnedSeesItsReceipts, PinnedRunsAreUndisturbed, PinnedReceiptsAreUndisturbed};
+ghost use Rattle.line_server.specs.Laws.{AcknowledgedImportsStay, AcknowledgedImportsAreOpened};
+ghost use Rattle.line_server.specs.Laws.{OkIsImported, RefusedIsNotImported, ImportedIsOk};
+ghost use Rattle.line_server.specs.Laws.{RunNeedsNoSource, EachLifeKeepsItsImports};
+ghost use Rattle.line_server.specs.Laws.{KeptAreAcknowledged, EachLifeIsOpened};
+ghost use Rattle.line_server.specs.Laws.{RunKeepsPin, PinnedSeesItsImports, PinnedSeesItsReceipts};
+ghost use Rattle.line_server.specs.Laws.{PinnedRunsAreUndisturbed, PinnedReceiptsAreUndisturbed};
 
 use crate::source::Source;
 use disk_model::Disk;

@@ -2,7 +2,8 @@
 
 ghost use Rattle.std.specs.Prelude.{◌≤◌};
 ghost use Rattle.disk_model.specs.DeviceView.{device_view};
-ghost use Rattle.line_commands.specs.Commands.{Get, History, Children, Terms, Search, Replaced, About, Page, Receipt};
+ghost use Rattle.line_commands.specs.Commands.{Get, History, Children, Terms, Search, Replaced};
+ghost use Rattle.line_commands.specs.Commands.{About, Page, Receipt};
 ghost use Rattle.line_server.specs.Private.{IsQueried};
 
 use crate::refusal::LineRefusal;

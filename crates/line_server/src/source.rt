@@ -5,7 +5,7 @@ ghost use Rattle.rf2_values.specs.declared.row.Kind.{Kind};
 ghost use Rattle.line_server.specs.Sources.{Releases, IsGiven};
 
 use history_store::Refusal;
-use import_check::{Release, sample};
+use import_check::Release;
 use std::alloc::Global;
 use thiserror::Error;
 
@@ -36,27 +36,4 @@ pub trait Source {
     fn note_refusal(&mut self, alloc: Global, name: &str, refusal: Refusal)
         ensures honesty { is_honest self.old → is_honest self.new }
         ensures stays { is_honest self.old → releases self.new ≡ releases self.old };
-}
-
-/// The sample releases, and no others.
-#[derive(Clone, Copy)]
-pub struct Sample;
-
-impl Source for Sample {
-    ghost use Rattle.std.specs.Prelude.{⊤};
-    ghost use Rattle.import_check.specs.Sample.{sample_files};
-
-    ghost is_honest = { λ _. ⊤ };
-
-    ghost releases = { λ _ name. sample_files name };
-
-    fn release(&mut self, alloc: Global, name: &str) -> Result<Release, SourceFault> {
-        match sample(alloc, name) {
-            Ok(Some(release)) => Ok(release),
-            Ok(None) => Err(SourceFault::NoFolder),
-            Err(_) => Err(SourceFault::OutOfMemory),
-        }
-    }
-
-    fn note_refusal(&mut self, _alloc: Global, _name: &str, _refusal: Refusal) {}
 }

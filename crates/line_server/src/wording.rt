@@ -1,6 +1,7 @@
 //! The words of replies.
 
-ghost use Rattle.std.specs.Prelude.{◌≡◌, ◌≤◌, ◌<◌, ◌+◌, ◌++◌, ◌∷◌, [], ℕ, List, Option, Ok, Err, decimal, IfOk, length, codes};
+ghost use Rattle.std.specs.Prelude.{◌≡◌, ◌≤◌, ◌<◌, ◌+◌, ◌++◌, ◌∷◌, [], ℕ, List, Option, Ok, Err};
+ghost use Rattle.std.specs.Prelude.{decimal, IfOk, length, codes};
 ghost use Rattle.arrayvec.specs.ArrayString.{array_string_len};
 ghost use Rattle.line_server.specs.ReplyValue.{Rows, Ids, Done, reply_value, line};
 ghost use Rattle.line_server.specs.Replies.{number_or_none, receipt_of};

@@ -1,9 +1,10 @@
 //! The releases that lines import by their names.
 
 use history_store::Refusal;
-use import_check::{Release, sample};
-use line_server::{Sample, Source, SourceFault};
+use import_check::Release;
+use line_server::{Source, SourceFault};
 use rf2_rows::{Kind, column_names};
+use samples::sample;
 use std::alloc::{AllocError, Global};
 use test_support::{of_bytes, one_file};
 
@@ -78,7 +79,8 @@ fn file_of(name: &str) -> Option<File> {
         "short-member" => (
             Kind::Association,
             &[
-                "0b6a0c2e-5d0f-4c53-9f6e-8d9d2a7b1c0|20210131|1|CORE|900000000000527005|1000004|2000001",
+                "0b6a0c2e-5d0f-4c53-9f6e-8d9d2a7b1c0|20210131|1|CORE|900000000000527005|1000004|\
+                     2000001",
             ],
         ),
         _ => return values_of(name),
@@ -135,7 +137,7 @@ fn new_in(alloc: Global, year: &str) -> Result<Release, AllocError> {
     one_file(alloc, Kind::Concept, &[row.as_str()])
 }
 
-/// The example under a name, if there is one.
+/// The example or the sample under a name, if there is one.
 fn example(alloc: Global, name: &str) -> Result<Option<Release>, AllocError> {
     if let Some((kind, rows)) = file_of(name) {
         return Ok(Some(one_file(alloc, kind, rows)?));
@@ -151,7 +153,7 @@ fn example(alloc: Global, name: &str) -> Result<Option<Release>, AllocError> {
     }
     match name {
         "no-bytes" => Ok(Some(of_bytes(alloc, Kind::Concept, b"")?)),
-        _ => Ok(None),
+        _ => sample(alloc, name),
     }
 }
 
@@ -169,7 +171,7 @@ impl Source for Examples {
     fn release(&mut self, alloc: Global, name: &str) -> Result<Release, SourceFault> {
         match example(alloc, name) {
             Ok(Some(release)) => Ok(release),
-            Ok(None) => Sample.release(alloc, name),
+            Ok(None) => Err(SourceFault::NoFolder),
             Err(_) => Err(SourceFault::OutOfMemory),
         }
     }

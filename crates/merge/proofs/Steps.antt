@@ -10,7 +10,8 @@ use Rattle.rf2_values.specs.Key.{key_of, key_cmp}
 use Rattle.history_model.specs.declared.stamped.StampedRow.{StampedRow}
 use Rattle.history_model.specs.InOrder.{Has, IsAscending}
 use Rattle.history_model.specs.History.{stamped_cmp}
-use Rattle.history_model.specs.Lists.{ShareNoKey, AreLists, union}
+use Rattle.history_model.specs.Lists.{AreLists, union}
+use Rattle.history_model.specs.Private.{ShareNoKey}
 use Rattle.history_model.proofs.InOrder.{Has-append_left, Has-append_right, Has-append_cases, above, below_all, in_order_first}
 use Rattle.history_model.proofs.Keys.{stamped_total, same_key}
 use Rattle.segment.specs.declared.place.RowPlace.{RowPlace}

@@ -1,7 +1,8 @@
 //! The merge of two lists of places into one, in turns.
 #![tactic(auto)]
 
-ghost use Rattle.std.specs.Prelude.{◌≡◌, ◌+◌, ◌-◌, ◌<◌, ◌≤◌, ◌^◌, ◌↔◌, ◌++◌, ◌∷◌, [], List, IsTrue, IfOk, length, take, drop, min};
+ghost use Rattle.std.specs.Prelude.{◌≡◌, ◌+◌, ◌-◌, ◌<◌, ◌≤◌, ◌^◌, ◌↔◌, ◌++◌, ◌∷◌, [], List, IsTrue};
+ghost use Rattle.std.specs.Prelude.{IfOk, length, take, drop, min};
 ghost use Rattle.merge.specs.Private.{next_place};
 
 use segment::RowPlace;
@@ -36,7 +37,8 @@ impl MergeProgress {
     ghost use Rattle.history_model.specs.declared.stamped.StampedRow.{StampedRow};
     ghost use Rattle.history_model.specs.Lists.{AreLists};
     ghost use Rattle.segment.specs.Standing.{places_of};
-    ghost use Rattle.merge.specs.Merged.{count_left, rows_left, taken_of_a, taken_of_b, IsNew, IsOf, StandsTaken};
+    ghost use Rattle.merge.specs.Merged.{count_left, rows_left, taken_of_a, taken_of_b, IsNew};
+    ghost use Rattle.merge.specs.Merged.{IsOf, StandsTaken};
 
     /// The merge of two lists of these lengths, of which nothing is taken yet.
     pub fn new(a_len: usize, b_len: usize) -> MergeProgress

@@ -13,6 +13,7 @@ use Rattle.rf2_values.specs.Row.{RowValue, IsVersion, IsBody, IsConcept, IsCompo
 use Rattle.rf2_rows.specs.Line.{Column, Identifier, Time, Active, ConceptReference, ComponentReference, Number, Text, MayStand, HasFault, FirstFault, columns, columns_in, own_layout, columns_of, IsFaultOf}
 use Rattle.rf2_rows.specs.Private.{AllStand}
 use Rattle.std.specs.Int.{from_be_bytes, w128}
+use Rattle.rf2_values.proofs.Ids.{same_ids}
 use Rattle.rf2_values.proofs.Members.{member_text_spells}
 use Rattle.rf2_rows.proofs.Splits.{split-joined}
 use Rattle.rf2_rows.proofs.Clean.{all_clean, all_no_tab, line_is_utf8}
@@ -94,29 +95,6 @@ same_flags false false ms ns e = (refl, cc)
 same_flags true true ms ns e = (refl, cc)
 same_flags false true ms ns e = let digits : ◌≡◌ {A = ℕ} 48 49 = ap (λ (ts : List (List ℕ)). get_or (get_or ts 0 []) 0 0) e in absurd (omega arith)
 same_flags true false ms ns e = let digits : ◌≡◌ {A = ℕ} 49 48 = ap (λ (ts : List (List ℕ)). get_or (get_or ts 0 []) 0 0) e in absurd (omega arith)
-
--- a text spells one identifier of a kind
-same_ids : (kind : Kind) (m n : ℕ) (text : List ℕ) → IsIdOf kind m → IsIdOf kind n → SpellsId kind m text → SpellsId kind n text → m ≡ n
-same_ids kind.Concept m n text hm hn sm sn =
-    let low = hm.sctid.high in
-    let high = hn.sctid.high in
-    decimal_injective m n (omega arith) (omega arith) (sym sm ∙ sn)
-same_ids kind.Description m n text hm hn sm sn =
-    let low = hm.sctid.high in
-    let high = hn.sctid.high in
-    decimal_injective m n (omega arith) (omega arith) (sym sm ∙ sn)
-same_ids kind.Relationship m n text hm hn sm sn =
-    let low = hm.sctid.high in
-    let high = hn.sctid.high in
-    decimal_injective m n (omega arith) (omega arith) (sym sm ∙ sn)
-same_ids kind.Association m n text hm hn sm sn =
-    let both : Some sm.value.0 ≡ Some sn.value.0 = sym sm.value.1 ∙ sn.value.1 in
-    let bytes : sm.value.0 ≡ sn.value.0 = cc in
-    sm.value.2 ∙ ap (from_be_bytes w128) bytes ∙ sym sn.value.2
-same_ids kind.Concrete m n text hm hn sm sn =
-    let low = hm.sctid.high in
-    let high = hn.sctid.high in
-    decimal_injective m n (omega arith) (omega arith) (sym sm ∙ sn)
 
 same_components : (m n : ℕ) → IsComponent m → IsComponent n → (ms ns : List (List ℕ)) → decimal m ∷ ms ≡ decimal n ∷ ns → (m ≡ n) × (ms ≡ ns)
 same_components m n hm hn ms ns e =

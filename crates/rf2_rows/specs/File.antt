@@ -1,5 +1,6 @@
 -- What a release file is, and what is wrong with a file that is none.
-use Rattle.std.specs.Prelude.{◌≡◌, ◌≢◌, ℕ, ◌+◌, ◌≤◌, ◌<◌, ◌⊎◌, List, [], ◌∷◌, ◌++◌, length, map, drop, nat_eq, if◌then◌else◌}
+use Rattle.std.specs.Prelude.{◌≡◌, ◌≢◌, ℕ, ◌+◌, ◌≤◌, ◌<◌, ◌⊎◌, List, [], ◌∷◌, ◌++◌, length, map}
+use Rattle.std.specs.Prelude.{drop, nat_eq, if◌then◌else◌}
 use Rattle.std.specs.List.{AllZip, starts_with}
 use Rattle.std.specs.Str.{IsUtf8}
 use Rattle.bstr.specs.Text.{lines_of, without_terminator}

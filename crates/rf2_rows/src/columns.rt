@@ -5,7 +5,8 @@ ghost use Rattle.rf2_values.specs.declared.row.Kind.TheVariants as kind;
 ghost use Rattle.rf2_values.specs.Time.{IsTime};
 ghost use Rattle.rf2_values.specs.Text.{IsText};
 ghost use Rattle.rf2_values.specs.Row.{IsOfClass, IsConcept, IsComponent, IsIdOf, SpellsId, flag};
-ghost use Rattle.rf2_rows.specs.Line.{Identifier, Time, Active, ConceptReference, ComponentReference, Number, Text as ColumnText};
+ghost use Rattle.rf2_rows.specs.Line.{Identifier, Time, Active, ConceptReference};
+ghost use Rattle.rf2_rows.specs.Line.{ComponentReference, Number, Text as ColumnText};
 ghost use Rattle.rf2_rows.specs.Line.{IsLineFaultThat, HasClassFault, HasFault, columns_of};
 ghost use Rattle.rf2_rows.specs.Private.{texts};
 
@@ -15,7 +16,7 @@ use rf2_values::{Class, EffectiveTime, Kind, Member, Sctid, Text, number};
 use std::alloc::{AllocError, Global};
 
 /// Puts the texts between the TABs into the vector, in place of what it held.
-pub fn put_columns<'a>(columns: &mut Vec<&'a [u8]>, text: &'a [u8]) -> Result<(), AllocError>
+pub(crate) fn put_columns<'a>(columns: &mut Vec<&'a [u8]>, text: &'a [u8]) -> Result<(), AllocError>
     ensures { OnOk result (texts columns.new.items ≡ columns_of text.now) }
 {
     columns.clear();
@@ -54,7 +55,7 @@ fn member_id(text: &[u8]) -> Result<u128, LineFault>
 }
 
 /// A row's own identifier.
-pub fn identifier(kind: Kind, text: &[u8]) -> Result<u128, LineFault>
+pub(crate) fn identifier(kind: Kind, text: &[u8]) -> Result<u128, LineFault>
     ensures { MatchResult result
         (λ n. IsIdOf kind n × SpellsId kind n text.now)
         (HasFault (Identifier kind) text.now) }
@@ -70,14 +71,14 @@ pub fn identifier(kind: Kind, text: &[u8]) -> Result<u128, LineFault>
 }
 
 /// The day from which a row holds.
-pub fn effective_time(text: &[u8]) -> Result<EffectiveTime, LineFault>
+pub(crate) fn effective_time(text: &[u8]) -> Result<EffectiveTime, LineFault>
     ensures { MatchResult result (λ t. IsTime t × (text.now ≡ decimal t)) (HasFault Time text.now) }
 {
     EffectiveTime::parse(text).ok_or(LineFault::Time)
 }
 
 /// Whether a row is active.
-pub fn active(text: &[u8]) -> Result<bool, LineFault>
+pub(crate) fn active(text: &[u8]) -> Result<bool, LineFault>
     ensures { MatchResult result (λ b. text.now ≡ flag b) (HasFault Active text.now) }
 {
     match text {
@@ -88,7 +89,7 @@ pub fn active(text: &[u8]) -> Result<bool, LineFault>
 }
 
 /// The identifier of a concept.
-pub fn concept_reference(text: &[u8]) -> Result<Sctid, LineFault>
+pub(crate) fn concept_reference(text: &[u8]) -> Result<Sctid, LineFault>
     ensures { MatchResult result
         (λ n. IsConcept n × (text.now ≡ decimal n))
         (HasFault ConceptReference text.now) }
@@ -100,7 +101,7 @@ pub fn concept_reference(text: &[u8]) -> Result<Sctid, LineFault>
 }
 
 /// The identifier of a concept, a description or a relationship.
-pub fn component_reference(text: &[u8]) -> Result<Sctid, LineFault>
+pub(crate) fn component_reference(text: &[u8]) -> Result<Sctid, LineFault>
     ensures { MatchResult result
         (λ n. IsComponent n × (text.now ≡ decimal n))
         (HasFault ComponentReference text.now) }
@@ -112,7 +113,7 @@ pub fn component_reference(text: &[u8]) -> Result<Sctid, LineFault>
 }
 
 /// A number of 32 bits, without leading zeros.
-pub fn group(text: &[u8]) -> Result<u32, LineFault>
+pub(crate) fn group(text: &[u8]) -> Result<u32, LineFault>
     ensures { MatchResult result
         (λ n. (n < 2 ^ 32) × (text.now ≡ decimal n))
         (HasFault Number text.now) }
@@ -127,7 +128,7 @@ pub fn group(text: &[u8]) -> Result<u32, LineFault>
 }
 
 /// A text that isn't empty.
-pub fn some_text(alloc: Global, text: &[u8]) -> Result<Text, RowFault>
+pub(crate) fn some_text(alloc: Global, text: &[u8]) -> Result<Text, RowFault>
     ensures { MatchResult result
         (λ t. IsText t × (t ≡ text.now))
         (IsLineFaultThat (HasFault ColumnText text.now)) }

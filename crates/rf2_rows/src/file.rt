@@ -1,11 +1,13 @@
 //! Files: reading rows.
 
-ghost use Rattle.std.specs.Prelude.{◌≡◌, ℕ, ◌<◌, ◌↔◌, ◌⊎◌, length, List, MatchResult, MatchOption, IfOk, IfErr};
+ghost use Rattle.std.specs.Prelude.{◌≡◌, ℕ, ◌<◌, ◌↔◌, ◌⊎◌, length, List, MatchResult, MatchOption};
+ghost use Rattle.std.specs.Prelude.{IfOk, IfErr};
 ghost use Rattle.rf2_values.specs.Row.{RowValue};
 ghost use Rattle.rf2_rows.specs.declared.fault.LineFault.{LineFault};
 ghost use Rattle.rf2_rows.specs.declared.fault.FileFault.TheVariants as filefault;
 ghost use Rattle.rf2_rows.specs.Line.{header};
-ghost use Rattle.rf2_rows.specs.File.{without_mark as bytes_without_mark, lines_in, IsReleaseFile, SpellsEach};
+ghost use Rattle.rf2_rows.specs.File.{without_mark as bytes_without_mark, lines_in, IsReleaseFile};
+ghost use Rattle.rf2_rows.specs.File.{SpellsEach};
 ghost use Rattle.rf2_rows.specs.File.{IsFirstLineFault, IsFaultOfRows, IsFaultOfFile, IsFaultThat};
 
 use crate::fault::{FileFault, LineFault};
@@ -19,11 +21,13 @@ const CONCEPT_HEADER: &[u8] = b"id\teffectiveTime\tactive\tmoduleId\tdefinitionS
 
 /// The column names of a description file.
 const DESCRIPTION_HEADER: &[u8] =
-    b"id\teffectiveTime\tactive\tmoduleId\tconceptId\tlanguageCode\ttypeId\tterm\tcaseSignificanceId";
+    b"id\teffectiveTime\tactive\tmoduleId\tconceptId\tlanguageCode\ttypeId\tterm\t\
+      caseSignificanceId";
 
 /// The column names of a relationship file.
 const RELATIONSHIP_HEADER: &[u8] =
-    b"id\teffectiveTime\tactive\tmoduleId\tsourceId\tdestinationId\trelationshipGroup\ttypeId\tcharacteristicTypeId\tmodifierId";
+    b"id\teffectiveTime\tactive\tmoduleId\tsourceId\tdestinationId\trelationshipGroup\ttypeId\t\
+      characteristicTypeId\tmodifierId";
 
 /// The column names of a file of members of association reference sets.
 const ASSOCIATION_HEADER: &[u8] =
@@ -31,7 +35,8 @@ const ASSOCIATION_HEADER: &[u8] =
 
 /// The column names of a file of relationships with concrete values.
 const CONCRETE_HEADER: &[u8] =
-    b"id\teffectiveTime\tactive\tmoduleId\tsourceId\tvalue\trelationshipGroup\ttypeId\tcharacteristicTypeId\tmodifierId";
+    b"id\teffectiveTime\tactive\tmoduleId\tsourceId\tvalue\trelationshipGroup\ttypeId\t\
+      characteristicTypeId\tmodifierId";
 
 /// The first line of a file of the kind, without its line end: the column names, joined by TAB.
 pub fn column_names(kind: Kind) -> &'static [u8]

@@ -1,6 +1,7 @@
 //! Laws of the definitions. The functions do nothing: each has its law for a contract.
 
-ghost use Rattle.rf2_rows.specs.Laws.{SpellsOneRow, CanonicalSpells, OneFaultOfLine, RowHasNoFault, RowOrFault};
+ghost use Rattle.rf2_rows.specs.Laws.{SpellsOneRow, CanonicalSpells, OneFaultOfLine, RowHasNoFault};
+ghost use Rattle.rf2_rows.specs.Laws.{RowOrFault};
 ghost use Rattle.rf2_rows.specs.Laws.{OneList, OneFaultOfFile, ReleaseFileHasNoFault, FileOrFault};
 ghost use Rattle.rf2_rows.specs.Laws.{BytesAreTheirLines, LinesAreFound};
 

@@ -1,13 +1,17 @@
 //! Lines: reading a row.
 
-ghost use Rattle.std.specs.Prelude.{◌≡◌, ◌≤◌, ◌⊎◌, ℕ, [], ◌∷◌, length, MatchResult, IfOk, IfErr, decimal};
+ghost use Rattle.std.specs.Prelude.{◌≡◌, ◌≤◌, ◌⊎◌, ℕ, [], ◌∷◌, length, MatchResult, IfOk, IfErr};
+ghost use Rattle.std.specs.Prelude.{decimal};
 ghost use Rattle.rf2_values.specs.declared.row.Kind.TheVariants as kind;
 ghost use Rattle.rf2_rows.specs.declared.fault.LineFault.{LineFault};
 ghost use Rattle.rf2_rows.specs.declared.fault.RowFault.TheVariants as rowfault;
 ghost use Rattle.rf2_values.specs.Time.{IsTime};
-ghost use Rattle.rf2_values.specs.Row.{RowValue, IsVersion, IsBody, IsConcept, IsIdOf, kind_of, kind_of_body, body_columns};
-ghost use Rattle.rf2_values.specs.Row.{Spells, SpellsId, SpellsColumns, flag as flag_text, line_limit, line_of};
-ghost use Rattle.rf2_rows.specs.Line.{IsLineFaultThat, FirstFault, columns_in, common_layout, own_layout, IsFaultOfColumns, IsFaultOf};
+ghost use Rattle.rf2_values.specs.Row.{RowValue, IsVersion, IsBody, IsConcept, IsIdOf, kind_of};
+ghost use Rattle.rf2_values.specs.Row.{kind_of_body, body_columns};
+ghost use Rattle.rf2_values.specs.Row.{Spells, SpellsId, SpellsColumns, flag as flag_text};
+ghost use Rattle.rf2_values.specs.Row.{line_limit, line_of};
+ghost use Rattle.rf2_rows.specs.Line.{IsLineFaultThat, FirstFault, columns_in, common_layout};
+ghost use Rattle.rf2_rows.specs.Line.{own_layout, IsFaultOfColumns, IsFaultOf};
 ghost use Rattle.rf2_rows.specs.Private.{texts, IsLineReading};
 
 use crate::columns::{

@@ -1,4 +1,5 @@
 pub mod Decimals
 pub mod Digits
+pub mod Ids
 pub mod Lengths
 pub mod Members

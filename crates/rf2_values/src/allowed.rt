@@ -8,14 +8,14 @@ use crate::row::{Association, Body, Concrete, Description, Kind, Relationship};
 use crate::sctid::{Class, Sctid};
 
 /// Whether the identifier is a concept's.
-pub fn is_concept(id: Sctid) -> bool
+pub(crate) fn is_concept(id: Sctid) -> bool
     ensures { IsTrue result ↔ IsConcept id }
 {
     id.class() == Some(Class::Concept)
 }
 
 /// Whether the identifier is a concept's, a description's or a relationship's.
-pub fn is_component(id: Sctid) -> bool
+pub(crate) fn is_component(id: Sctid) -> bool
     ensures { IsTrue result ↔ IsComponent id }
 {
     id.class().is_some()
@@ -35,7 +35,7 @@ fn is_of_class(class: Class, id: u128) -> bool
 }
 
 /// Whether the number may identify what rows of the kind describe.
-pub fn is_id_of(kind: Kind, id: u128) -> bool
+pub(crate) fn is_id_of(kind: Kind, id: u128) -> bool
     ensures { IsTrue result ↔ IsIdOf kind id }
 {
     match kind {
@@ -89,7 +89,7 @@ fn is_concrete(columns: &Concrete) -> bool
 }
 
 /// Whether these are columns of a row.
-pub fn is_body(body: &Body) -> bool
+pub(crate) fn is_body(body: &Body) -> bool
     ensures { IsTrue result ↔ IsBody body.now }
 {
     match body {

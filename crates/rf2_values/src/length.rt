@@ -3,7 +3,8 @@
 ghost use Rattle.std.specs.Prelude.{◌≡◌, ◌+◌, ◌≤◌, ◌^◌, ◌↔◌, IsTrue, length, decimal};
 ghost use Rattle.rf2_values.specs.Time.{IsTime};
 ghost use Rattle.rf2_values.specs.Private.{columns_len};
-ghost use Rattle.rf2_values.specs.Row.{version, canonical, id_text, body_columns, kind_of_body, line_limit, IsIdOf, IsConcept, IsBody};
+ghost use Rattle.rf2_values.specs.Row.{version, canonical, id_text, body_columns, kind_of_body};
+ghost use Rattle.rf2_values.specs.Row.{line_limit, IsIdOf, IsConcept, IsBody};
 
 use crate::row::{Body, Kind};
 use crate::sctid::Sctid;
@@ -109,7 +110,13 @@ fn texts_len(body: &Body) -> u128
 
 /// Whether the canonical spelling of a row with these columns fits a line.
 /// Mostly its texts tell, without counting digits.
-pub fn is_short(id: u128, time: EffectiveTime, active: bool, module_id: Sctid, body: &Body) -> bool
+pub(crate) fn is_short(
+    id: u128,
+    time: EffectiveTime,
+    active: bool,
+    module_id: Sctid,
+    body: &Body,
+) -> bool
     requires id { IsIdOf (kind_of_body body.now) id }
     requires time { IsTime time }
     requires module_id { IsConcept module_id }

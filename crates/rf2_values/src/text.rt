@@ -1,6 +1,7 @@
 //! Texts of columns.
 
-ghost use Rattle.std.specs.Prelude.{◌≡◌, nat_eq, ℕ, IfOk, MatchOption, IsTrue, ◌↔◌, ⊤, length, ◌≤◌, List};
+ghost use Rattle.std.specs.Prelude.{◌≡◌, nat_eq, ℕ, IfOk, MatchOption, IsTrue, ◌↔◌, ⊤, length, ◌≤◌};
+ghost use Rattle.std.specs.Prelude.{List};
 ghost use Rattle.std.specs.Cmp.{partial_equiv_from_equiv};
 ghost use Rattle.std.specs.Cmp.Lexicographic.{nat_list_eq_equiv, pointwise};
 ghost use Rattle.rf2_values.specs.Text.{IsText};

@@ -3,7 +3,8 @@ use Rattle.std.specs.List.{sum_by}
 use Rattle.std.proofs.Common.{◌≡◌, ℕ, ◌+◌, List, length, refl, inl, inr, arith}
 use Rattle.std.proofs.lemmas.List.Concat.{length-flat_map}
 use Rattle.history_model.specs.declared.stamped.StampedRow.{StampedRow}
-use Rattle.history_model.specs.Lists.{ShareNoKey, union}
+use Rattle.history_model.specs.Lists.{union}
+use Rattle.history_model.specs.Private.{ShareNoKey}
 use Rattle.history_model.proofs.InOrder.{Has-all, all_from_has}
 use Rattle.history_model.proofs.Listings.{Has-union_cases, IsAscending-union}
 use Rattle.history_model.proofs.Unions.{sum_by-union}

@@ -7,7 +7,8 @@ ghost use Rattle.rf2_values.specs.Text.{IsText};
 ghost use Rattle.rf2_values.specs.Row.{IsBody};
 ghost use Rattle.segment.specs.Records.{Number};
 ghost use Rattle.rf2_values.specs.declared.row.Kind.TheVariants as kinds;
-ghost use Rattle.segment.specs.Private.Reading.{raw_description_fields, raw_relationship_fields, raw_association_fields, raw_concrete_fields};
+ghost use Rattle.segment.specs.Private.Reading.{raw_description_fields, raw_relationship_fields};
+ghost use Rattle.segment.specs.Private.Reading.{raw_association_fields, raw_concrete_fields};
 ghost use Rattle.segment.specs.Private.Finding.{Finds, HasFields};
 
 use crate::fault::SegmentFault;

@@ -7,7 +7,8 @@ ghost use Rattle.rf2_values.specs.declared.row.Body.TheVariants as bodies;
 ghost use Rattle.rf2_values.specs.Row.{line_limit};
 ghost use Rattle.history_model.specs.InOrder.{IsAscending};
 ghost use Rattle.history_model.specs.History.{stamped_cmp};
-ghost use Rattle.segment.specs.Records.{spelled, kind_code, active_code, body_fields, record_of, segment_of, IsStamped, IsSegment};
+ghost use Rattle.segment.specs.Records.{spelled, kind_code, active_code, body_fields, record_of};
+ghost use Rattle.segment.specs.Records.{segment_of, IsStamped, IsSegment};
 ghost use Rattle.segment.specs.Private.Reading.{Fits, fixed_len, texts_len};
 
 use crate::writing::{put_text, put_u8, put_u32, put_u64, put_u128};

@@ -5,7 +5,10 @@ ghost use Rattle.std.specs.Option.{option_map};
 ghost use Rattle.std.specs.Int.{w64};
 ghost use Rattle.rf2_values.specs.declared.row.Kind.TheVariants as kinds;
 ghost use Rattle.segment.specs.Records.{Field, Number};
-ghost use Rattle.segment.specs.Private.Reading.{fields_at, all_at, common_forms, body_forms, raw_common_fields, raw_description_fields, raw_relationship_fields, raw_association_fields, raw_concrete_fields};
+ghost use Rattle.segment.specs.Private.Reading.{fields_at, all_at, common_forms, body_forms};
+ghost use Rattle.segment.specs.Private.Reading.{raw_common_fields, raw_description_fields};
+ghost use Rattle.segment.specs.Private.Reading.{raw_relationship_fields, raw_association_fields};
+ghost use Rattle.segment.specs.Private.Reading.{raw_concrete_fields};
 
 use crate::fields::{read_text, read_u8, read_u32, read_u64, read_u128};
 

@@ -1,5 +1,5 @@
 -- What is kept of rows, with one row more and cut back.
-use Rattle.std.proofs.Common.{◌≡◌, ℕ, zero, suc, ◌+◌, ◌≤◌, List, [], ◌∷◌, ◌++◌, length, take, map, refl, sym, ap, ◌∙◌, arith, length-append, append-nil, append_assoc}
+use Rattle.std.proofs.Common.{◌≡◌, ℕ, zero, suc, ◌+◌, ◌≤◌, List, [], ◌∷◌, ◌++◌, length, take, map, refl, sym, ap, ◌∙◌, arith, length-append, append_assoc}
 use Rattle.std.proofs.lemmas.List.{map-append, take_all, take-append-le}
 use Rattle.rf2_values.specs.Row.{RowValue}
 use Rattle.history_model.specs.declared.stamped.StampedRow.{StampedRow}
@@ -9,13 +9,15 @@ use Rattle.segment.specs.declared.place.RowPlace.{RowPlace}
 use Rattle.segment.specs.Records.{record_of, segment_of}
 use Rattle.segment.specs.Standing.{record_len, row_place, with_places, places_of}
 use Rattle.segment.proofs.SegmentLaws.{segment_push, no_rows, pieces_join}
+use Rattle.segment.proofs.RecordLaws.{length-record}
 use Rattle.as_of_index.specs.Places.{place_cmp}
 use Rattle.as_of_index.specs.Postings.{posted_all}
+use Rattle.as_of_index.proofs.Pushing.{posted_push}
 use Rattle.as_of_index.proofs.Storing.{places_of_lists}
 use Rattle.term_prefix.specs.Terms.{TermAt}
 use Rattle.term_prefix.specs.Pushed.{posted_term}
-use Rattle.associations.specs.Edges.{Edges, no_edges, edges_of, joined_edges, first_edges, posted_edges, posted_link, posted_reference, posted_subject}
-use Rattle.associations.proofs.Posted.{pushed_one_by_one}
+use Rattle.links.specs.Edges.{Edges, no_edges, edges_of, joined_edges, first_edges, posted_edges, posted_link, posted_reference, posted_subject}
+use Rattle.links.proofs.Posted.{pushed_one_by_one}
 use Rattle.segment_index.specs.declared.builder.IndexLength.{IndexLength}
 use Rattle.segment_index.specs.Indexed.{terms_of, links_of, length_of, IsBuilt}
 
@@ -49,20 +51,27 @@ placed_push rows s at place here is =
     let same : 0 + length (segment_of rows) ≡ at = omega (arith, here) in
     with_places_push 0 rows s ∙ ap (λ n. with_places 0 rows ++ (s, row_place s n) ∷ []) same ∙ sym (ap (λ (p : RowPlace). with_places 0 rows ++ (s, p) ∷ []) is)
 
-terms_pushed : (rows : List (StampedRow × RowPlace)) (x : StampedRow × RowPlace) → posted_all posted_term (rows ++ x ∷ []) ≡ posted_all posted_term rows ++ posted_term x.0.row x.1
-terms_pushed [] x = append-nil (posted_term x.0.row x.1)
-terms_pushed (y ∷ rows) x = ap (λ l. posted_term y.0.row y.1 ++ l) (terms_pushed rows x) ∙ sym (append_assoc (posted_term y.0.row y.1) (posted_all posted_term rows) (posted_term x.0.row x.1))
+-- each record has some bytes
+pub as_many_bytes : (rows : List StampedRow) → length rows ≤ length (segment_of rows)
+unfolding segment_of
+as_many_bytes [] = omega arith
+as_many_bytes (r ∷ rows) =
+    let rest = as_many_bytes rows in
+    let both = length-append (record_of r) (segment_of rows) in
+    let long = length-record r in
+    omega (arith, rest, both, long)
 
-pub built_push : (rows next : List StampedRow) (places more : List RowPlace) (terms terms' : List TermAt) (links links' : Edges) (bytes bytes' : ℕ) (row : StampedRow) (place : RowPlace) → IsBuilt rows places terms links bytes → place ≡ row_place row bytes
-    → next ≡ rows ++ row ∷ [] → more ≡ places ++ place ∷ [] → terms' ≡ terms ++ posted_term row.row place → links' ≡ joined_edges links (edges_of row.row place) → bytes' ≡ bytes + place.bytes → IsBuilt next more terms' links' bytes'
-built_push rows next places more terms terms' links links' bytes bytes' row place is place_is next_is more_is terms_is links_is bytes_is =
+pub built_push : (rows next : List StampedRow) (places more : List RowPlace) (terms terms' : List TermAt) (links links' : Edges) (bytes bytes' number : ℕ) (row : StampedRow) (place : RowPlace) → IsBuilt rows places terms links bytes → place ≡ row_place row bytes → number ≡ length rows
+    → next ≡ rows ++ row ∷ [] → more ≡ places ++ place ∷ [] → terms' ≡ terms ++ posted_term row.row number → links' ≡ joined_edges links (edges_of row.row number) → bytes' ≡ bytes + place.bytes → IsBuilt next more terms' links' bytes'
+built_push rows next places more terms terms' links links' bytes bytes' number row place is place_is number_is next_is more_is terms_is links_is bytes_is =
     let with : with_places 0 next ≡ with_places 0 rows ++ (row, place) ∷ [] = ap (with_places 0) next_is ∙ placed_push rows row bytes place is.bytes_are place_is in
     let len = ap (λ (p : RowPlace). p.bytes) place_is ∙ place_bytes row bytes in
     let whole = ap (λ (l : List StampedRow). length (segment_of l)) next_is ∙ ap length (segment_push rows row) ∙ length-append (segment_of rows) (record_of row) in
+    let last : 0 + length rows ≡ number = omega (arith, number_is) in
     record {
       places_are = more_is ∙ ap (λ (p : List RowPlace). p ++ place ∷ []) is.places_are ∙ sym (ap (map (λ (x : StampedRow × RowPlace). x.1)) with ∙ map-append (λ (x : StampedRow × RowPlace). x.1) (with_places 0 rows) ((row, place) ∷ []));
-      terms_are = terms_is ∙ ap (λ (t : List TermAt). t ++ posted_term row.row place) is.terms_are ∙ sym (ap (posted_all posted_term) with ∙ terms_pushed (with_places 0 rows) (row, place));
-      links_are = links_is ∙ ap (λ (e : Edges). joined_edges e (edges_of row.row place)) is.links_are ∙ sym (ap posted_edges with ∙ pushed_one_by_one (with_places 0 rows) (row, place));
+      terms_are = terms_is ∙ ap (λ (t : List TermAt). t ++ posted_term row.row number) is.terms_are ∙ sym (ap (posted_all posted_term 0) next_is ∙ posted_push posted_term 0 rows row ∙ ap (λ n. posted_all posted_term 0 rows ++ posted_term row.row n) last);
+      links_are = links_is ∙ ap (λ (e : Edges). joined_edges e (edges_of row.row number)) is.links_are ∙ sym (ap posted_edges next_is ∙ pushed_one_by_one rows row ∙ ap (λ n. joined_edges (posted_edges rows) (edges_of row.row n)) (sym number_is));
       bytes_are = omega (arith, len, whole, bytes_is, is.bytes_are);
     }
 
@@ -84,13 +93,13 @@ first_past : {X : Type 0} (xs ys zs : List X) → take (length (xs ++ ys)) (xs +
 first_past [] ys zs = refl
 first_past {X = X} (x ∷ xs) ys zs = ap (λ (l : List X). x ∷ l) (first_past xs ys zs)
 
-first_posted : {X : Type 0} (posted : RowValue → RowPlace → List X) (n at : ℕ) (rows : List StampedRow) → take (length (posted_all posted (with_places at (take n rows)))) (posted_all posted (with_places at rows)) ≡ posted_all posted (with_places at (take n rows))
-first_posted posted zero at rows = refl
-first_posted posted (suc n) at [] = refl
-first_posted {X = X} posted (suc n) at (r ∷ rows) =
-    let first = posted r.row (row_place r at) in
-    let rest = first_posted posted n (at + record_len r) rows in
-    first_past first (posted_all posted (with_places (at + record_len r) (take n rows))) (posted_all posted (with_places (at + record_len r) rows)) ∙ ap (λ (l : List X). first ++ l) rest
+first_posted : {X : Type 0} (posted : RowValue → ℕ → List X) (n from : ℕ) (rows : List StampedRow) → take (length (posted_all posted from (take n rows))) (posted_all posted from rows) ≡ posted_all posted from (take n rows)
+first_posted posted zero from rows = refl
+first_posted posted (suc n) from [] = refl
+first_posted {X = X} posted (suc n) from (r ∷ rows) =
+    let first = posted r.row from in
+    let rest = first_posted posted n (from + 1) rows in
+    first_past first (posted_all posted (from + 1) (take n rows)) (posted_all posted (from + 1) rows) ∙ ap (λ (l : List X). first ++ l) rest
 
 first_links : (n : ℕ) (rows : List StampedRow) → first_edges (length_of (take n rows)).links (links_of rows) ≡ links_of (take n rows)
 first_links n rows =

@@ -1,23 +1,23 @@
--- What is kept of the rows of one segment, whose records stand one after the other.
+-- What is kept of the rows of segments, whose records stand one after the other.
 use Rattle.std.specs.Prelude.{◌≡◌, ℕ, List, length}
 use Rattle.history_model.specs.declared.stamped.StampedRow.{StampedRow}
 use Rattle.segment.specs.declared.place.RowPlace.{RowPlace}
 use Rattle.segment.specs.Records.{segment_of}
-use Rattle.segment.specs.Standing.{places_of, with_places}
+use Rattle.segment.specs.Standing.{places_of}
+use Rattle.as_of_index.specs.Places.{Lists}
 use Rattle.as_of_index.specs.Postings.{posted_all}
 use Rattle.term_prefix.specs.Terms.{TermAt}
-use Rattle.term_prefix.specs.Pushed.{posted_term, IsPosted}
-use Rattle.associations.specs.Edges.{Edges, posted_edges, count_of}
-use Rattle.associations.specs.Laws.{ArePostingsOf}
+use Rattle.term_prefix.specs.Pushed.{posted_term, IsPosted, ArePosted}
+use Rattle.links.specs.Edges.{Edges, posted_edges, count_of}
+use Rattle.links.specs.Laws.{ArePostingsOf, EachPosted}
 use Rattle.segment_index.specs.declared.builder.IndexLength.{IndexLength}
-use Rattle.segment_index.specs.declared.sealed.SegmentIndex.{SegmentIndex}
 
--- what is posted of rows, each with its own place
+-- what is posted of rows, each with its number from 0 on
 abbrev pub terms_of : List StampedRow → List TermAt
-terms_of rows = posted_all posted_term (with_places 0 rows)
+terms_of rows = posted_all posted_term 0 rows
 
 abbrev pub links_of : List StampedRow → Edges
-links_of rows = posted_edges (with_places 0 rows)
+links_of rows = posted_edges rows
 
 -- how much is kept of rows
 abbrev pub length_of : List StampedRow → IndexLength
@@ -37,9 +37,16 @@ pub record IsBuilt (rows : List StampedRow) (places : List RowPlace) (terms : Li
   pub links_are : links ≡ links_of rows
   pub bytes_are : bytes ≡ length (segment_of rows)
 
--- the rows and the place of each, and what is posted of them, in any order
-pub record IsIndexOf (rows : List StampedRow) (s : SegmentIndex) : Type 0 where
-  pub rows_are : s.rows ≡ rows
-  pub places_are : s.places ≡ places_of rows
-  pub terms_are : IsPosted rows s.terms
-  pub links_are : ArePostingsOf rows s.links
+-- the place of each row, and what is posted of the rows, in any order
+pub record IsIndexed (rows : List StampedRow) (places : List RowPlace) (terms : List TermAt)
+    (links : Edges) : Type 0 where
+  pub places_are : places ≡ places_of rows
+  pub terms_are : IsPosted rows terms
+  pub links_are : ArePostingsOf rows links
+
+-- list by list the place of each row, and what is posted of the rows
+pub record AreIndexed (lists : List (List StampedRow)) (places : List (List RowPlace))
+    (terms : List (List TermAt)) (links : List Edges) : Type 0 where
+  pub places_are : Lists places lists
+  pub terms_are : ArePosted lists terms
+  pub links_are : EachPosted lists links

@@ -5,13 +5,13 @@ ghost use Rattle.history_model.specs.InOrder.{IsAscending};
 ghost use Rattle.history_model.specs.History.{stamped_cmp};
 ghost use Rattle.segment.specs.Records.{segment_of};
 ghost use Rattle.term_prefix.specs.Pushed.{posted_term};
-ghost use Rattle.associations.specs.Edges.{edges_of, joined_edges};
-ghost use Rattle.segment_index.specs.Indexed.{length_of, IsIndexOf};
+ghost use Rattle.links.specs.Edges.{edges_of, joined_edges};
+ghost use Rattle.segment_index.specs.Indexed.{length_of};
 
 use crate::sealed::SegmentIndex;
 use as_of_index::PlaceList;
-use associations::EdgeCount;
 use history_model::{GhostRows, StampedRow};
+use links::EdgeCount;
 use segment::RowPlace;
 use std::alloc::{AllocError, Global};
 use std::marker::Model;
@@ -21,7 +21,7 @@ use std::marker::Model;
 pub struct IndexBuilder {
     places: Vec<RowPlace>,
     terms: term_prefix::Postings,
-    links: associations::Postings,
+    links: links::Postings,
     rows: GhostRows,
     /// How many bytes the records of the rows have.
     bytes: u32,
@@ -52,20 +52,20 @@ pub struct IndexLength {
     pub links: EdgeCount,
 }
 
-/// Adds what is posted of the row that stands at a place. An `Err` changes nothing.
+/// Adds what is posted of the row with a number. An `Err` changes nothing.
 fn post(
     terms: &mut term_prefix::Postings,
-    links: &mut associations::Postings,
+    links: &mut links::Postings,
     row: &StampedRow,
-    at: &RowPlace,
+    number: u32,
 ) -> Result<(), AllocError>
-    ensures ok { OnOk result ((terms.new ≡ terms.old ++ posted_term row.now.row at.now)
-        × (links.new ≡ joined_edges links.old (edges_of row.now.row at.now))) }
+    ensures ok { OnOk result ((terms.new ≡ terms.old ++ posted_term row.now.row number)
+        × (links.new ≡ joined_edges links.old (edges_of row.now.row number))) }
     ensures err { OnErr result ((terms.new ≡ terms.old) × (links.new ≡ links.old)) }
 {
     let len = terms.len();
-    terms.push(row, *at)?;
-    match links.push(row, *at) {
+    terms.push(row, number)?;
+    match links.push(row, number) {
         Ok(()) => Ok(()),
         Err(error) => {
             terms.cut_to(len);
@@ -82,7 +82,7 @@ impl IndexBuilder {
         IndexBuilder {
             places: Vec::new(alloc),
             terms: term_prefix::Postings::new(alloc),
-            links: associations::Postings::new(alloc),
+            links: links::Postings::new(alloc),
             rows: GhostRows::new(alloc),
             bytes: 0,
         }
@@ -95,7 +95,7 @@ impl IndexBuilder {
         Ok(IndexBuilder {
             places: Vec::with_capacity(alloc, rows)?,
             terms: term_prefix::Postings::new(alloc),
-            links: associations::Postings::new(alloc),
+            links: links::Postings::new(alloc),
             rows: GhostRows::new(alloc),
             bytes: 0,
         })
@@ -112,7 +112,7 @@ impl IndexBuilder {
         let len = self.rows.len();
         self.places.reserve(1)?;
         self.rows.push(row)?;
-        match post(&mut self.terms, &mut self.links, row, &at) {
+        match post(&mut self.terms, &mut self.links, row, len as u32) {
             Ok(()) => {
                 self.bytes += at.bytes;
                 let Ok(()) = self.places.push(at) else {
@@ -171,7 +171,7 @@ impl IndexBuilder {
     /// What is kept, in the orders in which it is looked for. It takes no memory.
     pub fn seal(self) -> SegmentIndex
         requires { IsAscending stamped_cmp self }
-        ensures { IsIndexOf self result }
+        ensures { result ≡ self }
     {
         let IndexBuilder {
             places,

@@ -2,16 +2,29 @@
 
 use as_of_index::PlaceList;
 use history_model::GhostRows;
+use std::marker::Model;
 
-/// What is kept of the rows of one segment, of which no more come.
+/// What is kept of the rows of one segment, of which no more come: clauses see these rows.
 #[derive(Drop)]
 pub struct SegmentIndex {
     /// The place of each row, in key order.
-    pub places: PlaceList,
+    pub(crate) places: PlaceList,
     /// The folded terms of its descriptions.
-    pub terms: term_prefix::Sealed,
+    pub(crate) terms: term_prefix::Sealed,
     /// What its relationships and associations say, and what its rows are about.
-    pub links: associations::Sealed,
+    pub(crate) links: links::Sealed,
     /// The rows, which only clauses read.
-    pub rows: GhostRows,
+    pub(crate) rows: GhostRows,
+}
+
+impl Model for SegmentIndex {
+    ghost use Rattle.std.specs.Prelude.{List};
+    ghost use Rattle.history_model.specs.declared.stamped.StampedRow.{StampedRow};
+    ghost use Rattle.segment_index.specs.Indexed.{IsIndexed};
+
+    ghost Value = { List StampedRow };
+
+    ghost view = { λ a. a.rows };
+
+    ghost invariant = { λ a. IsIndexed a.rows a.places a.terms a.links };
 }

@@ -12,7 +12,7 @@ use Rattle.directory.specs.declared.entry.Entry.{Entry}
 use Rattle.directory.specs.Places.{AreApart, AreBeside, end_block, extent_of, extents_of}
 use Rattle.directory.specs.Listings.{IsEntry}
 use Rattle.segment.specs.Records.{segment_of}
-use Rattle.store_image.specs.Says.{IsSegmentOf, AreSegments, pieces_of}
+use Rattle.store_image.specs.Kept.{IsSegmentOf, AreSegments, pieces_of}
 use Rattle.store_image.proofs.Frames.{IsFree}
 
 -- the blocks of so many bytes have room for them

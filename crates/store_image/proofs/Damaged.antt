@@ -25,12 +25,12 @@ use Rattle.store_image.specs.declared.fault.LoadFault.{LoadFault}
 use Rattle.store_image.specs.declared.fault.LoadFault.TheVariants as loading
 use Rattle.store_image.specs.declared.fault.RowsFault.{RowsFault}
 use Rattle.store_image.specs.declared.fault.RowsFault.TheVariants as faults
-use Rattle.store_image.specs.Stands.{HoldsAll}
-use Rattle.store_image.specs.Says.{AreOfLayout, AreSegments, pieces_of}
+use Rattle.store_image.specs.Pieces.{HoldsAll}
+use Rattle.store_image.specs.Kept.{AreOfLayout, AreSegments, pieces_of}
 use Rattle.store_image.specs.Images.{IsStore}
 use Rattle.store_image.specs.Reading.{IsAt}
 use Rattle.store_image.specs.Private.Reading.{AreRead, IsNotReadAt}
-use Rattle.store_image.specs.Damage.{HasDirectory, AreThere, IsFirstBroken, ShareKey, HasStrangeKind, IsDamaged, StandingIsUndamaged, OneDamage}
+use Rattle.store_image.specs.Damage.{HasDirectory, AreThere, IsFirstBroken, ShareKey, HasStrangeKind, IsDamaged, RepresentedIsUndamaged, OneDamage}
 use Rattle.store_image.specs.Private.Damage.{in_segment, AreNotRead}
 use Rattle.store_image.specs.Answers.{IsNotOpened, CountsLoading, of_slot, of_directory}
 use Rattle.store_image.proofs.Segments.{entry_there}
@@ -155,20 +155,20 @@ no_strange_kind : (d : DirectoryValue) (file : List ℕ) → IsSound d file → 
 no_strange_kind d file s strange =
     strange.strange (subst (λ (l : List (List StampedRow)). All (AreOfLayout d.layout) l) (same_lists d.imports file d.entries s.lists strange.lists s.there strange.there) s.kinds)
 
-pub standing_is_undamaged : StandingIsUndamaged
-standing_is_undamaged file damages.Slots store is =
+pub represented_is_undamaged : RepresentedIsUndamaged
+represented_is_undamaged file damages.Slots store is =
     let s = (sound file store).1 in is s.has.current s.has.content s.has.slot
-standing_is_undamaged file damages.Directory store is =
+represented_is_undamaged file damages.Directory store is =
     let s = sound file store in no_directory file s.0 s.1.has is
-standing_is_undamaged file (damages.Segment number) store is =
+represented_is_undamaged file (damages.Segment number) store is =
     let s = sound file store in
     let broken = subst (λ (d : DirectoryValue). IsFirstBroken number d.imports d.entries file) (one_directory file is.0 s.0 is.1 s.1.has) is.2 in
     none_broken number s.0.imports file s.0.entries s.1.lists s.1.there broken
-standing_is_undamaged file damages.SharedKey store is =
+represented_is_undamaged file damages.SharedKey store is =
     let s = sound file store in
     let share = subst (λ (d : DirectoryValue). ShareKey d.imports d.entries file) (one_directory file is.0 s.0 is.1 s.1.has) is.2 in
     shares_none s.0.imports file s.0.entries s.1.lists s.1.there s.1.apart share
-standing_is_undamaged file damages.Kind store is =
+represented_is_undamaged file damages.Kind store is =
     let s = sound file store in
     no_strange_kind s.0 file s.1 (subst (λ (d : DirectoryValue). HasStrangeKind d file) (one_directory file is.0 s.0 is.1 s.1.has) is.2)
 
@@ -227,7 +227,7 @@ one_damage file damages.Kind damages.Kind a b = refl
 -- ---- why nothing is opened
 
 not_slots : (file : List ℕ) → IsDamaged damages.Slots file → IsStore file → ⊥
-not_slots file is store = standing_is_undamaged file damages.Slots store is
+not_slots file is store = represented_is_undamaged file damages.Slots store is
 
 too_short : (file : List ℕ) → length file < 16384 → IsDamaged damages.Slots file
 too_short file short current content is =
@@ -259,7 +259,7 @@ unfolding IsBad
 bad_directory directories.OutOfMemory file into current is only = some_gate file current.slot current.epoch is.0
 bad_directory directories.BadDirectory file into current is only =
     let damaged : IsDamaged damages.Directory file = (current, into, is, λ d lists. subst IsBad (only d lists) (λ x. x)) in
-    (some_gate file current.slot current.epoch is.0, damaged, λ store. standing_is_undamaged file damages.Directory store damaged)
+    (some_gate file current.slot current.epoch is.0, damaged, λ store. represented_is_undamaged file damages.Directory store damaged)
 
 pub not_read : (e : LoadFault) (file into : List ℕ) (current : Current) (d : DirectoryValue) → IsCurrentWith current into file → Lists into d → AreNotRead e d.imports d.entries file → IsNotOpened e file
 not_read loading.OutOfMemory file into current d is lists why = some_gate file current.slot current.epoch is.0
@@ -270,11 +270,11 @@ not_read (loading.Damaged damages.Directory) file into current d is lists why = 
 not_read (loading.Damaged (damages.Segment number)) file into current d is lists why =
     let has : HasDirectory d file = record { current = current; content = into; slot = is; lists_it = lists } in
     let damaged : IsDamaged (damages.Segment number) file = (d, has, why) in
-    (some_gate file current.slot current.epoch is.0, damaged, λ store. standing_is_undamaged file (damages.Segment number) store damaged)
+    (some_gate file current.slot current.epoch is.0, damaged, λ store. represented_is_undamaged file (damages.Segment number) store damaged)
 not_read (loading.Damaged damages.SharedKey) file into current d is lists why =
     let has : HasDirectory d file = record { current = current; content = into; slot = is; lists_it = lists } in
     let damaged : IsDamaged damages.SharedKey file = (d, has, why) in
-    (some_gate file current.slot current.epoch is.0, damaged, λ store. standing_is_undamaged file damages.SharedKey store damaged)
+    (some_gate file current.slot current.epoch is.0, damaged, λ store. represented_is_undamaged file damages.SharedKey store damaged)
 not_read (loading.Damaged damages.Kind) file into current d is lists why = absurd why
 
 -- rows of a kind that the version doesn't have
@@ -285,4 +285,4 @@ not_of_layout file into current d lists is listed read hold strange =
     let there : AreThere d.imports d.entries lists file = record { segments = read.segments; numbered = read.numbered; held = hold } in
     let kind : HasStrangeKind d file = record { lists = lists; there = there; apart = read.apart; strange = strange } in
     let damaged : IsDamaged damages.Kind file = (d, has, kind) in
-    (some_gate file current.slot current.epoch is.0, damaged, λ store. standing_is_undamaged file damages.Kind store damaged)
+    (some_gate file current.slot current.epoch is.0, damaged, λ store. represented_is_undamaged file damages.Kind store damaged)

@@ -7,8 +7,8 @@ use Rattle.directory.specs.declared.entry.Entry.{Entry}
 use Rattle.directory.specs.declared.layout.Layout.TheVariants as layouts
 use Rattle.directory.specs.Listings.{DirectoryValue, IsListing}
 use Rattle.directory.specs.Content.{listing_bytes, header_bytes, mark}
-use Rattle.store_image.specs.Says.{HasKind}
-use Rattle.store_image.specs.First.{FirstStillStands, IsFirstKind, first_bytes}
+use Rattle.store_image.specs.Kept.{HasKind}
+use Rattle.store_image.specs.First.{FirstStillRepresents, IsFirstKind, first_bytes}
 
 of_first : ℕ → ℕ → List Entry → DirectoryValue
 of_first epoch imports entries = record { layout = layouts.One; epoch = epoch; imports = imports; entries = entries }
@@ -31,9 +31,9 @@ is_kind kinds.Relationship is = tt
 is_kind kinds.Association is = tt
 is_kind kinds.Concrete is = absurd is
 
-pub first_still_stands : FirstStillStands
+pub first_still_represents : FirstStillRepresents
 unfolding of_first
-first_still_stands file h epoch entries = (
+first_still_represents file h epoch entries = (
   λ s.
       let P : List ℕ → Type 0 = λ bytes. take (length bytes) s.content ≡ bytes in
       let listing : IsListing (of_first epoch h.imports entries) = record { epoch = s.from_one; epoch_fits = s.epoch_fits; imports = s.imports_fit; count = s.few; entries = s.each; apart = s.entries_apart } in

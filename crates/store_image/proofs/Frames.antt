@@ -12,7 +12,7 @@ use Rattle.blocks.specs.Publication.{IsOldOrNext}
 use Rattle.blocks.proofs.SlotFrames.{greatest_beyond, content_beyond, content_beside}
 use Rattle.blocks.proofs.SlotImages.{Either, now-after_write}
 use Rattle.blocks.proofs.Windows.{window_same, window_put}
-use Rattle.store_image.specs.Stands.{Holds, HoldsAll, Stands}
+use Rattle.store_image.specs.Pieces.{Holds, HoldsAll, HasPieces}
 
 -- no byte of the piece is in the range
 abbrev pub IsFree : ℕ → ℕ → ℕ × List ℕ → Type 0
@@ -31,7 +31,7 @@ piece_kept from end d c same piece free holds = record {
 }
 
 -- a change behind the slots, where no piece is
-stands_beyond : (from end : ℕ) (current : Current) (content : List ℕ) (pieces : List (ℕ × List ℕ)) (d c : List ℕ) → SameBut from end d c → 16384 ≤ from → All (IsFree from end) pieces → Stands current content pieces d → Stands current content pieces c
+stands_beyond : (from end : ℕ) (current : Current) (content : List ℕ) (pieces : List (ℕ × List ℕ)) (d c : List ℕ) → SameBut from end d c → 16384 ≤ from → All (IsFree from end) pieces → HasPieces current content pieces d → HasPieces current content pieces c
 stands_beyond from end current content pieces d c same beyond free is = record {
   slot = (
     greatest_beyond from end current.slot current.epoch d c same beyond is.slot.0,
@@ -41,8 +41,8 @@ stands_beyond from end current content pieces d c same beyond free is = record {
 }
 
 -- a write there, whether or not a stop leaves it
-pub write_step : (s : DiskState) (current : Current) (content : List ℕ) (pieces : List (ℕ × List ℕ)) (at : ℕ) (bytes : List ℕ) → IsImage s s.now → EachImage s (Stands current content pieces) → 16384 ≤ at → All (IsFree at (at + length bytes)) pieces
-    → (c : List ℕ) → Either at bytes s c → Stands current content pieces c
+pub write_step : (s : DiskState) (current : Current) (content : List ℕ) (pieces : List (ℕ × List ℕ)) (at : ℕ) (bytes : List ℕ) → IsImage s s.now → EachImage s (HasPieces current content pieces) → 16384 ≤ at → All (IsFree at (at + length bytes)) pieces
+    → (c : List ℕ) → Either at bytes s c → HasPieces current content pieces c
 write_step s current content pieces at bytes now every beyond free c (inl image) = every c image
 write_step s current content pieces at bytes now every beyond free c (inr image) =
     let frame = write_frame s at bytes c now image in
@@ -67,8 +67,8 @@ pieces_beside slot pieces d c same are k e lt =
     let holds = are k e lt in piece_kept (gate_at slot) (content_at slot + 4096) d c same (get_or pieces k e) (inl (omega (arith, slots_end slot, holds.behind))) holds
 
 -- the old state or the new one, at each moment of a publication
-pub publish_step : (t : DiskState) (current next : Current) (was content : List ℕ) (pieces others : List (ℕ × List ℕ)) → EachImage t (Stands current was pieces) → EachImage t (HoldsAll others) → (c : List ℕ)
-    → IsOldOrNext t current next content c → Stands current was pieces c ⊎ Stands next content others c
+pub publish_step : (t : DiskState) (current next : Current) (was content : List ℕ) (pieces others : List (ℕ × List ℕ)) → EachImage t (HasPieces current was pieces) → EachImage t (HoldsAll others) → (c : List ℕ)
+    → IsOldOrNext t current next content c → HasPieces current was pieces c ⊎ HasPieces next content others c
 publish_step t current next was content pieces others every new c (inl is, (d, image, same)) =
     let before = every d image in
     inl (record {

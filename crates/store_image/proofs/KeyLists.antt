@@ -7,12 +7,13 @@ use Rattle.rf2_values.specs.Key.{key_of, key_cmp}
 use Rattle.history_model.specs.declared.stamped.StampedRow.{StampedRow}
 use Rattle.history_model.specs.InOrder.{Has, IsAscending}
 use Rattle.history_model.specs.History.{stamped_cmp}
-use Rattle.history_model.specs.Lists.{AreLists, ShareNoKey, EachApart}
+use Rattle.history_model.specs.Lists.{AreLists, EachApart}
+use Rattle.history_model.specs.Private.{ShareNoKey}
 use Rattle.history_model.proofs.Filtered.{Has-map, Has-map_from}
 use Rattle.directory.specs.declared.entry.Entry.{Entry}
 use Rattle.segment.specs.declared.place.RowPlace.{RowPlace}
 use Rattle.segment.specs.Standing.{places_of}
-use Rattle.store_image.specs.Says.{AreSegments}
+use Rattle.store_image.specs.Kept.{AreSegments}
 use Rattle.store_image.specs.Private.Keys.{keys_of, AreDisjoint, EachKeyOnce}
 use Rattle.store_image.proofs.RowsRead.{keys_from}
 

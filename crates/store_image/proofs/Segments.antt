@@ -15,8 +15,8 @@ use Rattle.segment.specs.Standing.{with_places}
 use Rattle.segment.proofs.SegmentLaws.{no_rows, goes_on}
 use Rattle.store_image.specs.declared.fault.RowsFault.{RowsFault}
 use Rattle.store_image.specs.declared.fault.RowsFault.TheVariants as faults
-use Rattle.store_image.specs.Stands.{Holds, HoldsAll}
-use Rattle.store_image.specs.Says.{IsSegmentOf, AreSegments, bytes_listed, pieces_of}
+use Rattle.store_image.specs.Pieces.{Holds, HoldsAll}
+use Rattle.store_image.specs.Kept.{IsSegmentOf, AreSegments, bytes_listed, pieces_of}
 use Rattle.store_image.specs.Reading.{AreNumbered, IsAt}
 use Rattle.store_image.specs.Private.Reading.{AreReadTo, BeginsWith, IsNotNext, IsNotReadAt}
 use Rattle.store_image.proofs.Added.{AreSegments-push, pieces_of-push}

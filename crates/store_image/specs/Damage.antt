@@ -10,8 +10,8 @@ use Rattle.directory.specs.Listings.{DirectoryValue}
 use Rattle.directory.specs.Content.{Lists}
 use Rattle.store_image.specs.declared.fault.Damage.{Damage}
 use Rattle.store_image.specs.declared.fault.Damage.TheVariants as damages
-use Rattle.store_image.specs.Stands.{HoldsAll}
-use Rattle.store_image.specs.Says.{AreOfLayout, AreSegments, pieces_of}
+use Rattle.store_image.specs.Pieces.{HoldsAll}
+use Rattle.store_image.specs.Kept.{AreOfLayout, AreSegments, pieces_of}
 use Rattle.store_image.specs.Images.{IsStore}
 use Rattle.store_image.specs.Reading.{AreNumbered, IsAt}
 
@@ -74,8 +74,9 @@ IsDamaged damages.SharedKey file =
 IsDamaged damages.Kind file = (d : DirectoryValue) × HasDirectory d file × HasStrangeKind d file
 
 -- bytes that represent a history have no damaged part
-abbrev pub StandingIsUndamaged : Type 0
-StandingIsUndamaged = (file : List ℕ) (damage : Damage) → IsStore file → IsDamaged damage file → ⊥
+abbrev pub RepresentedIsUndamaged : Type 0
+RepresentedIsUndamaged =
+    (file : List ℕ) (damage : Damage) → IsStore file → IsDamaged damage file → ⊥
 
 -- at most one part of bytes is damaged
 abbrev pub OneDamage : Type 0

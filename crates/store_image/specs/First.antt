@@ -1,6 +1,7 @@
 -- What bytes represented before there was a second version of the layout: the definition of that
 -- time, on its own. Its rows were of the four kinds that there were then.
-use Rattle.std.specs.Prelude.{◌≡◌, ◌↔◌, ℕ, ◌^◌, ◌<◌, ◌≤◌, List, ◌++◌, length, take, replicate, codes, All}
+use Rattle.std.specs.Prelude.{◌≡◌, ◌↔◌, ℕ, ◌^◌, ◌<◌, ◌≤◌, List, ◌++◌, length, take, replicate}
+use Rattle.std.specs.Prelude.{codes, All}
 use Rattle.std.specs.List.{AllByRecursion, flat_map}
 use Rattle.std.specs.Int.{w32, w64, to_be_bytes}
 use Rattle.blocks.specs.declared.slots.Slot.{Slot}
@@ -15,8 +16,8 @@ use Rattle.directory.specs.declared.layout.Layout.TheVariants as layouts
 use Rattle.directory.specs.Places.{AreApart, extents_of}
 use Rattle.directory.specs.Listings.{IsEntry}
 use Rattle.directory.specs.Content.{entry_bytes}
-use Rattle.store_image.specs.Stands.{Stands}
-use Rattle.store_image.specs.Says.{AreSegments, pieces_of}
+use Rattle.store_image.specs.Pieces.{HasPieces}
+use Rattle.store_image.specs.Kept.{AreSegments, pieces_of}
 use Rattle.store_image.specs.Images.{Represents}
 
 -- the bytes that were read of a content block
@@ -30,11 +31,13 @@ abbrev pub IsFirstKind : Kind → Type 0
 IsFirstKind kinds.Concrete = ⊥
 IsFirstKind kind = Unit {0}
 
-pub record StoodFor (file : List ℕ) (h : History) (epoch : ℕ) (entries : List Entry) : Type 0 where
+pub record DidRepresent (file : List ℕ) (h : History) (epoch : ℕ) (entries : List Entry)
+    : Type 0 where
   pub slot : Slot
   pub content : List ℕ
   pub lists : List (List StampedRow)
-  pub stands : Stands (record { slot = slot; epoch = epoch }) content (pieces_of entries lists) file
+  pub stands :
+      HasPieces (record { slot = slot; epoch = epoch }) content (pieces_of entries lists) file
   pub from_one : 1 ≤ epoch
   pub epoch_fits : epoch < 2 ^ 64
   pub imports_fit : h.imports < 2 ^ 32
@@ -50,6 +53,6 @@ pub record StoodFor (file : List ℕ) (h : History) (epoch : ℕ) (entries : Lis
   pub rows : h.rows ≡ listed lists
 
 -- what represented a history then does so in version 1 still, and nothing else does in that version
-abbrev pub FirstStillStands : Type 0
-FirstStillStands = (file : List ℕ) (h : History) (epoch : ℕ) (entries : List Entry)
-    → StoodFor file h epoch entries ↔ Represents file h layouts.One epoch entries
+abbrev pub FirstStillRepresents : Type 0
+FirstStillRepresents = (file : List ℕ) (h : History) (epoch : ℕ) (entries : List Entry)
+    → DidRepresent file h epoch entries ↔ Represents file h layouts.One epoch entries

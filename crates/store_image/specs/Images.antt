@@ -6,8 +6,8 @@ use Rattle.history_model.specs.History.{History}
 use Rattle.history_model.specs.Lists.{listed}
 use Rattle.directory.specs.declared.entry.Entry.{Entry}
 use Rattle.directory.specs.declared.layout.Layout.{Layout}
-use Rattle.store_image.specs.Stands.{Stands}
-use Rattle.store_image.specs.Says.{Says, pieces_of}
+use Rattle.store_image.specs.Pieces.{HasPieces}
+use Rattle.store_image.specs.Kept.{IsContentOf, pieces_of}
 
 -- The bytes represent the history, in this version, at this epoch and with these entries: the
 -- current slot's content lists them, and each entry's extent is the segment of some of the rows,
@@ -17,19 +17,20 @@ pub record Represents (file : List ℕ) (h : History) (layout : Layout) (epoch :
   pub slot : Slot
   pub content : List ℕ
   pub lists : List (List StampedRow)
-  pub stands : Stands (record { slot = slot; epoch = epoch }) content (pieces_of entries lists) file
-  pub says : Says content
+  pub stands :
+      HasPieces (record { slot = slot; epoch = epoch }) content (pieces_of entries lists) file
+  pub says : IsContentOf content
       (record { layout = layout; epoch = epoch; imports = h.imports; entries = entries }) lists
   pub rows : h.rows ≡ listed lists
 
 -- the bytes represent the history in this version, at some epoch and with some entries
-abbrev pub StandsAs : Layout → History → List ℕ → Type 0
-StandsAs layout h file =
+abbrev pub RepresentsAs : Layout → History → List ℕ → Type 0
+RepresentsAs layout h file =
     (epoch : ℕ) × (entries : List Entry) × Represents file h layout epoch entries
 
 -- the bytes represent the history in some version
 abbrev pub RepresentsHistory : History → List ℕ → Type 0
-RepresentsHistory h file = (layout : Layout) × StandsAs layout h file
+RepresentsHistory h file = (layout : Layout) × RepresentsAs layout h file
 
 -- the bytes represent some history
 abbrev pub IsStore : List ℕ → Type 0

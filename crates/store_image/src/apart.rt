@@ -1,14 +1,18 @@
 //! Keys that two lists share, found in one pass over all lists together.
 
-ghost use Rattle.std.specs.Prelude.{◌≡◌, ◌↔◌, ◌+◌, refl, IsTrue, IfOk, OnOk, List, length, map, vec_items};
+ghost use Rattle.std.specs.Prelude.{◌≡◌, ◌↔◌, ◌+◌, refl, IsTrue, IfOk, OnOk, List, length, map};
+ghost use Rattle.std.specs.Prelude.{vec_items};
 ghost use Rattle.std.specs.List.{AllByRecursion};
 ghost use Rattle.std.specs.BinaryHeap.{heap_items};
-ghost use Rattle.std.specs.Cmp.{eq_by_cmp_equiv, partial_equiv_from_equiv, partial_order_from_agreeing_total};
+ghost use Rattle.std.specs.Cmp.{eq_by_cmp_equiv, partial_equiv_from_equiv};
+ghost use Rattle.std.specs.Cmp.{partial_order_from_agreeing_total};
 ghost use Rattle.std.specs.Ordering.{as_partial_cmp, eq_by_cmp};
 ghost use Rattle.std.specs.declared.cmp.Ordering.TheVariants.{Less};
 ghost use Rattle.history_model.specs.InOrder.{IsAscending};
 ghost use Rattle.rf2_values.specs.Key.{key_cmp};
-ghost use Rattle.store_image.specs.Private.Keys.{keys_of, keys_in, keys_left, first_cmp, firsts_total, EachKeyOnce, AreOpen, Opens, IsBehind, StartsFrom};
+ghost use Rattle.store_image.specs.Private.Keys.{keys_of, keys_in, keys_left, first_cmp};
+ghost use Rattle.store_image.specs.Private.Keys.{firsts_total, EachKeyOnce, AreOpen, Opens};
+ghost use Rattle.store_image.specs.Private.Keys.{IsBehind, StartsFrom};
 
 use rf2_values::Key;
 use segment::RowPlace;

@@ -2,7 +2,7 @@
 
 ghost use Rattle.std.specs.Prelude.{◌↔◌, List, map, vec_items, IsTrue, All};
 ghost use Rattle.segment.specs.declared.place.RowPlace.{RowPlace};
-ghost use Rattle.store_image.specs.Says.{HasKind};
+ghost use Rattle.store_image.specs.Kept.{HasKind};
 ghost use Rattle.store_image.specs.Private.Reading.{AreOfKinds};
 
 use directory::Layout;

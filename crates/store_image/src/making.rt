@@ -9,8 +9,9 @@ ghost use Rattle.history_model.specs.History.{no_history};
 ghost use Rattle.directory.specs.declared.layout.Layout.TheVariants as layouts;
 ghost use Rattle.store_image.specs.declared.fault.MakeFault.TheVariants as faults;
 ghost use Rattle.store_image.specs.Images.{Represents};
-ghost use Rattle.store_image.specs.Shown.{IsOnDisk};
-ghost use Rattle.store_image.specs.Answers.{empty_listing, IsLookedAt, IsMade, IsNewStore, CountsMaking, StaysIfRefused};
+ghost use Rattle.store_image.specs.OnDisk.{IsOnDisk};
+ghost use Rattle.store_image.specs.Answers.{empty_listing, IsLookedAt, IsMade, IsNewStore};
+ghost use Rattle.store_image.specs.Answers.{CountsMaking, StaysIfRefused};
 
 use crate::content::content_of;
 use crate::fault::MakeFault;

@@ -1,13 +1,14 @@
 //! Reading what a disk represents.
 
-ghost use Rattle.std.specs.Prelude.{◌≡◌, ◌↔◌, ◌+◌, ◌≤◌, ◌++◌, [], List, map, vec_items, IfOk, MatchResult};
+ghost use Rattle.std.specs.Prelude.{◌≡◌, ◌↔◌, ◌+◌, ◌≤◌, ◌++◌, [], List, map, vec_items, IfOk};
+ghost use Rattle.std.specs.Prelude.{MatchResult};
 ghost use Rattle.disk_model.specs.Disk.{IsImage, LeavesOnly};
 ghost use Rattle.blocks.specs.Slots.{slots_read};
 ghost use Rattle.history_model.specs.declared.stamped.StampedRow.{StampedRow};
 ghost use Rattle.segment.specs.declared.place.RowPlace.{RowPlace};
 ghost use Rattle.segment.specs.Standing.{places_of, with_places};
-ghost use Rattle.store_image.specs.Says.{bytes_listed, IsKept};
-ghost use Rattle.store_image.specs.Shown.{Shows, IsOnDisk};
+ghost use Rattle.store_image.specs.Kept.{bytes_listed, IsKept};
+ghost use Rattle.store_image.specs.OnDisk.{HasStore, IsOnDisk};
 ghost use Rattle.store_image.specs.Answers.{IsNotOpened, IsSynced, CountsLoading};
 
 use crate::fault::{Damage, LoadFault};
@@ -44,7 +45,7 @@ pub fn load<D: Disk, S: RowSink>(
 ) -> Result<Loaded, LoadFault>
     ensures exact { D.is_honest disk.old
         → MatchResult result
-        (λ l. Shows l.slot l.directory l.shown.items (D.moments disk.old).state.now)
+        (λ l. HasStore l.slot l.directory l.shown.items (D.moments disk.old).state.now)
         (λ e. IsNotOpened e (D.moments disk.old).state.now) }
     // What was read fits together, on every disk.
     ensures kept { IfOk result (λ l. IsKept l.directory l.shown.items) }

@@ -1,6 +1,7 @@
 //! Reading the segments that a directory lists, record by record.
 
-ghost use Rattle.std.specs.Prelude.{◌≡◌, ◌↔◌, ℕ, ◌+◌, ◌≤◌, [], ◌∷◌, ◌++◌, List, length, map, vec_items, IsTrue, IfOk, IfErr, OnOk, MatchResult};
+ghost use Rattle.std.specs.Prelude.{◌≡◌, ◌↔◌, ℕ, ◌+◌, ◌≤◌, [], ◌∷◌, ◌++◌, List, length, map};
+ghost use Rattle.std.specs.Prelude.{vec_items, IsTrue, IfOk, IfErr, OnOk, MatchResult};
 ghost use Rattle.std.specs.List.{AllByRecursion};
 ghost use Rattle.blocks.specs.Extents.{bytes_of};
 ghost use Rattle.directory.specs.Listings.{IsEntry};
@@ -12,10 +13,11 @@ ghost use Rattle.rf2_values.specs.Key.{key_cmp};
 ghost use Rattle.std.specs.declared.cmp.Ordering.TheVariants.{Less};
 ghost use Rattle.segment.specs.declared.place.RowPlace.{RowPlace};
 ghost use Rattle.segment.specs.Standing.{row_place, places_of, with_places};
-ghost use Rattle.store_image.specs.Stands.{HoldsAll};
-ghost use Rattle.store_image.specs.Says.{IsSegmentOf, bytes_listed, pieces_of};
+ghost use Rattle.store_image.specs.Pieces.{HoldsAll};
+ghost use Rattle.store_image.specs.Kept.{IsSegmentOf, bytes_listed, pieces_of};
 ghost use Rattle.store_image.specs.Reading.{AreNumbered, IsAt};
-ghost use Rattle.store_image.specs.Private.Reading.{CountsFault, Sees, AreReadTo, BeginsWith, IsNotNext, IsNotReadAt, AreRead};
+ghost use Rattle.store_image.specs.Private.Reading.{CountsFault, Sees, AreReadTo, BeginsWith};
+ghost use Rattle.store_image.specs.Private.Reading.{IsNotNext, IsNotReadAt, AreRead};
 ghost use Rattle.store_image.specs.Private.Damage.{AreNotRead};
 ghost use Rattle.store_image.specs.Answers.{CountsLoading};
 

@@ -1,6 +1,7 @@
 //! A segment's bytes, read through a buffer of fixed size.
 
-ghost use Rattle.std.specs.Prelude.{◌≡◌, ◌↔◌, ℕ, ◌+◌, ◌-◌, ◌^◌, ◌<◌, ◌≤◌, List, length, drop, vec_len, IfOk, IfErr, OnOk, MatchResult};
+ghost use Rattle.std.specs.Prelude.{◌≡◌, ◌↔◌, ℕ, ◌+◌, ◌-◌, ◌^◌, ◌<◌, ◌≤◌, List, length, drop};
+ghost use Rattle.std.specs.Prelude.{vec_len, IfOk, IfErr, OnOk, MatchResult};
 
 use crate::fault::RowsFault;
 use blocks::{BLOCK, Extent};
@@ -32,7 +33,8 @@ impl Window {
     ghost use Rattle.fault_counts.specs.Counting.{CountsEach};
     ghost use Rattle.blocks.specs.Extents.{bytes_of};
     ghost use Rattle.segment.specs.Records.{record_of, IsStamped};
-    ghost use Rattle.store_image.specs.Private.Reading.{CountsFault, bytes_in, HasRecord, HasNoRecord, IsNoRecord, Sees, IsFull};
+    ghost use Rattle.store_image.specs.Private.Reading.{CountsFault, bytes_in, HasRecord};
+    ghost use Rattle.store_image.specs.Private.Reading.{HasNoRecord, IsNoRecord, Sees, IsFull};
 
     /// A window on a segment of no bytes.
     pub(crate) fn new(alloc: Global) -> Result<Window, AllocError> {

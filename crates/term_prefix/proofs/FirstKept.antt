@@ -1,25 +1,37 @@
 -- The first by id that are kept.
-use Rattle.std.proofs.Common.{◌≡◌, ℕ, zero, suc, ◌+◌, ◌<◌, ◌≤◌, Bool, true, false, List, [], ◌∷◌, ◌++◌, length, get_or, take, map, refl, sym, ap, subst, inl, inr, ◌∙◌, arith, append_assoc}
-use Rattle.std.specs.Prelude.{◌==◌, ◌-◌, nat_lt, nat_le, Option, Some, Ok, Err, slice_get}
-use Rattle.std.specs.Ordering.{nat_cmp}
+use Rattle.std.proofs.Common.{◌≡◌, ◌⊎◌, ℕ, zero, suc, ◌+◌, ◌<◌, ◌≤◌, Bool, true, false, List, [], ◌∷◌, ◌++◌, length, get_or, take, map, refl, sym, ap, subst, inl, inr, ◌∙◌, arith, append-nil, append_assoc}
+use Rattle.std.specs.Prelude.{◌==◌, ◌-◌, nat_lt, nat_le, Option, Some, None, Result, Ok, Err, OnOk, slice_get, flat_map}
+use Rattle.std.specs.Option.{option_map, option_to_list}
+use Rattle.std.proofs.lemmas.Grind.{flat_map-append}
+use Rattle.std.specs.List.{AllByRecursion}
+use Rattle.std.specs.Ordering.{nat_cmp, ordering_then}
 use Rattle.std.specs.Cmp.{nat_cmp_total, ranked, tied_itself}
 use Rattle.std.specs.declared.cmp.Ordering.{Ordering}
 use Rattle.std.specs.declared.cmp.Ordering.TheVariants.{Less, Equal, Greater}
 use Rattle.std.proofs.lemmas.Bool.Decides.{nat_tests}
 use Rattle.std.proofs.lemmas.List.{take_more, length-take-le}
+use Rattle.rf2_values.specs.declared.row.Kind.TheVariants as kinds
+use Rattle.rf2_values.specs.Key.{kind_place}
 use Rattle.history_model.specs.declared.stamped.StampedRow.{StampedRow}
 use Rattle.history_model.specs.InOrder.{Has, IsAscending, put}
 use Rattle.history_model.specs.Private.{IsPlace}
+use Rattle.history_model.specs.Queries.{is_above}
 use Rattle.history_model.proofs.InOrder.{Has-all, all_from_has, Has-append_left, Has-append_right, Has-append_cases, Has-put_cases, Has-put_old, Has-put_new, IsAscending-put}
 use Rattle.as_of_index.specs.declared.chosen.Chosen.{Chosen}
-use Rattle.as_of_index.specs.Private.Chosen.{chosen_cmp}
-use Rattle.term_prefix.specs.Private.{IsTaken, Counts, AreKept, SaysTaken, SaysWanted}
+use Rattle.segment.specs.declared.place.RowPlace.{RowPlace}
+use Rattle.segment.specs.Standing.{places_of}
+use Rattle.as_of_index.specs.Places.{item_at, place_cmp, ArePlaces, Lists}
+use Rattle.as_of_index.specs.Current.{IsPlaceOfRow, IsCurrentAt}
+use Rattle.as_of_index.specs.Private.Chosen.{chosen, chosen_cmp}
+use Rattle.term_prefix.specs.declared.search.Bounds.{Bounds}
+use Rattle.term_prefix.specs.declared.search.Candidate.TheVariants as candidates
+use Rattle.term_prefix.specs.Private.{chosen_at, IsFull, IsTaken, Counts, AreKept, SaysTaken, SaysCandidate, IsOfDescription, AreBounds}
 use Rattle.as_of_index.proofs.Ordered.{IsAscending-take}
 use Rattle.as_of_index.specs.Private.Search.{SplitsAt}
 use Rattle.as_of_index.proofs.Paging.{less_from}
 use Rattle.as_of_index.proofs.First.{Has-take, taken_or_above, length-put, put_there, put_new}
 use Rattle.as_of_index.proofs.First.{Falls}
-use Rattle.as_of_index.proofs.Current.{chosen_total, map-push}
+use Rattle.as_of_index.proofs.Current.{chosen_total}
 
 few : {X : Type 0} (n : ℕ) (xs : List X) → length (take n xs) ≤ n
 few zero xs = omega arith
@@ -29,6 +41,10 @@ few (suc n) (x ∷ xs) = let le = few n xs in omega arith
 lower : (a b : Chosen) → chosen_cmp a b ≡ Less → a.at.key.id < b.at.key.id
 lower a b e = ranked a.at.key.id b.at.key.id Less (sym e)
 
+-- as many as may be are kept still
+pub still_full : (limit : ℕ) (k : Chosen) (kept : List Chosen) → limit ≤ length kept → limit ≤ length (take limit (put chosen_cmp k kept))
+still_full limit k kept le = let more = length-put chosen_cmp k kept in let e = length-take-le limit (put chosen_cmp k kept) (omega arith) in omega arith
+
 -- what is there is among the first so many, or beyond them
 taken_id : (limit : ℕ) (ys : List Chosen) (j : Chosen) (id : ℕ) → IsAscending chosen_cmp ys → Has ys j → j.at.key.id ≡ id → IsTaken limit (take limit ys) id
 taken_id limit ys j id up h e = elim (taken_or_above chosen_total limit ys j up h) [
@@ -37,7 +53,7 @@ taken_id limit ys j id up h e = elim (taken_or_above chosen_total limit ys j up 
 ]
 
 module _ (lists : List (List StampedRow)) (date : ℕ) (after : Option ℕ) (limit pin : ℕ) where
-  pub kept_more : (seen kept : List Chosen) (k : Chosen) → AreKept lists date after limit pin seen kept → SaysWanted lists date after limit pin kept k true → AreKept lists date after limit pin (seen ++ k ∷ []) (take limit (put chosen_cmp k kept))
+  pub kept_more : (seen kept : List Chosen) (k : Chosen) → AreKept lists date after limit pin seen kept → Counts lists date after pin k × SaysTaken limit kept k.at.key.id false → AreKept lists date after limit pin (seen ++ k ∷ []) (take limit (put chosen_cmp k kept))
   kept_more seen kept k a w =
       let up = IsAscending-put chosen_total k kept a.ascending in
       record {
@@ -47,7 +63,7 @@ module _ (lists : List (List StampedRow)) (date : ℕ) (after : Option ℕ) (lim
           | inl l ↦ elim (a.all m l now) [
             | inl t ↦ taken_id limit (put chosen_cmp k kept) t.0 m.at.key.id up (Has-put_old chosen_cmp k kept t.0 t.1) t.2
             | inr b ↦ inr (
-              full b.0,
+              still_full limit k kept b.0,
               λ i there. elim (Has-put_cases chosen_cmp k kept i (Has-take limit (put chosen_cmp k kept) i there)) [
                 | inl e ↦ subst (λ (x : Chosen). x.at.key.id < m.at.key.id) e (let j = w.1 b.0 in let low = b.1 j.0 j.1 in let high = j.2 in omega arith)
                 | inr old ↦ b.1 i old
@@ -64,16 +80,13 @@ module _ (lists : List (List StampedRow)) (date : ℕ) (after : Option ℕ) (lim
           | inr old ↦ (let o = a.only m old in (Has-append_left seen (k ∷ []) m o.0, o.1))
         ];
       } where
-        full : limit ≤ length kept → limit ≤ length (take limit (put chosen_cmp k kept))
-        full le = let more = length-put chosen_cmp k kept in let e = length-take-le limit (put chosen_cmp k kept) (omega arith) in omega arith
-
         itself : IsAscending chosen_cmp (put chosen_cmp k kept) → IsTaken limit (take limit (put chosen_cmp k kept)) k.at.key.id
         itself up = elim (Has-put_new chosen_cmp k kept) [
           | inl h ↦ taken_id limit (put chosen_cmp k kept) k k.at.key.id up h refl
           | inr y ↦ taken_id limit (put chosen_cmp k kept) y.0 k.at.key.id up (Has-put_old chosen_cmp k kept y.0 y.1) (sym (ranked k.at.key.id y.0.at.key.id Equal (sym y.2)))
         ]
 
-  pub kept_other : (seen kept : List Chosen) (k : Chosen) → AreKept lists date after limit pin seen kept → SaysWanted lists date after limit pin kept k false → AreKept lists date after limit pin (seen ++ k ∷ []) kept
+  pub kept_other : (seen kept : List Chosen) (k : Chosen) → AreKept lists date after limit pin seen kept → IsTaken limit kept k.at.key.id ⊎ (Counts lists date after pin k → ⊥) → AreKept lists date after limit pin (seen ++ k ∷ []) kept
   kept_other seen kept k a w = record {
     ascending = a.ascending;
     few = a.few;
@@ -122,10 +135,7 @@ there_at (k ∷ kept) (suc i) l e = inr (there_at kept i l e)
 pub says_by_last : (limit : ℕ) (kept : List Chosen) (id i : ℕ) (l : Chosen) → slice_get kept i ≡ Some l → length kept ≡ i + 1 → limit ≤ length kept → IsAscending chosen_cmp kept → SaysTaken limit kept id (nat_le l.at.key.id id)
 says_by_last limit kept id i l e len full up =
     elim (nat_le l.at.key.id id) as (λ b. nat_le l.at.key.id id ≡ b → SaysTaken limit kept id b) [
-      | true ↦ λ f. elim (l.at.key.id == id) as (λ b. (l.at.key.id == id) ≡ b → IsTaken limit kept id) [
-        | true ↦ λ g. inl (l, there_at kept i l e, grind (arith, nat_tests, g))
-        | false ↦ λ g. inr (full, λ j h. let le = highest kept i l j up e len h in let lt : l.at.key.id < id = grind (arith, nat_tests, f, g) in omega arith)
-      ] refl
+      | true ↦ λ f. (full, λ j h. let le = highest kept i l j up e len h in let last : l.at.key.id ≤ id = grind (arith, nat_tests, f) in omega arith)
       | false ↦ λ f. λ k. (l, there_at kept i l e, grind (arith, nat_tests, f))
     ] refl
 
@@ -192,10 +202,206 @@ ids_parted id (k ∷ kept) up = (all_from_has (λ j. nat_lt j.at.key.id id ≡ t
   below_too : (k j : Chosen) → k.at.key.id < j.at.key.id → nat_lt j.at.key.id id ≡ true → nat_lt k.at.key.id id ≡ true
   below_too k j lt e = grind (arith, nat_tests, lt, e)
 
+-- ---- an id that is too high
+
+same_id : (id : ℕ) (kept : List Chosen) → ((j : Chosen) × Has kept j × (j.at.key.id ≡ id)) ⊎ ((j : Chosen) → Has kept j → j.at.key.id ≡ id → ⊥)
+same_id id [] = inr (λ j h. absurd h)
+same_id id (k ∷ kept) =
+    elim (k.at.key.id == id) as (λ b. (k.at.key.id == id) ≡ b → ((j : Chosen) × Has (k ∷ kept) j × (j.at.key.id ≡ id)) ⊎ ((j : Chosen) → Has (k ∷ kept) j → j.at.key.id ≡ id → ⊥)) [
+      | true ↦ λ e. inl (k, inl refl, grind (arith, nat_tests, e))
+      | false ↦ λ e. elim (same_id id kept) [
+        | inl w ↦ inl (w.0, inr w.1, w.2)
+        | inr none ↦ inr (λ j h same. elim h [
+          | inl f ↦ other k.at.key.id e (ap (λ (x : Chosen). x.at.key.id) f ∙ same)
+          | inr t ↦ none j t same
+        ])
+      ]
+    ] refl where
+      other : (m : ℕ) → (m == id) ≡ false → m ≡ id → ⊥
+      other m e f = grind (arith, nat_tests, e, f)
+
+full_taken : (limit : ℕ) (kept : List Chosen) (id : ℕ) → IsFull limit kept id → IsTaken limit kept id
+full_taken limit kept id full = elim (same_id id kept) [
+  | inl w ↦ inl w
+  | inr none ↦ inr (full.0, λ j h. below j.at.key.id (full.1 j h) (none j h))
+] where
+  below : (m : ℕ) → m ≤ id → (m ≡ id → ⊥) → m < id
+  below m le f = grind (arith, nat_tests, le, f)
+
+-- ---- one row more, which has a place or none
+
+module _ (lists : List (List StampedRow)) (date : ℕ) (after : Option ℕ) (limit pin n i : ℕ) where
+  abbrev chosen_of : Option RowPlace → List Chosen
+  chosen_of o = map (chosen n) (option_to_list o)
+
+  -- it is kept
+  pub row_kept : (seen kept : List Chosen) (at : RowPlace) → AreKept lists date after limit pin seen kept → SaysCandidate lists date after limit pin kept n i (candidates.Wanted at) → AreKept lists date after limit pin (seen ++ chosen_at lists n i) (take limit (put chosen_cmp (chosen n at) kept))
+  row_kept seen kept at a w =
+      subst (λ ks. AreKept lists date after limit pin (seen ++ ks) (take limit (put chosen_cmp (chosen n at) kept))) (sym (ap chosen_of w.0))
+      (kept_more lists date after limit pin seen kept (chosen n at) a (w.1, w.2))
+
+  -- it isn't
+  row_left : (seen kept : List Chosen) → AreKept lists date after limit pin seen kept → ((at : RowPlace) → IsPlaceOfRow lists n i at → IsTaken limit kept at.key.id ⊎ (Counts lists date after pin (chosen n at) → ⊥)) → AreKept lists date after limit pin (seen ++ chosen_at lists n i) kept
+  row_left seen kept a w =
+      elim (item_at (map places_of lists) n i) as (λ o. item_at (map places_of lists) n i ≡ o → AreKept lists date after limit pin (seen ++ chosen_of o) kept) [
+        | None ↦ λ e. subst (λ ks. AreKept lists date after limit pin ks kept) (sym (append-nil seen)) a
+        | Some at ↦ λ e. kept_other lists date after limit pin seen kept (chosen n at) a (w at e)
+      ] refl
+
+  pub low_left : (seen kept : List Chosen) → AreKept lists date after limit pin seen kept → ((at : RowPlace) → IsPlaceOfRow lists n i at → is_above after at.key.id ≡ false) → AreKept lists date after limit pin (seen ++ chosen_at lists n i) kept
+  low_left seen kept a low = row_left seen kept a (λ at place. inr (λ counts. absurd (let yes = counts.above in let no = low at place in cc)))
+
+  pub high_left : (seen kept : List Chosen) → AreKept lists date after limit pin seen kept → ((at : RowPlace) → IsPlaceOfRow lists n i at → IsFull limit kept at.key.id) → AreKept lists date after limit pin (seen ++ chosen_at lists n i) kept
+  high_left seen kept a high = row_left seen kept a (λ at place. inl (full_taken limit kept at.key.id (high at place)))
+
+  pub old_left : (seen kept : List Chosen) → AreKept lists date after limit pin seen kept → ((at : RowPlace) → IsPlaceOfRow lists n i at → Counts lists date after pin (chosen n at) → ⊥) → AreKept lists date after limit pin (seen ++ chosen_at lists n i) kept
+  old_left seen kept a old = row_left seen kept a (λ at place. inr (old at place))
+
 -- ---- one of a list more
 
-pub one_more : {X : Type 0} (seen : List Chosen) (f : X → Chosen) (ts : List X) (i : ℕ) (t : X) → i < length ts → t ≡ get_or ts i t → seen ++ map f (take (i + 1) ts) ≡ (seen ++ map f (take i ts)) ++ f t ∷ []
-one_more seen f ts i t lt is =
-    ap (λ xs. seen ++ map f xs) (take_more ts i t lt ∙ ap (λ x. take i ts ++ x ∷ []) (sym is))
-    ∙ ap (λ xs. seen ++ xs) (map-push f (take i ts) t)
-    ∙ sym (append_assoc seen (map f (take i ts)) (f t ∷ []))
+pub got_of : {X : Type 0} (xs : List X) (i : ℕ) (d : X) → i < length xs → Has xs (get_or xs i d)
+got_of [] i d lt = absurd (omega arith)
+got_of (x ∷ xs) zero d lt = inl refl
+got_of (x ∷ xs) (suc i) d lt = inr (got_of xs i d (omega arith))
+
+pub pieces_more : {X : Type 0} (seen : List Chosen) (f : X → List Chosen) (ts : List X) (i : ℕ) (d : X) → i < length ts → seen ++ flat_map f (take (i + 1) ts) ≡ (seen ++ flat_map f (take i ts)) ++ f (get_or ts i d)
+pieces_more seen f ts i d lt =
+    ap (λ xs. seen ++ flat_map f xs) (take_more ts i d lt)
+    ∙ ap (λ xs. seen ++ xs) (flat_map-append f (take i ts) (get_or ts i d ∷ []) ∙ ap (λ xs. flat_map f (take i ts) ++ xs) (append-nil (f (get_or ts i d))))
+    ∙ sym (append_assoc seen (flat_map f (take i ts)) (f (get_or ts i d)))
+
+-- ---- what is answered of a row
+
+some_is : {X : Type 0} (x y : X) → Some x ≡ Some y → x ≡ y
+some_is x y e = cc
+
+module _ (lists : List (List StampedRow)) (date : ℕ) (after : Option ℕ) (limit pin : ℕ) (kept : List Chosen) (n i : ℕ) where
+  one_place : (p q : RowPlace) → IsPlaceOfRow lists n i p → IsPlaceOfRow lists n i q → p ≡ q
+  one_place p q e f = some_is p q (sym e ∙ f)
+
+  -- where a list has an id of a row, the row has a place
+  place_of_id : (id : ℕ) (o : Option RowPlace) → Some id ≡ option_map (λ (p : RowPlace). p.key.id) o → (at : RowPlace) × (o ≡ Some at) × (id ≡ at.key.id)
+  place_of_id id None e = absurd (cc)
+  place_of_id id (Some at) e = (at, refl, some_is id at.key.id e)
+
+  pub says_none : None ≡ option_map (λ (p : RowPlace). p.key.id) (item_at (map places_of lists) n i) → SaysCandidate lists date after limit pin kept n i candidates.Old
+  says_none none at place counts = absurd (let ids = none ∙ ap (option_map (λ (p : RowPlace). p.key.id)) place in cc)
+
+  module _ (id : ℕ) (id_is : Some id ≡ option_map (λ (p : RowPlace). p.key.id) (item_at (map places_of lists) n i)) where
+    pub says_low : is_above after id ≡ false → SaysCandidate lists date after limit pin kept n i candidates.Low
+    says_low low = let w = place_of_id id (item_at (map places_of lists) n i) id_is in (w.0, w.1, subst (λ m. is_above after m ≡ false) w.2 low)
+
+    pub says_high : IsFull limit kept id → SaysCandidate lists date after limit pin kept n i candidates.High
+    says_high full = let w = place_of_id id (item_at (map places_of lists) n i) id_is in (w.0, w.1, subst (λ m. IsFull limit kept m) w.2 full)
+
+    pub says_wanted : (at : RowPlace) → is_above after id ≡ true → SaysTaken limit kept id false → IsPlaceOfRow lists n i at × IsCurrentAt lists date pin n at → SaysCandidate lists date after limit pin kept n i (candidates.Wanted at)
+    says_wanted at above room w =
+        let p = place_of_id id (item_at (map places_of lists) n i) id_is in
+        let same : id ≡ at.key.id = p.2 ∙ ap (λ (q : RowPlace). q.key.id) (one_place p.0 at p.1 w.0) in
+        (w.0, record { above = subst (λ m. is_above after m ≡ true) same above; current = w.1 }, subst (λ m. SaysTaken limit kept m false) same room)
+
+  pub says_old : ((at : RowPlace) → IsPlaceOfRow lists n i at × IsCurrentAt lists date pin n at → ⊥) → SaysCandidate lists date after limit pin kept n i candidates.Old
+  says_old none at place counts = none at (place, counts.current)
+
+  -- what is said of its place is said of each
+  pub each_low : SaysCandidate lists date after limit pin kept n i candidates.Low → (at : RowPlace) → IsPlaceOfRow lists n i at → is_above after at.key.id ≡ false
+  each_low w at place = subst (λ (p : RowPlace). is_above after p.key.id ≡ false) (one_place w.0 at w.1 place) w.2
+
+  pub each_high : SaysCandidate lists date after limit pin kept n i candidates.High → (at : RowPlace) → IsPlaceOfRow lists n i at → IsFull limit kept at.key.id
+  each_high w at place = subst (λ (p : RowPlace). IsFull limit kept p.key.id) (one_place w.0 at w.1 place) w.2
+
+-- ---- what is known of the rows behind and before one
+
+place_there : (ps : List RowPlace) (i : ℕ) (p : RowPlace) → slice_get ps i ≡ Some p → Has ps p
+place_there [] i p e = absurd (cc)
+place_there (q ∷ ps) zero p e = inl (cc)
+place_there (q ∷ ps) (suc i) p e = inr (place_there ps i p e)
+
+nth_below : (ps : List RowPlace) (i j : ℕ) (p q : RowPlace) → IsAscending place_cmp ps → slice_get ps i ≡ Some p → slice_get ps j ≡ Some q → i < j → place_cmp p q ≡ Less
+nth_below [] i j p q up e f lt = absurd (cc)
+nth_below (x ∷ ps) i zero p q up e f lt = absurd (omega arith)
+nth_below (x ∷ ps) zero (suc j) p q up e f lt =
+    let same : x ≡ p = cc in
+    subst (λ y. place_cmp y q ≡ Less) same (Has-all (λ y. place_cmp x y ≡ Less) ps q up.0 (place_there ps j q f))
+nth_below (x ∷ ps) (suc i) (suc j) p q up e f lt = nth_below ps i j p q up.1 e f (omega arith)
+
+row_below : (index : List (List RowPlace)) → AllByRecursion (λ places. IsAscending place_cmp places) index → (n i j : ℕ) (p q : RowPlace) → item_at index n i ≡ Some p → item_at index n j ≡ Some q → i < j → place_cmp p q ≡ Less
+row_below [] up n i j p q e f lt = absurd (cc)
+row_below (ps ∷ index) up zero i j p q e f lt = nth_below ps i j p q up.0 e f lt
+row_below (ps ∷ index) up (suc n) i j p q e f lt = row_below index up.1 n i j p q e f lt
+
+lower_id : (p q : RowPlace) → p.key.kind ≡ q.key.kind → place_cmp p q ≡ Less → p.key.id ≤ q.key.id
+lower_id p q kinds_are less =
+    let tied : nat_cmp (kind_place p.key.kind) (kind_place q.key.kind) ≡ Equal = subst (λ k. nat_cmp (kind_place p.key.kind) (kind_place k) ≡ Equal) kinds_are (tied_itself nat_cmp_total (kind_place p.key.kind)) in
+    by (nat_cmp p.key.id q.key.id) refl (ap (λ r. ordering_then r (ordering_then (nat_cmp p.key.id q.key.id) (nat_cmp p.key.time q.key.time))) (sym tied) ∙ less) where
+      by : (r : Ordering) → nat_cmp p.key.id q.key.id ≡ r → ordering_then (nat_cmp p.key.id q.key.id) (nat_cmp p.key.time q.key.time) ≡ Less → p.key.id ≤ q.key.id
+      by Less e f = let lt = ranked p.key.id q.key.id Less (sym e) in omega arith
+      by Equal e f = let same = ranked p.key.id q.key.id Equal (sym e) in omega arith
+      by Greater e f = absurd (let g = ap (λ r. ordering_then r (nat_cmp p.key.time q.key.time)) (sym e) ∙ f in cc)
+
+-- nothing is known
+pub no_bounds : (lists : List (List StampedRow)) (after : Option ℕ) (limit n : ℕ) (kept : List Chosen) → AreBounds lists after limit kept n (record { first = 0; end = None })
+no_bounds lists after limit n kept = record { low = λ i at place kind lt. absurd (omega arith); high = λ i at place kind e. absurd (cc) }
+
+module _ (lists : List (List StampedRow)) (are : ArePlaces (map places_of lists)) (after : Option ℕ) (limit n : ℕ) where
+  ids_rise : (i j : ℕ) (p q : RowPlace) → IsPlaceOfRow lists n i p → IsPlaceOfRow lists n j q → p.key.kind ≡ kinds.Description → q.key.kind ≡ kinds.Description → i ≤ j → p.key.id ≤ q.key.id
+  ids_rise i j p q e f kp kq le =
+      elim (i == j) as (λ b. (i == j) ≡ b → p.key.id ≤ q.key.id) [
+        | true ↦ λ same.
+            let numbers : i ≡ j = grind (arith, nat_tests, same) in
+            let one : Some p ≡ Some q = sym e ∙ ap (λ m. item_at (map places_of lists) n m) numbers ∙ f in
+            let places : p ≡ q = cc in
+            let ids = ap (λ (x : RowPlace). x.key.id) places in
+            omega arith
+        | false ↦ λ other. let lt : i < j = grind (arith, nat_tests, other, le) in lower_id p q (kp ∙ sym kq) (row_below (map places_of lists) are.ascending n i j p q e f lt)
+      ] refl
+
+  not_above : (after : Option ℕ) (low high : ℕ) → low ≤ high → is_above after high ≡ false → is_above after low ≡ false
+  not_above None low high le e = absurd (cc)
+  not_above (Some a) low high le e = grind (arith, nat_tests, le, e)
+
+  -- a row that is too low, or too high
+  pub low_bound : (kept : List Chosen) (b : Bounds) (i first : ℕ) → AreBounds lists after limit kept n b → IsOfDescription lists n i → first ≤ i + 1 → (at : RowPlace) × IsPlaceOfRow lists n i at × (is_above after at.key.id ≡ false) → AreBounds lists after limit kept n (record { first = first; end = b.end })
+  low_bound kept b i first are_bounds described le w = record {
+    low = λ j p there kind lt. not_above after p.key.id w.0.key.id (ids_rise j i p w.0 there w.1 kind (described w.0 w.1) (omega arith)) w.2;
+    high = are_bounds.high;
+  }
+
+  pub high_bound : (kept : List Chosen) (b : Bounds) (i : ℕ) → AreBounds lists after limit kept n b → IsOfDescription lists n i → (at : RowPlace) × IsPlaceOfRow lists n i at × IsFull limit kept at.key.id → AreBounds lists after limit kept n (record { first = b.first; end = Some i })
+  high_bound kept b i are_bounds described w = record {
+    low = are_bounds.low;
+    high = λ j p there kind behind.
+        let full = w.2 in
+        let rise = ids_rise i j w.0 p w.1 there (described w.0 w.1) kind (grind (arith, nat_tests, behind)) in
+        (full.0, λ k h. let le = full.1 k h in omega arith);
+  }
+
+  -- one more is kept
+  pub kept_bounds : (kept : List Chosen) (b : Bounds) (k : Chosen) → AreBounds lists after limit kept n b → SaysTaken limit kept k.at.key.id false → AreBounds lists after limit (take limit (put chosen_cmp k kept)) n b
+  kept_bounds kept b k are_bounds room = record {
+    low = are_bounds.low;
+    high = λ i at place kind behind.
+        let full = are_bounds.high i at place kind behind in
+        let above = room full.0 in (
+          still_full limit k kept full.0,
+          λ j h. elim (Has-put_cases chosen_cmp k kept j (Has-take limit (put chosen_cmp k kept) j h)) [
+            | inl e ↦ subst (λ (x : Chosen). x.at.key.id ≤ at.key.id) e (let le = full.1 above.0 above.1 in let lt = above.2 in omega arith)
+            | inr old ↦ full.1 j old
+          ],
+        );
+  }
+
+-- a row that is to be kept
+pub wanted_row : {A B : Type 0} (r : Result A B) (kept new : List Chosen) (date : ℕ) (after : Option ℕ) (limit pin n i : ℕ) (index : List (List RowPlace)) (b : Bounds) (at : RowPlace) → ArePlaces index
+    → ((lists : List (List StampedRow)) → Lists index lists → IsAscending chosen_cmp kept → SaysCandidate lists date after limit pin kept n i (candidates.Wanted at))
+    → OnOk r (IsAscending chosen_cmp kept → length kept ≤ limit → new ≡ take limit (put chosen_cmp (chosen n at) kept))
+    → OnOk r ((lists : List (List StampedRow)) → Lists index lists → IsOfDescription lists n i → (seen : List Chosen) → AreKept lists date after limit pin seen kept → AreBounds lists after limit kept n b
+    → AreKept lists date after limit pin (seen ++ chosen_at lists n i) new × AreBounds lists after limit new n b)
+wanted_row (Err e) kept new date after limit pin n i index b at are says is = tt
+wanted_row (Ok x) kept new date after limit pin n i index b at are says is = λ lists listed_so described seen start bounds.
+    let w = says lists listed_so start.ascending in
+    let new_is = is start.ascending start.few in
+    let own : ArePlaces (map places_of lists) = subst (λ (l : List (List RowPlace)). ArePlaces l) listed_so are in (
+      subst (λ ks. AreKept lists date after limit pin (seen ++ chosen_at lists n i) ks) (sym new_is) (row_kept lists date after limit pin n i seen kept at start w),
+      subst (λ ks. AreBounds lists after limit ks n b) (sym new_is) (kept_bounds lists own after limit n kept b (chosen n at) bounds w.2),
+    )

@@ -16,7 +16,6 @@ use Rattle.std.specs.declared.cmp.Ordering.{Ordering}
 use denote.Ref.{Bor}
 use denote.Param.Members.{Mut}
 use Rattle.as_of_index.proofs.Current.{map-push}
-use Rattle.segment.specs.declared.place.RowPlace.{RowPlace}
 use Rattle.term_prefix.specs.declared.text.Term.{Term}
 use Rattle.term_prefix.specs.Terms.{TermAt, TextsRise}
 use Rattle.term_prefix.specs.Pushed.{posted_term, term_of_body}
@@ -37,9 +36,9 @@ laid-each : (from : ℕ) (ts : List Term) (end : ℕ) → AreLaid from ts end �
 laid-each from [] end a = tt
 laid-each from (t ∷ ts) end a = (let le = laid_end (from + t.len) ts end a.1 in let e = a.0 in omega arith, laid-each (from + t.len) ts end a.1)
 
-laid-push : (from : ℕ) (ts : List Term) (end n : ℕ) (at : RowPlace) → AreLaid from ts end → AreLaid from (ts ++ record { at = at; start = end; len = n } ∷ []) (end + n)
-laid-push from [] end n at a = (sym a, ap (λ m. m + n) a)
-laid-push from (t ∷ ts) end n at a = (a.0, laid-push (from + t.len) ts end n at a.1)
+laid-push : (from : ℕ) (ts : List Term) (end n : ℕ) (row : ℕ) → AreLaid from ts end → AreLaid from (ts ++ record { start = end; len = n; row = row } ∷ []) (end + n)
+laid-push from [] end n row a = (sym a, ap (λ m. m + n) a)
+laid-push from (t ∷ ts) end n row a = (a.0, laid-push (from + t.len) ts end n row a.1)
 
 laid-take : (from : ℕ) (ts : List Term) (end n : ℕ) (t : Term) → AreLaid from ts end → n < length ts → t ≡ get_or ts n t → AreLaid from (take n ts) t.start × (t.start ≤ end)
 laid-take from [] end n t a lt e = absurd (omega arith)
@@ -56,20 +55,20 @@ fold-append text more start len le =
 terms-append : (text more : List ℕ) (ts : List Term) → AllByRecursion (λ (t : Term). t.start + t.len ≤ length text) ts → terms_at (text ++ more) ts ≡ terms_at text ts
 terms-append text more [] a = refl
 terms-append text more (t ∷ ts) a =
-    let one : term_at (text ++ more) t ≡ term_at text t = ap (λ (f : List ℕ). record { folded = f; at = t.at }) (fold-append text more t.start t.len a.0) in
+    let one : term_at (text ++ more) t ≡ term_at text t = ap (λ (f : List ℕ). record { folded = f; row = t.row }) (fold-append text more t.start t.len a.0) in
     let rest = terms-append text more ts a.1 in
     λ i. one i ∷ rest i
 
-pub added : (text : List ℕ) (ts : List Term) (folded : List ℕ) (at : RowPlace) (text' : List ℕ) (ts' : List Term) → AreLaid 0 ts (length text) → AddsTerm text ts folded at text' ts'
-    → AreLaid 0 ts' (length text') × (terms_at text' ts' ≡ terms_at text ts ++ record { folded = folded; at = at } ∷ [])
-added text ts folded at text' ts' a w =
-    let t : Term = record { at = at; start = length text; len = length folded } in
+pub added : (text : List ℕ) (ts : List Term) (folded : List ℕ) (row : ℕ) (text' : List ℕ) (ts' : List Term) → AreLaid 0 ts (length text) → AddsTerm text ts folded row text' ts'
+    → AreLaid 0 ts' (length text') × (terms_at text' ts' ≡ terms_at text ts ++ record { folded = folded; row = row } ∷ [])
+added text ts folded row text' ts' a w =
+    let t : Term = record { start = length text; len = length folded; row = row } in
     let one : take (length folded) (drop (length text) (text ++ folded)) ≡ folded = ap (take (length folded)) (drop-append_seam text folded) ∙ take_all (length folded) folded (omega arith) in (
-      subst (λ x. AreLaid 0 x (length text')) (sym w.terms) (subst (λ x. AreLaid 0 (ts ++ t ∷ []) (length x)) (sym w.texts) (subst (λ n. AreLaid 0 (ts ++ t ∷ []) n) (sym (length-append text folded)) (laid-push 0 ts (length text) (length folded) at a))),
+      subst (λ x. AreLaid 0 x (length text')) (sym w.terms) (subst (λ x. AreLaid 0 (ts ++ t ∷ []) (length x)) (sym w.texts) (subst (λ n. AreLaid 0 (ts ++ t ∷ []) n) (sym (length-append text folded)) (laid-push 0 ts (length text) (length folded) row a))),
       (λ i. terms_at (w.texts i) (w.terms i))
           ∙ map-push (term_at (text ++ folded)) ts t
           ∙ ap (λ xs. xs ++ term_at (text ++ folded) t ∷ []) (terms-append text folded ts (laid-each 0 ts (length text) a))
-          ∙ ap (λ (f : List ℕ). terms_at text ts ++ record { folded = f; at = at } ∷ []) one,
+          ∙ ap (λ (f : List ℕ). terms_at text ts ++ record { folded = f; row = row } ∷ []) one,
     )
 
 pub cut_short : (text : List ℕ) (ts : List Term) (n : ℕ) (t : Term) → AreLaid 0 ts (length text) → n < length ts → t ≡ get_or ts n t → IsCut text ts n (take t.start text) (take n ts)
@@ -110,16 +109,16 @@ module _ (text : List ℕ) where
 
 -- ---- a row that is pushed
 
-pub laid_after : {A B : Type 0} (r : Result A B) (text : List ℕ) (ts : List Term) (folded : List ℕ) (at : RowPlace) (text' : List ℕ) (ts' : List Term) → OnOk r (AddsTerm text ts folded at text' ts') → OnErr r ((text' ≡ text) × (ts' ≡ ts)) → AreLaid 0 ts (length text) → AreLaid 0 ts' (length text')
-laid_after (Ok x) text ts folded at text' ts' ok err a = (added text ts folded at text' ts' a ok).0
-laid_after (Err e) text ts folded at text' ts' ok err a = subst (λ x. AreLaid 0 x (length text')) (sym err.1) (subst (λ x. AreLaid 0 ts (length x)) (sym err.0) a)
+pub laid_after : {A B : Type 0} (r : Result A B) (text : List ℕ) (ts : List Term) (folded : List ℕ) (row : ℕ) (text' : List ℕ) (ts' : List Term) → OnOk r (AddsTerm text ts folded row text' ts') → OnErr r ((text' ≡ text) × (ts' ≡ ts)) → AreLaid 0 ts (length text) → AreLaid 0 ts' (length text')
+laid_after (Ok x) text ts folded row text' ts' ok err a = (added text ts folded row text' ts' a ok).0
+laid_after (Err e) text ts folded row text' ts' ok err a = subst (λ x. AreLaid 0 x (length text')) (sym err.1) (subst (λ x. AreLaid 0 ts (length x)) (sym err.0) a)
 
-pub pushed_after : {A B : Type 0} (r : Result A B) (text : List ℕ) (ts : List Term) (folded : List ℕ) (at : RowPlace) (text' : List ℕ) (ts' : List Term) (old posted : List TermAt) → OnOk r (AddsTerm text ts folded at text' ts') → AreLaid 0 ts (length text) → terms_at text ts ≡ old → posted ≡ record { folded = folded; at = at } ∷ [] → OnOk r (terms_at text' ts' ≡ old ++ posted)
-pushed_after (Ok x) text ts folded at text' ts' old posted ok a view_is is = (added text ts folded at text' ts' a ok).1 ∙ (λ i. view_is i ++ sym is i)
-pushed_after (Err e) text ts folded at text' ts' old posted ok a view_is is = tt
+pub pushed_after : {A B : Type 0} (r : Result A B) (text : List ℕ) (ts : List Term) (folded : List ℕ) (row : ℕ) (text' : List ℕ) (ts' : List Term) (old posted : List TermAt) → OnOk r (AddsTerm text ts folded row text' ts') → AreLaid 0 ts (length text) → terms_at text ts ≡ old → posted ≡ record { folded = folded; row = row } ∷ [] → OnOk r (terms_at text' ts' ≡ old ++ posted)
+pushed_after (Ok x) text ts folded row text' ts' old posted ok a view_is is = (added text ts folded row text' ts' a ok).1 ∙ (λ i. view_is i ++ sym is i)
+pushed_after (Err e) text ts folded row text' ts' old posted ok a view_is is = tt
 
-pub posted_is : (row : RowValue) (d : Description) (at : RowPlace) (text : List ℕ) → row.active ≡ true → row.body ≡ body.Description d → text ≡ folding d.term → posted_term row at ≡ record { folded = text; at = at } ∷ []
-posted_is row d at text active is e =
-    ap (λ b. if b then term_of_body row.body at else []) active
-    ∙ ap (λ b. term_of_body b at) is
-    ∙ ap (λ (f : List ℕ). record { folded = f; at = at } ∷ []) (sym e)
+pub posted_is : (row : RowValue) (d : Description) (i : ℕ) (text : List ℕ) → row.active ≡ true → row.body ≡ body.Description d → text ≡ folding d.term → posted_term row i ≡ record { folded = text; row = i } ∷ []
+posted_is row d i text active is e =
+    ap (λ b. if b then term_of_body row.body i else []) active
+    ∙ ap (λ b. term_of_body b i) is
+    ∙ ap (λ (f : List ℕ). record { folded = f; row = i } ∷ []) (sym e)

@@ -3,4 +3,3 @@ pub mod FirstKept
 pub mod Terming
 pub mod Laid
 pub mod Posted
-mod Growing

@@ -1,4 +1,4 @@
--- Terms that were pushed, each with its own place, stand for rows of their lists, and none is left out.
+-- Terms that were pushed, each with the number of its row, are of rows of their lists, and none is left out.
 use Rattle.std.proofs.Common.{◌≡◌, ℕ, true, false, List, [], refl, sym, ap, subst, inl, inr, take}
 use Rattle.std.specs.Prelude.{if◌then◌else◌, slice_set, Option}
 use Rattle.rf2_values.specs.declared.row.Body.{Body}
@@ -9,7 +9,6 @@ use Rattle.history_model.specs.History.{rows_at}
 use Rattle.history_model.specs.Lists.{listed}
 use Rattle.history_model.specs.Queries.{snapshot, is_above, is_term, is_term_above, begins_with, folded, terms_above, search_terms}
 use Rattle.history_model.proofs.Filtered.{both}
-use Rattle.segment.specs.declared.place.RowPlace.{RowPlace}
 use Rattle.as_of_index.specs.Current.{is_among}
 use Rattle.as_of_index.proofs.Among.{filter_both}
 use Rattle.as_of_index.proofs.Pushing.{stands, among_all, all_more, all_set, all_removed}
@@ -22,45 +21,45 @@ each_term_is_posted keys prefix date after limit rows each = ap (take limit) (fi
 
 -- ---- what is posted says what its row is
 
-of_body : (row : RowValue) (at : RowPlace) (b : Body) (t : TermAt) → row.active ≡ true → row.body ≡ b → Has (term_of_body b at) t → IsTermOf t row × (t.at ≡ at)
-of_body row at (body.Concept c) t a e h = absurd h
-of_body row at (body.Description d) t a e h = elim h [
-  | inl s ↦ (record { active = a; folded_is = subst (λ b. HasFolded t.folded b) (sym e) (ap (λ (x : TermAt). x.folded) s) }, sym (ap (λ (x : TermAt). x.at) s))
+of_body : (row : RowValue) (i : ℕ) (b : Body) (t : TermAt) → row.active ≡ true → row.body ≡ b → Has (term_of_body b i) t → IsTermOf t row × (t.row ≡ i)
+of_body row i (body.Concept c) t a e h = absurd h
+of_body row i (body.Description d) t a e h = elim h [
+  | inl s ↦ (record { active = a; folded_is = subst (λ b. HasFolded t.folded b) (sym e) (ap (λ (x : TermAt). x.folded) s) }, sym (ap (λ (x : TermAt). x.row) s))
   | inr f ↦ absurd f
 ]
-of_body row at (body.Relationship r) t a e h = absurd h
-of_body row at (body.Association x) t a e h = absurd h
-of_body row at (body.Concrete x) t a e h = absurd h
+of_body row i (body.Relationship r) t a e h = absurd h
+of_body row i (body.Association x) t a e h = absurd h
+of_body row i (body.Concrete x) t a e h = absurd h
 
-of_row : (row : RowValue) (at : RowPlace) (t : TermAt) → Has (posted_term row at) t → IsTermOf t row × (t.at ≡ at)
-of_row row at t h =
-    elim row.active as (λ b. row.active ≡ b → Has (if b then term_of_body row.body at else []) t → IsTermOf t row × (t.at ≡ at)) [
-      | true ↦ λ e k. of_body row at row.body t e refl k
+of_row : (row : RowValue) (i : ℕ) (t : TermAt) → Has (posted_term row i) t → IsTermOf t row × (t.row ≡ i)
+of_row row i t h =
+    elim row.active as (λ b. row.active ≡ b → Has (if b then term_of_body row.body i else []) t → IsTermOf t row × (t.row ≡ i)) [
+      | true ↦ λ e k. of_body row i row.body t e refl k
       | false ↦ λ e k. absurd k
     ] refl h
 
 pub posted_terms_stand : PostedTermsStand
-posted_terms_stand lists terms a x h = stands posted_term (λ (t : TermAt). t.at) IsTermOf of_row lists terms a x h
+posted_terms_stand lists terms a x h = stands posted_term (λ (t : TermAt). t.row) IsTermOf of_row lists terms a x h
 
 -- ---- and each active one is posted
 
-body_posted : (prefix : List ℕ) (at : RowPlace) (b : Body) → begins_with prefix b ≡ true → (t : TermAt) × Has (term_of_body b at) t × (t.at ≡ at)
-body_posted prefix at (body.Concept c) e = absurd (cc)
-body_posted prefix at (body.Description d) e = (record { folded = folded d.term; at = at }, inl refl, refl)
-body_posted prefix at (body.Relationship r) e = absurd (cc)
-body_posted prefix at (body.Association a) e = absurd (cc)
-body_posted prefix at (body.Concrete c) e = absurd (cc)
+body_posted : (prefix : List ℕ) (i : ℕ) (b : Body) → begins_with prefix b ≡ true → (t : TermAt) × Has (term_of_body b i) t × (t.row ≡ i)
+body_posted prefix i (body.Concept c) e = absurd (cc)
+body_posted prefix i (body.Description d) e = (record { folded = folded d.term; row = i }, inl refl, refl)
+body_posted prefix i (body.Relationship r) e = absurd (cc)
+body_posted prefix i (body.Association a) e = absurd (cc)
+body_posted prefix i (body.Concrete c) e = absurd (cc)
 
-row_posted : (prefix : List ℕ) (after : Option ℕ) (row : RowValue) (at : RowPlace) → is_term_above prefix after row ≡ true → (t : TermAt) × Has (posted_term row at) t × (t.at ≡ at)
-row_posted prefix after row at e =
+row_posted : (prefix : List ℕ) (after : Option ℕ) (row : RowValue) (i : ℕ) → is_term_above prefix after row ≡ true → (t : TermAt) × Has (posted_term row i) t × (t.row ≡ i)
+row_posted prefix after row i e =
     let w = both row.active (begins_with prefix row.body) (both (is_term prefix row) (is_above after row.id) e).0 in
-    let t = body_posted prefix at row.body w.1 in
-    (t.0, subst (λ b. Has (if b then term_of_body row.body at else []) t.0) (sym w.0) t.1, t.2)
+    let t = body_posted prefix i row.body w.1 in
+    (t.0, subst (λ b. Has (if b then term_of_body row.body i else []) t.0) (sym w.0) t.1, t.2)
 
 pub posted_terms_are_all : PostedTermsAreAll
 posted_terms_are_all lists posts prefix date after limit pin a =
-    each_term_is_posted (term_keys posts) prefix date after limit (rows_at pin (listed lists))
-    (among_all posted_term (λ (t : TermAt). t.at) (is_term_above prefix after) (row_posted prefix after) lists posts date pin a)
+    each_term_is_posted (term_keys lists posts) prefix date after limit (rows_at pin (listed lists))
+    (among_all posted_term (λ (t : TermAt). t.row) (is_term_above prefix after) (row_posted prefix after) lists posts date pin a)
 
 -- ---- lists that change
 

@@ -13,7 +13,6 @@ use Rattle.std.proofs.lemmas.List.Sorted.{ranks_by}
 use Rattle.history_model.specs.InOrder.{Has}
 use Rattle.history_model.proofs.InOrder.{Has-all, Has-append_left, Has-append_right, Has-append_cases}
 use Rattle.history_model.proofs.Filtered.{both, Has-map, Has-map_from, Has-filter, Has-filter_from}
-use Rattle.segment.specs.declared.place.RowPlace.{RowPlace}
 use Rattle.term_prefix.specs.declared.text.Term.{Term}
 use Rattle.as_of_index.specs.Private.Search.{SplitsAt}
 use Rattle.term_prefix.specs.Terms.{TermAt, TextsRise}
@@ -111,21 +110,21 @@ module _ (text prefix : List ℕ) where
       ]
     ]
 
-  -- the places of those that are found
-  pub places_from : (ts those : List Term) → ((t : Term) → (Has those t → Has ts t × (begins_so t ≡ true)) × (Has ts t × (begins_so t ≡ true) → Has those t)) → (p : RowPlace)
-      → (Has (map (λ (t : Term). t.at) those) p → Has (map (λ (t : TermAt). t.at) (filter (begins prefix) (terms_at text ts))) p)
-      × (Has (map (λ (t : TermAt). t.at) (filter (begins prefix) (terms_at text ts))) p → Has (map (λ (t : Term). t.at) those) p)
-  places_from ts those which p = (
+  -- the numbers of the rows of those that are found
+  pub numbers_from : (ts those : List Term) → ((t : Term) → (Has those t → Has ts t × (begins_so t ≡ true)) × (Has ts t × (begins_so t ≡ true) → Has those t)) → (p : ℕ)
+      → (Has (map (λ (t : Term). t.row) those) p → Has (map (λ (t : TermAt). t.row) (filter (begins prefix) (terms_at text ts))) p)
+      × (Has (map (λ (t : TermAt). t.row) (filter (begins prefix) (terms_at text ts))) p → Has (map (λ (t : Term). t.row) those) p)
+  numbers_from ts those which p = (
     λ h.
-        let m = Has-map (λ (t : Term). t.at) those p h in
+        let m = Has-map (λ (t : Term). t.row) those p h in
         let w = (which m.0).0 m.1 in
-        subst (λ q. Has (map (λ (t : TermAt). t.at) (filter (begins prefix) (terms_at text ts))) q) m.2
-        (Has-map_from (λ (t : TermAt). t.at) (filter (begins prefix) (terms_at text ts)) (term_at text m.0) (Has-filter_from (begins prefix) (terms_at text ts) (term_at text m.0) (Has-map_from (term_at text) ts m.0 w.0) w.1)),
+        subst (λ q. Has (map (λ (t : TermAt). t.row) (filter (begins prefix) (terms_at text ts))) q) m.2
+        (Has-map_from (λ (t : TermAt). t.row) (filter (begins prefix) (terms_at text ts)) (term_at text m.0) (Has-filter_from (begins prefix) (terms_at text ts) (term_at text m.0) (Has-map_from (term_at text) ts m.0 w.0) w.1)),
     λ h.
-        let m = Has-map (λ (t : TermAt). t.at) (filter (begins prefix) (terms_at text ts)) p h in
+        let m = Has-map (λ (t : TermAt). t.row) (filter (begins prefix) (terms_at text ts)) p h in
         let f = Has-filter (begins prefix) (terms_at text ts) m.0 m.1 in
         let t = Has-map (term_at text) ts m.0 f.0 in
-        let place : t.0.at ≡ p = ap (λ (x : TermAt). x.at) t.2 ∙ m.2 in
-        subst (λ q. Has (map (λ (t : Term). t.at) those) q) place
-        (Has-map_from (λ (t : Term). t.at) those t.0 ((which t.0).1 (t.1, subst (λ (x : TermAt). begins prefix x ≡ true) (sym t.2) f.1))),
+        let number : t.0.row ≡ p = ap (λ (x : TermAt). x.row) t.2 ∙ m.2 in
+        subst (λ q. Has (map (λ (t : Term). t.row) those) q) number
+        (Has-map_from (λ (t : Term). t.row) those t.0 ((which t.0).1 (t.1, subst (λ (x : TermAt). begins prefix x ≡ true) (sym t.2) f.1))),
   )

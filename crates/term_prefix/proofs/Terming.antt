@@ -1,6 +1,6 @@
 -- The rows of the places that are kept are the terms that are asked for.
-use Rattle.std.proofs.Common.{◌≡◌, ◌⊎◌, ℕ, ◌+◌, ◌<◌, ◌≤◌, Bool, true, List, [], ◌∷◌, ◌++◌, length, get_or, take, map, refl, sym, ap, subst, inl, inr, ◌∙◌, arith, append-nil, append_assoc}
-use Rattle.std.specs.Prelude.{◌&&◌, nat_eq, Option, chars, encode_utf8_all}
+use Rattle.std.proofs.Common.{◌≡◌, ◌⊎◌, ℕ, zero, suc, ◌+◌, ◌<◌, ◌≤◌, Bool, true, List, [], ◌∷◌, ◌++◌, length, get_or, take, map, refl, sym, ap, subst, inl, inr, ◌∙◌, arith, append-nil, append_assoc}
+use Rattle.std.specs.Prelude.{◌&&◌, nat_eq, Option, Some, chars, encode_utf8_all, flat_map}
 use Rattle.caseless.specs.Caseless.{default_case_fold}
 use Rattle.std.specs.List.{filter, starts_with}
 use Rattle.std.specs.Ordering.{nat_cmp, ordering_then}
@@ -14,7 +14,7 @@ use Rattle.rf2_values.specs.declared.key.Key.{Key}
 use Rattle.rf2_values.specs.Row.{RowValue, kind_of, kind_of_body}
 use Rattle.rf2_values.specs.Key.{kind_place, key_of}
 use Rattle.history_model.specs.declared.stamped.StampedRow.{StampedRow}
-use Rattle.history_model.specs.InOrder.{Has, IsAscending, joined}
+use Rattle.history_model.specs.InOrder.{Has, IsAscending}
 use Rattle.history_model.specs.History.{row_cmp}
 use Rattle.history_model.specs.Queries.{get, snapshot, is_above, is_term, is_term_above, begins_with, folded}
 use Rattle.history_model.proofs.InOrder.{Has-append_left, Has-append_right, Has-append_cases}
@@ -25,12 +25,15 @@ use Rattle.as_of_index.specs.declared.chosen.Chosen.{Chosen}
 use Rattle.term_prefix.specs.declared.text.Term.{Term}
 use Rattle.segment.specs.Standing.{places_of, StandsAt}
 use Rattle.as_of_index.specs.Places.{ArePlaces}
+use Rattle.segment.proofs.Posting.{says}
 use Rattle.as_of_index.specs.Chosen.{StandAtAll}
 use Rattle.as_of_index.specs.Private.Chosen.{chosen, chosen_cmp}
-use Rattle.as_of_index.specs.Current.{is_among}
+use Rattle.as_of_index.specs.Places.{item_at}
+use Rattle.as_of_index.specs.Current.{is_among, IsPlaceOfRow}
 use Rattle.as_of_index.specs.Postings.{numbered}
 use Rattle.term_prefix.specs.Terms.{TermAt, HasFolded, IsTermOf, PostsTerms, term_keys, terms_among}
-use Rattle.term_prefix.specs.Private.{begins, begun, AreKept}
+use Rattle.term_prefix.specs.Private.{begins, begun, chosen_at, AreOfDescriptions, AreKept}
+use Rattle.as_of_index.proofs.Numbered.{stands_there, place_of_row, Has-flat_map, Has-flat_map_from, Has-option, Has-option_from, key_posted, key_cases}
 use Rattle.as_of_index.proofs.Paging.{less_from}
 use Rattle.as_of_index.proofs.Among.{among_from, among_has, looked_up}
 use Rattle.as_of_index.proofs.First.{same_first}
@@ -59,77 +62,79 @@ terms-more terms i ts lt is =
 
 -- ---- one list more
 
-module _ (text : List ℕ) where
-  begun-at : (xs : List (ℕ × TermAt)) (x : ℕ × TermAt) → Has xs x → begins text x.1 ≡ true → Has (begun text xs) (chosen x.0 x.1.at)
-  begun-at xs x h e = Has-map_from (λ (x : ℕ × TermAt). chosen x.0 x.1.at) (filter (λ (x : ℕ × TermAt). begins text x.1) xs) x (Has-filter_from (λ (x : ℕ × TermAt). begins text x.1) xs x h e)
+module _ (lists : List (List StampedRow)) (text : List ℕ) where
+  -- a term that begins so, and the place of its row
+  record IsBegun (xs : List (ℕ × TermAt)) (k : Chosen) : Type 0 where
+    x : ℕ × TermAt
+    there : Has xs x
+    begins_so : begins text x.1 ≡ true
+    at : RowPlace
+    place_is : IsPlaceOfRow lists x.0 x.1.row at
+    chosen_is : chosen x.0 at ≡ k
 
-  begun-cases : (xs : List (ℕ × TermAt)) (k : Chosen) → Has (begun text xs) k → (x : ℕ × TermAt) × Has xs x × (begins text x.1 ≡ true) × (chosen x.0 x.1.at ≡ k)
+  begun-at : (xs : List (ℕ × TermAt)) (x : ℕ × TermAt) (at : RowPlace) → Has xs x → begins text x.1 ≡ true → IsPlaceOfRow lists x.0 x.1.row at → Has (begun lists text xs) (chosen x.0 at)
+  begun-at xs x at h e place =
+      Has-flat_map_from (λ (x : ℕ × TermAt). chosen_at lists x.0 x.1.row) (filter (λ (x : ℕ × TermAt). begins text x.1) xs) x (chosen x.0 at) (Has-filter_from (λ (x : ℕ × TermAt). begins text x.1) xs x h e)
+      (Has-option_from (chosen x.0) (item_at (map places_of lists) x.0 x.1.row) at place)
+
+  begun-cases : (xs : List (ℕ × TermAt)) (k : Chosen) → Has (begun lists text xs) k → IsBegun xs k
   begun-cases xs k h =
-      let m = Has-map (λ (x : ℕ × TermAt). chosen x.0 x.1.at) (filter (λ (x : ℕ × TermAt). begins text x.1) xs) k h in
+      let m = Has-flat_map (λ (x : ℕ × TermAt). chosen_at lists x.0 x.1.row) (filter (λ (x : ℕ × TermAt). begins text x.1) xs) k h in
       let f = Has-filter (λ (x : ℕ × TermAt). begins text x.1) xs m.0 m.1 in
-      (m.0, f.0, f.1, m.2)
+      let o = Has-option (chosen m.0.0) (item_at (map places_of lists) m.0.0 m.0.1.row) k m.2 in
+      record { x = m.0; there = f.0; begins_so = f.1; at = o.0; place_is = o.1; chosen_is = o.2 }
 
-  -- those of a list, by their places
-  from_places : (n : ℕ) (ts : List TermAt) (p : RowPlace) → Has (map (λ (t : TermAt). t.at) (filter (begins text) ts)) p → Has (begun text (in_list n ts)) (chosen n p)
-  from_places n ts p h =
-      let m = Has-map (λ (t : TermAt). t.at) (filter (begins text) ts) p h in
+  -- those of a list, by the numbers of their rows
+  abbrev numbers : List TermAt → List ℕ
+  numbers ts = map (λ (t : TermAt). t.row) (filter (begins text) ts)
+
+  from_numbers : (n : ℕ) (ts : List TermAt) (i : ℕ) (at : RowPlace) → Has (numbers ts) i → IsPlaceOfRow lists n i at → Has (begun lists text (in_list n ts)) (chosen n at)
+  from_numbers n ts i at h place =
+      let m = Has-map (λ (t : TermAt). t.row) (filter (begins text) ts) i h in
       let f = Has-filter (begins text) ts m.0 m.1 in
-      subst (λ q. Has (begun text (in_list n ts)) (chosen n q)) m.2 (begun-at (in_list n ts) (n, m.0) (Has-map_from (λ (t : TermAt). (n, t)) ts m.0 f.0) f.1)
+      begun-at (in_list n ts) (n, m.0) at (Has-map_from (λ (t : TermAt). (n, t)) ts m.0 f.0) f.1 (subst (λ j. IsPlaceOfRow lists n j at) (sym m.2) place)
 
-  to_places : (n : ℕ) (ts : List TermAt) (k : Chosen) → Has (begun text (in_list n ts)) k → (p : RowPlace) × Has (map (λ (t : TermAt). t.at) (filter (begins text) ts)) p × (chosen n p ≡ k)
-  to_places n ts k h =
+  to_numbers : (n : ℕ) (ts : List TermAt) (k : Chosen) → Has (begun lists text (in_list n ts)) k → (i : ℕ) × (at : RowPlace) × Has (numbers ts) i × IsPlaceOfRow lists n i at × (chosen n at ≡ k)
+  to_numbers n ts k h =
       let c = begun-cases (in_list n ts) k h in
-      let m = one_of n ts c.0 c.1 in
-      let t_is = ap (λ (y : ℕ × TermAt). y.1) m.2 in (
-        m.0.at,
-        Has-map_from (λ (t : TermAt). t.at) (filter (begins text) ts) m.0 (Has-filter_from (begins text) ts m.0 m.1 (subst (λ (t : TermAt). begins text t ≡ true) t_is c.2)),
-        ap (λ (y : ℕ × TermAt). chosen y.0 y.1.at) (sym m.2) ∙ c.3,
+      let m = one_of n ts c.x c.there in
+      let t_is = ap (λ (y : ℕ × TermAt). y.1) m.2 in
+      let n_is = ap (λ (y : ℕ × TermAt). y.0) m.2 in (
+        m.0.row,
+        c.at,
+        Has-map_from (λ (t : TermAt). t.row) (filter (begins text) ts) m.0 (Has-filter_from (begins text) ts m.0 m.1 (subst (λ (t : TermAt). begins text t ≡ true) t_is c.begins_so)),
+        subst (λ (y : ℕ × TermAt). IsPlaceOfRow lists y.0 y.1.row c.at) m.2 c.place_is,
+        ap (λ j. chosen j c.at) (sym n_is) ∙ c.chosen_is,
       )
 
-  pub begun_more : (xs : List (ℕ × TermAt)) (n : ℕ) (ts : List TermAt) (those : List RowPlace)
-      → ((p : RowPlace) → (Has those p → Has (map (λ (t : TermAt). t.at) (filter (begins text) ts)) p) × (Has (map (λ (t : TermAt). t.at) (filter (begins text) ts)) p → Has those p))
-      → (k : Chosen) → (Has (begun text xs ++ map (λ p. chosen n p) those) k → Has (begun text (xs ++ in_list n ts)) k) × (Has (begun text (xs ++ in_list n ts)) k → Has (begun text xs ++ map (λ p. chosen n p) those) k)
+  pub begun_more : (xs : List (ℕ × TermAt)) (n : ℕ) (ts : List TermAt) (those : List Term)
+      → ((i : ℕ) → (Has (map (λ (t : Term). t.row) those) i → Has (map (λ (t : TermAt). t.row) (filter (begins text) ts)) i) × (Has (map (λ (t : TermAt). t.row) (filter (begins text) ts)) i → Has (map (λ (t : Term). t.row) those) i))
+      → (k : Chosen) → (Has (begun lists text xs ++ flat_map (λ (t : Term). chosen_at lists n t.row) those) k → Has (begun lists text (xs ++ in_list n ts)) k) × (Has (begun lists text (xs ++ in_list n ts)) k → Has (begun lists text xs ++ flat_map (λ (t : Term). chosen_at lists n t.row) those) k)
   begun_more xs n ts those which k = (
-    λ h. elim (Has-append_cases (begun text xs) (map (λ p. chosen n p) those) k h) [
-      | inl l ↦ (let c = begun-cases xs k l in subst (λ j. Has (begun text (xs ++ in_list n ts)) j) c.3 (begun-at (xs ++ in_list n ts) c.0 (Has-append_left xs (in_list n ts) c.0 c.1) c.2))
+    λ h. elim (Has-append_cases (begun lists text xs) (flat_map (λ (t : Term). chosen_at lists n t.row) those) k h) [
+      | inl l ↦ (let c = begun-cases xs k l in subst (λ j. Has (begun lists text (xs ++ in_list n ts)) j) c.chosen_is (begun-at (xs ++ in_list n ts) c.x c.at (Has-append_left xs (in_list n ts) c.x c.there) c.begins_so c.place_is))
       | inr r ↦ (
-          let m = Has-map (λ (p : RowPlace). chosen n p) those k r in
-          let c = begun-cases (in_list n ts) (chosen n m.0) (from_places n ts m.0 ((which m.0).0 m.1)) in
-          subst (λ j. Has (begun text (xs ++ in_list n ts)) j) (c.3 ∙ m.2) (begun-at (xs ++ in_list n ts) c.0 (Has-append_right xs (in_list n ts) c.0 c.1) c.2))
+          let m = Has-flat_map (λ (t : Term). chosen_at lists n t.row) those k r in
+          let o = Has-option (chosen n) (item_at (map places_of lists) n m.0.row) k m.2 in
+          let c = begun-cases (in_list n ts) (chosen n o.0) (from_numbers n ts m.0.row o.0 ((which m.0.row).0 (Has-map_from (λ (t : Term). t.row) those m.0 m.1)) o.1) in
+          subst (λ j. Has (begun lists text (xs ++ in_list n ts)) j) (c.chosen_is ∙ o.2) (begun-at (xs ++ in_list n ts) c.x c.at (Has-append_right xs (in_list n ts) c.x c.there) c.begins_so c.place_is))
     ],
     λ h.
         let c = begun-cases (xs ++ in_list n ts) k h in
-        elim (Has-append_cases xs (in_list n ts) c.0 c.1) [
-          | inl l ↦ Has-append_left (begun text xs) (map (λ p. chosen n p) those) k (subst (λ j. Has (begun text xs) j) c.3 (begun-at xs c.0 l c.2))
+        elim (Has-append_cases xs (in_list n ts) c.x c.there) [
+          | inl l ↦ Has-append_left (begun lists text xs) (flat_map (λ (t : Term). chosen_at lists n t.row) those) k (subst (λ j. Has (begun lists text xs) j) c.chosen_is (begun-at xs c.x c.at l c.begins_so c.place_is))
           | inr r ↦ (
-              let m = to_places n ts k (subst (λ j. Has (begun text (in_list n ts)) j) c.3 (begun-at (in_list n ts) c.0 r c.2)) in
-              Has-append_right (begun text xs) (map (λ p. chosen n p) those) k (subst (λ j. Has (map (λ p. chosen n p) those) j) m.2 (Has-map_from (λ (p : RowPlace). chosen n p) those m.0 ((which m.0).1 m.1))))
+              let m = to_numbers n ts k (subst (λ j. Has (begun lists text (in_list n ts)) j) c.chosen_is (begun-at (in_list n ts) c.x c.at r c.begins_so c.place_is)) in
+              let t = Has-map (λ (t : Term). t.row) those m.0 ((which m.0).1 m.2) in
+              let place = subst (λ i. IsPlaceOfRow lists n i m.1) (sym t.2) m.3 in
+              Has-append_right (begun lists text xs) (flat_map (λ (t : Term). chosen_at lists n t.row) those) k (subst (λ j. Has (flat_map (λ (t : Term). chosen_at lists n t.row) those) j) m.4
+              (Has-flat_map_from (λ (t : Term). chosen_at lists n t.row) those t.0 (chosen n m.1) t.1 (Has-option_from (chosen n) (item_at (map places_of lists) n t.0.row) m.1 place))))
         ],
   )
-
-pub map_twice : (n : ℕ) (ts : List Term) → map (λ (t : Term). chosen n t.at) ts ≡ map (λ (p : RowPlace). chosen n p) (map (λ (t : Term). t.at) ts)
-map_twice n [] = refl
-map_twice n (t ∷ ts) = ap (λ ks. chosen n t.at ∷ ks) (map_twice n ts)
 
 pub is_folded : (prefix text : List ℕ) → text ≡ encode_utf8_all (default_case_fold (chars prefix)) → text ≡ folded prefix
 unfolding folded
 is_folded prefix text e = e
-
--- ---- the terms of all lists, and their keys
-
-has_term : (n : ℕ) (terms : List (List TermAt)) (x : ℕ × TermAt) → Has (numbered n terms) x → Has (joined terms) x.1
-has_term n [] x h = absurd h
-has_term n (ts ∷ terms) x h = elim (Has-append_cases (in_list n ts) (numbered (n + 1) terms) x h) [
-  | inl l ↦ (let m = one_of n ts x l in Has-append_left ts (joined terms) x.1 (subst (λ k. Has ts k) (ap (λ (y : ℕ × TermAt). y.1) (sym m.2)) m.1))
-  | inr r ↦ Has-append_right ts (joined terms) x.1 (has_term (n + 1) terms x r)
-]
-
-term_in : (n : ℕ) (terms : List (List TermAt)) (t : TermAt) → Has (joined terms) t → (m : ℕ) × Has (numbered n terms) (m, t)
-term_in n [] t h = absurd h
-term_in n (ts ∷ terms) t h = elim (Has-append_cases ts (joined terms) t h) [
-  | inl a ↦ (n, Has-append_left (in_list n ts) (numbered (n + 1) terms) (n, t) (Has-map_from (λ (k : TermAt). (n, k)) ts t a))
-  | inr b ↦ (let w = term_in (n + 1) terms t b in (w.0, Has-append_right (in_list n ts) (numbered (n + 1) terms) (w.0, t) w.1))
-]
 
 -- ---- a term and its row
 
@@ -154,6 +159,27 @@ described text row (body.Relationship r) e h = absurd h
 described text row (body.Association a) e h = absurd h
 described text row (body.Concrete c) e h = absurd h
 
+has_numbered : (k n : ℕ) (terms : List (List TermAt)) (ts : List TermAt) (t : TermAt) → n < length terms → ts ≡ get_or terms n ts → Has ts t → Has (numbered k terms) (k + n, t)
+has_numbered k n [] ts t lt is h = absurd (omega arith)
+has_numbered k zero (us ∷ terms) ts t lt is h =
+    let number : k ≡ k + 0 = omega arith in
+    subst (λ m. Has (in_list k us ++ numbered (k + 1) terms) (m, t)) number (Has-append_left (in_list k us) (numbered (k + 1) terms) (k, t) (Has-map_from (λ (u : TermAt). (k, u)) us t (subst (λ l. Has l t) is h)))
+has_numbered k (suc n) (us ∷ terms) ts t lt is h =
+    let number : (k + 1) + n ≡ k + suc n = omega arith in
+    Has-append_right (in_list k us) (numbered (k + 1) terms) (k + suc n, t) (subst (λ m. Has (numbered (k + 1) terms) (m, t)) number (has_numbered (k + 1) n terms ts t (omega arith) is h))
+
+-- the terms of a list that begin so are of descriptions
+pub described_those : (lists : List (List StampedRow)) (terms : List (List TermAt)) → PostsTerms lists terms → (n : ℕ) (ts : List TermAt) → n < length terms → ts ≡ get_or terms n ts → (text : List ℕ) (those : List Term)
+    → ((i : ℕ) → (Has (map (λ (t : Term). t.row) those) i → Has (map (λ (t : TermAt). t.row) (filter (begins text) ts)) i) × (Has (map (λ (t : TermAt). t.row) (filter (begins text) ts)) i → Has (map (λ (t : Term). t.row) those) i))
+    → AreOfDescriptions lists n those
+described_those lists terms posts n ts lt is text those which t h at place =
+    let m = Has-map (λ (u : TermAt). u.row) (filter (begins text) ts) t.row ((which t.row).0 (Has-map_from (λ (u : Term). u.row) those t h)) in
+    let number : 0 + n ≡ n = omega arith in
+    let there = subst (λ k. Has (numbered 0 terms) (k, m.0)) number (has_numbered 0 n terms ts m.0 lt is (Has-filter (begins text) ts m.0 m.1).0) in
+    let p = posts (n, m.0) there in
+    let stands = stands_there lists n t.row p.0 at (subst (λ i. item_at lists n i ≡ Some p.0) m.2 p.1) place in
+    ap (λ (k : Key). k.kind) (says 0 stands.rows (p.0, at) stands.there).key_is ∙ described m.0.folded p.0.row p.0.row.body refl p.2.folded_is
+
 -- a lower id comes first among descriptions
 first_id : (a b : RowValue) → kind_of a ≡ kinds.Description → kind_of b ≡ kinds.Description → a.id < b.id → row_cmp a b ≡ Less
 first_id a b e f lt =
@@ -163,32 +189,32 @@ first_id a b e f lt =
 module _ (lists : List (List StampedRow)) (are : ArePlaces (map places_of lists)) (terms : List (List TermAt)) (posts : PostsTerms lists terms) (prefix : List ℕ) (date : ℕ) (after : Option ℕ) (limit pin : ℕ) where
   -- what is posted of a place that begins so
   record IsPosted (k : Chosen) : Type 0 where
-    t : TermAt
-    there : Has (joined terms) t
-    place_is : t.at ≡ k.at
-    begins_so : begins (folded prefix) t ≡ true
+    x : ℕ × TermAt
+    there : Has (numbered 0 terms) x
+    begins_so : begins (folded prefix) x.1 ≡ true
     s : StampedRow
+    row_is : item_at lists x.0 x.1.row ≡ Some s
     stands : StandsAt lists k.segment k.at s
-    says : IsTermOf t s.row
+    says : IsTermOf x.1 s.row
 
-  posted_of : (k : Chosen) → Has (begun (folded prefix) (numbered 0 terms)) k → IsPosted k
+  posted_of : (k : Chosen) → Has (begun lists (folded prefix) (numbered 0 terms)) k → IsPosted k
   posted_of k h =
-      let c = begun-cases (folded prefix) (numbered 0 terms) k h in
-      let p = posts c.0 c.1 in
+      let c = begun-cases lists (folded prefix) (numbered 0 terms) k h in
+      let p = posts c.x c.there in
       record {
-        t = c.0.1;
-        there = has_term 0 terms c.0 c.1;
-        place_is = ap (λ (j : Chosen). j.at) c.3;
-        begins_so = c.2;
+        x = c.x;
+        there = c.there;
+        begins_so = c.begins_so;
         s = p.0;
-        stands = subst (λ (j : Chosen). StandsAt lists j.segment j.at p.0) c.3 p.1;
+        row_is = p.1;
+        stands = subst (λ (j : Chosen). StandsAt lists j.segment j.at p.0) c.chosen_is (stands_there lists c.x.0 c.x.1.row p.0 c.at p.1 c.place_is);
         says = p.2;
       }
 
   abbrev counts : RowValue → Bool
-  counts row = is_term_above prefix after row && is_among (term_keys terms) row
+  counts row = is_term_above prefix after row && is_among (term_keys lists terms) row
 
-  module _ (kept : List Chosen) (a : AreKept lists date after limit pin (begun (folded prefix) (numbered 0 terms)) kept) where
+  module _ (kept : List Chosen) (a : AreKept lists date after limit pin (begun lists (folded prefix) (numbered 0 terms)) kept) where
     each_current : AllCurrent lists date pin kept
     each_current k h = (a.only k h).1.current
 
@@ -197,7 +223,7 @@ module _ (lists : List (List StampedRow)) (are : ArePlaces (map places_of lists)
     kept_kind k s h w =
         let p = posted_of k (a.only k h).0 in
         let same = one_row lists are k.segment k.segment k.at k.at p.s s p.stands w refl in
-        ap (λ (z : StampedRow). kind_of z.row) (sym same) ∙ described p.t.folded p.s.row p.s.row.body refl p.says.folded_is
+        ap (λ (z : StampedRow). kind_of z.row) (sym same) ∙ described p.x.1.folded p.s.row p.s.row.body refl p.says.folded_is
 
     id_at : (n : ℕ) (p : RowPlace) (s : StampedRow) → StandsAt lists n p s → p.key.id ≡ s.row.id
     id_at n p s w = ap (λ (k : Key). k.id) (standing_row lists are n p s w).1
@@ -223,33 +249,39 @@ module _ (lists : List (List StampedRow)) (are : ArePlaces (map places_of lists)
         let p = posted_of r.k (a.only r.k r.there).0 in
         let same : p.s ≡ r.s = one_row lists are r.k.segment r.k.segment r.k.at r.k.at p.s r.s p.stands r.stands refl in
         let active : r.s.row.active ≡ true = subst (λ (z : StampedRow). z.row.active ≡ true) same p.says.active in
-        let begins_so : begins_with prefix r.s.row.body ≡ true = subst (λ (z : StampedRow). begins_with prefix z.row.body ≡ true) same (begins_from prefix p.t.folded p.s.row.body p.says.folded_is p.begins_so) in
+        let begins_so : begins_with prefix r.s.row.body ≡ true = subst (λ (z : StampedRow). begins_with prefix z.row.body ≡ true) same (begins_from prefix p.x.1.folded p.s.row.body p.says.folded_is p.begins_so) in
         let above : is_above after r.s.row.id ≡ true = subst (λ id. is_above after id ≡ true) (id_at r.k.segment r.k.at r.s r.stands) (a.only r.k r.there).1.above in
-        let among : is_among (term_keys terms) r.s.row ≡ true = among_from (term_keys terms) r.s.row p.t.at.key (Has-map_from (λ (t : TermAt). t.at.key) (joined terms) p.t p.there) (ap (λ (x : RowPlace). x.key) p.place_is ∙ (standing_row lists are r.k.segment r.k.at r.s r.stands).1) in
+        let among : is_among (term_keys lists terms) r.s.row ≡ true = among_from (term_keys lists terms) r.s.row (key_of p.s.row) (key_posted (λ (t : TermAt). t.row) lists terms p.x p.s p.there p.row_is) (ap (λ (z : StampedRow). key_of z.row) same) in
         subst (λ z. Has wanted z) r.row_is
         (Has-filter_from counts (snapshot (shown lists are date pin) date) r.s.row (looked_up r.k.at.key.kind r.k.at.key.id date (shown lists are date pin) r.s.row r.found) (rw (active, begins_so, above, among) refl))
 
     from_wanted : (row : RowValue) → Has wanted row → Has found_rows row ⊎ ((limit ≤ length found_rows) × ((y : RowValue) → Has found_rows y → row_cmp y row ≡ Less))
     from_wanted row h =
         let f = Has-filter counts (snapshot (shown lists are date pin) date) row h in
-        let t = both (is_term_above prefix after row) (is_among (term_keys terms) row) f.1 in
+        let t = both (is_term_above prefix after row) (is_among (term_keys lists terms) row) f.1 in
         let u = both (is_term prefix row) (is_above after row.id) t.0 in
-        let g = Has-map (λ (t : TermAt). t.at.key) (joined terms) (key_of row) (among_has (term_keys terms) row t.1) in
-        let n = term_in 0 terms g.0 g.1 in
-        let post = posts (n.0, g.0) n.1 in
-        let now = current_where lists are date pin n.0 g.0.at post.0 row post.1 f.0 g.2 in
+        let g = key_cases (λ (t : TermAt). t.row) lists terms (key_of row) (among_has (term_keys lists terms) row t.1) in
+        let n = g.x.0 in
+        let term = g.x.1 in
+        let post = posts g.x g.there in
+        let own : g.s ≡ post.0 = (let rows_are = sym g.row_there ∙ post.1 in cc) in
+        let p = place_of_row lists n term.row post.0 post.1 in
+        let at = p.0 in
+        let stands = stands_there lists n term.row post.0 at post.1 p.1 in
+        let key_is : at.key ≡ key_of row = (standing_row lists are n at post.0 stands).1 ∙ ap (λ (z : StampedRow). key_of z.row) (sym own) ∙ g.key_is in
+        let now = current_where lists are date pin n at post.0 row stands f.0 key_is in
         let body_begins = (both row.active (begins_with prefix row.body) u.0).1 in
-        let begins_so : begins (folded prefix) g.0 ≡ true = begins_to prefix g.0.folded post.0.row.body post.2.folded_is (subst (λ (z : RowValue). begins_with prefix z.body ≡ true) now.0 body_begins) in
-        let kind : kind_of row ≡ kinds.Description = ap kind_of now.0 ∙ described g.0.folded post.0.row post.0.row.body refl post.2.folded_is in
-        let id_is : g.0.at.key.id ≡ row.id = ap (λ (k : Key). k.id) g.2 in
-        elim (a.all (chosen n.0 g.0.at) (begun-at (folded prefix) (numbered 0 terms) (n.0, g.0) n.1 begins_so) (record { above = subst (λ id. is_above after id ≡ true) (sym id_is) u.1; current = now.1 })) [
+        let begins_so : begins (folded prefix) term ≡ true = begins_to prefix term.folded post.0.row.body post.2.folded_is (subst (λ (z : RowValue). begins_with prefix z.body ≡ true) now.0 body_begins) in
+        let kind : kind_of row ≡ kinds.Description = ap kind_of now.0 ∙ described term.folded post.0.row post.0.row.body refl post.2.folded_is in
+        let id_is : at.key.id ≡ row.id = ap (λ (k : Key). k.id) key_is in
+        elim (a.all (chosen n at) (begun-at lists (folded prefix) (numbered 0 terms) g.x at g.there begins_so p.1) (record { above = subst (λ id. is_above after id ≡ true) (sym id_is) u.1; current = now.1 })) [
           | inl j ↦ inl (
               let w = for_row lists date pin kept each_current j.0 j.1 in
               let keys = (standing_row lists are j.0.segment j.0.at w.0 w.1).1 in
-              let kinds_are : j.0.at.key.kind ≡ g.0.at.key.kind = ap (λ (k : Key). k.kind) keys ∙ kept_kind j.0 w.0 j.1 w.1 ∙ sym kind ∙ ap (λ (k : Key). k.kind) (sym g.2) in
+              let kinds_are : j.0.at.key.kind ≡ at.key.kind = ap (λ (k : Key). k.kind) keys ∙ kept_kind j.0 w.0 j.1 w.1 ∙ sym kind ∙ ap (λ (k : Key). k.kind) (sym key_is) in
               let both_found = sym w.2 ∙ (λ i. get (kinds_are i) (j.2 i) date (shown lists are date pin)) ∙ now.1.2 in
               let one : w.0.row ≡ now.1.0.row = cc in
-              let same : w.0.row ≡ row = one ∙ ap (λ (z : StampedRow). z.row) (one_row lists are n.0 n.0 g.0.at g.0.at now.1.0 post.0 now.1.1 post.1 refl) ∙ sym now.0 in
+              let same : w.0.row ≡ row = one ∙ ap (λ (z : StampedRow). z.row) (one_row lists are n n at at now.1.0 post.0 now.1.1 stands refl) ∙ sym now.0 in
               subst (λ z. Has found_rows z) same w.3)
           | inr b ↦ inr (
             (let e = length-rows_for lists date pin kept each_current in let le = b.0 in omega arith),
@@ -261,7 +293,7 @@ module _ (lists : List (List StampedRow)) (are : ArePlaces (map places_of lists)
           )
         ]
 
-    pub terms_from_kept : (rows : List StampedRow) × StandAtAll lists kept rows × (map (λ (s : StampedRow). s.row) rows ≡ terms_among (term_keys terms) prefix date after limit (shown lists are date pin))
+    pub terms_from_kept : (rows : List StampedRow) × StandAtAll lists kept rows × (map (λ (s : StampedRow). s.row) rows ≡ terms_among (term_keys lists terms) prefix date after limit (shown lists are date pin))
     unfolding terms_among
     terms_from_kept = (
       rows_for lists date pin kept each_current,

@@ -5,7 +5,7 @@ use Rattle.term_prefix.specs.Terms.{TermAt}
 
 -- a term of which the folding stands in a text
 abbrev pub term_at : List ℕ → Term → TermAt
-term_at text t = record { folded = take t.len (drop t.start text); at = t.at }
+term_at text t = record { folded = take t.len (drop t.start text); row = t.row }
 
 abbrev pub terms_at : List ℕ → List Term → List TermAt
 terms_at text ts = map (term_at text) ts

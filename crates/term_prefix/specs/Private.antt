@@ -1,15 +1,23 @@
 -- Words that private functions and proofs need, of this crate or of one above it.
 -- No public clause cites them.
 use Rattle.std.specs.Prelude.{◌≡◌, ◌⊎◌, ◌≤◌, ◌<◌, ℕ, Bool, true, false, List, length, map, nat_eq}
-use Rattle.std.specs.Prelude.{Option, [], ◌∷◌, ◌++◌, take}
+use Rattle.std.specs.Prelude.{nat_le}
+use Rattle.std.specs.Prelude.{Option, Some, None, [], ◌∷◌, ◌++◌, take, flat_map}
 use Rattle.std.specs.List.{filter, starts_with}
+use Rattle.std.specs.Option.{option_to_list}
+use Rattle.rf2_values.specs.declared.row.Kind.TheVariants as kinds
 use Rattle.history_model.specs.declared.stamped.StampedRow.{StampedRow}
 use Rattle.history_model.specs.InOrder.{Has, IsAscending}
 use Rattle.history_model.specs.Queries.{is_above}
 use Rattle.segment.specs.declared.place.RowPlace.{RowPlace}
 use Rattle.as_of_index.specs.declared.chosen.Chosen.{Chosen}
 use Rattle.as_of_index.specs.Private.Chosen.{chosen, chosen_cmp}
-use Rattle.as_of_index.specs.Current.{IsCurrentAt}
+use Rattle.segment.specs.Standing.{places_of}
+use Rattle.as_of_index.specs.Places.{item_at}
+use Rattle.as_of_index.specs.Current.{IsPlaceOfRow, IsCurrentAt}
+use Rattle.term_prefix.specs.declared.search.Bounds.{Bounds}
+use Rattle.term_prefix.specs.declared.search.Candidate.{Candidate}
+use Rattle.term_prefix.specs.declared.search.Candidate.TheVariants as candidates
 use Rattle.term_prefix.specs.declared.text.Term.{Term}
 use Rattle.term_prefix.specs.Terms.{TermAt}
 use Rattle.term_prefix.specs.Laid.{terms_at, AreLaid}
@@ -18,9 +26,14 @@ use Rattle.term_prefix.specs.Laid.{terms_at, AreLaid}
 abbrev pub begins : List ℕ → TermAt → Bool
 begins text t = starts_with nat_eq t.folded text
 
+-- the place of row i of list n, if there is one
+abbrev pub chosen_at : List (List StampedRow) → ℕ → ℕ → List Chosen
+chosen_at lists n i = map (chosen n) (option_to_list (item_at (map places_of lists) n i))
+
 -- the places of the terms of which the folding begins with a text
-abbrev pub begun : List ℕ → List (ℕ × TermAt) → List Chosen
-begun text xs = map (λ x. chosen x.0 x.1.at) (filter (λ x. begins text x.1) xs)
+abbrev pub begun : List (List StampedRow) → List ℕ → List (ℕ × TermAt) → List Chosen
+begun lists text xs =
+    flat_map (λ x. chosen_at lists x.0 x.1.row) (filter (λ x. begins text x.1) xs)
 
 -- as many as may be are kept, with ids below this one
 abbrev pub IsBeyond : ℕ → List Chosen → ℕ → Type 0
@@ -30,10 +43,14 @@ IsBeyond limit kept id = (limit ≤ length kept) × ((j : Chosen) → Has kept j
 abbrev pub IsTaken : ℕ → List Chosen → ℕ → Type 0
 IsTaken limit kept id = ((j : Chosen) × Has kept j × (j.at.key.id ≡ id)) ⊎ IsBeyond limit kept id
 
--- what a test answers of an id: it is taken, or, where as many are kept as may be, one that is kept
--- is above it
+-- as many as may be are kept, none with an id above this one
+abbrev pub IsFull : ℕ → List Chosen → ℕ → Type 0
+IsFull limit kept id = (limit ≤ length kept) × ((j : Chosen) → Has kept j → j.at.key.id ≤ id)
+
+-- what a test answers of an id: as many as may be are kept, none above it, or else, where as many
+-- are kept as may be, one that is kept is above it
 abbrev pub SaysTaken : ℕ → List Chosen → ℕ → Bool → Type 0
-SaysTaken limit kept id true = IsTaken limit kept id
+SaysTaken limit kept id true = IsFull limit kept id
 SaysTaken limit kept id false = limit ≤ length kept → (j : Chosen) × Has kept j × (id < j.at.key.id)
 
 -- the id is above, if one is given, and the place is current
@@ -42,13 +59,40 @@ pub record Counts (lists : List (List StampedRow)) (date : ℕ) (after : Option 
   pub above : is_above after k.at.key.id ≡ true
   pub current : IsCurrentAt lists date pin k.segment k.at
 
--- what a test answers of a place: it counts, and there is room for it
-abbrev pub SaysWanted : List (List StampedRow) → ℕ → Option ℕ → ℕ → ℕ → List Chosen → Chosen → Bool
-    → Type 0
-SaysWanted lists date after limit pin kept k true =
-    Counts lists date after pin k × SaysTaken limit kept k.at.key.id false
-SaysWanted lists date after limit pin kept k false =
-    IsTaken limit kept k.at.key.id ⊎ (Counts lists date after pin k → ⊥)
+-- what is answered of row i of list n: its place, if it counts and there is room for it, or else
+-- why it is not to be kept
+abbrev pub SaysCandidate : List (List StampedRow) → ℕ → Option ℕ → ℕ → ℕ → List Chosen → ℕ → ℕ
+    → Candidate → Type 0
+SaysCandidate lists date after limit pin kept n i (candidates.Wanted at) = IsPlaceOfRow lists n i at
+    × Counts lists date after pin (chosen n at) × SaysTaken limit kept at.key.id false
+SaysCandidate lists date after limit pin kept n i candidates.Low = (at : RowPlace)
+    × IsPlaceOfRow lists n i at × (is_above after at.key.id ≡ false)
+SaysCandidate lists date after limit pin kept n i candidates.High = (at : RowPlace)
+    × IsPlaceOfRow lists n i at × IsFull limit kept at.key.id
+SaysCandidate lists date after limit pin kept n i candidates.Old = (at : RowPlace)
+    → IsPlaceOfRow lists n i at → Counts lists date after pin (chosen n at) → ⊥
+
+-- row i of list n, if there is one, is a description's
+abbrev pub IsOfDescription : List (List StampedRow) → ℕ → ℕ → Type 0
+IsOfDescription lists n i = (at : RowPlace) → IsPlaceOfRow lists n i at
+    → at.key.kind ≡ kinds.Description
+
+abbrev pub AreOfDescriptions : List (List StampedRow) → ℕ → List Term → Type 0
+AreOfDescriptions lists n ts = (t : Term) → Has ts t → IsOfDescription lists n t.row
+
+-- the number is the end or behind it, if one is known
+abbrev pub is_behind : Option ℕ → ℕ → Bool
+is_behind None i = false
+is_behind (Some end) i = nat_le end i
+
+-- of the rows of descriptions in list n those before the first have no id above, and those from the
+-- end on have none below those that are kept, which are as many as may be
+pub record AreBounds (lists : List (List StampedRow)) (after : Option ℕ) (limit : ℕ)
+    (kept : List Chosen) (n : ℕ) (b : Bounds) : Type 0 where
+  pub low : (i : ℕ) (at : RowPlace) → IsPlaceOfRow lists n i at → at.key.kind ≡ kinds.Description
+      → i < b.first → is_above after at.key.id ≡ false
+  pub high : (i : ℕ) (at : RowPlace) → IsPlaceOfRow lists n i at → at.key.kind ≡ kinds.Description
+      → is_behind b.end i ≡ true → IsFull limit kept at.key.id
 
 -- of those that count, the first by id, as many as may be
 pub record AreKept (lists : List (List StampedRow)) (date : ℕ) (after : Option ℕ) (limit pin : ℕ)
@@ -60,10 +104,10 @@ pub record AreKept (lists : List (List StampedRow)) (date : ℕ) (after : Option
   pub only : (k : Chosen) → Has kept k → Has seen k × Counts lists date after pin k
 
 -- a term was added, its folding at the end of the text
-pub record AddsTerm (text : List ℕ) (ts : List Term) (folded : List ℕ) (at : RowPlace)
+pub record AddsTerm (text : List ℕ) (ts : List Term) (folded : List ℕ) (row : ℕ)
     (text' : List ℕ) (ts' : List Term) : Type 0 where
   pub texts : text' ≡ text ++ folded
-  pub terms : ts' ≡ ts ++ record { at = at; start = length text; len = length folded } ∷ []
+  pub terms : ts' ≡ ts ++ record { start = length text; len = length folded; row = row } ∷ []
 
 -- the first n terms are left, and no more text than theirs
 pub record IsCut (text : List ℕ) (ts : List Term) (n : ℕ) (text' : List ℕ) (ts' : List Term)

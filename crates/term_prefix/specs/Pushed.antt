@@ -8,31 +8,30 @@ use Rattle.history_model.specs.declared.stamped.StampedRow.{StampedRow}
 use Rattle.history_model.specs.History.{rows_at}
 use Rattle.history_model.specs.Lists.{listed}
 use Rattle.history_model.specs.Queries.{folded, search_terms}
-use Rattle.segment.specs.declared.place.RowPlace.{RowPlace}
-use Rattle.segment.specs.Standing.{with_places}
 use Rattle.as_of_index.specs.Postings.{posted_all, AllPosted}
 use Rattle.term_prefix.specs.Terms.{TermAt, PostsTerms, term_keys, terms_among}
 
-abbrev pub term_of_body : Body → RowPlace → List TermAt
-term_of_body (body.Concept c) at = []
-term_of_body (body.Description d) at = record { folded = folded d.term; at = at } ∷ []
-term_of_body (body.Relationship r) at = []
-term_of_body (body.Association a) at = []
-term_of_body (body.Concrete c) at = []
+abbrev pub term_of_body : Body → ℕ → List TermAt
+term_of_body (body.Concept c) i = []
+term_of_body (body.Description d) i = record { folded = folded d.term; row = i } ∷ []
+term_of_body (body.Relationship r) i = []
+term_of_body (body.Association a) i = []
+term_of_body (body.Concrete c) i = []
 
--- what is posted of a row: an active description's folded term
-abbrev pub posted_term : RowValue → RowPlace → List TermAt
-posted_term row at = if row.active then term_of_body row.body at else []
+-- what is posted of row i: an active description's folded term
+abbrev pub posted_term : RowValue → ℕ → List TermAt
+posted_term row i = if row.active then term_of_body row.body i else []
 
--- the list is what is posted of these rows, each with its own place, in any order
+-- the list is what is posted of these rows, each with its number from 0 on, in any order
 abbrev pub IsPosted : List StampedRow → List TermAt → Type 0
-IsPosted rows ts = IsPermutation (posted_all posted_term (with_places 0 rows)) ts
+IsPosted rows ts = IsPermutation (posted_all posted_term 0 rows) ts
 
 -- there is one list of postings for each list of rows, and it has the postings of these rows
 abbrev pub ArePosted : List (List StampedRow) → List (List TermAt) → Type 0
 ArePosted lists terms = AllPosted posted_term lists terms
 
--- if each list has the postings of its rows, each posting is of a row of its list, at its own place
+-- if each list has the postings of its rows, each posting is of the row of its list that has its
+-- number
 abbrev pub PostedTermsStand : Type 0
 PostedTermsStand = (lists : List (List StampedRow)) (terms : List (List TermAt))
     → ArePosted lists terms → PostsTerms lists terms
@@ -42,7 +41,7 @@ abbrev pub PostedTermsAreAll : Type 0
 PostedTermsAreAll = (lists : List (List StampedRow)) (posts : List (List TermAt))
     (prefix : List ℕ) (date : ℕ) (after : Option ℕ) (limit pin : ℕ)
     → ArePosted lists posts
-    → terms_among (term_keys posts) prefix date after limit (rows_at pin (listed lists))
+    → terms_among (term_keys lists posts) prefix date after limit (rows_at pin (listed lists))
     ≡ search_terms prefix date after limit (rows_at pin (listed lists))
 
 -- each list has the postings of its rows still after a list and its postings are added

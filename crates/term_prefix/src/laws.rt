@@ -1,14 +1,16 @@
 //! Laws of the definitions, each the contract of a function that does nothing.
 
 ghost use Rattle.term_prefix.specs.Terms.{EachTermIsPosted};
-ghost use Rattle.term_prefix.specs.Pushed.{PostedTermsStand, PostedTermsAreAll, PostedTermsMore, PostedTermsMerged};
+ghost use Rattle.term_prefix.specs.Pushed.{PostedTermsStand, PostedTermsAreAll, PostedTermsMore};
+ghost use Rattle.term_prefix.specs.Pushed.{PostedTermsMerged};
 
 /// Where each term is posted, the rows drawn from the postings are all.
 pub fn each_term_is_posted()
     ensures { EachTermIsPosted }
 {}
 
-/// If each list has the postings of its rows, each term is of a row of its list, at its own place.
+/// If each list has the postings of its rows, each term is of the row of its list that has its
+/// number.
 pub fn posted_terms_stand()
     ensures { PostedTermsStand }
 {}

@@ -1,6 +1,7 @@
 //! The terms of rows, as they are pushed.
 
-ghost use Rattle.std.specs.Prelude.{◌≡◌, ◌++◌, [], List, length, take, OnOk, OnErr, IfOk, string_bytes};
+ghost use Rattle.std.specs.Prelude.{◌≡◌, ◌++◌, [], List, length, take, OnOk, OnErr, IfOk};
+ghost use Rattle.std.specs.Prelude.{string_bytes};
 ghost use Rattle.std.specs.List.Sorted.{IsPermutation};
 ghost use Rattle.std.specs.Str.{IsUtf8};
 ghost use Rattle.std.specs.Ordering.{nat_cmp};
@@ -16,7 +17,6 @@ use crate::text::{Term, piece};
 use caseless::default_case_fold_str;
 use history_model::StampedRow;
 use rf2_values::Body;
-use segment::RowPlace;
 use std::alloc::{AllocError, Global};
 use std::cmp::Ordering;
 use std::marker::Model;
@@ -53,26 +53,25 @@ fn folded(alloc: Global, term: &[u8]) -> Result<String, AllocError>
     }
 }
 
-/// Adds a folded term. An `Err` changes nothing.
+/// Adds a folded term, which is refused if it has 4 GiB and more. An `Err` changes nothing.
 fn push_term(
     text: &mut Vec<u8>,
     terms: &mut Vec<Term>,
     folded: &[u8],
-    at: RowPlace,
+    row: u32,
 ) -> Result<(), AllocError>
     ensures ok { OnOk result
-        (AddsTerm text.old.items terms.old.items folded.now at text.new.items terms.new.items) }
+        (AddsTerm text.old.items terms.old.items folded.now row text.new.items terms.new.items) }
     ensures err { OnErr result
         ((text.new.items ≡ text.old.items) × (terms.new.items ≡ terms.old.items)) }
 {
+    let Ok(len) = u32::try_from(folded.len()) else {
+        return Err(AllocError);
+    };
     terms.reserve(1)?;
     let start = text.len();
     text.extend_from_slice(folded)?;
-    let Ok(()) = terms.push(Term {
-        at,
-        start,
-        len: folded.len(),
-    }) else {
+    let Ok(()) = terms.push(Term { start, len, row }) else {
         unreachable!()
     };
     Ok(())
@@ -94,7 +93,7 @@ fn compare(text: &[u8], a: &Term, b: &Term) -> Ordering
     ensures { result ≡ slice_cmp nat_cmp (term_at text.now a.now).folded
         (term_at text.now b.now).folded }
 {
-    piece(text, a.start, a.len).cmp(piece(text, b.start, b.len))
+    piece(text, a.start, a.len as usize).cmp(piece(text, b.start, b.len as usize))
 }
 
 fn sort(text: &[u8], terms: &mut Vec<Term>)
@@ -116,15 +115,15 @@ impl Postings {
         }
     }
 
-    /// Adds the row's term with the row's place, if it is an active description.
-    pub fn push(&mut self, row: &StampedRow, at: RowPlace) -> Result<(), AllocError>
-        ensures ok { OnOk result (self.new ≡ self.old ++ posted_term row.now.row at) }
+    /// Adds the row's term with the row's number in its list, if it is an active description.
+    pub fn push(&mut self, row: &StampedRow, number: u32) -> Result<(), AllocError>
+        ensures ok { OnOk result (self.new ≡ self.old ++ posted_term row.now.row number) }
         ensures err { OnErr result (self.new ≡ self.old) }
     {
         match &row.row.body {
             Body::Description(description) if row.row.active => {
                 let folded = folded(self.alloc, description.term.as_bytes())?;
-                push_term(&mut self.text, &mut self.terms, folded.as_bytes(), at)
+                push_term(&mut self.text, &mut self.terms, folded.as_bytes(), number)
             }
             _ => Ok(()),
         }

@@ -1,6 +1,6 @@
 //! Terms in the order of their foldings.
 
-ghost use Rattle.std.specs.Prelude.{◌≡◌, ◌↔◌, List, map, IsTrue};
+ghost use Rattle.std.specs.Prelude.{◌≡◌, ◌↔◌, ℕ, List, map, IsTrue};
 ghost use Rattle.std.specs.List.{filter};
 ghost use Rattle.std.specs.Ordering.{nat_cmp, is_lt};
 ghost use Rattle.std.specs.Cmp.Lexicographic.{slice_cmp};
@@ -10,7 +10,6 @@ ghost use Rattle.term_prefix.specs.Laid.{term_at, terms_at};
 ghost use Rattle.term_prefix.specs.Private.{begins};
 
 use crate::text::{Term, piece};
-use segment::RowPlace;
 use std::cmp::Ordering;
 use std::marker::Model;
 
@@ -37,7 +36,7 @@ impl Model for Sealed {
 fn is_under(text: &[u8], term: &Term, prefix: &[u8]) -> bool
     ensures { result ≡ is_lt (slice_cmp nat_cmp (term_at text.now term.now).folded prefix.now) }
 {
-    match piece(text, term.start, term.len).cmp(prefix) {
+    match piece(text, term.start, term.len as usize).cmp(prefix) {
         Ordering::Less => true,
         _ => false,
     }
@@ -47,7 +46,7 @@ fn is_under(text: &[u8], term: &Term, prefix: &[u8]) -> bool
 fn begins(text: &[u8], term: &Term, prefix: &[u8]) -> bool
     ensures { result ≡ begins prefix.now (term_at text.now term.now) }
 {
-    piece(text, term.start, term.len).starts_with(prefix)
+    piece(text, term.start, term.len as usize).starts_with(prefix)
 }
 
 /// The terms that begin with the prefix: two bisections.
@@ -64,8 +63,8 @@ fn candidates<'a>(text: &[u8], terms: &'a [Term], prefix: &[u8]) -> &'a [Term]
 impl Sealed {
     /// Those that begin with the prefix.
     pub(crate) fn candidates(&self, prefix: &[u8]) -> &[Term]
-        ensures { (p : RowPlace) → Has (map (λ t. t.at) result.now) p
-            ↔ Has (map (λ t. t.at) (filter (begins prefix.now) self.now)) p }
+        ensures { (i : ℕ) → Has (map (λ t. t.row) result.now) i
+            ↔ Has (map (λ t. t.row) (filter (begins prefix.now) self.now)) i }
     {
         candidates(self.text.as_slice(), self.terms.as_slice(), prefix)
     }

@@ -1,6 +1,7 @@
 //! Searches of postings.
 
-ghost use Rattle.std.specs.Prelude.{◌≡◌, ◌≢◌, ◌≤◌, ◌+◌, ◌++◌, List, length, map, take, IfOk, IfErr, OnOk};
+ghost use Rattle.std.specs.Prelude.{◌≡◌, ◌≢◌, ◌≤◌, ◌+◌, ◌++◌, List, length, take, flat_map, IfOk};
+ghost use Rattle.std.specs.Prelude.{IfErr, OnOk};
 ghost use Rattle.std.specs.List.{sum_by};
 ghost use Rattle.history_model.specs.declared.stamped.StampedRow.{StampedRow};
 ghost use Rattle.history_model.specs.InOrder.{IsAscending, put};
@@ -14,7 +15,8 @@ ghost use Rattle.as_of_index.specs.Private.Chosen.{chosen, chosen_cmp};
 ghost use Rattle.as_of_index.specs.Postings.{numbered};
 ghost use Rattle.fault_counts.specs.declared.fault.ReadFault.TheVariants as readfault;
 ghost use Rattle.term_prefix.specs.Terms.{PostsTerms, term_keys, terms_among};
-ghost use Rattle.term_prefix.specs.Private.{begun, SaysTaken, SaysWanted, AreKept};
+ghost use Rattle.term_prefix.specs.Private.{begun, chosen_at, is_behind, SaysTaken, SaysCandidate};
+ghost use Rattle.term_prefix.specs.Private.{IsOfDescription, AreOfDescriptions, AreBounds, AreKept};
 
 use crate::Terms;
 use crate::sealed::Sealed;
@@ -24,6 +26,29 @@ use caseless::default_case_fold_str;
 use rf2_values::{EffectiveTime, Row};
 use segment::RowPlace;
 use std::alloc::{AllocError, Global};
+
+/// What is to be done with the row of a term.
+#[derive(Clone, Copy)]
+pub(crate) enum Candidate {
+    /// It is to be kept, and stands here.
+    Wanted(RowPlace),
+    /// Its id isn't above the one that the search begins behind.
+    Low,
+    /// As many are kept as may be, none with a greater id.
+    High,
+    /// Its version isn't the one at the date, or there is no such row.
+    Old,
+}
+
+/// Between which numbers the rows of a list may be to be kept. The rows of a kind ascend by their
+/// ids, so a number is compared in place of an id, which would have to be fetched.
+#[derive(Clone, Copy)]
+pub(crate) struct Bounds {
+    /// Rows before this one have ids that are too low.
+    pub(crate) first: u32,
+    /// This row and those behind it have ids that are too high, if one such is known.
+    pub(crate) end: Option<u32>,
+}
 
 fn id_of(at: &RowPlace) -> u128
     ensures { result ≡ at.now.key.id }
@@ -85,24 +110,87 @@ fn is_above(after: Option<u128>, id: u128) -> bool
     }
 }
 
-/// Whether the place is to be kept. Whether it is current is asked last, since that costs a search
-/// of the index.
-fn is_wanted(
+/// Whether to keep the row with this number. Whether it is current is asked last, since that costs
+/// a search of the index.
+fn judge(
     kept: &[Chosen],
     segment: usize,
-    at: &RowPlace,
+    number: u32,
     index: &Index,
     time: EffectiveTime,
     after: Option<u128>,
     limit: u32,
     pin: u32,
-) -> bool
+) -> Candidate
     ensures { (lists : List (List StampedRow)) → Lists index.now lists
         → IsAscending chosen_cmp kept.now
-        → SaysWanted lists time after limit pin kept.now (chosen segment at.now) result }
+        → SaysCandidate lists time after limit pin kept.now segment number result }
 {
-    let id = id_of(at);
-    is_above(after, id) && !is_taken(kept, limit, id) && index.is_current(segment, *at, time, pin)
+    let Some(id) = index.id_at(segment, number) else {
+        return Candidate::Old;
+    };
+    if !is_above(after, id) {
+        return Candidate::Low;
+    }
+    if is_taken(kept, limit, id) {
+        return Candidate::High;
+    }
+    match index.current_at(segment, number, time, pin) {
+        Some(at) => Candidate::Wanted(at),
+        None => Candidate::Old,
+    }
+}
+
+/// Whether the number is the end or behind it, if one is known.
+fn is_behind(end: Option<u32>, number: u32) -> bool
+    ensures { result ≡ is_behind end number }
+{
+    match end {
+        Some(end) => end <= number,
+        None => false,
+    }
+}
+
+/// Keeps the row of a term, if it is current and has an id above `after`, and of all that are kept
+/// the first so many by id.
+fn keep_row(
+    kept: &mut Vec<Chosen>,
+    bounds: &mut Bounds,
+    segment: usize,
+    number: u32,
+    index: &Index,
+    time: EffectiveTime,
+    after: Option<u128>,
+    limit: u32,
+    pin: u32,
+) -> Result<(), AllocError>
+    ensures { OnOk result ((lists : List (List StampedRow)) → Lists index.now lists
+        → IsOfDescription lists segment number
+        → (seen : List Chosen) → AreKept lists time after limit pin seen kept.old.items
+        → AreBounds lists after limit kept.old.items segment bounds.old
+        → AreKept lists time after limit pin (seen ++ chosen_at lists segment number) kept.new.items
+        × AreBounds lists after limit kept.new.items segment bounds.new) }
+{
+    // Its contract says that the places ascend.
+    let _listed = index.lists();
+    if number < bounds.first {
+        return Ok(());
+    }
+    if is_behind(bounds.end, number) {
+        return Ok(());
+    }
+    match judge(kept, segment, number, index, time, after, limit, pin) {
+        Candidate::Wanted(at) => keep(kept, limit, segment, at),
+        Candidate::Low => {
+            bounds.first = number.saturating_add(1);
+            Ok(())
+        }
+        Candidate::High => {
+            bounds.end = Some(number);
+            Ok(())
+        }
+        Candidate::Old => Ok(()),
+    }
 }
 
 /// Keeps those of the terms that are current and have an id above `after`, and of all that are kept
@@ -118,14 +206,27 @@ fn keep_current(
     pin: u32,
 ) -> Result<(), AllocError>
     ensures { OnOk result ((lists : List (List StampedRow)) → Lists index.now lists
+        → AreOfDescriptions lists segment terms.now
         → (seen : List Chosen) → AreKept lists time after limit pin seen kept.old.items
-        → AreKept lists time after limit pin (seen ++ map (λ t. chosen segment t.at) terms.now)
-        kept.new.items) }
+        → AreKept lists time after limit pin
+        (seen ++ flat_map (λ t. chosen_at lists segment t.row) terms.now) kept.new.items) }
 {
+    let mut bounds = Bounds {
+        first: 0,
+        end: None,
+    };
     for term in terms {
-        if is_wanted(kept, segment, &term.at, index, time, after, limit, pin) {
-            keep(kept, limit, segment, term.at)?;
-        }
+        keep_row(
+            kept,
+            &mut bounds,
+            segment,
+            term.row,
+            index,
+            time,
+            after,
+            limit,
+            pin,
+        )?;
     }
     Ok(())
 }
@@ -142,7 +243,8 @@ fn keep_all(
     pin: u32,
 ) -> Result<Vec<Chosen>, AllocError>
     ensures { IfOk result (λ kept. (rows : List (List StampedRow)) → Lists index.now rows
-        → AreKept rows time after limit pin (begun prefix.now (numbered 0 lists.now))
+        → PostsTerms rows lists.now
+        → AreKept rows time after limit pin (begun rows prefix.now (numbered 0 lists.now))
         kept.items) }
 {
     let mut kept = Vec::new(alloc);
@@ -171,7 +273,7 @@ pub fn find<R: RowReader>(
     ensures found { R.is_honest reader.old → Lists index.now (R.lists reader.old)
         → PostsTerms (R.lists reader.old) terms.now
         → IfOk result (λ rows. rows.items
-        ≡ terms_among (term_keys terms.now) prefix.now time after limit
+        ≡ terms_among (term_keys (R.lists reader.old) terms.now) prefix.now time after limit
         (rows_at pin (listed (R.lists reader.old)))) }
     ensures undamaged { R.is_honest reader.old → Lists index.now (R.lists reader.old)
         → PostsTerms (R.lists reader.old) terms.now → IfErr result (λ e. e ≢ readfault.Damaged) }

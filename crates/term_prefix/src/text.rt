@@ -2,14 +2,12 @@
 
 ghost use Rattle.std.specs.Prelude.{◌≡◌, take, drop};
 
-use segment::RowPlace;
-
-/// Where a folded term stands in its list's text, and where its row stands.
+/// Where a folded term stands in its list's text, and the number of its row in the list.
 #[derive(Clone, Copy, Debug)]
 pub(crate) struct Term {
-    pub(crate) at: RowPlace,
     pub(crate) start: usize,
-    pub(crate) len: usize,
+    pub(crate) len: u32,
+    pub(crate) row: u32,
 }
 
 /// A piece of a text: so many bytes from a place on, as far as there are.

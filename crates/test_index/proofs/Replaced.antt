@@ -4,7 +4,8 @@ use Rattle.std.specs.Prelude.{slice_set, remove}
 use Rattle.std.specs.List.{AllByRecursion}
 use Rattle.history_model.specs.InOrder.{IsAscending}
 use Rattle.segment.specs.declared.place.RowPlace.{RowPlace}
-use Rattle.as_of_index.specs.Places.{place_cmp, ShareNoKey, EachApart, ArePlaces}
+use Rattle.as_of_index.specs.Places.{place_cmp, EachApart, ArePlaces}
+use Rattle.as_of_index.specs.Private.Search.{ShareNoKey}
 use Rattle.as_of_index.proofs.Apart.{all_last, apart_each}
 
 all_front : {X : Type 0} (P : X → Type 0) (xs : List X) (l : X) → AllByRecursion P (xs ++ l ∷ []) → AllByRecursion P xs

@@ -1,13 +1,13 @@
 //! A row is read only where it is answered, and a read that fails is handed on at once.
 
-use crate::links::{Asked, CONCEPTS, replacements_of};
+use crate::edges::{Asked, CONCEPTS, replacements_of};
 use crate::lists::{Indexed, index_all};
 use crate::releases::{example, lists_of};
 use crate::rows::{LAST_DAY, ROOT, STREET, day, sctid};
 use crate::subjects::{KINDS, rows_about};
 use crate::terms::{Search, find_rows};
 use crate::watched::Watched;
-use crate::{links, subjects, terms};
+use crate::{edges, subjects, terms};
 use as_of_index::ReadFault;
 use history_model::plain;
 use rf2_values::{EffectiveTime, Kind};
@@ -140,7 +140,7 @@ fn a_description_is_read_only_where_it_is_answered(rt: HostRuntime) -> Result<()
 #[test]
 fn an_association_is_read_only_where_it_is_answered(rt: HostRuntime) -> Result<(), Fail> {
     let alloc = rt.alloc();
-    let rows = links::made_rows(alloc)?;
+    let rows = edges::made_rows(alloc)?;
     let made = index_all(alloc, lists_of(alloc, &rows, &[(1, 3), (4, 6)])?)?;
     let shown = plain::rows_at(alloc, 6, &rows)?;
     let there = plain::replacements(alloc, &shown, sctid(ROOT)?, day(LAST_DAY)?)?.len() as u64;

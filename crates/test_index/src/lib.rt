@@ -6,9 +6,9 @@
 #[cfg(test)]
 mod builders;
 #[cfg(test)]
-mod faults;
+mod edges;
 #[cfg(test)]
-mod links;
+mod faults;
 #[cfg(test)]
 mod lists;
 #[cfg(test)]

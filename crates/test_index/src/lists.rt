@@ -1,8 +1,8 @@
 //! Lists of rows: their places, an index of them, their postings, and a reader of their rows.
 
 use as_of_index::{Index, KeptRows, MAX_LISTS, PlaceList};
-use associations::Links;
 use history_model::StampedRow;
+use links::Links;
 use segment::RowPlace;
 use std::alloc::Global;
 use std::test::Fail;
@@ -47,9 +47,10 @@ pub(crate) fn post_terms(
     rows: &[StampedRow],
 ) -> Result<term_prefix::Postings, Fail> {
     let mut postings = term_prefix::Postings::new(alloc);
-    let places = places_of(alloc, rows)?;
-    for (stamped, place) in rows.iter().zip(places.iter()) {
-        postings.push(stamped, *place)?;
+    let mut number = 0u32;
+    for stamped in rows {
+        postings.push(stamped, number)?;
+        number = number.saturating_add(1);
     }
     Ok(postings)
 }
@@ -67,14 +68,12 @@ pub(crate) fn terms_of(alloc: Global, lists: &[Vec<StampedRow>]) -> Result<Terms
 }
 
 /// The links and references of a list of rows.
-pub(crate) fn post_links(
-    alloc: Global,
-    rows: &[StampedRow],
-) -> Result<associations::Postings, Fail> {
-    let mut postings = associations::Postings::new(alloc);
-    let places = places_of(alloc, rows)?;
-    for (stamped, place) in rows.iter().zip(places.iter()) {
-        postings.push(stamped, *place)?;
+pub(crate) fn post_links(alloc: Global, rows: &[StampedRow]) -> Result<links::Postings, Fail> {
+    let mut postings = links::Postings::new(alloc);
+    let mut number = 0u32;
+    for stamped in rows {
+        postings.push(stamped, number)?;
+        number = number.saturating_add(1);
     }
     Ok(postings)
 }

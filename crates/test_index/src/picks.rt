@@ -4,9 +4,11 @@
 use crate::lists::{index_of, places_of, reader_of};
 use crate::releases::{example, lists_of, rows_of_imports, three_lists};
 use crate::rows::{
-    MEMBER, OTHER, ROOT, SAME_AS, STREET, THIRD, association, concept, day, is_same,
+    LAST_DAY, MEMBER, OTHER, ROOT, SAME_AS, STREET, THIRD, association, concept, day, is_same,
 };
-use as_of_index::{Chosen, Index, MAX_LISTS, PlaceList, ReadFault, RowReader, laws, read_all};
+use as_of_index::{
+    Chosen, Hints, Index, MAX_LISTS, PlaceList, ReadFault, RowReader, laws, read_all,
+};
 use history_model::{StampedRow, plain};
 use rf2_values::{Kind, Row};
 use segment::RowPlace;
@@ -44,6 +46,46 @@ fn what_three_releases_say_at_a_date(rt: HostRuntime) -> Result<(), Fail> {
     ] {
         let found = concept_at(&index, &lists, id, date, pin)?;
         assert_eq!(rt; found, want, "{id} at {date}, pin {pin}");
+    }
+    Ok(())
+}
+
+/// The list of the concept's version at a date, and its time, by hints.
+fn by_hints(
+    index: &Index,
+    hints: &mut Hints,
+    id: u64,
+    date: u32,
+    pin: u32,
+) -> Result<Option<(usize, u32)>, Fail> {
+    let found = index.place_by(hints, Kind::Concept, u128::from(id), day(date)?, pin);
+    Ok(found.map(|(segment, at)| (segment, at.key.time.value())))
+}
+
+#[test]
+fn hints_change_no_answer(rt: HostRuntime) -> Result<(), Fail> {
+    let alloc = rt.alloc();
+    let index = index_of(alloc, &three_lists(alloc)?)?;
+    // As many hints as lists, and too few, and too many.
+    for count in [3, 0, 1, 9] {
+        let mut hints = Hints::new(alloc, count)?;
+        for (pin, id, date, want) in [
+            (3, STREET, 20_200_131, Some((0, 20_200_131))),
+            (3, STREET, 20_200_731, Some((2, 20_200_731))),
+            (3, STREET, 20_210_131, Some((1, 20_210_131))),
+            (3, OTHER, 20_200_131, Some((0, 20_200_131))),
+            (3, THIRD, 20_200_131, Some((2, 20_200_131))),
+            (3, ROOT, 20_200_131, Some((0, 20_200_131))),
+            (3, STREET, 20_201_231, Some((2, 20_200_731))),
+            (1, STREET, 20_210_131, Some((0, 20_200_131))),
+            (3, THIRD, 20_200_130, None),
+            (0, ROOT, 20_200_131, None),
+            (3, ROOT, 20_210_131, Some((0, 20_200_131))),
+            (0, STREET, 20_200_131, None),
+        ] {
+            let found = by_hints(&index, &mut hints, id, date, pin)?;
+            assert_eq!(rt; found, want, "{id} at {date}, pin {pin}, {count} hints");
+        }
     }
     Ok(())
 }
@@ -281,6 +323,48 @@ fn lists_are_added(rt: HostRuntime) -> Result<(), Fail> {
     Ok(())
 }
 
+/// How many of the rows of a list have a place that is current at their own dates and imports, at
+/// the number of each, and none for the pin before.
+fn count_current(index: &Index, segment: usize, places: &[RowPlace]) -> u32 {
+    let mut number = 0u32;
+    for place in places {
+        let time = place.key.time;
+        let found = index.current_at(segment, number, time, place.import);
+        let before = place.import.saturating_sub(1);
+        if found.map(|at| at.at) != Some(place.at)
+            || index.id_at(segment, number) != Some(place.key.id)
+            || index.current_at(segment, number, time, before).is_some()
+        {
+            return number;
+        }
+        number = number.saturating_add(1);
+    }
+    number
+}
+
+#[test]
+fn a_current_row_is_found_by_its_number(rt: HostRuntime) -> Result<(), Fail> {
+    let alloc = rt.alloc();
+    let lists = three_lists(alloc)?;
+    let index = index_of(alloc, &lists)?;
+    let last = day(LAST_DAY)?;
+    for (segment, rows) in lists.iter().enumerate() {
+        let places = places_of(alloc, rows)?;
+        let count = count_current(&index, segment, &places);
+        assert!(rt; count > 0 && count as usize == rows.len());
+        assert!(rt; index.current_at(segment, count, last, u32::MAX).is_none());
+        assert!(rt; index.id_at(segment, count).is_none());
+    }
+    assert!(rt; index.current_at(3, 0, last, u32::MAX).is_none());
+    assert!(rt; index.current_at(usize::MAX, 0, last, u32::MAX).is_none());
+    assert!(rt;
+        Index::new(alloc)?
+            .current_at(0, 0, last, u32::MAX)
+            .is_none()
+    );
+    Ok(())
+}
+
 #[test]
 fn an_index_has_room_for_so_many_lists(rt: HostRuntime) -> Result<(), Fail> {
     let alloc = rt.alloc();
@@ -359,7 +443,7 @@ fn places_of_other_rows_get_an_answer(rt: HostRuntime) -> Result<(), Fail> {
 }
 
 #[test]
-fn a_place_is_current_and_its_row_is_read(rt: HostRuntime) -> Result<(), Fail> {
+fn a_row_is_read_at_its_place(rt: HostRuntime) -> Result<(), Fail> {
     let alloc = rt.alloc();
     let lists = lists_of(alloc, &example(alloc)?, &[(1, 3)])?;
     let index = index_of(alloc, &lists)?;
@@ -368,9 +452,6 @@ fn a_place_is_current_and_its_row_is_read(rt: HostRuntime) -> Result<(), Fail> {
     let (segment, at) = index
         .place_at(Kind::Concept, street, date, 3)
         .ok_or("no place")?;
-    assert!(rt; index.is_current(segment, at, date, 3));
-    assert!(rt; !index.is_current(segment, at, day(20_210_130)?, 3));
-    assert!(rt; !index.is_current(1, at, date, 3));
     let chosen = Chosen {
         segment,
         at,

@@ -2,7 +2,7 @@
 
 ghost use Rattle.std.specs.Prelude.{◌<◌};
 
-use crate::links::{Asked, CONCEPTS, DAYS, pick_concept, pick_day, post_twice};
+use crate::edges::{Asked, CONCEPTS, DAYS, pick_concept, pick_day, post_twice};
 use crate::lists::{Indexed, index_all, index_of, links_of, reader_of};
 use crate::releases::{example, lists_of, rows_after, three_lists};
 use crate::rows::{
@@ -11,8 +11,8 @@ use crate::rows::{
     relationship_id,
 };
 use as_of_index::{Index, ReadFault, RowReader};
-use associations::{Links, about};
 use history_model::{StampedRow, plain};
+use links::{Links, about};
 use rf2_values::{Kind, Row};
 use std::alloc::Global;
 use std::process::Abort;

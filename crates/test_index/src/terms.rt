@@ -487,8 +487,9 @@ fn terms_that_do_not_fit_are_answered_or_refused(rt: HostRuntime) -> Result<(), 
         (&terms, turned.as_slice(), Err(ReadFault::Damaged)),
         (&terms, first.as_slice(), Err(ReadFault::Damaged)),
         (&terms, &[], Err(ReadFault::Damaged)),
-        (&others, lists.as_slice(), Ok(0)),
-        (&others, &[], Ok(0)),
+        // The number of the term's row is that of another row in this list.
+        (&others, lists.as_slice(), Ok(1)),
+        (&others, &[], Err(ReadFault::Damaged)),
     ] {
         let asked = Search {
             prefix: "we",

@@ -5,8 +5,8 @@ ghost use Rattle.line_server.specs.Pins.{AreWithin};
 use crate::means::Means;
 use disk_model::MemDisk;
 use history_store::{Refusal, Store};
-use line_server::{Pins, Reply, Sample, answer};
-use line_support::{SCRIPT, Turn, roomy_disk, takes_no_memory};
+use line_server::{Pins, Reply, answer};
+use line_support::{Examples, SCRIPT, Turn, roomy_disk, takes_no_memory};
 use std::alloc::{AllocError, Global};
 use std::test::Fail;
 use test_support::lines;
@@ -29,7 +29,7 @@ fn reply_to(alloc: Global, line: &str, pins: &mut Pins, store: &mut Store<MemDis
     requires { AreWithin store.old.history.imports pins.old }
     ensures { AreWithin store.new.history.imports pins.new }
 {
-    let mut source = Sample;
+    let mut source = Examples;
     answer(alloc, line.as_bytes(), pins, &mut source, store)
 }
 

@@ -119,7 +119,8 @@ fn each_growth_of_a_task(rt: HostRuntime) -> Result<(), Fail> {
             "sctd status --store scarce/store",
             "",
             "OK 1 1 1 -\n",
-            "sctd: scarce/store: layout 2, 16430 bytes, 5 blocks in use, latest effective time 20200131\n",
+            "sctd: scarce/store: layout 2, 16430 bytes, 5 blocks in use, latest effective time \
+                 20200131\n",
         ),
         (
             "sctd serve --store scarce/store --releases scarce",

@@ -2,8 +2,8 @@
 
 use crate::shown::{Shown, run_line, words_of};
 use command_line::run;
-use import_check::sample;
 use rf2_rows::{Kind, column_names};
+use samples::sample;
 use std::io::{Read, Write};
 use std::test::Fail;
 use std::{env, fs, io};
@@ -139,7 +139,8 @@ fn a_file_keeps_what_was_imported(rt: HostRuntime) -> Result<(), Fail> {
         (
             serve,
             "0 GET C 1000004 20200831\n0 CHILDREN 138875005 20200131\n",
-            "ROW 1000004\t20200731\t0\t900000000000207008\t900000000000074008\nEND 1\nID 1000004\nEND 1\n",
+            "ROW 1000004\t20200731\t0\t900000000000207008\t900000000000074008\nEND 1\nID 1000004\n\
+                 END 1\n",
         ),
         (
             "sctd import --quiet --store kept --releases releases r1",

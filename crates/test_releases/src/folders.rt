@@ -1,10 +1,11 @@
 //! Releases in unpacked folders: which files are taken, and what stood in the way.
 
-use import_check::{Release, sample};
+use import_check::Release;
 use release_folder::{
     FolderFault, Unwatched, Watcher, is_nearly_to_take, kind_to_take, read_folder, read_release,
 };
 use rf2_values::Kind;
+use samples::sample;
 use std::alloc::Global;
 use std::fs::{self, Files};
 use std::test::Fail;
@@ -182,7 +183,8 @@ fn what_stood_in_the_way_is_told(rt: HostRuntime) -> Result<(), Fail> {
         ),
         (
             "dangling",
-            "releases/dangling/Terminology/sct2_Concept_Full_INT_20200131.txt: a link that leads nowhere",
+            "releases/dangling/Terminology/sct2_Concept_Full_INT_20200131.txt: a link that leads \
+                 nowhere",
             "",
         ),
         (

@@ -9,13 +9,20 @@ use test_support::lines;
 /// The segments lie one after the other from block 4 on.
 const CHOICES: &str = "\
     years 1901 1: 1; years 1902 1: 1; begin: 2; step 9: 0; publish: 0; lists 4 2, 6 92 2: 1
-    years 1901 1: 1; years 1902 1: 1; years 1903 1: 1; begin: 2; step 9: 0; publish: 0; lists 5 3, 7 92 2, 6 46 1: 1
-    years 1901 2: 2; years 1903 1: 1; years 1904 1: 1; years 1905 1: 1; begin: 2; step 9: 0; publish: 0; lists 6 4, 4 92 2, 8 92 2, 7 46 1: 1
-    years 1901 3: 3; years 1904 2: 2; years 1906 1: 1; begin: 3; step 9: 0; publish: 0; lists 5 3, 4 138 3, 7 138 3: 1
-    years 1901 2: 2; years 1903 1: 1; years 1904 2: 2; begin: 3; step 9: 0; publish: 0; lists 5 3, 7 138 3, 6 92 2: 1
-    years 1901 1: 1; years 1902 2: 2; years 1904 1: 1; begin: 2; step 9: 0; publish: 0; lists 5 3, 7 92 2, 5 92 2: 1
-    years 1901 2: 2; years 1903 2: 2; years 1905 1: 1; years 1906 2: 2; begin: 3; step 9: 0; publish: 0; lists 6 4, 8 138 3, 5 92 2, 7 92 2: 1
-    years 1901 2: 2; years 1903 1: 1; years 1904 3: 3; years 1907 1: 1; years 1908 1: 1; begin: 2; step 9: 0; publish: 0; lists 7 5, 4 92 2, 9 92 2, 6 138 3, 8 46 1: 1";
+    years 1901 1: 1; years 1902 1: 1; years 1903 1: 1; begin: 2; step 9: 0; publish: 0; \
+        lists 5 3, 7 92 2, 6 46 1: 1
+    years 1901 2: 2; years 1903 1: 1; years 1904 1: 1; years 1905 1: 1; begin: 2; step 9: 0; \
+        publish: 0; lists 6 4, 4 92 2, 8 92 2, 7 46 1: 1
+    years 1901 3: 3; years 1904 2: 2; years 1906 1: 1; begin: 3; step 9: 0; publish: 0; \
+        lists 5 3, 4 138 3, 7 138 3: 1
+    years 1901 2: 2; years 1903 1: 1; years 1904 2: 2; begin: 3; step 9: 0; publish: 0; \
+        lists 5 3, 7 138 3, 6 92 2: 1
+    years 1901 1: 1; years 1902 2: 2; years 1904 1: 1; begin: 2; step 9: 0; publish: 0; \
+        lists 5 3, 7 92 2, 5 92 2: 1
+    years 1901 2: 2; years 1903 2: 2; years 1905 1: 1; years 1906 2: 2; begin: 3; step 9: 0; \
+        publish: 0; lists 6 4, 8 138 3, 5 92 2, 7 92 2: 1
+    years 1901 2: 2; years 1903 1: 1; years 1904 3: 3; years 1907 1: 1; years 1908 1: 1; begin: 2; \
+        step 9: 0; publish: 0; lists 7 5, 4 92 2, 9 92 2, 6 138 3, 8 46 1: 1";
 
 #[test]
 fn the_segments_of_fewest_rows_are_taken(rt: HostRuntime) -> Result<(), Fail> {

@@ -64,7 +64,8 @@ fn faulty_lines_are_named(rt: HostRuntime) -> Result<(), Fail> {
         (
             Kind::Association,
             &[
-                "0b6a0c2e-5d0f-4c53-9f6e-8d9d2a7b1c0|20210131|1|CORE|900000000000527005|1000004|2000001",
+                "0b6a0c2e-5d0f-4c53-9f6e-8d9d2a7b1c0|20210131|1|CORE|900000000000527005|1000004|\
+                     2000001",
             ],
             at(2, LineFault::MemberId),
         ),

@@ -2,8 +2,9 @@
 
 use crate::text::line;
 use history_store::Refusal;
-use import_check::{Release, ReleaseFile, sample};
+use import_check::{Release, ReleaseFile};
 use rf2_rows::{Kind, column_names};
+use samples::sample;
 use std::alloc::{AllocError, Global};
 
 /// A file with these bytes.

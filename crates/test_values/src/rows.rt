@@ -15,16 +15,20 @@ const DESCRIPTIONS: &[u8] =
 const ROOT: &[u8] = b"138875005|20200131|1|900000000000207008|900000000000074008";
 
 const GERMAN: &[u8] =
-    b"1000015|20200131|1|900000000000207008|1000004|de|900000000000013009|Stra\xc3\x9fe|900000000000448009";
+    b"1000015|20200131|1|900000000000207008|1000004|de|900000000000013009|Stra\xc3\x9fe|\
+         900000000000448009";
 
 const IS_A: &[u8] =
-    b"1000027|20200131|1|900000000000207008|1000004|138875005|0|116680003|900000000000011006|900000000000451002";
+    b"1000027|20200131|1|900000000000207008|1000004|138875005|0|116680003|900000000000011006|\
+         900000000000451002";
 
 const SAME_AS: &[u8] =
-    b"0b6a0c2e-5d0f-4c53-9f6e-8d9d2a7b1c01|20210131|0|900000000000207008|900000000000527005|1000015|2000029";
+    b"0b6a0c2e-5d0f-4c53-9f6e-8d9d2a7b1c01|20210131|0|900000000000207008|900000000000527005|\
+         1000015|2000029";
 
 const STRENGTH: &[u8] =
-    b"1000027|20210731|1|900000000000207008|1000004|#5|0|3000005|900000000000011006|900000000000451002";
+    b"1000027|20210731|1|900000000000207008|1000004|#5|0|3000005|900000000000011006|\
+         900000000000451002";
 
 /// The text with a TAB for each bar.
 fn with_tabs(alloc: Global, text: &[u8]) -> Result<Vec<u8>, AllocError> {
@@ -126,7 +130,8 @@ fn faults_of_lines(rt: HostRuntime) -> Result<(), Fail> {
         ),
         (
             Kind::Description,
-            b"1000015|20200131|1|900000000000207008|1000004|de|900000000000013009|a\nb|900000000000448009",
+            b"1000015|20200131|1|900000000000207008|1000004|de|900000000000013009|a\nb|\
+                 900000000000448009",
             Some(LineFault::EmptyText),
         ),
         (Kind::Relationship, IS_A, None),
@@ -153,7 +158,8 @@ fn faults_of_lines(rt: HostRuntime) -> Result<(), Fail> {
         ),
         (
             Kind::Association,
-            b"0b6a0c2e-5d0f-4c53-9f6e-8d9d2a7b1c01|20210131|1|900000000000207008|900000000000527005|11000003039|2",
+            b"0b6a0c2e-5d0f-4c53-9f6e-8d9d2a7b1c01|20210131|1|900000000000207008|\
+                 900000000000527005|11000003039|2",
             Some(LineFault::Reference),
         ),
         (Kind::Concrete, STRENGTH, None),
@@ -211,7 +217,8 @@ fn concept_files(rt: HostRuntime) -> Result<(), Fail> {
             (3, Some(LineFault::Columns)),
         ),
         (
-            b"\n1000004|20200131|1|900000000000207008|900000000000074008\n1000004|20200131|0|900000000000207008|900000000000074008",
+            b"\n1000004|20200131|1|900000000000207008|900000000000074008\n1000004|20200131|0|\
+                 900000000000207008|900000000000074008",
             (2, None),
         ),
         (
@@ -280,7 +287,8 @@ fn first_lines(rt: HostRuntime) -> Result<(), Fail> {
         (Kind::Description, DESCRIPTIONS),
         (
             Kind::Relationship,
-            b"id|effectiveTime|active|moduleId|sourceId|destinationId|relationshipGroup|typeId|characteristicTypeId|modifierId",
+            b"id|effectiveTime|active|moduleId|sourceId|destinationId|relationshipGroup|typeId|\
+                 characteristicTypeId|modifierId",
         ),
         (
             Kind::Association,
@@ -288,7 +296,8 @@ fn first_lines(rt: HostRuntime) -> Result<(), Fail> {
         ),
         (
             Kind::Concrete,
-            b"id|effectiveTime|active|moduleId|sourceId|value|relationshipGroup|typeId|characteristicTypeId|modifierId",
+            b"id|effectiveTime|active|moduleId|sourceId|value|relationshipGroup|typeId|\
+                 characteristicTypeId|modifierId",
         ),
     ];
     for (kind, head) in &heads {
@@ -443,7 +452,8 @@ fn read_and_written(rt: HostRuntime) -> Result<(), Fail> {
         ),
         (
             Kind::Association,
-            b"0B6A0C2E-5d0f-4C53-9F6E-8D9D2A7B1C01|20210131|0|900000000000207008|900000000000527005|1000015|2000029",
+            b"0B6A0C2E-5d0f-4C53-9F6E-8D9D2A7B1C01|20210131|0|900000000000207008|\
+                 900000000000527005|1000015|2000029",
             SAME_AS,
             0x0b6a0c2e_5d0f_4c53_9f6e_8d9d2a7b1c01,
         ),

@@ -3,18 +3,21 @@ use Rattle.std.specs.Prelude.{◌≡◌, ℕ, ◌+◌, ◌≤◌, Bool, true, fa
 use Rattle.std.specs.Prelude.{◌∷◌, ◌++◌, nat_le, nat_lt, length, map, take, drop, Option, Some}
 use Rattle.std.specs.Prelude.{None}
 use Rattle.std.specs.List.{AllByRecursion}
-use Rattle.std.specs.Ordering.{nat_cmp, is_lt}
-use Rattle.std.specs.declared.cmp.Ordering.{Ordering}
+use Rattle.std.specs.Ordering.{is_lt}
 use Rattle.std.specs.declared.cmp.Ordering.TheVariants.{Less, Equal, Greater}
 use Rattle.rf2_values.specs.declared.row.Kind.{Kind}
 use Rattle.rf2_values.specs.declared.key.Key.{Key}
 use Rattle.rf2_values.specs.Key.{kind_place, key_cmp}
-use Rattle.history_model.specs.InOrder.{Has}
+use Rattle.history_model.specs.InOrder.{Has, ShareNone}
 use Rattle.history_model.specs.Queries.{is_above}
 use Rattle.segment.specs.declared.place.RowPlace.{RowPlace}
 use Rattle.as_of_index.specs.declared.search.Start.{Start}
 use Rattle.as_of_index.specs.declared.search.Start.TheVariants as start
 use Rattle.as_of_index.specs.Places.{place_cmp}
+
+-- no key is in both lists
+abbrev pub ShareNoKey : List RowPlace → List RowPlace → Type 0
+ShareNoKey xs ys = ShareNone (λ p. p.key) xs ys
 
 -- all that stand in the first lists, each with the number of its list
 abbrev pub in_segment : ℕ → List RowPlace → List (ℕ × RowPlace)
@@ -45,10 +48,6 @@ is_before (start.Components kind after) p = nat_lt (kind_place p.key.kind) (kind
 -- its key is below another key
 abbrev pub is_under : {X : Type 0} → (X → Key) → Key → X → Bool
 is_under key k x = is_lt (key_cmp (key x) k)
-
--- the order of places: by the byte at which the record begins
-abbrev pub byte_cmp : RowPlace → RowPlace → Ordering
-byte_cmp a b = nat_cmp a.at b.at
 
 -- the items before the place pass the test, and those from it on don't
 pub record SplitsAt {X : Type 0} (p : X → Bool) (places : List X) (i : ℕ) : Type 0 where

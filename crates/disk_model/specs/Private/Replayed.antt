@@ -1,13 +1,16 @@
 -- A proof, which the law of the disk in memory cites:
 -- what a read gives is an image, after each call.
 use Rattle.std.proofs.lemmas.Bool.Decides.{nat_tests}
-use Rattle.std.proofs.Common.{◌≡◌, inl, inr, Bool, ℕ, ◌+◌, ◌≤◌, min, List, [], ◌∷◌, length, take, if◌then◌else◌, ltb}
+use Rattle.std.proofs.Common.{◌≡◌, inl, inr, Bool, ℕ, ◌+◌, ◌≤◌, min, List, [], ◌∷◌, length, take}
+use Rattle.std.proofs.Common.{if◌then◌else◌, ltb}
 use Rattle.std.proofs.Common.{true, false, refl, sym, ◌∙◌, subst, arith, length-take}
 use Rattle.std.proofs.lemmas.List.{get_or-take, take_all}
 use Rattle.std.proofs.lemmas.List.Elements.{All-head, All-tail}
-use Rattle.disk_model.specs.Disk.{DiskState, IsImage, IsOutside, Moments, followed_by, settled, after_write, after_cut, reading}
+use Rattle.disk_model.specs.Disk.{DiskState, IsImage, IsOutside, Moments, followed_by, settled}
+use Rattle.disk_model.specs.Disk.{after_write, after_cut, reading}
 use Rattle.disk_model.specs.Private.Put.{length-put, get_or-put_below, get_or-put_above}
-use Rattle.disk_model.specs.Change.{Change, Write, Cut, Sync, FailedWrite, FailedCut, after_change, replayed, made, written}
+use Rattle.disk_model.specs.Change.{Change, Write, Cut, Sync, FailedWrite, FailedCut, after_change}
+use Rattle.disk_model.specs.Change.{replayed, made, written}
 
 settled_image : (bytes : List ℕ) → IsImage (settled bytes) (settled bytes).now
 unfolding settled

@@ -34,7 +34,8 @@ pub(crate) struct Faults {
 }
 
 impl Faults {
-    ghost use Rattle.disk_model.specs.Faults.{no_faults, fate_of, after_change_call, passes_read, after_read_call};
+    ghost use Rattle.disk_model.specs.Faults.{no_faults, fate_of, after_change_call, passes_read};
+    ghost use Rattle.disk_model.specs.Faults.{after_read_call};
 
     pub(crate) fn none() -> Faults
         ensures { result ≡ no_faults }

@@ -1,5 +1,7 @@
-ghost use Rattle.std.specs.Prelude.{◌≡◌, ℕ, ◌⊎◌, ◌+◌, ◌<◌, ◌≤◌, length, slice_index, take, min, if◌then◌else◌, All, IfOk, OnOk};
-ghost use Rattle.disk_model.specs.Disk.{DiskState, IsOutside, settled, after_write, after_cut, reading};
+ghost use Rattle.std.specs.Prelude.{◌≡◌, ℕ, ◌⊎◌, ◌+◌, ◌<◌, ◌≤◌, length, slice_index, take, min};
+ghost use Rattle.std.specs.Prelude.{if◌then◌else◌, All, IfOk, OnOk};
+ghost use Rattle.disk_model.specs.Disk.{DiskState, IsOutside, settled, after_write, after_cut};
+ghost use Rattle.disk_model.specs.Disk.{reading};
 ghost use Rattle.disk_model.specs.Change.{written, after_change, replayed, made};
 ghost use Rattle.disk_model.specs.Entry.{change_of};
 ghost use Rattle.disk_model.specs.Private.Entry.{IsWithin};

@@ -7,8 +7,7 @@ use Rattle.directory.specs.declared.entry.Entry.{Entry}
 use Rattle.directory.specs.declared.layout.Layout.TheVariants as layouts
 use Rattle.directory.specs.Listings.{DirectoryValue, IsListing, IsEntry, most_entries}
 use Rattle.segment.specs.Records.{segment_of}
-use Rattle.store_image.specs.Says.{IsSegmentOf}
-use Rattle.segment_index.specs.Indexed.{IsIndexOf}
+use Rattle.store_image.specs.Kept.{IsSegmentOf}
 use Rattle.history_store.specs.declared.refusal.Refusal.{Refusal}
 use Rattle.history_store.specs.declared.refusal.Refusal.TheVariants as refusals
 use Rattle.history_store.specs.declared.preparing.Prepared.{Prepared}
@@ -28,7 +27,7 @@ pub record IsPlacedAt (d : DirectoryValue) (merge : Option Merge) (rows : List S
 -- the segment of these rows, and the directory with it
 pub record IsPrepared (d : DirectoryValue) (merge : Option Merge) (rows : List StampedRow)
     (p : Prepared) : Type 0 where
-  pub index_is : IsIndexOf rows p.index
+  pub index_is : p.index ≡ rows
   pub bytes_are : p.bytes.items ≡ segment_of rows
   pub entry_is : IsEntry p.entry
   pub segment : IsSegmentOf p.entry rows
@@ -51,8 +50,8 @@ IsUnprepared _ rows catalog = ⊥
 
 -- what is prepared goes with the store
 pub record IsPreparedFor {D : Type 0} (s : StoreValue D) (p : Prepared) : Type 0 where
-  pub apart : AreLists (s.history.rows ∷ p.index.rows ∷ [])
-  pub history : IsHistory (with_rows s.history p.index.rows)
+  pub apart : AreLists (s.history.rows ∷ p.index ∷ [])
+  pub history : IsHistory (with_rows s.history p.index)
   pub prepared : IsPrepared
       (record {
         layout = s.catalog.layout;
@@ -60,4 +59,4 @@ pub record IsPreparedFor {D : Type 0} (s : StoreValue D) (p : Prepared) : Type 0
         imports = s.history.imports;
         entries = s.catalog.entries;
       })
-      s.catalog.merge p.index.rows p
+      s.catalog.merge p.index p

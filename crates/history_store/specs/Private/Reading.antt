@@ -15,8 +15,8 @@ use Rattle.directory.specs.Listings.{IsEntry}
 use Rattle.segment.specs.declared.place.RowPlace.{RowPlace}
 use Rattle.segment.specs.Records.{record_of, IsStamped}
 use Rattle.segment.specs.Standing.{record_len}
-use Rattle.store_image.specs.Stands.{HoldsAll}
-use Rattle.store_image.specs.Says.{AreSegments, pieces_of}
+use Rattle.store_image.specs.Pieces.{HoldsAll}
+use Rattle.store_image.specs.Kept.{AreSegments, pieces_of}
 use Rattle.history_store.specs.Queries.{is_listed}
 
 -- an honest disk stays one, and its moments stay

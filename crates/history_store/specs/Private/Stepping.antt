@@ -1,5 +1,6 @@
 -- What the parts of a step of a merge give. Only private functions cite these words.
-use Rattle.std.specs.Prelude.{◌≡◌, ◌⊎◌, ℕ, ◌+◌, ◌-◌, ◌≤◌, Bool, true, false, List, ◌++◌, length, take, drop}
+use Rattle.std.specs.Prelude.{◌≡◌, ◌⊎◌, ℕ, ◌+◌, ◌-◌, ◌≤◌, Bool, true, false, List, ◌++◌, length}
+use Rattle.std.specs.Prelude.{take, drop}
 use Rattle.std.specs.Prelude.{Some, Result, Ok, Err, if◌then◌else◌}
 use Rattle.std.specs.List.{AllByRecursion, AllZip}
 use Rattle.disk_model.specs.Disk.{DiskState}
@@ -7,7 +8,6 @@ use Rattle.lru.specs.LruCache.{LruCache}
 use Rattle.blocks.specs.declared.slots.Slot.{Slot}
 use Rattle.history_model.specs.declared.stamped.StampedRow.{StampedRow}
 use Rattle.directory.specs.Listings.{DirectoryValue}
-use Rattle.segment.specs.declared.place.RowPlace.{RowPlace}
 use Rattle.segment.specs.Records.{IsStamped, segment_of}
 use Rattle.segment.specs.Standing.{StandsAt}
 use Rattle.merge.specs.declared.Taken.{Taken}
@@ -30,10 +30,9 @@ IsReadAt t s = IsOfPlace s t.place
 
 -- a store that is open, in which this merge goes on
 pub record IsReady (honest : Type 0) (state : DiskState) (cache : LruCache ℕ (List ℕ))
-    (d : DirectoryValue) (index : List (List RowPlace)) (lists : List (List StampedRow))
-    (m : MergeInProgress) : Type 0 where
+    (d : DirectoryValue) (lists : List (List StampedRow)) (m : MergeInProgress) : Type 0 where
   pub slot : Slot
-  pub held : IsHeld honest state cache slot d index lists false
+  pub held : IsHeld honest state cache slot d lists false
   pub merge : HasMerge honest state.now d lists (Some m) false
 
 -- The next rows of two lists, up to n, and their records. On every disk they

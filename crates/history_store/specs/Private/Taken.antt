@@ -1,12 +1,16 @@
 -- What was posted of the rows of segments, list by list. Only private functions cite these words.
-use Rattle.std.specs.Prelude.{List, [], ◌∷◌}
+use Rattle.std.specs.Prelude.{List, [], ◌∷◌, map}
 use Rattle.std.specs.List.Sorted.{IsPermutation}
 use Rattle.history_model.specs.declared.stamped.StampedRow.{StampedRow}
 use Rattle.segment.specs.declared.place.RowPlace.{RowPlace}
 use Rattle.as_of_index.specs.Postings.{posted_all}
 use Rattle.term_prefix.specs.Terms.{TermAt}
 use Rattle.term_prefix.specs.Pushed.{posted_term}
-use Rattle.associations.specs.Edges.{Edges, AreSameEdges, posted_edges}
+use Rattle.links.specs.Edges.{Edges, AreSameEdges, posted_edges}
+
+-- the rows without their places
+abbrev pub rows_in : List (StampedRow × RowPlace) → List StampedRow
+rows_in rows = map (λ x. x.0) rows
 
 -- each list is what is posted of the rows of a segment, in any order
 abbrev pub TermsTaken : List (List (StampedRow × RowPlace)) → List (List TermAt) → Type 0
@@ -14,11 +18,11 @@ TermsTaken [] [] = Unit {0}
 TermsTaken [] (ts ∷ terms) = ⊥
 TermsTaken (rows ∷ segments) [] = ⊥
 TermsTaken (rows ∷ segments) (ts ∷ terms) =
-    IsPermutation (posted_all posted_term rows) ts × TermsTaken segments terms
+    IsPermutation (posted_all posted_term 0 (rows_in rows)) ts × TermsTaken segments terms
 
 abbrev pub EdgesTaken : List (List (StampedRow × RowPlace)) → List Edges → Type 0
 EdgesTaken [] [] = Unit {0}
 EdgesTaken [] (e ∷ edges) = ⊥
 EdgesTaken (rows ∷ segments) [] = ⊥
 EdgesTaken (rows ∷ segments) (e ∷ edges) =
-    AreSameEdges (posted_edges rows) e × EdgesTaken segments edges
+    AreSameEdges (posted_edges (rows_in rows)) e × EdgesTaken segments edges

@@ -18,7 +18,7 @@ use Rattle.segment.specs.Standing.{places_of}
 use Rattle.store_image.specs.declared.fault.RowsFault.{RowsFault}
 use Rattle.store_image.specs.declared.fault.RowsFault.TheVariants as faults
 use Rattle.store_image.specs.declared.window.Window.{Window}
-use Rattle.store_image.specs.Says.{HasKind, AreSegments}
+use Rattle.store_image.specs.Kept.{HasKind, AreSegments}
 use Rattle.store_image.specs.Reading.{AreNumbered, IsAt}
 
 -- the count of failures rises where the device failed, and else stays

@@ -1,5 +1,5 @@
 use Rattle.std.proofs.Common.{take, sym, subst, ◌∙◌}
-use Rattle.as_of_index.specs.Places.{ShareNoKey}
+use Rattle.as_of_index.specs.Private.Search.{ShareNoKey}
 use Rattle.as_of_index.proofs.Apart.{one_more, Has-taken, none_shared}
 use Rattle.as_of_index.proofs.search.share_no_key.Goals as goal
 

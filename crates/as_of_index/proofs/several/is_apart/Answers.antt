@@ -3,7 +3,7 @@ use Rattle.std.specs.List.{AllByRecursion}
 use Rattle.segment.specs.declared.place.RowPlace.{RowPlace}
 use Rattle.segment.proofs.SegmentLaws.{all_push}
 use Rattle.history_model.proofs.InOrder.{Has-all}
-use Rattle.as_of_index.specs.Places.{ShareNoKey}
+use Rattle.as_of_index.specs.Private.Search.{ShareNoKey}
 use Rattle.as_of_index.proofs.Apart.{one_more, Has-taken}
 use Rattle.as_of_index.proofs.several.is_apart.Goals as goal
 

@@ -1,6 +1,6 @@
 use Rattle.std.proofs.Common.{take}
 use Rattle.std.specs.List.{AllByRecursion}
-use Rattle.as_of_index.specs.Places.{ShareNoKey}
+use Rattle.as_of_index.specs.Private.Search.{ShareNoKey}
 use Rattle.as_of_index.proofs.several.is_apart.Given as goal
 
 abbrev pub invariant-loop-own : goal.invariant-loop-own

@@ -7,7 +7,6 @@ use Rattle.segment.specs.Records.{IsSegment, segment_of}
 use Rattle.history_store.specs.MergeInProgress.{merge_of}
 use Rattle.history_store.specs.Private.Prepared.{IsPlacedAt}
 use Rattle.history_store.proofs.NewSegment.{ascending_stamped, from_one, added_listing, prepared_is, length-stamped}
-use Rattle.segment_index.specs.Indexed.{IsIndexOf}
 use Rattle.history_store.proofs.preparing.prepare.Goals as goal
 
 pub place_all-requires-clause-short : goal.place_all-requires-clause-short
@@ -33,5 +32,5 @@ returns-clause-prepared c =
     let listing = added_listing c.args.directory.now c.in_ok-next.next (merge_of c.args.merge.now) c.deref.result.now c.in_ok-entry.entry c.place.ensures.listing c.requires.not_spent some c.in_ok-entry.ensures.placed c.in_ok-next.ensures in
     let placed = subst (λ (l : List StampedRow). IsPlacedAt c.args.directory.now (merge_of c.args.merge.now) l c.in_ok-entry.entry) (c.deref.ensures.value ∙ list) c.in_ok-entry.ensures.placed in
     let segment = subst (λ (l : List StampedRow). IsSegment l c.in_ok-bytes.field-0.bytes.items) list c.in_ok-bytes.ensures.segment in
-    let index = subst (λ (l : List StampedRow). IsIndexOf l c.in_ok-bytes.field-0.index) list c.in_ok-bytes.ensures.index in
+    let index = c.in_ok-bytes.ensures.index ∙ list in
     prepared_is c.args.directory.now (merge_of c.args.merge.now) _ _ c.in_ok-next.next listing placed c.in_ok-next.ensures c.add.ensures index segment

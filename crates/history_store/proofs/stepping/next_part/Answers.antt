@@ -20,8 +20,8 @@ take-requires g c =
     let h = c.requires.held in
     let is = c.requires.merge.merging in
     let m = c.args.merge.now in
-    let a = list_is c.args.index.now c.args.shown.now m.i is.a c.list-a.result.now h.places is.a_is c.list-a.ensures in
-    let b = list_is c.args.index.now c.args.shown.now m.j is.b c.list-b.result.now h.places is.b_is c.list-b.ensures in
+    let a = list_is c.places.result.now c.args.index.now m.i is.a c.list-a.result.now c.places.ensures is.a_is c.list-a.ensures in
+    let b = list_is c.places-2.result.now c.args.index.now m.j is.b c.list-b.result.now c.places-2.ensures is.b_is c.list-b.ensures in
     record { lengths = of_lists m.places is.a is.b c.list-a.result.now c.list-b.result.now a b is.lengths }
 
 pub returns-in-Err-clause-undamaged : goal.returns-in-Err-clause-undamaged
@@ -29,13 +29,13 @@ returns-in-Err-clause-undamaged g c up =
     let h = c.requires.held in
     let is = c.requires.merge.merging in
     let m = c.args.merge.now in
-    let lists = c.args.shown.now in
-    let a = list_is c.args.index.now lists m.i is.a c.list-a.result.now h.places is.a_is c.list-a.ensures in
-    let b = list_is c.args.index.now lists m.j is.b c.list-b.result.now h.places is.b_is c.list-b.ensures in
+    let lists = c.args.index.now in
+    let a = list_is c.places.result.now lists m.i is.a c.list-a.result.now c.places.ensures is.a_is c.list-a.ensures in
+    let b = list_is c.places-2.result.now lists m.j is.b c.list-b.result.now c.places-2.ensures is.b_is c.list-b.ensures in
     let want = take c.args.n (rows_left m.places is.a is.b) in
     let stand = c.in_ok-taken.ensures.in_order is.a is.b (two_lists lists m.i m.j is.a is.b h.kept.apart is.below is.a_is is.b_is) a b in
     let stand_in = all_stand_in lists m.i m.j is.a is.b c.deref.result.now want is.a_is is.b_is (subst (λ (t : List Taken). AllZip (StandsTaken is.a is.b) t want) (sym c.deref.ensures.value) stand) in
-    let lent = lent_honest _ _ _ _ _ _ _ _ h c.entries-entries.result.now lists c.entries-entries.ensures.entries refl up refl (g.met.D.Disk.now_is_image c.args.disk.now up) in
+    let lent = lent_honest _ _ _ _ _ _ _ h c.entries-entries.result.now lists c.entries-entries.ensures.entries refl up refl (g.met.D.Disk.now_is_image c.args.disk.now up) in
     read_undamaged c.in-Err.fault c.from.result c.from.ensures (c.in-Err.ensures.found up (h.agrees up refl) lists want lent.2 stand_in)
 
 pub returns-in-Err-clause-agrees : goal.returns-in-Err-clause-agrees
@@ -46,9 +46,9 @@ encode-requires-clause-ascending g c =
     let h = c.requires.held in
     let is = c.requires.merge.merging in
     let m = c.args.merge.now in
-    let lists = c.args.shown.now in
-    let a = list_is c.args.index.now lists m.i is.a c.list-a.result.now h.places is.a_is c.list-a.ensures in
-    let b = list_is c.args.index.now lists m.j is.b c.list-b.result.now h.places is.b_is c.list-b.ensures in
+    let lists = c.args.index.now in
+    let a = list_is c.places.result.now lists m.i is.a c.list-a.result.now c.places.ensures is.a_is c.list-a.ensures in
+    let b = list_is c.places-2.result.now lists m.j is.b c.list-b.result.now c.places-2.ensures is.b_is c.list-b.ensures in
     let want = take c.args.n (rows_left m.places is.a is.b) in
     let stand = c.in_ok-taken.ensures.in_order is.a is.b (two_lists lists m.i m.j is.a is.b h.kept.apart is.below is.a_is is.b_is) a b in
     let read = subst (λ (t : List Taken). AllZip IsReadAt t c.in-Ok.rows.items) c.deref.ensures.value c.in-Ok.ensures.read in
@@ -68,9 +68,9 @@ returns-clause-part g c a b is_a is_b =
     let h = c.requires.held in
     let is = c.requires.merge.merging in
     let m = c.args.merge.now in
-    let lists = c.args.shown.now in
-    let first = list_is c.args.index.now lists m.i a c.list-a.result.now h.places is_a c.list-a.ensures in
-    let second = list_is c.args.index.now lists m.j b c.list-b.result.now h.places is_b c.list-b.ensures in
+    let lists = c.args.index.now in
+    let first = list_is c.places.result.now lists m.i a c.list-a.result.now c.places.ensures is_a c.list-a.ensures in
+    let second = list_is c.places-2.result.now lists m.j b c.list-b.result.now c.places-2.ensures is_b c.list-b.ensures in
     let want = take c.args.n (rows_left m.places a b) in
     let both = two_lists lists m.i m.j a b h.kept.apart is.below is_a is_b in
     let stand = c.in_ok-taken.ensures.in_order a b both first second in
@@ -82,7 +82,7 @@ returns-clause-part g c a b is_a is_b =
       rest = c.in_ok-taken.ensures.others a b both first second;
       alike = read_are_like a b c.in_ok-taken.taken.items c.in-Ok.rows.items want read stand;
       exact = λ up. (
-          let lent = lent_honest _ _ _ _ _ _ _ _ h c.entries-entries.result.now lists c.entries-entries.ensures.entries refl up refl (g.met.D.Disk.now_is_image c.args.disk.now up) in
+          let lent = lent_honest _ _ _ _ _ _ _ h c.entries-entries.result.now lists c.entries-entries.ensures.entries refl up refl (g.met.D.Disk.now_is_image c.args.disk.now up) in
           c.in-Ok.ensures.found up (h.agrees up refl) lists want lent.2 stand_in);
       each = read_are_stamped c.in_ok-taken.taken.items c.in-Ok.rows.items read;
       bytes = c.in_ok-bytes.ensures.bytes_are ∙ ap segment_of c.deref-2.ensures.value;

@@ -6,14 +6,14 @@ use Rattle.blocks.specs.Calls.{call_count}
 use Rattle.blocks.proofs.Counted.{one_more, sync_counts, at_most, counts_on}
 use Rattle.blocks.specs.Slots.{other, slot_range}
 use Rattle.directory.specs.declared.layout.Layout.TheVariants as layouts
-use Rattle.store_image.specs.Images.{StandsAs}
-use Rattle.store_image.specs.Says.{history_of, pieces_of}
+use Rattle.store_image.specs.Images.{RepresentsAs}
+use Rattle.store_image.specs.Kept.{history_of, pieces_of}
 use Rattle.store_image.proofs.Unlisted.{synced_moments, synced_on_disk, synced_held, slot_synced, slot_published, slot_elsewhere}
 use Rattle.store_image.proofs.ahead.sync_and_publish.Goals as goal
 
 pub returns-in_err-sync-clause-any_moment : goal.returns-in_err-sync-clause-any_moment
 returns-in_err-sync-clause-any_moment g c honest d lists others on next held =
-    synced_moments _ _ c.args.slot d lists on (g.met.D.Disk.now_is_image c.args.disk.now honest) c.sync.result (StandsAs layouts.Two (history_of c.args.next.now others)) (c.sync.ensures.made honest) (c.sync.ensures.failed honest)
+    synced_moments _ _ c.args.slot d lists on (g.met.D.Disk.now_is_image c.args.disk.now honest) c.sync.result (RepresentsAs layouts.Two (history_of c.args.next.now others)) (c.sync.ensures.made honest) (c.sync.ensures.failed honest)
 
 pub returns-clause-any_moment : goal.returns-clause-any_moment
 returns-clause-any_moment g c honest d lists others on next held =
@@ -21,7 +21,7 @@ returns-clause-any_moment g c honest d lists others on next held =
     let still = c.sync.ensures.honesty.0 honest in
     let made = c.in_ok-sync.ensures.made honest in
     joined _ _ _ _
-    (synced_moments _ _ c.args.slot d lists on now c.sync.result (StandsAs layouts.Two (history_of c.args.next.now others)) (c.sync.ensures.made honest) (c.sync.ensures.failed honest))
+    (synced_moments _ _ c.args.slot d lists on now c.sync.result (RepresentsAs layouts.Two (history_of c.args.next.now others)) (c.sync.ensures.made honest) (c.sync.ensures.failed honest))
     (c.publish_directory.ensures.any_moment still d lists others (synced_on_disk _ _ c.args.slot d lists on now made) next (synced_held _ _ (pieces_of c.args.next.now.entries others) made held))
 
 pub returns-clause-on_disk : goal.returns-clause-on_disk

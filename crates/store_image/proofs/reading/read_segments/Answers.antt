@@ -9,8 +9,8 @@ use Rattle.history_model.specs.InOrder.{IsAscending}
 use Rattle.rf2_values.specs.Key.{key_cmp}
 use Rattle.segment.specs.declared.place.RowPlace.{RowPlace}
 use Rattle.segment.specs.Standing.{places_of, with_places}
-use Rattle.store_image.specs.Stands.{HoldsAll}
-use Rattle.store_image.specs.Says.{AreSegments, pieces_of}
+use Rattle.store_image.specs.Pieces.{HoldsAll}
+use Rattle.store_image.specs.Kept.{AreSegments, pieces_of}
 use Rattle.store_image.specs.Reading.{IsAt}
 use Rattle.store_image.specs.Private.Reading.{IsNotReadAt}
 use Rattle.store_image.specs.Damage.{AreThere}

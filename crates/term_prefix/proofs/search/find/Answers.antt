@@ -12,7 +12,7 @@ returns-clause-found g c = λ honest listed_so posts.
     let are = rw listed_so at c.lists-listed.ensures.places in
     let kept = c.in_ok-kept.kept.items in
     let text_is = is_folded a.prefix.now c.as_bytes.result.now (c.as_bytes.ensures.value ∙ c.in_ok-folded.ensures) in
-    let first = subst (λ text. AreKept lists a.time a.after a.limit a.pin (begun text (numbered 0 a.terms.now)) kept) text_is (rw (c.as_slice.ensures) at (c.in_ok-kept.ensures lists listed_so)) in
+    let first = subst (λ text. AreKept lists a.time a.after a.limit a.pin (begun lists text (numbered 0 a.terms.now)) kept) text_is ((rw (c.as_slice.ensures) at (c.in_ok-kept.ensures lists listed_so)) posts) in
     let w = terms_from_kept lists are a.terms.now posts a.prefix.now a.time a.after a.limit a.pin kept first in
     subst (λ xs. IfOk c.read_all.result (λ f. f.items ≡ xs)) w.2 (c.read_all.ensures.found honest w.0 (subst (λ ks. StandAtAll lists ks w.0) (sym c.as_slice-2.ensures.value) w.1))
 
@@ -23,6 +23,6 @@ returns-clause-undamaged g c = λ honest listed_so posts.
     let are = rw listed_so at c.lists-listed.ensures.places in
     let kept = c.in_ok-kept.kept.items in
     let text_is = is_folded a.prefix.now c.as_bytes.result.now (c.as_bytes.ensures.value ∙ c.in_ok-folded.ensures) in
-    let first = subst (λ text. AreKept lists a.time a.after a.limit a.pin (begun text (numbered 0 a.terms.now)) kept) text_is (rw (c.as_slice.ensures) at (c.in_ok-kept.ensures lists listed_so)) in
+    let first = subst (λ text. AreKept lists a.time a.after a.limit a.pin (begun lists text (numbered 0 a.terms.now)) kept) text_is ((rw (c.as_slice.ensures) at (c.in_ok-kept.ensures lists listed_so)) posts) in
     let w = terms_from_kept lists are a.terms.now posts a.prefix.now a.time a.after a.limit a.pin kept first in
     c.read_all.ensures.undamaged honest w.0 (subst (λ ks. StandAtAll lists ks w.0) (sym c.as_slice-2.ensures.value) w.1)

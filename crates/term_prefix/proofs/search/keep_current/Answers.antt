@@ -1,31 +1,27 @@
-use Rattle.std.proofs.Common.{[], ◌∷◌, ◌++◌, sym, ap, subst, ◌∙◌, take, map, take_all}
+use Rattle.std.proofs.Common.{◌++◌, get_or, sym, subst, take, take_all, append-nil}
+use Rattle.std.specs.Prelude.{flat_map}
 use Rattle.term_prefix.specs.declared.text.Term.{Term}
-use Rattle.as_of_index.specs.Private.Chosen.{chosen}
-use Rattle.term_prefix.specs.Private.{AreKept, SaysWanted}
-use Rattle.term_prefix.proofs.FirstKept.{kept_more, kept_other, one_more}
+use Rattle.term_prefix.specs.Private.{chosen_at, AreKept}
+use Rattle.term_prefix.proofs.FirstKept.{no_bounds, pieces_more, got_of}
 use Rattle.term_prefix.proofs.search.keep_current.Goals as goal
-use Rattle.term_prefix.proofs.search.keep_current.Goals.{then-is_wanted+in_ok-keep, else-is_wanted}
+
+pub loop-term-init : goal.loop-term-init
+loop-term-init c = λ lists listed_so described seen start.
+    let a = c.args in
+    (subst (λ ks. AreKept lists a.time a.after a.limit a.pin ks a.kept.now.items) (sym (append-nil seen)) start, no_bounds lists a.after a.limit a.segment a.kept.now.items)
 
 pub loop-term-preserved : goal.loop-term-preserved
-loop-term-preserved c = λ lists listed_so seen start.
+loop-term-preserved c = λ lists listed_so described seen start.
     let a = c.args in
     let i = c.loop-term.term-index in
-    let t = c.term-item.result in
-    let so_far = c.loop-term.invariant lists listed_so seen start in
-    let some = seen ++ map (λ (t : Term). chosen a.segment t.at) (take i a.terms.now) in
-    let wanted = (rw c.deref.ensures.value at c.is_wanted.ensures) lists listed_so so_far.ascending in
-    rw (one_more seen (λ (t : Term). chosen a.segment t.at) a.terms.now i t c.loop-term-test.true c.term-item.is) (elim c.if-is_wanted.branch [
-      | then-is_wanted+in_ok-keep w ↦
-          subst (λ ks. AreKept lists a.time a.after a.limit a.pin (some ++ chosen a.segment t.at ∷ []) ks)
-          (sym (ap (λ v. v.items) w.kept-is ∙ w.in_ok-keep.ensures so_far.ascending so_far.few))
-          (kept_more lists a.time a.after a.limit a.pin some c.loop-term.kept.items (chosen a.segment t.at) so_far (subst (λ b. SaysWanted lists a.time a.after a.limit a.pin c.loop-term.kept.items (chosen a.segment t.at) b) w.if-is_wanted.true wanted))
-      | else-is_wanted w ↦
-          subst (λ ks. AreKept lists a.time a.after a.limit a.pin (some ++ chosen a.segment t.at ∷ []) ks)
-          (sym (ap (λ v. v.items) w.kept-is))
-          (kept_other lists a.time a.after a.limit a.pin some c.loop-term.kept.items (chosen a.segment t.at) so_far (subst (λ b. SaysWanted lists a.time a.after a.limit a.pin c.loop-term.kept.items (chosen a.segment t.at) b) w.if-is_wanted.false wanted))
-    ])
+    let first : Term = record { start = 0; len = 0; row = 0 } in
+    let t = get_or a.terms.now i first in
+    let so_far = c.loop-term.invariant lists listed_so described seen start in
+    let some = seen ++ flat_map (λ (t : Term). chosen_at lists a.segment t.row) (take i a.terms.now) in
+    rw (pieces_more seen (λ (t : Term). chosen_at lists a.segment t.row) a.terms.now i first c.loop-term-test.true)
+    (c.in_ok-keep_row.ensures lists listed_so (described t (got_of a.terms.now i first c.loop-term-test.true)) some so_far.0 so_far.1)
 
 pub returns : goal.returns
-returns c = λ lists listed_so seen start.
+returns c = λ lists listed_so described seen start.
     let a = c.args in
-    subst (λ ts. AreKept lists a.time a.after a.limit a.pin (seen ++ map (λ (t : Term). chosen a.segment t.at) ts) c.loop-term.kept.items) (take_all c.loop-term.term-index a.terms.now c.loop-term-test.false) (c.loop-term.invariant lists listed_so seen start)
+    subst (λ ts. AreKept lists a.time a.after a.limit a.pin (seen ++ flat_map (λ (t : Term). chosen_at lists a.segment t.row) ts) c.loop-term.kept.items) (take_all c.loop-term.term-index a.terms.now c.loop-term-test.false) (c.loop-term.invariant lists listed_so described seen start).0

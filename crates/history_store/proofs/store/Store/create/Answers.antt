@@ -3,31 +3,28 @@ use Rattle.std.proofs.Common.{ap, refl}
 use Rattle.directory.specs.Listings.{DirectoryValue}
 use Rattle.history_store.specs.Catalog.{catalog_of}
 use Rattle.history_store.proofs.Held.{held_first, held_stands, new_history}
-use Rattle.history_store.proofs.Taken.{none_posted, none_linked}
 use Rattle.history_store.proofs.store.Store.create.Goals as goal
 
 pub invariant_of-result : goal.invariant_of-result
 invariant_of-result g c = (
-  held_first _ _ _ _ _ _ _ c.in-Ok.ensures.empty.0 c.in-Ok.ensures.empty.1 c.new.ensures.items c.in-Ok.ensures.empty.2 (λ honest. c.in-Ok.ensures.on_disk (c.start.ensures.honesty.1 honest)),
-  none_posted _ _ c.new.ensures.items c.in-Ok.ensures.empty.3,
-  none_linked _ _ c.new.ensures.items c.in-Ok.ensures.empty.4,
+  held_first _ _ _ _ _ _ c.in-Ok.ensures.empty.0 c.in-Ok.ensures.empty.1 c.in-Ok.ensures.empty.2 (λ honest. c.in-Ok.ensures.on_disk (c.start.ensures.honesty.1 honest)),
   record { merging = tt; written = λ up still. tt },
 )
 
 pub returns-in-Ok : goal.returns-in-Ok
 returns-in-Ok g c =
-    let held = held_first _ _ _ _ _ _ _ c.in-Ok.ensures.empty.0 c.in-Ok.ensures.empty.1 c.new.ensures.items c.in-Ok.ensures.empty.2 (λ honest. c.in-Ok.ensures.on_disk (c.start.ensures.honesty.1 honest)) in
+    let held = held_first _ _ _ _ _ _ c.in-Ok.ensures.empty.0 c.in-Ok.ensures.empty.1 c.in-Ok.ensures.empty.2 (λ honest. c.in-Ok.ensures.on_disk (c.start.ensures.honesty.1 honest)) in
     record {
       made = record {
-        exact = λ honest. (c.in-Ok.ensures.made honest, record { history = new_history _ _ c.in-Ok.ensures.empty.0 c.new.ensures.items; catalog = ap (λ (l : DirectoryValue). catalog_of l None) c.in-Ok.ensures.empty.0; open_still = refl });
-        new = record { history = new_history _ _ c.in-Ok.ensures.empty.0 c.new.ensures.items; catalog = ap (λ (l : DirectoryValue). catalog_of l None) c.in-Ok.ensures.empty.0; open_still = refl };
+        exact = λ honest. (c.in-Ok.ensures.made honest, record { history = new_history _ _ c.in-Ok.ensures.empty.0 c.in-Ok.ensures.empty.1; catalog = ap (λ (l : DirectoryValue). catalog_of l None) c.in-Ok.ensures.empty.0; open_still = refl });
+        new = record { history = new_history _ _ c.in-Ok.ensures.empty.0 c.in-Ok.ensures.empty.1; catalog = ap (λ (l : DirectoryValue). catalog_of l None) c.in-Ok.ensures.empty.0; open_still = refl };
         causes = tt;
         refused = λ honest. tt;
         untouched = c.start.ensures.untouched;
         inside = c.start.ensures.inside;
         calls = c.in-Ok.ensures.calls;
         bytes = c.in-Ok.ensures.bytes;
-        acknowledged = λ honest. record { open_still = refl; each = held_stands _ _ _ _ _ _ _ _ held (c.start.ensures.honesty.0 honest) refl };
+        acknowledged = λ honest. record { open_still = refl; each = held_stands _ _ _ _ _ _ _ held (c.start.ensures.honesty.0 honest) refl };
         cache = c.in-Ok.ensures.empty.2;
         honesty = c.start.ensures.honesty;
         failures = c.in-Ok.ensures.failures;

@@ -5,7 +5,7 @@ use Rattle.history_store.proofs.GoingOn.{no_merge}
 use Rattle.history_store.proofs.store.Store.merge_abandon.Goals as goal
 
 pub invariant_of-self : goal.invariant_of-self
-invariant_of-self g c = (c.self.invariant.0, c.self.invariant.1, c.self.invariant.2, no_merge _ _ _ _ _ _ c.take.ensures.after)
+invariant_of-self g c = (c.self.invariant.0, no_merge _ _ _ _ _ _ c.take.ensures.after)
 
 pub returns-clause-answer : goal.returns-clause-answer
 returns-clause-answer g c =

@@ -7,13 +7,11 @@ use Rattle.history_store.proofs.Held.{held_stands}
 use Rattle.history_store.proofs.store.Store.merge_begin.Goals as goal
 
 pub begin-requires : goal.begin-requires
-begin-requires g c = segments_long c.self.inside.directory.entries c.self.inside.shown.items c.self.invariant.0.kept.segments
+begin-requires g c = segments_long c.self.inside.directory.entries c.self.inside.index c.self.invariant.0.kept.segments
 
 pub invariant_of-self : goal.invariant_of-self
 invariant_of-self g c = (
   c.self.invariant.0,
-  c.self.invariant.1,
-  c.self.invariant.2,
   begun_merge c.self.inside.directory c.in_ok-merge.merge c.in_ok-merge.ensures.begun _ _ _ _ c.self.invariant.0.kept,
 )
 
@@ -34,4 +32,4 @@ returns-clause-answer g c =
 
 pub returns-clause-acknowledged : goal.returns-clause-acknowledged
 returns-clause-acknowledged g c =
-    rw (← c.self.view_is) (λ honest still. record { open_still = still; each = held_stands _ _ _ _ _ _ _ _ c.self.invariant.0 honest still })
+    rw (← c.self.view_is) (λ honest still. record { open_still = still; each = held_stands _ _ _ _ _ _ _ c.self.invariant.0 honest still })

@@ -16,21 +16,19 @@ use Rattle.history_store.proofs.store.Store.merge_step.Goals.{in-DiskFault, in_d
 
 pub returns-in_default-clause-any_moment : goal.returns-in_default-clause-any_moment
 returns-in_default-clause-any_moment g c =
-    rw (← c.self.view_is) (λ honest still. stayed _ _ _ refl (λ f image. (_, _, held_stands _ _ _ _ _ _ _ _ c.self.invariant.0 honest still f image)))
+    rw (← c.self.view_is) (λ honest still. stayed _ _ _ refl (λ f image. (_, _, held_stands _ _ _ _ _ _ _ c.self.invariant.0 honest still f image)))
 
 pub returns-in_default-clause-acknowledged : goal.returns-in_default-clause-acknowledged
 returns-in_default-clause-acknowledged g c =
-    rw (← c.self.view_is) (λ honest still. record { open_still = still; each = held_stands _ _ _ _ _ _ _ _ c.self.invariant.0 honest still })
+    rw (← c.self.view_is) (λ honest still. record { open_still = still; each = held_stands _ _ _ _ _ _ _ c.self.invariant.0 honest still })
 
 pub invariant_of-self-in-Ok : goal.invariant_of-self-in-Ok
 invariant_of-self-in-Ok g c =
     let s = c.self.inside in
     let new = c.step-stepped.new in
-    let lent = held_lent (g.D.Disk.is_honest s.disk) (g.D.Disk.moments s.disk).state s.cache s.slot s.directory s.index s.shown.items c.as_slice.result.now s.needs_reopen c.self.invariant.0 c.if-self.false c.as_slice.ensures.value in (
-      held_back (g.D.Disk.is_honest new.disk) (g.D.Disk.moments new.disk).state new.cache s.slot s.directory s.index s.shown.items c.as_slice.result.now _ s.needs_reopen (c.in-Ok.ensures.held s.slot lent) c.as_slice.ensures.value (sym c.if-self.false),
-      c.self.invariant.1,
-      c.self.invariant.2,
-      merge_back (g.D.Disk.is_honest new.disk) (g.D.Disk.moments new.disk).state.now s.directory s.shown.items c.as_slice.result.now new.merge _ s.needs_reopen c.in-Ok.ensures.merge c.as_slice.ensures.value (sym c.if-self.false),
+    let lent = held_lent (g.D.Disk.is_honest s.disk) (g.D.Disk.moments s.disk).state s.cache s.slot s.directory s.index s.needs_reopen c.self.invariant.0 c.if-self.false in (
+      held_back (g.D.Disk.is_honest new.disk) (g.D.Disk.moments new.disk).state new.cache s.slot s.directory s.index _ s.needs_reopen (c.in-Ok.ensures.held s.slot lent) (sym c.if-self.false),
+      merge_back (g.D.Disk.is_honest new.disk) (g.D.Disk.moments new.disk).state.now s.directory s.index new.merge _ s.needs_reopen c.in-Ok.ensures.merge (sym c.if-self.false),
     )
 
 pub invariant_of-self-else-matches : goal.invariant_of-self-else-matches
@@ -39,11 +37,9 @@ invariant_of-self-else-matches g c =
     let new = c.step-stepped.new in
     let other : c.in-Err.refusal ≢ refusals.DiskFault = elim c.match-matches.branch [ in-DiskFault w ↦ absurd (let off = c.if-matches.false in let on = w.matches-is in cc) | in_default-matches w ↦ λ is. w.in_default-matches.not-DiskFault is ] in
     let open_still = no_fault c.in-Err.refusal c.in-Err.ensures.step.0 other ∙ sym c.if-self.false in
-    let lent = held_lent (g.D.Disk.is_honest s.disk) (g.D.Disk.moments s.disk).state s.cache s.slot s.directory s.index s.shown.items c.as_slice.result.now s.needs_reopen c.self.invariant.0 c.if-self.false c.as_slice.ensures.value in (
-      held_back (g.D.Disk.is_honest new.disk) (g.D.Disk.moments new.disk).state new.cache s.slot s.directory s.index s.shown.items c.as_slice.result.now _ s.needs_reopen (c.in-Err.ensures.held s.slot lent) c.as_slice.ensures.value open_still,
-      c.self.invariant.1,
-      c.self.invariant.2,
-      merge_back (g.D.Disk.is_honest new.disk) (g.D.Disk.moments new.disk).state.now s.directory s.shown.items c.as_slice.result.now new.merge _ s.needs_reopen c.in-Err.ensures.merge c.as_slice.ensures.value open_still,
+    let lent = held_lent (g.D.Disk.is_honest s.disk) (g.D.Disk.moments s.disk).state s.cache s.slot s.directory s.index s.needs_reopen c.self.invariant.0 c.if-self.false in (
+      held_back (g.D.Disk.is_honest new.disk) (g.D.Disk.moments new.disk).state new.cache s.slot s.directory s.index _ s.needs_reopen (c.in-Err.ensures.held s.slot lent) open_still,
+      merge_back (g.D.Disk.is_honest new.disk) (g.D.Disk.moments new.disk).state.now s.directory s.index new.merge _ s.needs_reopen c.in-Err.ensures.merge open_still,
     )
 
 pub returns-in-Ok-clause-answer : goal.returns-in-Ok-clause-answer
@@ -54,9 +50,9 @@ pub returns-in-Ok-clause-acknowledged : goal.returns-in-Ok-clause-acknowledged
 returns-in-Ok-clause-acknowledged g c =
     let s = c.self.inside in
     let new = c.step-stepped.new in
-    let lent = held_lent (g.D.Disk.is_honest s.disk) (g.D.Disk.moments s.disk).state s.cache s.slot s.directory s.index s.shown.items c.as_slice.result.now s.needs_reopen c.self.invariant.0 c.if-self.false c.as_slice.ensures.value in
-    let held = held_back (g.D.Disk.is_honest new.disk) (g.D.Disk.moments new.disk).state new.cache s.slot s.directory s.index s.shown.items c.as_slice.result.now _ s.needs_reopen (c.in-Ok.ensures.held s.slot lent) c.as_slice.ensures.value (sym c.if-self.false) in
-    rw (← c.self.view_is) (λ honest still. record { open_still = still; each = held_stands _ _ _ _ _ _ _ _ held (c.step-stepped.ensures.honesty.0 honest) still })
+    let lent = held_lent (g.D.Disk.is_honest s.disk) (g.D.Disk.moments s.disk).state s.cache s.slot s.directory s.index s.needs_reopen c.self.invariant.0 c.if-self.false in
+    let held = held_back (g.D.Disk.is_honest new.disk) (g.D.Disk.moments new.disk).state new.cache s.slot s.directory s.index _ s.needs_reopen (c.in-Ok.ensures.held s.slot lent) (sym c.if-self.false) in
+    rw (← c.self.view_is) (λ honest still. record { open_still = still; each = held_stands _ _ _ _ _ _ _ held (c.step-stepped.ensures.honesty.0 honest) still })
 
 pub returns-then-matches-clause-answer : goal.returns-then-matches-clause-answer
 returns-then-matches-clause-answer g c =
@@ -74,9 +70,9 @@ returns-else-matches-clause-acknowledged g c =
     let new = c.step-stepped.new in
     let other : c.in-Err.refusal ≢ refusals.DiskFault = elim c.match-matches.branch [ in-DiskFault w ↦ absurd (let off = c.if-matches.false in let on = w.matches-is in cc) | in_default-matches w ↦ λ is. w.in_default-matches.not-DiskFault is ] in
     let open_still = no_fault c.in-Err.refusal c.in-Err.ensures.step.0 other ∙ sym c.if-self.false in
-    let lent = held_lent (g.D.Disk.is_honest s.disk) (g.D.Disk.moments s.disk).state s.cache s.slot s.directory s.index s.shown.items c.as_slice.result.now s.needs_reopen c.self.invariant.0 c.if-self.false c.as_slice.ensures.value in
-    let held = held_back (g.D.Disk.is_honest new.disk) (g.D.Disk.moments new.disk).state new.cache s.slot s.directory s.index s.shown.items c.as_slice.result.now _ s.needs_reopen (c.in-Err.ensures.held s.slot lent) c.as_slice.ensures.value open_still in
-    rw (← c.self.view_is) (λ honest still. record { open_still = still; each = held_stands _ _ _ _ _ _ _ _ held (c.step-stepped.ensures.honesty.0 honest) still })
+    let lent = held_lent (g.D.Disk.is_honest s.disk) (g.D.Disk.moments s.disk).state s.cache s.slot s.directory s.index s.needs_reopen c.self.invariant.0 c.if-self.false in
+    let held = held_back (g.D.Disk.is_honest new.disk) (g.D.Disk.moments new.disk).state new.cache s.slot s.directory s.index _ s.needs_reopen (c.in-Err.ensures.held s.slot lent) open_still in
+    rw (← c.self.view_is) (λ honest still. record { open_still = still; each = held_stands _ _ _ _ _ _ _ held (c.step-stepped.ensures.honesty.0 honest) still })
 
 pub returns-in-Ok-clause-elsewhere : goal.returns-in-Ok-clause-elsewhere
 returns-in-Ok-clause-elsewhere g c =
@@ -95,7 +91,7 @@ returns-in-Ok-clause-wrote g c =
     let m = c.in-Some.merge in
     let value = c.in-Some.ensures.value in
     rw (← c.self.view_is) (λ honest still some going.
-    wrote_shown (Ok c.left-left.result) c.args.n s.directory s.shown.items c.as_slice.result.now s.merge m (g.D.Disk.moments s.disk) (g.D.Disk.moments c.step-stepped.new.disk) value c.as_slice.ensures.value
+    wrote_shown (Ok c.left-left.result) c.args.n s.directory s.index s.merge m (g.D.Disk.moments s.disk) (g.D.Disk.moments c.step-stepped.new.disk) value
     (wrote_ok tt c.left-left.result c.args.n _ _ _ _ (c.in-Ok.ensures.wrote honest some (some_rows s.directory s.merge m value going))))
 
 pub returns-then-matches-clause-wrote : goal.returns-then-matches-clause-wrote
@@ -104,7 +100,7 @@ returns-then-matches-clause-wrote g c =
     let m = c.in-Some.merge in
     let value = c.in-Some.ensures.value in
     rw (← c.self.view_is) (λ honest still some going.
-    wrote_shown (Err c.in-Err.refusal) c.args.n s.directory s.shown.items c.as_slice.result.now s.merge m (g.D.Disk.moments s.disk) (g.D.Disk.moments c.step-stepped.new.disk) value c.as_slice.ensures.value
+    wrote_shown (Err c.in-Err.refusal) c.args.n s.directory s.index s.merge m (g.D.Disk.moments s.disk) (g.D.Disk.moments c.step-stepped.new.disk) value
     (wrote_err c.in-Err.refusal c.args.n _ _ _ _ (c.in-Err.ensures.wrote honest some (some_rows s.directory s.merge m value going))))
 
 pub returns-else-matches-clause-wrote : goal.returns-else-matches-clause-wrote
@@ -113,5 +109,5 @@ returns-else-matches-clause-wrote g c =
     let m = c.in-Some.merge in
     let value = c.in-Some.ensures.value in
     rw (← c.self.view_is) (λ honest still some going.
-    wrote_shown (Err c.in-Err.refusal) c.args.n s.directory s.shown.items c.as_slice.result.now s.merge m (g.D.Disk.moments s.disk) (g.D.Disk.moments c.step-stepped.new.disk) value c.as_slice.ensures.value
+    wrote_shown (Err c.in-Err.refusal) c.args.n s.directory s.index s.merge m (g.D.Disk.moments s.disk) (g.D.Disk.moments c.step-stepped.new.disk) value
     (wrote_err c.in-Err.refusal c.args.n _ _ _ _ (c.in-Err.ensures.wrote honest some (some_rows s.directory s.merge m value going))))

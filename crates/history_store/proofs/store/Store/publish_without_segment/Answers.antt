@@ -16,29 +16,27 @@ IsNextOf next s = next ≡ record { layout = layouts.Two; epoch = s.catalog.epoc
 pub invariant_of-self : goal.invariant_of-self
 invariant_of-self g c =
     let same = subst (λ (s : StoreValue g.row.D.Denot). IsNextOf c.args.next s) (sym c.self.view_is) c.requires.next in (
-      held_repeated _ (g.D.Disk.is_honest c.publish_directory.new.disk) _ (g.D.Disk.moments c.publish_directory.new.disk).state c.self.inside.cache c.forget.new.self _ c.in-Ok.slot c.self.inside.directory c.args.next _ _ _ c.self.invariant.0 c.publish_directory.ensures.honesty.1 (subst IsListing c.next.view_is c.next.invariant.is) same c.in-Ok.ensures.next c.in-Ok.ensures.on_disk c.in-Ok.ensures.elsewhere (subst (λ x. Forgets (is_in x) c.self.inside.cache c.forget.new.self) c.extent.ensures c.forget.ensures),
-      c.self.invariant.1,
-      c.self.invariant.2,
-      merge_repeated _ (g.D.Disk.is_honest c.publish_directory.new.disk) _ (g.D.Disk.moments c.publish_directory.new.disk).state.now (other c.self.inside.slot) c.self.inside.directory c.args.next c.self.inside.shown.items c.self.inside.merge c.self.inside.needs_reopen c.self.invariant.3 c.publish_directory.ensures.honesty.1 (ap (λ (l : DirectoryValue). l.entries) same) c.in-Ok.ensures.elsewhere,
+      held_repeated _ (g.D.Disk.is_honest c.publish_directory.new.disk) _ (g.D.Disk.moments c.publish_directory.new.disk).state c.self.inside.cache c.forget.new.self _ c.in-Ok.slot c.self.inside.directory c.args.next _ _ c.self.invariant.0 c.publish_directory.ensures.honesty.1 (subst IsListing c.next.view_is c.next.invariant.is) same c.in-Ok.ensures.next c.in-Ok.ensures.on_disk c.in-Ok.ensures.elsewhere (subst (λ x. Forgets (is_in x) c.self.inside.cache c.forget.new.self) c.extent.ensures c.forget.ensures),
+      merge_repeated _ (g.D.Disk.is_honest c.publish_directory.new.disk) _ (g.D.Disk.moments c.publish_directory.new.disk).state.now (other c.self.inside.slot) c.self.inside.directory c.args.next c.self.inside.index c.self.inside.merge c.self.inside.needs_reopen c.self.invariant.1 c.publish_directory.ensures.honesty.1 (ap (λ (l : DirectoryValue). l.entries) same) c.in-Ok.ensures.elsewhere,
     )
 
 pub returns-in-Ok-clause-any_moment : goal.returns-in-Ok-clause-any_moment
 returns-in-Ok-clause-any_moment g c =
     let same = subst (λ (s : StoreValue g.row.D.Denot). IsNextOf c.args.next s) (sym c.self.view_is) c.requires.next in
     let still = subst (λ (s : StoreValue g.row.D.Denot). s.needs_reopen ≡ false) (sym c.self.view_is) c.requires.still in
-    rw (← c.self.view_is) (λ honest. leaves_repeated _ _ _ c.self.inside.cache _ c.self.inside.directory c.args.next _ _ _ c.self.invariant.0 honest still (subst IsListing c.next.view_is c.next.invariant.is) same c.in-Ok.ensures.any_moment)
+    rw (← c.self.view_is) (λ honest. leaves_repeated _ _ _ c.self.inside.cache _ c.self.inside.directory c.args.next _ _ c.self.invariant.0 honest still (subst IsListing c.next.view_is c.next.invariant.is) same c.in-Ok.ensures.any_moment)
 
 pub returns-in-Ok-clause-acknowledged : goal.returns-in-Ok-clause-acknowledged
 returns-in-Ok-clause-acknowledged g c =
     let same = subst (λ (s : StoreValue g.row.D.Denot). IsNextOf c.args.next s) (sym c.self.view_is) c.requires.next in
-    let held = held_repeated _ (g.D.Disk.is_honest c.publish_directory.new.disk) _ (g.D.Disk.moments c.publish_directory.new.disk).state c.self.inside.cache c.forget.new.self _ c.in-Ok.slot c.self.inside.directory c.args.next _ _ _ c.self.invariant.0 c.publish_directory.ensures.honesty.1 (subst IsListing c.next.view_is c.next.invariant.is) same c.in-Ok.ensures.next c.in-Ok.ensures.on_disk c.in-Ok.ensures.elsewhere (subst (λ x. Forgets (is_in x) c.self.inside.cache c.forget.new.self) c.extent.ensures c.forget.ensures) in
-    rw (← c.self.view_is) (λ honest still. record { open_still = still; each = held_stands _ _ _ _ _ _ _ _ held (c.publish_directory.ensures.honesty.0 honest) still })
+    let held = held_repeated _ (g.D.Disk.is_honest c.publish_directory.new.disk) _ (g.D.Disk.moments c.publish_directory.new.disk).state c.self.inside.cache c.forget.new.self _ c.in-Ok.slot c.self.inside.directory c.args.next _ _ c.self.invariant.0 c.publish_directory.ensures.honesty.1 (subst IsListing c.next.view_is c.next.invariant.is) same c.in-Ok.ensures.next c.in-Ok.ensures.on_disk c.in-Ok.ensures.elsewhere (subst (λ x. Forgets (is_in x) c.self.inside.cache c.forget.new.self) c.extent.ensures c.forget.ensures) in
+    rw (← c.self.view_is) (λ honest still. record { open_still = still; each = held_stands _ _ _ _ _ _ _ held (c.publish_directory.ensures.honesty.0 honest) still })
 
 pub returns-in-Err-clause-any_moment : goal.returns-in-Err-clause-any_moment
 returns-in-Err-clause-any_moment g c =
     let same = subst (λ (s : StoreValue g.row.D.Denot). IsNextOf c.args.next s) (sym c.self.view_is) c.requires.next in
     let still = subst (λ (s : StoreValue g.row.D.Denot). s.needs_reopen ≡ false) (sym c.self.view_is) c.requires.still in
-    rw (← c.self.view_is) (λ honest. leaves_repeated _ _ _ c.self.inside.cache _ c.self.inside.directory c.args.next _ _ _ c.self.invariant.0 honest still (subst IsListing c.next.view_is c.next.invariant.is) same c.in-Err.ensures.any_moment)
+    rw (← c.self.view_is) (λ honest. leaves_repeated _ _ _ c.self.inside.cache _ c.self.inside.directory c.args.next _ _ c.self.invariant.0 honest still (subst IsListing c.next.view_is c.next.invariant.is) same c.in-Err.ensures.any_moment)
 
 pub returns-in-Ok-clause-elsewhere : goal.returns-in-Ok-clause-elsewhere
 returns-in-Ok-clause-elsewhere g c =

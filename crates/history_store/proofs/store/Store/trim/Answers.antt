@@ -11,36 +11,34 @@ trim-requires g c = omega (arith, at_least_four (taken c.entries.result.now c.re
 pub overflow_cast-end : goal.overflow_cast-end
 overflow_cast-end g c =
     let end = end_is c.self.inside.directory c.self.inside.merge c.entries.result.now c.reserved.result c.end_of-end.result c.entries.ensures.entries c.reserved.ensures c.end_of-end.ensures.end in
-    let limit = end_limit (g.D.Disk.is_honest c.self.inside.disk) c.self.inside.directory c.self.inside.shown.items c.self.inside.merge c.self.invariant.0.kept.listing c.self.invariant.3.merging in
+    let limit = end_limit (g.D.Disk.is_honest c.self.inside.disk) c.self.inside.directory c.self.inside.index c.self.inside.merge c.self.invariant.0.kept.listing c.self.invariant.1.merging in
     omega (arith, end, limit)
 
 pub invariant_of-self : goal.invariant_of-self
 invariant_of-self g c =
     let end = end_is c.self.inside.directory c.self.inside.merge c.entries.result.now c.reserved.result c.end_of-end.result c.entries.ensures.entries c.reserved.ensures c.end_of-end.ensures.end in
     let below = kept_below c.self.inside.directory c.self.inside.merge c.end_of-end.result end in (
-      trimmed_held _ (g.D.Disk.is_honest c.trim.new.disk) _ (g.D.Disk.moments c.trim.new.disk).state c.self.inside.cache c.forget_from.new.self c.self.inside.slot c.self.inside.directory c.self.inside.index c.self.inside.shown.items c.self.inside.needs_reopen c.end_of-end.result c.self.invariant.0 c.trim.ensures.honesty.1
-          (λ honest on. c.trim.ensures.on_disk honest c.self.inside.slot c.self.inside.directory c.self.inside.shown.items on below) c.in-Ok.ensures.now c.forget_from.ensures,
-      c.self.invariant.1,
-      c.self.invariant.2,
-      trimmed_merge _ (g.D.Disk.is_honest c.trim.new.disk) _ (g.D.Disk.moments c.trim.new.disk).state.now c.self.inside.directory c.self.inside.shown.items c.self.inside.merge c.self.inside.needs_reopen c.end_of-end.result c.self.invariant.3 c.trim.ensures.honesty.1 end c.in-Ok.ensures.now,
+      trimmed_held _ (g.D.Disk.is_honest c.trim.new.disk) _ (g.D.Disk.moments c.trim.new.disk).state c.self.inside.cache c.forget_from.new.self c.self.inside.slot c.self.inside.directory c.self.inside.index c.self.inside.needs_reopen c.end_of-end.result c.self.invariant.0 c.trim.ensures.honesty.1
+          (λ honest on. c.trim.ensures.on_disk honest c.self.inside.slot c.self.inside.directory c.self.inside.index on below) c.in-Ok.ensures.now c.forget_from.ensures,
+      trimmed_merge _ (g.D.Disk.is_honest c.trim.new.disk) _ (g.D.Disk.moments c.trim.new.disk).state.now c.self.inside.directory c.self.inside.index c.self.inside.merge c.self.inside.needs_reopen c.end_of-end.result c.self.invariant.1 c.trim.ensures.honesty.1 end c.in-Ok.ensures.now,
     )
 
 pub returns-in-Ok-clause-any_moment : goal.returns-in-Ok-clause-any_moment
 returns-in-Ok-clause-any_moment g c =
     let end = end_is c.self.inside.directory c.self.inside.merge c.entries.result.now c.reserved.result c.end_of-end.result c.entries.ensures.entries c.reserved.ensures c.end_of-end.ensures.end in
     let below = kept_below c.self.inside.directory c.self.inside.merge c.end_of-end.result end in
-    rw (← c.self.view_is) (λ honest still. c.trim.ensures.any_moment honest c.self.inside.slot c.self.inside.directory c.self.inside.shown.items (c.self.invariant.0.on_disk honest still) below)
+    rw (← c.self.view_is) (λ honest still. c.trim.ensures.any_moment honest c.self.inside.slot c.self.inside.directory c.self.inside.index (c.self.invariant.0.on_disk honest still) below)
 
 pub returns-in-Err-clause-any_moment : goal.returns-in-Err-clause-any_moment
 returns-in-Err-clause-any_moment g c =
     let end = end_is c.self.inside.directory c.self.inside.merge c.entries.result.now c.reserved.result c.end_of-end.result c.entries.ensures.entries c.reserved.ensures c.end_of-end.ensures.end in
     let below = kept_below c.self.inside.directory c.self.inside.merge c.end_of-end.result end in
-    rw (← c.self.view_is) (λ honest still. c.trim.ensures.any_moment honest c.self.inside.slot c.self.inside.directory c.self.inside.shown.items (c.self.invariant.0.on_disk honest still) below)
+    rw (← c.self.view_is) (λ honest still. c.trim.ensures.any_moment honest c.self.inside.slot c.self.inside.directory c.self.inside.index (c.self.invariant.0.on_disk honest still) below)
 
 pub returns-in-Ok-clause-acknowledged : goal.returns-in-Ok-clause-acknowledged
 returns-in-Ok-clause-acknowledged g c =
     let end = end_is c.self.inside.directory c.self.inside.merge c.entries.result.now c.reserved.result c.end_of-end.result c.entries.ensures.entries c.reserved.ensures c.end_of-end.ensures.end in
     let below = kept_below c.self.inside.directory c.self.inside.merge c.end_of-end.result end in
-    let held = trimmed_held _ (g.D.Disk.is_honest c.trim.new.disk) _ (g.D.Disk.moments c.trim.new.disk).state c.self.inside.cache c.forget_from.new.self c.self.inside.slot c.self.inside.directory c.self.inside.index c.self.inside.shown.items c.self.inside.needs_reopen c.end_of-end.result c.self.invariant.0 c.trim.ensures.honesty.1
-    (λ honest on. c.trim.ensures.on_disk honest c.self.inside.slot c.self.inside.directory c.self.inside.shown.items on below) c.in-Ok.ensures.now c.forget_from.ensures in
-    rw (← c.self.view_is) (λ honest still. record { open_still = still; each = held_stands _ _ _ _ _ _ _ _ held (c.trim.ensures.honesty.0 honest) still })
+    let held = trimmed_held _ (g.D.Disk.is_honest c.trim.new.disk) _ (g.D.Disk.moments c.trim.new.disk).state c.self.inside.cache c.forget_from.new.self c.self.inside.slot c.self.inside.directory c.self.inside.index c.self.inside.needs_reopen c.end_of-end.result c.self.invariant.0 c.trim.ensures.honesty.1
+    (λ honest on. c.trim.ensures.on_disk honest c.self.inside.slot c.self.inside.directory c.self.inside.index on below) c.in-Ok.ensures.now c.forget_from.ensures in
+    rw (← c.self.view_is) (λ honest still. record { open_still = still; each = held_stands _ _ _ _ _ _ _ held (c.trim.ensures.honesty.0 honest) still })

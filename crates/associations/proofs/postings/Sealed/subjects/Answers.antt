@@ -1,4 +1,0 @@
-use Rattle.associations.proofs.postings.Sealed.subjects.Goals as goal
-
-pub returns-clause-rising : goal.returns-clause-rising
-returns-clause-rising c = rw (← c.self.view_is) c.self.invariant.by_subject

@@ -1,8 +1,0 @@
-use Rattle.std.proofs.Common.{List, take}
-use Rattle.history_model.specs.declared.stamped.StampedRow.{StampedRow}
-use Rattle.as_of_index.specs.Places.{Lists}
-use Rattle.associations.specs.Private.{GivesRow, Takes}
-use Rattle.associations.proofs.subjects.add_current.Given as goal
-
-abbrev pub invariant-loop-x : goal.invariant-loop-x
-invariant-loop-x l = (lists : List (List StampedRow)) → Lists l.index lists → Takes (GivesRow lists l.time l.pin l.segment) (take l.x-index l.subjects) l.fn.kept.items l.kept.items

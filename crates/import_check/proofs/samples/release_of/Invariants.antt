@@ -1,6 +1,0 @@
-use Rattle.std.proofs.Common.{◌≡◌, map, take}
-use Rattle.import_check.specs.Private.SampleFiles.{texts_of}
-use Rattle.import_check.proofs.samples.release_of.Given as goal
-
-abbrev pub invariant-loop-sample : goal.invariant-loop-sample
-invariant-loop-sample l = map (λ file. (file.kind, file.bytes.items)) l.files.items ≡ texts_of (take l.sample-index l.samples)

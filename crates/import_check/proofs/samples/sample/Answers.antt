@@ -1,6 +1,0 @@
-use Rattle.std.proofs.Common.{Some, sym, ap, ◌∙◌}
-use Rattle.import_check.specs.Sample.{sample_files}
-use Rattle.import_check.proofs.samples.sample.Goals as goal
-
-pub returns-in_ok-release_of-in-r1 : goal.returns-in_ok-release_of-in-r1
-returns-in_ok-release_of-in-r1 c = ap Some c.in_ok-release_of-in-r1.ensures ∙ sym (ap sample_files c.in-r1.is)

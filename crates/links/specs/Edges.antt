@@ -1,0 +1,136 @@
+-- What is posted of rows: links of relationships, references of associations, and what any but a
+-- concept is about.
+use Rattle.std.specs.Prelude.{ℕ, ◌+◌, ◌*◌, ◌==◌, List, [], ◌∷◌, ◌++◌, length, take, map}
+use Rattle.std.specs.Prelude.{if◌then◌else◌}
+use Rattle.std.specs.Prelude.{Option, Some, None}
+use Rattle.std.specs.List.Sorted.{IsNonDecreasingBy, IsPermutation}
+use Rattle.rf2_values.specs.declared.row.Association.{Association}
+use Rattle.rf2_values.specs.declared.row.Body.{Body}
+use Rattle.rf2_values.specs.declared.row.Relationship.{Relationship}
+use Rattle.rf2_values.specs.declared.row.Body.TheVariants as body
+use Rattle.rf2_values.specs.declared.row.Kind.{Kind}
+use Rattle.rf2_values.specs.Key.{kind_place}
+use Rattle.rf2_values.specs.Row.{RowValue, kind_of}
+use Rattle.history_model.specs.Queries.{is_a, subject_of}
+use Rattle.history_model.specs.declared.stamped.StampedRow.{StampedRow}
+use Rattle.as_of_index.specs.Postings.{posted_all}
+use Rattle.links.specs.declared.postings.Link.{Link}
+use Rattle.links.specs.declared.postings.Reference.{Reference}
+use Rattle.links.specs.declared.postings.Subject.{Subject}
+use Rattle.links.specs.declared.postings.EdgeCount.{EdgeCount}
+
+-- links of relationships, references of associations, and subjects of rows
+pub record Edges : Type 0 where
+  pub links : List Link
+  pub references : List Reference
+  pub subjects : List Subject
+
+abbrev pub no_edges : Edges
+no_edges = record { links = []; references = []; subjects = [] }
+
+-- the links, references and subjects of one, each followed by those of the other
+abbrev pub joined_edges : Edges → Edges → Edges
+joined_edges a b =
+    record {
+      links = a.links ++ b.links;
+      references = a.references ++ b.references;
+      subjects = a.subjects ++ b.subjects;
+    }
+
+-- how many links, references and subjects there are
+abbrev pub count_of : Edges → EdgeCount
+count_of e =
+    record {
+      links = length e.links;
+      references = length e.references;
+      subjects = length e.subjects;
+    }
+
+-- the first so many links, references and subjects
+abbrev pub first_edges : EdgeCount → Edges → Edges
+first_edges n e =
+    record {
+      links = take n.links e.links;
+      references = take n.references e.references;
+      subjects = take n.subjects e.subjects;
+    }
+
+-- the same links, references and subjects, in whatever order
+pub record AreSameEdges (a b : Edges) : Type 0 where
+  pub links : IsPermutation a.links b.links
+  pub references : IsPermutation a.references b.references
+  pub subjects : IsPermutation a.subjects b.subjects
+
+-- the place of a component's rows of a kind in the order of subjects: by the component, and then by
+-- the kind, of which there are five
+abbrev pub subject_rank : ℕ → Kind → ℕ
+subject_rank id kind = 5 * id + kind_place kind
+
+-- the links ascend by destination, the references by what they refer to, and the subjects by what
+-- the rows are about, and then by kind
+pub record IsSealed (e : Edges) : Type 0 where
+  pub by_destination : IsNonDecreasingBy (λ l. l.destination) e.links
+  pub by_referenced : IsNonDecreasingBy (λ r. r.referenced) e.references
+  pub by_subject : IsNonDecreasingBy (λ x. subject_rank x.subject x.kind) e.subjects
+
+-- the links of each list, and the references of each list
+abbrev pub links_in : List Edges → List (List Link)
+links_in lists = map (λ e. e.links) lists
+
+abbrev pub references_in : List Edges → List (List Reference)
+references_in lists = map (λ e. e.references) lists
+
+-- the link of a relationship that is row i, and the reference of an association that is row i
+abbrev pub link : Relationship → ℕ → Link
+link r i = record { destination = r.destination; source = r.source; row = i }
+
+abbrev pub reference : Association → ℕ → Reference
+reference a i = record { referenced = a.referenced; refset = a.refset; target = a.target; row = i }
+
+-- what the body of row i says: a relationship of the type "is a" is a link
+abbrev pub link_of_body : Body → ℕ → List Link
+link_of_body (body.Concept c) i = []
+link_of_body (body.Description d) i = []
+link_of_body (body.Relationship r) i = if r.type_id == is_a then link r i ∷ [] else []
+link_of_body (body.Association a) i = []
+link_of_body (body.Concrete c) i = []
+
+-- what the body of row i says: an association is a reference
+abbrev pub reference_of_body : Body → ℕ → List Reference
+reference_of_body (body.Concept c) i = []
+reference_of_body (body.Description d) i = []
+reference_of_body (body.Relationship r) i = []
+reference_of_body (body.Association a) i = reference a i ∷ []
+reference_of_body (body.Concrete c) i = []
+
+-- what row i is about, if it is about something, with its kind
+abbrev pub subject_at : Option ℕ → Kind → ℕ → List Subject
+subject_at None kind i = []
+subject_at (Some id) kind i = record { subject = id; kind = kind; row = i } ∷ []
+
+-- what is posted of row i: what an active one says, and what it is about
+abbrev pub posted_link : RowValue → ℕ → List Link
+posted_link row i = if row.active then link_of_body row.body i else []
+
+abbrev pub posted_reference : RowValue → ℕ → List Reference
+posted_reference row i = if row.active then reference_of_body row.body i else []
+
+abbrev pub posted_subject : RowValue → ℕ → List Subject
+posted_subject row i = if row.active then subject_at (subject_of row) (kind_of row) i else []
+
+abbrev pub edges_of : RowValue → ℕ → Edges
+edges_of row i =
+    record {
+      links = posted_link row i;
+      references = posted_reference row i;
+      subjects = posted_subject row i;
+    }
+
+-- what is posted of rows, each with its number from 0 on
+abbrev pub posted_edges : List StampedRow → Edges
+posted_edges rows =
+    record {
+      links = posted_all posted_link 0 rows;
+      references = posted_all posted_reference 0 rows;
+      subjects = posted_all posted_subject 0 rows;
+    }

@@ -1,0 +1,62 @@
+-- What a store that posts each row's link and reference can say of its lists.
+use Rattle.std.specs.Prelude.{◌≡◌, ℕ, List, [], ◌∷◌, ◌++◌, length, slice_set, remove}
+use Rattle.history_model.specs.History.{rows_at}
+use Rattle.history_model.specs.Lists.{listed}
+use Rattle.history_model.specs.Queries.{children, replacements}
+use Rattle.history_model.specs.declared.stamped.StampedRow.{StampedRow}
+use Rattle.links.specs.Edges.{Edges, AreSameEdges, edges_of, joined_edges, posted_edges}
+use Rattle.links.specs.Children.{PostsLinks, link_keys, children_among}
+use Rattle.links.specs.Replacements.{PostsReferences, reference_keys, replacements_among}
+
+-- the postings of a segment's rows, each row pushed with its number
+abbrev pub ArePostingsOf : List StampedRow → Edges → Type 0
+ArePostingsOf rows edges = AreSameEdges (posted_edges rows) edges
+
+-- there is one list of postings for each list of rows, and it has the postings of these rows
+abbrev pub EachPosted : List (List StampedRow) → List Edges → Type 0
+EachPosted [] [] = Unit {0}
+EachPosted [] (e ∷ edges) = ⊥
+EachPosted (rows ∷ lists) [] = ⊥
+EachPosted (rows ∷ lists) (e ∷ edges) = ArePostingsOf rows e × EachPosted lists edges
+
+-- what is posted of rows and of one row more is what is posted of them, and then of that one
+abbrev pub PushedOneByOne : Type 0
+PushedOneByOne = (rows : List StampedRow) (row : StampedRow) → posted_edges (rows ++ row ∷ [])
+    ≡ joined_edges (posted_edges rows) (edges_of row.row (length rows))
+
+-- if each list has the postings of its rows, each link is of the row of its list that has its
+-- number, and so is each reference
+abbrev pub PostedLinksStand : Type 0
+PostedLinksStand = (lists : List (List StampedRow)) (edges : List Edges)
+    → EachPosted lists edges → PostsLinks lists edges
+
+abbrev pub PostedReferencesStand : Type 0
+PostedReferencesStand = (lists : List (List StampedRow)) (edges : List Edges)
+    → EachPosted lists edges → PostsReferences lists edges
+
+-- if each list has the postings of its rows, no child is left out, and no replacement
+abbrev pub PostedLinksAreAll : Type 0
+PostedLinksAreAll = (lists : List (List StampedRow)) (edges : List Edges) (concept date pin : ℕ)
+    → EachPosted lists edges
+    → children_among (link_keys lists edges) concept date (rows_at pin (listed lists))
+    ≡ children concept date (rows_at pin (listed lists))
+
+abbrev pub PostedReferencesAreAll : Type 0
+PostedReferencesAreAll = (lists : List (List StampedRow)) (edges : List Edges) (id date pin : ℕ)
+    → EachPosted lists edges
+    → replacements_among (reference_keys lists edges) id date (rows_at pin (listed lists))
+    ≡ replacements id date (rows_at pin (listed lists))
+
+-- each list has the postings of its rows still after a list and its postings are added
+abbrev pub EdgesMore : Type 0
+EdgesMore =
+    (lists : List (List StampedRow)) (edges : List Edges) (rows : List StampedRow) (e : Edges)
+    → EachPosted lists edges → ArePostingsOf rows e
+    → EachPosted (lists ++ rows ∷ []) (edges ++ e ∷ [])
+
+-- each list has the postings of its rows still after one is put in the place of two
+abbrev pub EdgesMerged : Type 0
+EdgesMerged = (lists : List (List StampedRow)) (edges : List Edges) (i j : ℕ)
+    (rows : List StampedRow) (e : Edges)
+    → EachPosted lists edges → ArePostingsOf rows e
+    → EachPosted (remove (slice_set lists i rows) j) (remove (slice_set edges i e) j)

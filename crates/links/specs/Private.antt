@@ -1,0 +1,94 @@
+-- Words that private functions and proofs need, of this crate or of one above it.
+-- No public clause cites them.
+use Rattle.std.specs.Prelude.{List, map, ◌≡◌, ◌⊎◌, ℕ}
+use Rattle.std.specs.Ordering.{nat_cmp}
+use Rattle.std.specs.declared.cmp.Ordering.{Ordering}
+use Rattle.std.specs.declared.cmp.Ordering.TheVariants.{Equal}
+use Rattle.rf2_values.specs.declared.row.Kind.{Kind}
+use Rattle.history_model.specs.declared.stamped.StampedRow.{StampedRow}
+use Rattle.history_model.specs.InOrder.{Has, IsAscending}
+use Rattle.segment.specs.declared.place.RowPlace.{RowPlace}
+use Rattle.as_of_index.specs.declared.chosen.Chosen.{Chosen}
+use Rattle.as_of_index.specs.Private.Chosen.{chosen, chosen_cmp, ranked_cmp}
+use Rattle.as_of_index.specs.Current.{IsPlaceOfRow, IsCurrentAt}
+use Rattle.links.specs.declared.postings.Subject.{Subject}
+use Rattle.links.specs.declared.postings.Link.{Link}
+use Rattle.links.specs.declared.postings.Reference.{Reference}
+use Rattle.links.specs.Edges.{Edges, subject_rank}
+
+abbrev pub subjects_in : List Edges → List (List Subject)
+subjects_in lists = map (λ e. e.subjects) lists
+
+-- the new list has what the old one had and what the postings give, and nothing else
+pub record Takes {X Y : Type 0} (Gives : X → Y → Type 0) (xs : List X) (old new : List Y)
+    : Type 0 where
+  pub kept : (y : Y) → Has old y → Has new y
+  pub taken : (x : X) (y : Y) → Has xs x → Gives x y → Has new y
+  pub only : (y : Y) → Has new y → Has old y ⊎ ((x : X) × Has xs x × Gives x y)
+
+-- the list has what those of the postings give that are of component d, and nothing else; with each
+-- posting is the number of its list
+pub record AreTaken {X Y : Type 0} (Gives : ℕ → X → Y → Type 0) (of : X → ℕ) (d : ℕ)
+    (xs : List (ℕ × X)) (ys : List Y) : Type 0 where
+  pub taken : (x : ℕ × X) (y : Y) → Has xs x → of x.1 ≡ d → Gives x.0 x.1 y → Has ys y
+  pub only : (y : Y) → Has ys y
+      → (x : ℕ × X) × Has xs x × (of x.1 ≡ d) × Gives x.0 x.1 y
+
+-- the list has one that ties with it
+abbrev pub IsThere : {Y : Type 0} → (Y → Y → Ordering) → List Y → Y → Type 0
+IsThere cmp ys y = (z : _) × Has ys z × (cmp y z ≡ Equal)
+
+-- the list ascends, and has one of those that tie
+pub record AreOnce {Y : Type 0} (cmp : Y → Y → Ordering) (all once : List Y) : Type 0 where
+  pub ascending : IsAscending cmp once
+  pub there : (y : Y) → Has all y → IsThere cmp once y
+  pub only : (y : Y) → Has once y → Has all y
+
+-- a posting of list n whose row is current gives its answer, which its place tells
+pub record GivesAnswer {X Y : Type 0} (row : X → ℕ) (answer : ℕ → X → RowPlace → Y)
+    (lists : List (List StampedRow)) (date pin n : ℕ) (x : X) (y : Y) : Type 0 where
+  pub at : RowPlace
+  pub row_there : IsPlaceOfRow lists n (row x) at × IsCurrentAt lists date pin n at
+  pub answer_is : answer n x at ≡ y
+
+-- a link that is current gives its source
+abbrev pub GivesSource : List (List StampedRow) → ℕ → ℕ → ℕ → Link → ℕ → Type 0
+GivesSource = GivesAnswer (λ l. l.row) (λ n l at. l.source)
+
+abbrev pub AreSourcesTaken : List (List StampedRow) → ℕ → ℕ → ℕ → List (ℕ × Link) → List ℕ → Type 0
+AreSourcesTaken lists date pin = AreTaken (GivesSource lists date pin) (λ l. l.destination)
+
+abbrev pub AreSources : List (List StampedRow) → ℕ → ℕ → ℕ → List (ℕ × Link) → List ℕ → Type 0
+AreSources lists date pin d xs ids =
+    (all : List ℕ) × AreSourcesTaken lists date pin d xs all × AreOnce nat_cmp all ids
+
+-- what is to be read for a reference of list n: its place, with refset and target, by which the
+-- answer is ordered
+abbrev pub ranked : ℕ → Reference → RowPlace → Chosen
+ranked n r at = record { segment = n; at = at; refset = r.refset; target = r.target }
+
+abbrev pub GivesRanked : List (List StampedRow) → ℕ → ℕ → ℕ → Reference → Chosen → Type 0
+GivesRanked = GivesAnswer (λ r. r.row) ranked
+
+abbrev pub AreRankedTaken : List (List StampedRow) → ℕ → ℕ → ℕ → List (ℕ × Reference) → List Chosen
+    → Type 0
+AreRankedTaken lists date pin = AreTaken (GivesRanked lists date pin) (λ r. r.referenced)
+
+abbrev pub AreRanked : List (List StampedRow) → ℕ → ℕ → ℕ → List (ℕ × Reference) → List Chosen
+    → Type 0
+AreRanked lists date pin d xs kept =
+    (all : List Chosen) × AreRankedTaken lists date pin d xs all × AreOnce ranked_cmp all kept
+
+-- a subject whose row is current gives what is to be read
+abbrev pub GivesRow : List (List StampedRow) → ℕ → ℕ → ℕ → Subject → Chosen → Type 0
+GivesRow = GivesAnswer (λ x. x.row) (λ n x at. chosen n at)
+
+abbrev pub AreRowsTaken : List (List StampedRow) → Kind → ℕ → ℕ → ℕ → List (ℕ × Subject)
+    → List Chosen → Type 0
+AreRowsTaken lists kind date pin d =
+    AreTaken (GivesRow lists date pin) (λ x. subject_rank x.subject x.kind) (subject_rank d kind)
+
+abbrev pub AreRows : List (List StampedRow) → Kind → ℕ → ℕ → ℕ → List (ℕ × Subject) → List Chosen
+    → Type 0
+AreRows lists kind date pin d xs kept =
+    (all : List Chosen) × AreRowsTaken lists kind date pin d xs all × AreOnce chosen_cmp all kept

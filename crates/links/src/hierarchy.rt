@@ -1,0 +1,103 @@
+//! The children that the posted links say.
+
+ghost use Rattle.std.specs.Prelude.{◌≡◌, ◌↔◌, List, IfOk, OnOk};
+ghost use Rattle.std.specs.List.Sorted.{IsNonDecreasingBy};
+ghost use Rattle.std.specs.Ordering.{nat_cmp};
+ghost use Rattle.history_model.specs.declared.stamped.StampedRow.{StampedRow};
+ghost use Rattle.history_model.specs.InOrder.{Has};
+ghost use Rattle.history_model.specs.History.{rows_at};
+ghost use Rattle.history_model.specs.Lists.{listed};
+ghost use Rattle.as_of_index.specs.Places.{Lists};
+ghost use Rattle.as_of_index.specs.Postings.{numbered};
+ghost use Rattle.links.specs.Edges.{links_in};
+ghost use Rattle.links.specs.Children.{PostsLinks, link_keys, children_among};
+ghost use Rattle.links.specs.Private.{GivesSource, Takes, AreOnce, AreSources};
+
+use crate::Links;
+use crate::postings::{Link, Sealed};
+use as_of_index::Index;
+use rf2_values::{EffectiveTime, Sctid};
+use std::alloc::{AllocError, Global};
+
+/// The links to a destination.
+fn links_to(list: &[Link], destination: u64) -> &[Link]
+    ensures { IsNonDecreasingBy (λ l. l.destination) list.now →
+        (l : _) → Has result.now l ↔ (Has list.now l × (l.destination ≡ destination)) }
+{
+    let first = list.partition_point(|l| l.destination < destination);
+    let rest = &list[first..];
+    let count = rest.partition_point(|l| l.destination <= destination);
+    &rest[..count]
+}
+
+/// Adds the sources of those links that are current.
+fn add_sources(
+    ids: &mut Vec<u64>,
+    links: &[Link],
+    segment: usize,
+    index: &Index,
+    time: EffectiveTime,
+    pin: u32,
+) -> Result<(), AllocError>
+    ensures { OnOk result ((lists : List (List StampedRow)) → Lists index.now lists
+        → Takes (GivesSource lists time pin segment) links.now ids.old.items ids.new.items) }
+{
+    for link in links {
+        if let Some(_at) = index.current_at(segment, link.row, time, pin) {
+            ids.push(link.source)?;
+        }
+    }
+    Ok(())
+}
+
+/// Sorts the numbers, and keeps each once. It takes no memory.
+fn sort_once(ids: &mut Vec<u64>)
+    ensures { AreOnce nat_cmp ids.old.items ids.new.items }
+{
+    ids.sort_unstable();
+    ids.dedup();
+}
+
+/// The distinct sources of the current links to a destination, ascending.
+fn sources(
+    alloc: Global,
+    links: &[Sealed],
+    index: &Index,
+    destination: u64,
+    time: EffectiveTime,
+    pin: u32,
+) -> Result<Vec<u64>, AllocError>
+    ensures { IfOk result (λ ids. (lists : List (List StampedRow)) → Lists index.now lists
+        → AreSources lists time pin destination (numbered 0 (links_in links.now)) ids.items) }
+{
+    let mut ids = Vec::new(alloc);
+    for (segment, list) in links.iter().enumerate() {
+        let those = links_to(list.links(), destination);
+        add_sources(&mut ids, those, segment, index, time, pin)?;
+    }
+    sort_once(&mut ids);
+    Ok(ids)
+}
+
+/// The distinct sources of active "is a" relationships to the concept at the date, ascending, of
+/// the rows that the pin shows and of the versions that are posted. It reads no row: each posted
+/// link to the concept costs a bisection a list, and those that count are sorted at the end.
+pub fn children(
+    alloc: Global,
+    links: &Links,
+    index: &Index,
+    concept: Sctid,
+    time: EffectiveTime,
+    pin: u32,
+) -> Result<Vec<u64>, AllocError>
+    // Whatever lists of rows they are that the index lists the places of, and the links post rows
+    // of.
+    ensures found { IfOk result (λ ids. (lists : List (List StampedRow)) → Lists index.now lists
+        → PostsLinks lists links.now
+        → ids.items ≡ children_among (link_keys lists links.now) concept time
+        (rows_at pin (listed lists))) }
+{
+    // Its contract says that no key is listed twice.
+    let _listed = index.lists();
+    sources(alloc, links.as_slice(), index, concept.value(), time, pin)
+}

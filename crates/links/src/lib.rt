@@ -1,0 +1,22 @@
+//! Which concepts are children of a concept, what stands in the place of a component, and what is
+//! about one, at a date and a pin.
+//!
+//! Active relationships and associations are posted as rows are written, and what each active row
+//! is about, each with the number of its row in the segment. A posting is a candidate: it counts
+//! only where the index picks that very version at the date and the pin.
+#![tactic(auto)]
+
+mod hierarchy;
+pub mod laws;
+mod postings;
+mod references;
+mod subjects;
+
+use as_of_index::PerList;
+pub use hierarchy::children;
+pub use postings::{EdgeCount, Link, Postings, Reference, Sealed, Subject};
+pub use references::replacements;
+pub use subjects::about;
+
+/// The postings of several lists of rows, in the order of these lists.
+pub type Links = PerList<Sealed>;

@@ -1,0 +1,292 @@
+//! Postings of rows: of relationships, of associations, and of what rows are about. They are in the
+//! order in which rows were pushed, and sealed.
+
+ghost use Rattle.std.specs.Prelude.{◌≡◌, ◌<◌, ◌++◌, length, vec_capacity, OnOk, OnErr};
+ghost use Rattle.std.specs.List.Sorted.{IsNonDecreasingBy, IsPermutation};
+ghost use Rattle.std.specs.Ordering.{nat_cmp};
+ghost use Rattle.links.specs.Edges.{Edges, no_edges, link, reference, posted_link};
+ghost use Rattle.links.specs.Edges.{posted_reference, posted_subject, edges_of, joined_edges};
+ghost use Rattle.links.specs.Edges.{count_of, first_edges, AreSameEdges, IsSealed, subject_rank};
+
+use history_model::{IS_A, StampedRow, subject_of};
+use rf2_values::{Association, Body, Kind, Relationship};
+use std::alloc::{AllocError, Global};
+use std::cmp::Ordering;
+use std::marker::Model;
+
+/// An active relationship that says that its source is a kind of its destination, and the number of
+/// its row.
+#[derive(Clone, Copy)]
+pub struct Link {
+    /// The parent: the SCTID of a concept.
+    pub destination: u64,
+    /// The child: the SCTID of a concept.
+    pub source: u64,
+    /// The row's number in its segment, from 0 on.
+    pub row: u32,
+}
+
+/// An active association, and the number of its row.
+#[derive(Clone, Copy)]
+pub struct Reference {
+    /// The component that it refers to, by its SCTID.
+    pub referenced: u64,
+    /// The reference set, which says what the association means: the SCTID of a concept.
+    pub refset: u64,
+    /// The component that it leads to, by its SCTID.
+    pub target: u64,
+    /// The row's number in its segment, from 0 on.
+    pub row: u32,
+}
+
+/// What an active row is about, of which kind it is, and its number. There is one of nearly each
+/// row.
+#[derive(Clone, Copy)]
+pub struct Subject {
+    /// The component that the row is about, by its SCTID.
+    pub subject: u64,
+    /// The row's kind.
+    pub kind: Kind,
+    /// The row's number in its segment, from 0 on.
+    pub row: u32,
+}
+
+/// How many links, references and subjects there are.
+#[derive(Clone, Copy, Debug, PartialEq, Eq)]
+pub struct EdgeCount {
+    pub links: usize,
+    pub references: usize,
+    pub subjects: usize,
+}
+
+/// The links, references and subjects of the rows of one segment, in the order in which they were
+/// pushed.
+#[derive(Drop)]
+pub struct Postings {
+    links: Vec<Link>,
+    references: Vec<Reference>,
+    subjects: Vec<Subject>,
+}
+
+impl Model for Postings {
+    ghost use Rattle.links.specs.Edges.{Edges};
+
+    ghost Value = { Edges };
+
+    ghost view = { λ a. record {
+      links = a.links.items;
+      references = a.references.items;
+      subjects = a.subjects.items;
+    } };
+}
+
+/// The links of a segment, ascending by destination, its references, ascending by what they refer
+/// to, and its subjects, which ascend, those of one component by kind.
+#[derive(Drop)]
+pub struct Sealed {
+    links: Vec<Link>,
+    references: Vec<Reference>,
+    subjects: Vec<Subject>,
+}
+
+impl Model for Sealed {
+    ghost use Rattle.links.specs.Edges.{Edges, IsSealed};
+
+    ghost Value = { Edges };
+
+    ghost view = { λ a. record {
+      links = a.links.items;
+      references = a.references.items;
+      subjects = a.subjects.items;
+    } };
+
+    ghost invariant = { λ a. IsSealed (record {
+      links = a.links.items;
+      references = a.references.items;
+      subjects = a.subjects.items;
+    }) };
+}
+
+fn link_of(relationship: &Relationship, row: u32) -> Link
+    ensures { result ≡ link relationship.now row }
+{
+    Link {
+        destination: relationship.destination.value(),
+        source: relationship.source.value(),
+        row,
+    }
+}
+
+fn reference_of(association: &Association, row: u32) -> Reference
+    ensures { result ≡ reference association.now row }
+{
+    Reference {
+        referenced: association.referenced.value(),
+        refset: association.refset.value(),
+        target: association.target.value(),
+        row,
+    }
+}
+
+/// Adds the row's link or reference, if it is active and has one. An `Err` changes nothing.
+fn push_edge(
+    links: &mut Vec<Link>,
+    references: &mut Vec<Reference>,
+    row: &StampedRow,
+    number: u32,
+) -> Result<(), AllocError>
+    ensures ok { OnOk result ((links.new.items ≡ links.old.items ++ posted_link row.now.row number)
+        × (references.new.items ≡ references.old.items ++ posted_reference row.now.row number)) }
+    ensures err { OnErr result ((links.new.items ≡ links.old.items)
+        × (references.new.items ≡ references.old.items)) }
+{
+    match &row.row.body {
+        Body::Relationship(r) if row.row.active && r.type_id.value() == IS_A => {
+            links.push(link_of(r, number))?;
+            Ok(())
+        }
+        Body::Association(a) if row.row.active => {
+            references.push(reference_of(a, number))?;
+            Ok(())
+        }
+        _ => Ok(()),
+    }
+}
+
+/// Adds what the row is about, if it is active. It takes no memory.
+fn push_subject(subjects: &mut Vec<Subject>, row: &StampedRow, number: u32)
+    requires { length subjects.old.items < vec_capacity subjects.old }
+    ensures { subjects.new.items ≡ subjects.old.items ++ posted_subject row.now.row number }
+{
+    if !row.row.active {
+        return;
+    }
+    if let Some(subject) = subject_of(&row.row) {
+        let Ok(()) = subjects.push(Subject {
+            subject: subject.value(),
+            kind: row.row.kind(),
+            row: number,
+        }) else {
+            unreachable!()
+        };
+    }
+}
+
+fn sort_links(links: &mut Vec<Link>)
+    ensures permutation { IsPermutation links.old.items links.new.items }
+    ensures rising { IsNonDecreasingBy (λ l. l.destination) links.new.items }
+{
+    links.sort_unstable_by(|a, b| a.destination.cmp(&b.destination));
+}
+
+fn sort_references(references: &mut Vec<Reference>)
+    ensures permutation { IsPermutation references.old.items references.new.items }
+    ensures rising { IsNonDecreasingBy (λ r. r.referenced) references.new.items }
+{
+    references.sort_unstable_by(|a, b| a.referenced.cmp(&b.referenced));
+}
+
+/// The order of subjects: by what the rows are about, and then by kind.
+fn compare(a: &Subject, b: &Subject) -> Ordering
+    ensures { result ≡ nat_cmp (subject_rank a.now.subject a.now.kind)
+        (subject_rank b.now.subject b.now.kind) }
+{
+    a.subject
+        .cmp(&b.subject)
+        .then((a.kind as u8).cmp(&(b.kind as u8)))
+}
+
+fn sort_subjects(subjects: &mut Vec<Subject>)
+    ensures permutation { IsPermutation subjects.old.items subjects.new.items }
+    ensures rising { IsNonDecreasingBy (λ x. subject_rank x.subject x.kind) subjects.new.items }
+{
+    subjects.sort_unstable_by(|a, b| compare(a, b));
+}
+
+impl Postings {
+    /// No postings. It takes no memory; later calls take theirs from `alloc`.
+    pub fn new(alloc: Global) -> Postings
+        ensures { result ≡ no_edges }
+    {
+        Postings {
+            links: Vec::new(alloc),
+            references: Vec::new(alloc),
+            subjects: Vec::new(alloc),
+        }
+    }
+
+    /// Adds the link or reference of the row with this number, and what the row is about, if it is
+    /// active and has them. An `Err` changes nothing.
+    pub fn push(&mut self, row: &StampedRow, number: u32) -> Result<(), AllocError>
+        ensures ok { OnOk result (self.new ≡ joined_edges self.old (edges_of row.now.row number)) }
+        ensures err { OnErr result (self.new ≡ self.old) }
+    {
+        self.subjects.reserve(1)?;
+        push_edge(&mut self.links, &mut self.references, row, number)?;
+        push_subject(&mut self.subjects, row, number);
+        Ok(())
+    }
+
+    /// How many links, references and subjects there are, for `cut_to`.
+    pub fn len(&self) -> EdgeCount
+        ensures { result ≡ count_of self.now }
+    {
+        EdgeCount {
+            links: self.links.len(),
+            references: self.references.len(),
+            subjects: self.subjects.len(),
+        }
+    }
+
+    /// Keeps the first so many of each, all where there are fewer.
+    pub fn cut_to(&mut self, len: EdgeCount)
+        ensures { self.new ≡ first_edges len self.old }
+    {
+        self.links.truncate(len.links);
+        self.references.truncate(len.references);
+        self.subjects.truncate(len.subjects);
+    }
+
+    /// The links, references and subjects, each in order. It takes no memory.
+    pub fn seal(self) -> Sealed
+        ensures same { AreSameEdges self result }
+        ensures rising { IsSealed result }
+    {
+        let Postings {
+            mut links,
+            mut references,
+            mut subjects,
+        } = self;
+        sort_links(&mut links);
+        sort_references(&mut references);
+        sort_subjects(&mut subjects);
+        Sealed {
+            links,
+            references,
+            subjects,
+        }
+    }
+}
+
+impl Sealed {
+    pub(crate) fn links(&self) -> &[Link]
+        ensures links { result.now ≡ self.now.links }
+        ensures rising { IsNonDecreasingBy (λ l. l.destination) self.now.links }
+    {
+        self.links.as_slice()
+    }
+
+    pub(crate) fn references(&self) -> &[Reference]
+        ensures references { result.now ≡ self.now.references }
+        ensures rising { IsNonDecreasingBy (λ r. r.referenced) self.now.references }
+    {
+        self.references.as_slice()
+    }
+
+    pub(crate) fn subjects(&self) -> &[Subject]
+        ensures subjects { result.now ≡ self.now.subjects }
+        ensures rising { IsNonDecreasingBy (λ x. subject_rank x.subject x.kind) self.now.subjects }
+    {
+        self.subjects.as_slice()
+    }
+}

@@ -1,0 +1,146 @@
+//! What stands in the place of a component, as the posted associations say.
+
+ghost use Rattle.std.specs.Prelude.{◌≡◌, ◌≢◌, ◌↔◌, ◌+◌, ◌≤◌, List, IfOk, IfErr, OnOk};
+ghost use Rattle.std.specs.List.{sum_by};
+ghost use Rattle.std.specs.List.Sorted.{IsNonDecreasingBy};
+ghost use Rattle.std.specs.Ordering.{eq_by_cmp};
+ghost use Rattle.history_model.specs.declared.stamped.StampedRow.{StampedRow};
+ghost use Rattle.history_model.specs.InOrder.{Has};
+ghost use Rattle.history_model.specs.History.{rows_at};
+ghost use Rattle.history_model.specs.Lists.{listed};
+ghost use Rattle.as_of_index.specs.Places.{Lists};
+ghost use Rattle.as_of_index.specs.Private.Chosen.{ranked_cmp};
+ghost use Rattle.as_of_index.specs.Postings.{numbered};
+ghost use Rattle.fault_counts.specs.Counting.{Counts, CountsDiskFault, CountsDamage};
+ghost use Rattle.fault_counts.specs.declared.fault.ReadFault.TheVariants as readfault;
+ghost use Rattle.links.specs.Edges.{references_in};
+ghost use Rattle.links.specs.Replacements.{PostsReferences, reference_keys, replacements_among};
+ghost use Rattle.links.specs.Private.{ranked, GivesRanked, Takes, AreOnce, AreRanked};
+
+use crate::Links;
+use crate::postings::{Reference, Sealed};
+use as_of_index::{Chosen, Index, ReadFault, RowReader, read_all};
+use rf2_values::{EffectiveTime, Row, Sctid};
+use segment::RowPlace;
+use std::alloc::{AllocError, Global};
+use std::cmp::Ordering;
+
+/// The references to a component.
+fn references_to(list: &[Reference], referenced: u64) -> &[Reference]
+    ensures { IsNonDecreasingBy (λ r. r.referenced) list.now →
+        (r : _) → Has result.now r ↔ (Has list.now r × (r.referenced ≡ referenced)) }
+{
+    let first = list.partition_point(|r| r.referenced < referenced);
+    let rest = &list[first..];
+    let count = rest.partition_point(|r| r.referenced <= referenced);
+    &rest[..count]
+}
+
+fn chosen(segment: usize, r: &Reference, at: RowPlace) -> Chosen
+    ensures { result ≡ ranked segment r.now at }
+{
+    Chosen {
+        segment,
+        at,
+        refset: r.refset,
+        target: r.target,
+    }
+}
+
+/// The order of the answer: by refset, then by target, then by member.
+fn rank(a: &Chosen, b: &Chosen) -> Ordering
+    ensures { result ≡ ranked_cmp a.now b.now }
+{
+    a.refset.cmp(&b.refset).then(a.target.cmp(&b.target).then(a.at.key.id.cmp(&b.at.key.id)))
+}
+
+fn is_same_rank(a: &Chosen, b: &Chosen) -> bool
+    ensures { result ≡ eq_by_cmp ranked_cmp a.now b.now }
+{
+    rank(a, b).is_eq()
+}
+
+/// Sorts the rows in this order, and keeps one of those that tie. It takes no memory.
+fn sort_once(kept: &mut Vec<Chosen>)
+    ensures { AreOnce ranked_cmp kept.old.items kept.new.items }
+{
+    kept.sort_unstable_by(|a, b| rank(a, b));
+    kept.dedup_by(|a, b| is_same_rank(a, b));
+}
+
+/// Adds what is to be read for those of the references that are current.
+fn add_references(
+    kept: &mut Vec<Chosen>,
+    references: &[Reference],
+    segment: usize,
+    index: &Index,
+    time: EffectiveTime,
+    pin: u32,
+) -> Result<(), AllocError>
+    ensures { OnOk result ((lists : List (List StampedRow)) → Lists index.now lists
+        → Takes (GivesRanked lists time pin segment) references.now kept.old.items
+        kept.new.items) }
+{
+    for r in references {
+        if let Some(at) = index.current_at(segment, r.row, time, pin) {
+            kept.push(chosen(segment, r, at))?;
+        }
+    }
+    Ok(())
+}
+
+/// The places of the current associations of a component, in the order of the answer.
+fn chosen_all(
+    alloc: Global,
+    links: &[Sealed],
+    index: &Index,
+    referenced: u64,
+    time: EffectiveTime,
+    pin: u32,
+) -> Result<Vec<Chosen>, AllocError>
+    ensures { IfOk result (λ kept. (lists : List (List StampedRow)) → Lists index.now lists
+        → AreRanked lists time pin referenced (numbered 0 (references_in links.now)) kept.items) }
+{
+    let mut kept = Vec::new(alloc);
+    for (segment, list) in links.iter().enumerate() {
+        let those = references_to(list.references(), referenced);
+        add_references(&mut kept, those, segment, index, time, pin)?;
+    }
+    sort_once(&mut kept);
+    Ok(kept)
+}
+
+/// The active associations of the component at the date, by refset, target and member, of the rows
+/// that the pin shows and of the versions that are posted.
+pub fn replacements<R: RowReader>(
+    alloc: Global,
+    links: &Links,
+    index: &Index,
+    reader: &mut R,
+    component: Sctid,
+    time: EffectiveTime,
+    pin: u32,
+) -> Result<Vec<Row>, ReadFault>
+    ensures found { R.is_honest reader.old → Lists index.now (R.lists reader.old)
+        → PostsReferences (R.lists reader.old) links.now
+        → IfOk result (λ rows.
+        rows.items ≡ replacements_among (reference_keys (R.lists reader.old) links.now) component
+        time (rows_at pin (listed (R.lists reader.old)))) }
+    ensures undamaged { R.is_honest reader.old → Lists index.now (R.lists reader.old)
+        → PostsReferences (R.lists reader.old) links.now
+        → IfErr result (λ e. e ≢ readfault.Damaged) }
+    // No more is read than the rows that it answers take, each read once.
+    ensures work { IfOk result (λ rows.
+        R.work reader.new ≤ R.work reader.old + sum_by R.cost rows.items) }
+    ensures lists { R.lists reader.new ≡ R.lists reader.old }
+    ensures honesty { R.is_honest reader.old → R.is_honest reader.new }
+    ensures stays { R.stays reader.old reader.new }
+    ensures disk_faults { Counts CountsDiskFault result
+        (R.disk_faults reader.old) (R.disk_faults reader.new) }
+    ensures damages { Counts CountsDamage result (R.damages reader.old) (R.damages reader.new) }
+{
+    // Its contract says that no key is listed twice.
+    let _listed = index.lists();
+    let kept = chosen_all(alloc, links.as_slice(), index, component.value(), time, pin)?;
+    read_all(alloc, reader, kept.as_slice())
+}

@@ -1,0 +1,165 @@
+//! What is about a component, as the posted subjects say.
+
+ghost use Rattle.std.specs.Prelude.{◌≡◌, ◌≢◌, ◌↔◌, ◌+◌, ◌≤◌, List, Some, nat_lt, nat_le, IfOk};
+ghost use Rattle.std.specs.Prelude.{IfErr, OnOk};
+ghost use Rattle.std.specs.List.{sum_by};
+ghost use Rattle.std.specs.List.Sorted.{IsNonDecreasingBy};
+ghost use Rattle.std.specs.Ordering.{eq_by_cmp};
+ghost use Rattle.history_model.specs.declared.stamped.StampedRow.{StampedRow};
+ghost use Rattle.history_model.specs.InOrder.{Has};
+ghost use Rattle.history_model.specs.History.{rows_at};
+ghost use Rattle.history_model.specs.Lists.{listed};
+ghost use Rattle.history_model.specs.Queries.{about};
+ghost use Rattle.as_of_index.specs.Places.{Lists};
+ghost use Rattle.as_of_index.specs.Private.Chosen.{chosen, chosen_cmp};
+ghost use Rattle.as_of_index.specs.Postings.{numbered};
+ghost use Rattle.fault_counts.specs.Counting.{Counts, CountsDiskFault, CountsDamage};
+ghost use Rattle.fault_counts.specs.declared.fault.ReadFault.TheVariants as readfault;
+ghost use Rattle.links.specs.Edges.{subject_rank};
+ghost use Rattle.links.specs.Private.{subjects_in};
+ghost use Rattle.links.specs.Laws.{EachPosted};
+ghost use Rattle.links.specs.Private.{GivesRow, Takes, AreOnce, AreRows};
+
+use crate::Links;
+use crate::postings::{Sealed, Subject};
+use as_of_index::{Chosen, Index, ReadFault, RowReader, read_all};
+use rf2_values::{EffectiveTime, Kind, Row, Sctid};
+use segment::RowPlace;
+use std::alloc::{AllocError, Global};
+use std::cmp::Ordering;
+
+/// Whether it stands before those of the component and kind.
+fn is_before(x: &Subject, id: u64, kind: Kind) -> bool
+    ensures { result ≡ nat_lt (subject_rank x.now.subject x.now.kind) (subject_rank id kind) }
+{
+    x.subject < id || x.subject == id && (x.kind as u8) < kind as u8
+}
+
+/// Whether it doesn't stand behind those of the component and kind.
+fn is_up_to(x: &Subject, id: u64, kind: Kind) -> bool
+    ensures { result ≡ nat_le (subject_rank x.now.subject x.now.kind) (subject_rank id kind) }
+{
+    x.subject < id || x.subject == id && x.kind as u8 <= kind as u8
+}
+
+/// The subjects that are a component, of rows of a kind.
+fn subjects_of(list: &[Subject], id: u64, kind: Kind) -> &[Subject]
+    ensures { IsNonDecreasingBy (λ x. subject_rank x.subject x.kind) list.now → (x : _)
+        → Has result.now x
+        ↔ (Has list.now x × (subject_rank x.subject x.kind ≡ subject_rank id kind)) }
+{
+    let first = list.partition_point(|x| is_before(x, id, kind));
+    let rest = &list[first..];
+    let count = rest.partition_point(|x| is_up_to(x, id, kind));
+    &rest[..count]
+}
+
+fn chosen(segment: usize, at: RowPlace) -> Chosen
+    ensures { result ≡ chosen segment at }
+{
+    Chosen {
+        segment,
+        at,
+        refset: 0,
+        target: 0,
+    }
+}
+
+/// The order of the answer: by id.
+fn compare(a: &Chosen, b: &Chosen) -> Ordering
+    ensures { result ≡ chosen_cmp a.now b.now }
+{
+    a.at.key.id.cmp(&b.at.key.id)
+}
+
+fn is_same_id(a: &Chosen, b: &Chosen) -> bool
+    ensures { result ≡ eq_by_cmp chosen_cmp a.now b.now }
+{
+    compare(a, b).is_eq()
+}
+
+/// Sorts the rows by id, and keeps one of each id. It takes no memory.
+fn sort_once(kept: &mut Vec<Chosen>)
+    ensures { AreOnce chosen_cmp kept.old.items kept.new.items }
+{
+    kept.sort_unstable_by(|a, b| compare(a, b));
+    kept.dedup_by(|a, b| is_same_id(a, b));
+}
+
+/// Adds what is to be read for those of the subjects whose rows are current.
+fn add_current(
+    kept: &mut Vec<Chosen>,
+    subjects: &[Subject],
+    segment: usize,
+    index: &Index,
+    time: EffectiveTime,
+    pin: u32,
+) -> Result<(), AllocError>
+    ensures { OnOk result ((lists : List (List StampedRow)) → Lists index.now lists
+        → Takes (GivesRow lists time pin segment) subjects.now kept.old.items kept.new.items) }
+{
+    for x in subjects {
+        if let Some(at) = index.current_at(segment, x.row, time, pin) {
+            kept.push(chosen(segment, at))?;
+        }
+    }
+    Ok(())
+}
+
+/// The places of the current rows of a kind that are about a component, by id.
+fn chosen_all(
+    alloc: Global,
+    links: &[Sealed],
+    index: &Index,
+    kind: Kind,
+    id: u64,
+    time: EffectiveTime,
+    pin: u32,
+) -> Result<Vec<Chosen>, AllocError>
+    ensures { IfOk result (λ kept. (lists : List (List StampedRow)) → Lists index.now lists
+        → AreRows lists kind time pin id (numbered 0 (subjects_in links.now)) kept.items) }
+{
+    let mut kept = Vec::new(alloc);
+    for (segment, list) in links.iter().enumerate() {
+        let those = subjects_of(list.subjects(), id, kind);
+        add_current(&mut kept, those, segment, index, time, pin)?;
+    }
+    sort_once(&mut kept);
+    Ok(kept)
+}
+
+/// The active rows of a kind at the date that are about the component, ascending by id, of the rows
+/// that the pin shows. It makes two bisections a list, and for each posted row of the component and
+/// kind one more a list.
+pub fn about<R: RowReader>(
+    alloc: Global,
+    links: &Links,
+    index: &Index,
+    reader: &mut R,
+    kind: Kind,
+    id: Sctid,
+    time: EffectiveTime,
+    pin: u32,
+) -> Result<Vec<Row>, ReadFault>
+    ensures found { R.is_honest reader.old → Lists index.now (R.lists reader.old)
+        → EachPosted (R.lists reader.old) links.now
+        → IfOk result (λ rows.
+        rows.items ≡ about kind id time (rows_at pin (listed (R.lists reader.old)))) }
+    ensures undamaged { R.is_honest reader.old → Lists index.now (R.lists reader.old)
+        → EachPosted (R.lists reader.old) links.now
+        → IfErr result (λ e. e ≢ readfault.Damaged) }
+    // No more is read than the rows that it answers take, each read once.
+    ensures work { IfOk result (λ rows.
+        R.work reader.new ≤ R.work reader.old + sum_by R.cost rows.items) }
+    ensures lists { R.lists reader.new ≡ R.lists reader.old }
+    ensures honesty { R.is_honest reader.old → R.is_honest reader.new }
+    ensures stays { R.stays reader.old reader.new }
+    ensures disk_faults { Counts CountsDiskFault result
+        (R.disk_faults reader.old) (R.disk_faults reader.new) }
+    ensures damages { Counts CountsDamage result (R.damages reader.old) (R.damages reader.new) }
+{
+    // Its contract says that no key is listed twice.
+    let _listed = index.lists();
+    let kept = chosen_all(alloc, links.as_slice(), index, kind, id.value(), time, pin)?;
+    read_all(alloc, reader, kept.as_slice())
+}

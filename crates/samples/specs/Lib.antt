@@ -1,0 +1,3 @@
+pub use Rattle.import_check.specs.Release
+pub mod Sample
+pub mod Private

@@ -1,0 +1,111 @@
+-- What is kept of the rows of several segments, with one segment more, and with one in the place of two.
+use Rattle.std.proofs.Common.{◌≡◌, ℕ, suc, ◌<◌, ◌≤◌, List, [], ◌∷◌, ◌++◌, length, map, refl, sym, ap, subst, ◌∙◌, arith}
+use Rattle.std.specs.Prelude.{slice_set, remove}
+use Rattle.std.specs.List.{AllByRecursion}
+use Rattle.std.proofs.lemmas.List.{length-map}
+use Rattle.history_model.specs.declared.stamped.StampedRow.{StampedRow}
+use Rattle.history_model.specs.InOrder.{IsAscending}
+use Rattle.history_model.specs.Lists.{AreLists}
+use Rattle.segment.specs.declared.place.RowPlace.{RowPlace}
+use Rattle.segment.specs.Standing.{places_of}
+use Rattle.as_of_index.specs.Places.{place_cmp, EachApart, ArePlaces, Lists}
+use Rattle.as_of_index.specs.Private.Search.{ShareNoKey}
+use Rattle.as_of_index.proofs.Storing.{places_of_lists, lists_more, lists_merged}
+use Rattle.term_prefix.specs.Terms.{TermAt}
+use Rattle.term_prefix.specs.Pushed.{IsPosted, ArePosted}
+use Rattle.term_prefix.proofs.Posted.{posted_terms_more, posted_terms_merged}
+use Rattle.links.specs.Edges.{Edges}
+use Rattle.links.specs.Laws.{ArePostingsOf, EachPosted}
+use Rattle.links.proofs.Posted.{edges_more, edges_merged}
+use Rattle.segment_index.specs.Indexed.{IsIndexed, AreIndexed}
+
+-- ---- lists of places, of which some are listed
+
+all_before : {X : Type 0} (P : X → Type 0) (xs ys : List X) → AllByRecursion P (xs ++ ys) → AllByRecursion P xs
+all_before P [] ys all = tt
+all_before P (x ∷ xs) ys all = (all.0, all_before P xs ys all.1)
+
+apart_before : (xs ys : List (List RowPlace)) → EachApart (xs ++ ys) → EachApart xs
+apart_before [] ys apart = tt
+apart_before (x ∷ xs) ys apart = (all_before (λ others. ShareNoKey x others) xs ys apart.0, apart_before xs ys apart.1)
+
+-- of lists of places the first are such
+pub places_before : (xs ys : List (List RowPlace)) → ArePlaces (xs ++ ys) → ArePlaces xs
+places_before xs ys are = record { ascending = all_before (λ places. IsAscending place_cmp places) xs ys are.ascending; apart = apart_before xs ys are.apart }
+
+last_all : {X : Type 0} (P : X → Type 0) (xs : List X) (x : X) → AllByRecursion P (xs ++ x ∷ []) → P x
+last_all P [] x all = all.0
+last_all P (y ∷ xs) x all = last_all P xs x all.1
+
+-- and each of them is in order
+pub last_ascends : (xs : List (List RowPlace)) (x : List RowPlace) → ArePlaces (xs ++ x ∷ []) → IsAscending place_cmp x
+last_ascends xs x are = last_all (λ places. IsAscending place_cmp places) xs x are.ascending
+
+-- ---- there are as many lists of each
+
+pub terms_count : (lists : List (List StampedRow)) (terms : List (List TermAt)) → ArePosted lists terms → length terms ≡ length lists
+terms_count [] [] are = refl
+terms_count [] (ts ∷ terms) are = absurd are
+terms_count (rows ∷ lists) [] are = absurd are
+terms_count (rows ∷ lists) (ts ∷ terms) are = ap (λ n. suc n) (terms_count lists terms are.1)
+
+pub links_count : (lists : List (List StampedRow)) (links : List Edges) → EachPosted lists links → length links ≡ length lists
+links_count [] [] are = refl
+links_count [] (e ∷ links) are = absurd are
+links_count (rows ∷ lists) [] are = absurd are
+links_count (rows ∷ lists) (e ∷ links) are = ap (λ n. suc n) (links_count lists links are.1)
+
+pub places_count : (lists : List (List StampedRow)) (places : List (List RowPlace)) → Lists places lists → length places ≡ length lists
+places_count lists places are = ap (λ (l : List (List RowPlace)). length l) are ∙ length-map lists places_of
+
+-- ---- no lists
+
+pub none_kept : (lists : List (List StampedRow)) (places : List (List RowPlace)) (terms : List (List TermAt)) (links : List Edges) → lists ≡ [] → places ≡ [] → terms ≡ [] → links ≡ [] → AreIndexed lists places terms links
+none_kept lists places terms links none no_places no_terms no_links = record {
+  places_are = no_places ∙ sym (ap (map places_of) none);
+  terms_are = subst (λ t. ArePosted lists t) (sym no_terms) (subst (λ l. ArePosted l []) (sym none) tt);
+  links_are = subst (λ e. EachPosted lists e) (sym no_links) (subst (λ l. EachPosted l []) (sym none) tt);
+}
+
+-- ---- the same lists
+
+pub all_kept : (lists nlists : List (List StampedRow)) (places nplaces : List (List RowPlace)) (terms nterms : List (List TermAt)) (links nlinks : List Edges) → AreIndexed lists places terms links → nlists ≡ lists → nplaces ≡ places → nterms ≡ terms → nlinks ≡ links → AreIndexed nlists nplaces nterms nlinks
+all_kept lists nlists places nplaces terms nterms links nlinks are lists_are places_are terms_are links_are = record {
+  places_are = places_are ∙ are.places_are ∙ sym (ap (map places_of) lists_are);
+  terms_are = subst (λ l. ArePosted l nterms) (sym lists_are) (subst (λ t. ArePosted lists t) (sym terms_are) are.terms_are);
+  links_are = subst (λ l. EachPosted l nlinks) (sym lists_are) (subst (λ e. EachPosted lists e) (sym links_are) are.links_are);
+}
+
+-- ---- one list more
+
+pub places_may_be_added : (lists : List (List StampedRow)) (places : List (List RowPlace)) (rows : List StampedRow) (list : List RowPlace) → Lists places lists → list ≡ places_of rows → AreLists (lists ++ rows ∷ []) → ArePlaces (places ++ list ∷ [])
+places_may_be_added lists places rows list are list_is more =
+    let listed = ap (λ (p : List RowPlace). places ++ p ∷ []) list_is ∙ lists_more places lists rows are in
+    subst ArePlaces (sym listed) (places_of_lists (lists ++ rows ∷ []) more)
+
+pub one_more : (lists nlists : List (List StampedRow)) (places nplaces : List (List RowPlace)) (terms nterms : List (List TermAt)) (links nlinks : List Edges) (rows : List StampedRow) (list : List RowPlace) (ts : List TermAt) (e : Edges) → AreIndexed lists places terms links → IsIndexed rows list ts e
+    → nlists ≡ lists ++ rows ∷ [] → nplaces ≡ places ++ list ∷ [] → nterms ≡ terms ++ ts ∷ [] → nlinks ≡ links ++ e ∷ [] → AreIndexed nlists nplaces nterms nlinks
+one_more lists nlists places nplaces terms nterms links nlinks rows list ts e are is lists_are places_are terms_are links_are =
+    all_kept (lists ++ rows ∷ []) nlists (places ++ list ∷ []) nplaces (terms ++ ts ∷ []) nterms (links ++ e ∷ []) nlinks
+    (record {
+      places_are = ap (λ (p : List RowPlace). places ++ p ∷ []) is.places_are ∙ lists_more places lists rows are.places_are;
+      terms_are = posted_terms_more lists terms rows ts are.terms_are is.terms_are;
+      links_are = edges_more lists links rows e are.links_are is.links_are;
+    }) lists_are places_are terms_are links_are
+
+-- ---- one list in the place of two
+
+pub places_may_replace : (lists : List (List StampedRow)) (places : List (List RowPlace)) (i j : ℕ) (rows : List StampedRow) (list : List RowPlace) → Lists places lists → list ≡ places_of rows → AreLists (remove (slice_set lists i rows) j) → ArePlaces (remove (slice_set places i list) j)
+places_may_replace lists places i j rows list are list_is fewer =
+    let listed = ap (λ (p : List RowPlace). remove (slice_set places i p) j) list_is ∙ lists_merged places lists i j rows are in
+    subst ArePlaces (sym listed) (places_of_lists (remove (slice_set lists i rows) j) fewer)
+
+pub one_for_two : (lists nlists : List (List StampedRow)) (places nplaces : List (List RowPlace)) (terms nterms : List (List TermAt)) (links nlinks : List Edges) (i j : ℕ) (rows : List StampedRow) (list : List RowPlace) (ts : List TermAt) (e : Edges) → AreIndexed lists places terms links → IsIndexed rows list ts e
+    → nlists ≡ remove (slice_set lists i rows) j → nplaces ≡ remove (slice_set places i list) j → nterms ≡ remove (slice_set terms i ts) j → nlinks ≡ remove (slice_set links i e) j → AreIndexed nlists nplaces nterms nlinks
+one_for_two lists nlists places nplaces terms nterms links nlinks i j rows list ts e are is lists_are places_are terms_are links_are =
+    all_kept (remove (slice_set lists i rows) j) nlists (remove (slice_set places i list) j) nplaces (remove (slice_set terms i ts) j) nterms (remove (slice_set links i e) j) nlinks
+    (record {
+      places_are = ap (λ (p : List RowPlace). remove (slice_set places i p) j) is.places_are ∙ lists_merged places lists i j rows are.places_are;
+      terms_are = posted_terms_merged lists terms i j rows ts are.terms_are is.terms_are;
+      links_are = edges_merged lists links i j rows e are.links_are is.links_are;
+    }) lists_are places_are terms_are links_are

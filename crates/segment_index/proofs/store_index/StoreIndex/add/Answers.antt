@@ -1,0 +1,26 @@
+use Rattle.std.proofs.Common.{◌<◌, ◌++◌, ◌∷◌, [], List, length, sym, subst, arith}
+use Rattle.history_model.specs.declared.stamped.StampedRow.{StampedRow}
+use Rattle.history_model.specs.Lists.{AreLists}
+use Rattle.as_of_index.specs.Places.{max_lists}
+use Rattle.segment_index.proofs.AllLists.{terms_count, links_count, places_may_be_added, one_more}
+use Rattle.segment_index.proofs.store_index.StoreIndex.add.Goals as goal
+
+pub add-requires-clause-places : goal.add-requires-clause-places
+add-requires-clause-places c =
+    let more = subst (λ (l : List (List StampedRow)). AreLists (l ++ c.segment.inside.rows ∷ [])) (sym c.self.view_is) (subst (λ (s : List StampedRow). AreLists (c.args.self.now ++ s ∷ [])) (sym c.segment.view_is) c.requires.lists) in
+    places_may_be_added c.self.inside.rows c.self.inside.places c.segment.inside.rows c.segment.inside.places c.self.invariant.places_are c.segment.invariant.places_are more
+
+pub add-requires-2 : goal.add-requires-2
+add-requires-2 c =
+    let room = subst (λ (l : List (List StampedRow)). length l < max_lists) (sym c.self.view_is) c.requires.room in
+    omega (arith, room, terms_count c.self.inside.rows c.self.inside.terms c.self.invariant.terms_are)
+
+pub add-requires-3 : goal.add-requires-3
+add-requires-3 c =
+    let room = subst (λ (l : List (List StampedRow)). length l < max_lists) (sym c.self.view_is) c.requires.room in
+    omega (arith, room, links_count c.self.inside.rows c.self.inside.links c.self.invariant.links_are)
+
+pub invariant_of-self : goal.invariant_of-self
+invariant_of-self c =
+    one_more c.self.inside.rows c.add-4.new.self c.self.inside.places c.add.new.self c.self.inside.terms c.add-2.new.self c.self.inside.links c.add-3.new.self c.segment.inside.rows c.segment.inside.places c.segment.inside.terms c.segment.inside.links c.self.invariant c.segment.invariant
+    c.add-4.ensures c.add.ensures c.add-2.ensures c.add-3.ensures

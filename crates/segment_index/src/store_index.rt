@@ -1,0 +1,167 @@
+//! The index of all segments of a store.
+
+ghost use Rattle.std.specs.Prelude.{◌≡◌, ◌<◌, ◌≤◌, ◌++◌, ◌∷◌, [], length, map, vec_items, remove};
+ghost use Rattle.std.specs.Prelude.{slice_set, IfOk};
+ghost use Rattle.history_model.specs.Lists.{AreLists};
+ghost use Rattle.as_of_index.specs.Places.{ArePlaces, Lists, max_lists};
+ghost use Rattle.term_prefix.specs.Pushed.{ArePosted};
+ghost use Rattle.links.specs.Laws.{EachPosted};
+ghost use Rattle.segment_index.specs.Indexed.{AreIndexed};
+
+use crate::sealed::SegmentIndex;
+use as_of_index::{Index, PerList, PlaceList};
+use history_model::GhostRows;
+use links::Links;
+use segment::RowPlace;
+use std::alloc::{AllocError, Global};
+use std::marker::Model;
+use term_prefix::Terms;
+
+/// What is kept of the rows of several segments, in the order of the directory that lists them:
+/// clauses see the rows of each.
+#[derive(Drop)]
+pub struct StoreIndex {
+    places: Index,
+    terms: Terms,
+    links: Links,
+    rows: PerList<GhostRows>,
+}
+
+impl Model for StoreIndex {
+    ghost use Rattle.std.specs.Prelude.{List};
+    ghost use Rattle.history_model.specs.declared.stamped.StampedRow.{StampedRow};
+    ghost use Rattle.segment_index.specs.Indexed.{AreIndexed};
+
+    ghost Value = { List (List StampedRow) };
+
+    ghost view = { λ a. a.rows };
+
+    ghost invariant = { λ a. AreIndexed a.rows a.places a.terms a.links };
+}
+
+/// An index of these places.
+fn index_of(alloc: Global, places: Vec<Vec<RowPlace>>) -> Result<Index, AllocError>
+    requires few { length places.items ≤ max_lists }
+    requires places { ArePlaces (map vec_items places.items) }
+    ensures { IfOk result (λ index. index ≡ map vec_items places.items) }
+{
+    let mut index = Index::new(alloc)?;
+    for list in places {
+        index.add(PlaceList::new(list));
+    }
+    Ok(index)
+}
+
+/// One item for each list, with room for all lists that there may be.
+fn per_list<T: Drop>(alloc: Global, items: Vec<T>) -> Result<PerList<T>, AllocError>
+    requires { length items.items ≤ max_lists }
+    ensures { IfOk result (λ lists. lists ≡ items.items) }
+{
+    let mut lists = PerList::new(alloc)?;
+    for item in items {
+        lists.add(item);
+    }
+    Ok(lists)
+}
+
+impl StoreIndex {
+    /// No segments, with room for all that there may be.
+    pub fn new(alloc: Global) -> Result<StoreIndex, AllocError>
+        ensures { IfOk result (λ index. index ≡ []) }
+    {
+        Ok(StoreIndex {
+            places: Index::new(alloc)?,
+            terms: Terms::new(alloc)?,
+            links: Links::new(alloc)?,
+            rows: PerList::new(alloc)?,
+        })
+    }
+
+    /// The segments of which these are the places, what is posted, and the rows, each in the order
+    /// of the segments. The lists themselves aren't copied.
+    pub fn of_parts(
+        alloc: Global,
+        places: Vec<Vec<RowPlace>>,
+        terms: Vec<term_prefix::Sealed>,
+        links: Vec<links::Sealed>,
+        rows: Vec<GhostRows>,
+    ) -> Result<StoreIndex, AllocError>
+        requires few { length rows.items ≤ max_lists }
+        requires lists { AreLists rows.items }
+        requires indexed { AreIndexed rows.items (map vec_items places.items)
+            terms.items links.items }
+        ensures { IfOk result (λ index. index ≡ rows.items) }
+    {
+        Ok(StoreIndex {
+            places: index_of(alloc, places)?,
+            terms: per_list(alloc, terms)?,
+            links: per_list(alloc, links)?,
+            rows: per_list(alloc, rows)?,
+        })
+    }
+
+    /// Adds a segment as the last. It takes no memory.
+    pub fn add(&mut self, segment: SegmentIndex)
+        requires room { length self.old < max_lists }
+        requires lists { AreLists (self.old ++ segment ∷ []) }
+        ensures { self.new ≡ self.old ++ segment ∷ [] }
+    {
+        let SegmentIndex {
+            places,
+            terms,
+            links,
+            rows,
+        } = segment;
+        self.places.add(places);
+        self.terms.add(terms);
+        self.links.add(links);
+        self.rows.add(rows);
+    }
+
+    /// Puts a segment in the place of two, at the first's. It takes no memory.
+    pub fn replace_two(&mut self, i: usize, j: usize, segment: SegmentIndex)
+        requires places { i < j }
+        requires within { j < length self.old }
+        requires lists { AreLists (remove (slice_set self.old i segment) j) }
+        ensures { self.new ≡ remove (slice_set self.old i segment) j }
+    {
+        let SegmentIndex {
+            places,
+            terms,
+            links,
+            rows,
+        } = segment;
+        self.places.replace_two(i, j, places);
+        self.terms.replace_two(i, j, terms);
+        self.links.replace_two(i, j, links);
+        self.rows.replace_two(i, j, rows);
+    }
+
+    /// The place of each row.
+    pub fn places(&self) -> &Index
+        ensures { Lists result.now self.now }
+    {
+        &self.places
+    }
+
+    /// The folded terms of the descriptions.
+    pub fn terms(&self) -> &Terms
+        ensures { ArePosted self.now result.now }
+    {
+        &self.terms
+    }
+
+    /// What relationships and associations say, and what rows are about.
+    pub fn links(&self) -> &Links
+        ensures { EachPosted self.now result.now }
+    {
+        &self.links
+    }
+
+    /// The rows of each segment, which only clauses read.
+    pub fn rows(&self) -> &[GhostRows]
+        ensures { result.now ≡ self.now }
+    {
+        self.rows.as_slice()
+    }
+}

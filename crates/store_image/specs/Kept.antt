@@ -1,0 +1,69 @@
+-- What a content block and the rows of its segments say. No file is seen here.
+use Rattle.std.specs.Prelude.{◌≡◌, ℕ, List, [], ◌∷◌, length, sum_by, All}
+use Rattle.rf2_values.specs.declared.row.Kind.{Kind}
+use Rattle.rf2_values.specs.declared.row.Kind.TheVariants as kinds
+use Rattle.rf2_values.specs.Row.{kind_of}
+use Rattle.history_model.specs.declared.stamped.StampedRow.{StampedRow}
+use Rattle.history_model.specs.History.{History, IsHistory}
+use Rattle.history_model.specs.Lists.{AreLists, listed}
+use Rattle.blocks.specs.Extents.{start_of}
+use Rattle.directory.specs.declared.entry.Entry.{Entry}
+use Rattle.directory.specs.declared.layout.Layout.{Layout}
+use Rattle.directory.specs.declared.layout.Layout.TheVariants as layouts
+use Rattle.directory.specs.Places.{extent_of}
+use Rattle.directory.specs.Listings.{DirectoryValue, IsListing}
+use Rattle.directory.specs.Content.{Lists}
+use Rattle.segment.specs.Records.{IsSegment, segment_of}
+
+-- the segment of these rows has as many bytes and rows as the entry says
+pub record IsSegmentOf (entry : Entry) (rows : List StampedRow) : Type 0 where
+  pub is : IsSegment rows (segment_of rows)
+  pub bytes : length (segment_of rows) ≡ entry.bytes
+  pub count : length rows ≡ entry.rows
+
+-- the bytes of the listed segments
+abbrev pub bytes_listed : List Entry → ℕ
+bytes_listed entries = sum_by (λ entry. entry.bytes) entries
+
+-- one list of rows for each entry
+abbrev pub AreSegments : List Entry → List (List StampedRow) → Type 0
+AreSegments [] [] = Unit {0}
+AreSegments [] (rows ∷ lists) = ⊥
+AreSegments (entry ∷ entries) [] = ⊥
+AreSegments (entry ∷ entries) (rows ∷ lists) = IsSegmentOf entry rows × AreSegments entries lists
+
+-- the version has rows of this kind
+abbrev pub HasKind : Layout → Kind → Type 0
+HasKind layouts.One kinds.Concrete = ⊥
+HasKind layouts.One kind = Unit {0}
+HasKind layouts.Two kind = Unit {0}
+
+-- the rows are of kinds that the version has
+abbrev pub AreOfLayout : Layout → List StampedRow → Type 0
+AreOfLayout layout rows = All (λ s. HasKind layout (kind_of s.row)) rows
+
+-- the segments, each at its entry's place
+abbrev pub pieces_of : List Entry → List (List StampedRow) → List (ℕ × List ℕ)
+pieces_of [] lists = []
+pieces_of (entry ∷ entries) [] = []
+pieces_of (entry ∷ entries) (rows ∷ lists) =
+    (start_of (extent_of entry), segment_of rows) ∷ pieces_of entries lists
+
+-- the rows of all lists, with the number of imports
+abbrev pub history_of : DirectoryValue → List (List StampedRow) → History
+history_of d lists = record { imports = d.imports; rows = listed lists }
+
+-- a directory and the rows of the segments that it lists: no key is in two of
+-- them, together they are a history, and the version has rows of their kinds
+pub record IsKept (d : DirectoryValue) (lists : List (List StampedRow)) : Type 0 where
+  pub listing : IsListing d
+  pub segments : AreSegments d.entries lists
+  pub apart : AreLists lists
+  pub history : IsHistory (history_of d lists)
+  pub kinds : All (AreOfLayout d.layout) lists
+
+-- the content block lists the directory
+pub record IsContentOf (content : List ℕ) (d : DirectoryValue) (lists : List (List StampedRow))
+    : Type 0 where
+  pub lists_it : Lists content d
+  pub kept : IsKept d lists

@@ -1,0 +1,37 @@
+-- A directory and rows that are kept in memory, and what a disk shows of them.
+use Rattle.std.specs.Prelude.{ℕ, List}
+use Rattle.disk_model.specs.Disk.{DiskState, EachImage}
+use Rattle.blocks.specs.declared.slots.Slot.{Slot}
+use Rattle.blocks.specs.declared.slots.Current.{Current}
+use Rattle.history_model.specs.declared.stamped.StampedRow.{StampedRow}
+use Rattle.directory.specs.Listings.{DirectoryValue}
+use Rattle.store_image.specs.Pieces.{HasPieces}
+use Rattle.store_image.specs.Kept.{IsContentOf, history_of, pieces_of}
+use Rattle.store_image.specs.Images.{Represents}
+
+-- the slot as the current one, at the directory's epoch
+abbrev pub current_of : Slot → DirectoryValue → Current
+current_of slot d = record { slot = slot; epoch = d.epoch }
+
+-- the slot is the current one, and its content lists the
+-- directory, of which the segments are of these rows
+abbrev pub HasStore : Slot → DirectoryValue → List (List StampedRow) → List ℕ → Type 0
+HasStore slot d lists file = (content : List ℕ) × IsContentOf content d lists
+    × HasPieces (current_of slot d) content (pieces_of d.entries lists) file
+
+-- whatever a stop leaves shows them, with one content
+abbrev pub IsOnDisk : DiskState → Slot → DirectoryValue → List (List StampedRow) → Type 0
+IsOnDisk state slot d lists = (content : List ℕ) × IsContentOf content d lists
+    × EachImage state (HasPieces (current_of slot d) content (pieces_of d.entries lists))
+
+-- bytes that show them represent their history
+abbrev pub StoreIsRepresented : Type 0
+StoreIsRepresented = (slot : Slot) (d : DirectoryValue) (lists : List (List StampedRow))
+    (file : List ℕ)
+    → HasStore slot d lists file → Represents file (history_of d lists) d.layout d.epoch d.entries
+
+-- whatever a stop leaves of a disk that has them represents their history
+abbrev pub OnDiskIsRepresented : Type 0
+OnDiskIsRepresented = (state : DiskState) (slot : Slot) (d : DirectoryValue)
+    (lists : List (List StampedRow)) → IsOnDisk state slot d lists
+    → EachImage state (λ file. Represents file (history_of d lists) d.layout d.epoch d.entries)

@@ -1,0 +1,433 @@
+//! Children of concepts, and what stands in the place of components.
+
+ghost use Rattle.std.specs.Prelude.{◌<◌, ◌≤◌};
+
+use crate::lists::{Indexed, index_all, index_of, links_of, post_links, reader_of};
+use crate::releases::{lists_of, rows_after, three_lists};
+use crate::rows::{
+    FINDING_SITE, IS_A, LAST_DAY, MEMBER, OTHER, REPLACED_BY, ROOT, SAME_AS, STREET, THIRD,
+    association, concept_id, day, is_same, relationship, relationship_id, sctid,
+};
+use as_of_index::{Index, ReadFault, RowReader};
+use history_model::{StampedRow, plain};
+use links::{EdgeCount, Links, Postings, children, replacements};
+use rf2_values::{EffectiveTime, Row, Sctid};
+use std::alloc::{AllocError, Global};
+use std::process::Abort;
+use std::test::Fail;
+
+/// Of which concept or component something is asked, at a date and a pin.
+#[derive(Drop)]
+pub(crate) struct Asked {
+    pub(crate) id: Sctid,
+    pub(crate) time: EffectiveTime,
+    pub(crate) pin: u32,
+}
+
+impl Asked {
+    pub(crate) fn of(id: u64, date: u32, pin: u32) -> Result<Asked, Fail> {
+        Ok(Asked {
+            id: sctid(id)?,
+            time: day(date)?,
+            pin,
+        })
+    }
+}
+
+/// The children of a concept.
+fn children_of(
+    alloc: Global,
+    links: &Links,
+    index: &Index,
+    asked: &Asked,
+) -> Result<Vec<u64>, AllocError> {
+    children(alloc, links, index, asked.id, asked.time, asked.pin)
+}
+
+/// The associations of a component.
+pub(crate) fn replacements_of<R: RowReader>(
+    alloc: Global,
+    links: &Links,
+    index: &Index,
+    reader: &mut R,
+    asked: &Asked,
+) -> Result<Vec<Row>, ReadFault> {
+    replacements(alloc, links, index, reader, asked.id, asked.time, asked.pin)
+}
+
+#[test]
+fn a_street_is_a_child_while_a_relationship_says_so(rt: HostRuntime) -> Result<(), Fail> {
+    let alloc = rt.alloc();
+    let lists = three_lists(alloc)?;
+    let index = index_of(alloc, &lists)?;
+    let posted = links_of(alloc, &lists)?;
+    let first = links_of(alloc, &lists[..1])?;
+    let none = Links::new(alloc)?;
+    for (links, pin, date, concept, want) in [
+        (&posted, 0, 20_200_131, ROOT, None),
+        (&posted, 1, 20_200_131, ROOT, Some(STREET)),
+        (&first, 1, 20_200_131, ROOT, Some(STREET)),
+        (&none, 1, 20_200_131, ROOT, None),
+        (&posted, 1, 20_200_130, ROOT, None),
+        (&posted, 1, 20_200_131, STREET, None),
+        (&posted, 2, 20_210_131, ROOT, Some(STREET)),
+        (&posted, 3, 20_210_131, ROOT, None),
+        (&posted, 3, 20_210_130, ROOT, Some(STREET)),
+        (&posted, 2, LAST_DAY, ROOT, Some(STREET)),
+        (&first, 3, LAST_DAY, ROOT, None),
+    ] {
+        let found = children_of(alloc, links, &index, &Asked::of(concept, date, pin)?)?;
+        assert_eq!(rt;
+            found.first().copied(),
+            want,
+            "of {concept} at {date}, pin {pin}"
+        );
+        assert!(rt; found.len() <= 1);
+    }
+    Ok(())
+}
+
+/// The members that stand in the place of a component.
+fn members(
+    alloc: Global,
+    links: &Links,
+    index: &Index,
+    lists: &[Vec<StampedRow>],
+    asked: &Asked,
+) -> Result<Vec<u128>, Fail> {
+    let found = replacements_of(alloc, links, index, &mut reader_of(lists), asked)?;
+    Ok(found.iter().map(|row| row.id).collect(alloc)?)
+}
+
+#[test]
+fn a_street_is_replaced_once_an_association_says_so(rt: HostRuntime) -> Result<(), Fail> {
+    let alloc = rt.alloc();
+    let lists = three_lists(alloc)?;
+    let index = index_of(alloc, &lists)?;
+    let posted = links_of(alloc, &lists)?;
+    let none = Links::new(alloc)?;
+    for (links, component, date, pin, want) in [
+        (&posted, STREET, 20_210_131, 2, Some(MEMBER)),
+        (&posted, STREET, 20_210_130, 2, None),
+        (&posted, STREET, LAST_DAY, 1, None),
+        (&posted, STREET, LAST_DAY, 3, Some(MEMBER)),
+        (&posted, OTHER, LAST_DAY, 3, None),
+        (&none, STREET, 20_210_131, 2, None),
+    ] {
+        let found = members(
+            alloc,
+            links,
+            &index,
+            &lists,
+            &Asked::of(component, date, pin)?,
+        )?;
+        assert_eq!(rt; found.first().copied(), want);
+        assert!(rt; found.len() <= 1);
+    }
+    Ok(())
+}
+
+#[test]
+fn replacements_stand_by_refset_then_target_then_member(rt: HostRuntime) -> Result<(), Fail> {
+    let alloc = rt.alloc();
+    let mut release = Vec::new(alloc);
+    for (member, refset, target) in [
+        (1, SAME_AS, OTHER),
+        (2, REPLACED_BY, THIRD),
+        (5, REPLACED_BY, THIRD),
+        (6, REPLACED_BY, OTHER),
+        (7, SAME_AS, ROOT),
+        (9, REPLACED_BY, ROOT),
+    ] {
+        release.push(association(member, 20_210_131, true, refset, (STREET, target))?)?;
+    }
+    release.push(association(3, 20_210_131, false, SAME_AS, (STREET, OTHER))?)?;
+    release.push(association(4, 20_210_131, true, SAME_AS, (OTHER, STREET))?)?;
+    let releases = vec![in alloc; release]?;
+    let lists = vec![in alloc; rows_after(alloc, &releases)?]?;
+    let index = index_of(alloc, &lists)?;
+    let links = links_of(alloc, &lists)?;
+    let found = members(
+        alloc,
+        &links,
+        &index,
+        &lists,
+        &Asked::of(STREET, LAST_DAY, 1)?,
+    )?;
+    assert!(rt; found == vec![in alloc; 6, 2, 5, 9, 1, 7]?);
+    Ok(())
+}
+
+pub(crate) const DAYS: [u32; 4] = [20_200_131, 20_200_731, 20_210_131, 20_210_731];
+
+pub(crate) const CONCEPTS: [u64; 4] = [STREET, OTHER, THIRD, ROOT];
+
+/// One of the days, by a number.
+pub(crate) fn pick_day(number: u32) -> u32 {
+    match DAYS.get((number % 4) as usize) {
+        Some(day) => *day,
+        None => LAST_DAY,
+    }
+}
+
+/// One of the concepts, by a number.
+pub(crate) fn pick_concept(number: u32) -> u64 {
+    match CONCEPTS.get((number % 4) as usize) {
+        Some(id) => *id,
+        None => ROOT,
+    }
+}
+
+/// A relationship of an import or an association, by a number below 32.
+fn made_row(number: u32, import: u32) -> Result<Row, Fail>
+    requires number { number < 32 }
+    requires import { import < 7 }
+{
+    let mixed = number * 7 + import * import * 5;
+    let time = pick_day(number + import * 3);
+    let active = (number + import * 3) % 4 != 0;
+    let ends = (pick_concept(mixed), pick_concept(number / 3));
+    if number < 16 {
+        let type_id = if mixed % 5 == 0 { FINDING_SITE } else { IS_A };
+        relationship(relationship_id(100 + number)?, time, active, ends, type_id)
+    } else {
+        let refset = if mixed % 2 == 0 { SAME_AS } else { REPLACED_BY };
+        association(u128::from(90 - number), time, active, refset, ends)
+    }
+}
+
+/// Versions of some of sixteen relationships and sixteen associations, not all of them active.
+fn made_release(alloc: Global, import: u32) -> Result<Vec<Row>, Fail>
+    requires { import < 7 }
+{
+    let mut release = Vec::new(alloc);
+    for number in 0..32u32 {
+        if (number + import) % 3 != 0 {
+            release.push(made_row(number, import)?)?;
+        }
+    }
+    Ok(release)
+}
+
+/// Rows of six imports, in key order: components with many versions, some of them inactive.
+pub(crate) fn made_rows(alloc: Global) -> Result<Vec<StampedRow>, Fail> {
+    let mut releases = Vec::new(alloc);
+    for import in 1..7u32 {
+        releases.push(made_release(alloc, import)?)?;
+    }
+    rows_after(alloc, &releases)
+}
+
+/// How many children and associations of a concept there are;
+/// each answer is that of the plain program.
+fn compare_at(
+    rt: &impl Abort,
+    alloc: Global,
+    made: &Indexed,
+    shown: &[Row],
+    asked: &Asked,
+) -> Result<(usize, usize), Fail> {
+    let found = children_of(alloc, &made.links, &made.index, asked)?;
+    let wanted = plain::children(alloc, shown, asked.id, asked.time)?;
+    assert!(rt;
+        found
+            .iter()
+            .copied()
+            .eq(wanted.iter().map(|child| child.value()))
+    );
+    let mut reader = reader_of(&made.lists);
+    let rows = replacements_of(alloc, &made.links, &made.index, &mut reader, asked)?;
+    let wanted = plain::replacements(alloc, shown, asked.id, asked.time)?;
+    assert!(rt; is_same(&rows, &wanted));
+    Ok((found.len(), rows.len()))
+}
+
+/// How many children and associations there were; each answer is that of the plain program.
+fn compare(
+    rt: &impl Abort,
+    alloc: Global,
+    rows: &[StampedRow],
+    made: &Indexed,
+) -> Result<(usize, usize), Fail> {
+    let mut below = 0usize;
+    let mut instead = 0usize;
+    for pin in 0..7u32 {
+        let shown = plain::rows_at(alloc, pin, rows)?;
+        for date in DAYS {
+            for concept in CONCEPTS {
+                let asked = Asked::of(concept, date, pin)?;
+                let found = compare_at(rt, alloc, made, &shown, &asked)?;
+                below = below.saturating_add(found.0);
+                instead = instead.saturating_add(found.1);
+            }
+        }
+    }
+    Ok((below, instead))
+}
+
+#[test]
+fn made_links_in_several_lists(rt: HostRuntime) -> Result<(), Fail> {
+    let alloc = rt.alloc();
+    let rows = made_rows(alloc)?;
+    let one = index_all(alloc, lists_of(alloc, &rows, &[(1, 6)])?)?;
+    let some = lists_of(alloc, &rows, &[(1, 2), (7, 9), (3, 3), (4, 6)])?;
+    let some = index_all(alloc, some)?;
+    let answered = compare(&rt, alloc, &rows, &one)?;
+    assert!(rt;
+        answered.0 > 100 && answered.1 > 100,
+        "{} and {}",
+        answered.0,
+        answered.1
+    );
+    assert!(rt; compare(&rt, alloc, &rows, &some)? == answered);
+    Ok(())
+}
+
+const CHILDREN: u32 = 3_000;
+
+/// A relationship to the root from each of many concepts, the greatest first.
+fn family(alloc: Global, first: u32) -> Result<Vec<StampedRow>, Fail>
+    requires { first ≤ 4000 }
+{
+    let mut rows = Vec::new(alloc);
+    for number in 0..CHILDREN {
+        let source = concept_id(100 + CHILDREN - number)?;
+        let id = relationship_id(first + number)?;
+        let row = relationship(id, 20_200_131, true, (source, ROOT), IS_A)?;
+        rows.push(StampedRow { row, import: 1 })?;
+    }
+    Ok(rows)
+}
+
+#[test]
+fn thousands_of_children_each_of_two_relationships(rt: HostRuntime) -> Result<(), Fail> {
+    let alloc = rt.alloc();
+    let lists = vec![in alloc; family(alloc, 100)?, family(alloc, 4_000)?]?;
+    let index = index_of(alloc, &lists)?;
+    let links = links_of(alloc, &lists)?;
+    let mut wanted = Vec::new(alloc);
+    for number in 1..=CHILDREN {
+        wanted.push(concept_id(100 + number)?)?;
+    }
+    let found = children_of(alloc, &links, &index, &Asked::of(ROOT, LAST_DAY, 1)?)?;
+    assert!(rt; found == wanted);
+    Ok(())
+}
+
+/// What is posted of a list of rows, each of them posted twice.
+pub(crate) fn post_twice(alloc: Global, rows: &[StampedRow]) -> Result<Links, Fail> {
+    let mut postings = Postings::new(alloc);
+    let mut number = 0u32;
+    for stamped in rows {
+        postings.push(stamped, number)?;
+        postings.push(stamped, number)?;
+        number = number.saturating_add(1);
+    }
+    let mut links = Links::new(alloc)?;
+    links.add(postings.seal());
+    Ok(links)
+}
+
+#[test]
+fn what_is_posted_twice_counts_once(rt: HostRuntime) -> Result<(), Fail> {
+    let alloc = rt.alloc();
+    let rows = made_rows(alloc)?;
+    let twice = post_twice(alloc, &rows)?;
+    let lists = vec![in alloc; rows]?;
+    let index = index_of(alloc, &lists)?;
+    let once = links_of(alloc, &lists)?;
+    for concept in CONCEPTS {
+        let asked = Asked::of(concept, LAST_DAY, 6)?;
+        let wanted = children_of(alloc, &once, &index, &asked)?;
+        assert!(rt; children_of(alloc, &twice, &index, &asked)? == wanted);
+        let wanted = members(alloc, &once, &index, &lists, &asked)?;
+        assert!(rt; members(alloc, &twice, &index, &lists, &asked)? == wanted);
+    }
+    Ok(())
+}
+
+#[test]
+fn links_of_as_many_lists_as_may_be(rt: HostRuntime) -> Result<(), Fail> {
+    let alloc = rt.alloc();
+    let mut lists = Vec::new(alloc);
+    for number in 0..250u32 {
+        let source = pick_concept(number % 3);
+        let id = relationship_id(400 - number)?;
+        let row = relationship(id, 20_200_131, true, (source, ROOT), IS_A)?;
+        lists.push(vec![in alloc; StampedRow { row, import: 1 }]?)?;
+    }
+    let mut links = links_of(alloc, &lists)?;
+    assert!(rt; lists.len() == 250 && links.lists() == 250);
+    let index = index_of(alloc, &lists)?;
+    let root = Asked::of(ROOT, LAST_DAY, 1)?;
+    let three = vec![in alloc; STREET, OTHER, THIRD]?;
+    assert!(rt; children_of(alloc, &links, &index, &root)? == three);
+
+    // In the place of the first list's and its own, the last list's are of no row of the first.
+    links.replace_two(0, 249, post_links(alloc, &lists[249])?.seal());
+    assert_eq!(rt; links.lists(), 249);
+    assert!(rt; children_of(alloc, &links, &index, &root)? == three);
+    Ok(())
+}
+
+fn count(links: usize, references: usize, subjects: usize) -> EdgeCount {
+    EdgeCount {
+        links,
+        references,
+        subjects,
+    }
+}
+
+#[test]
+fn posted_links_grow_and_are_cut(rt: HostRuntime) -> Result<(), Fail> {
+    let alloc = rt.alloc();
+    let lists = three_lists(alloc)?;
+    let index = index_of(alloc, &lists)?;
+    let mut of_links = post_links(alloc, &lists[0])?;
+    let mut of_references = post_links(alloc, &lists[1])?;
+    let none = count(0, 0, 0);
+    let begun = count(1, 0, 2);
+    assert_eq!(rt; Postings::new(alloc).len(), none);
+    assert_eq!(rt; of_links.len(), count(2, 0, 3));
+    assert_eq!(rt; of_references.len(), count(0, 1, 2));
+    assert_eq!(rt; post_links(alloc, &lists[2])?.len(), count(0, 0, 1));
+    of_links.cut_to(count(3, 3, 4));
+    assert_eq!(rt; of_links.len(), count(2, 0, 3));
+    of_links.cut_to(begun);
+    assert_eq!(rt; of_links.len(), begun);
+    of_references.cut_to(count(1, 0, 1));
+    assert_eq!(rt; of_references.len(), count(0, 0, 1));
+    of_references.cut_to(none);
+    assert_eq!(rt; of_references.len(), none);
+    let mut links = Links::new(alloc)?;
+    links.add(of_links.seal());
+    let found = children_of(alloc, &links, &index, &Asked::of(ROOT, LAST_DAY, 1)?)?;
+    assert!(rt; found == vec![in alloc; STREET]?);
+    Ok(())
+}
+
+#[test]
+fn links_that_do_not_fit_are_answered_or_refused(rt: HostRuntime) -> Result<(), Fail> {
+    let alloc = rt.alloc();
+    let lists = three_lists(alloc)?;
+    let index = index_of(alloc, &lists)?;
+    let posted = links_of(alloc, &lists)?;
+    let all = lists.as_slice();
+    let behind = &all[1..];
+    let shifted = links_of(alloc, behind)?;
+    let asked = Asked::of(STREET, LAST_DAY, 3)?;
+    for (links, lists, want) in [
+        (&posted, all, Ok(1)),
+        (&posted, &all[..1], Err(ReadFault::Damaged)),
+        (&posted, behind, Err(ReadFault::Damaged)),
+        (&posted, &[], Err(ReadFault::Damaged)),
+        (&shifted, all, Ok(0)),
+        (&shifted, &[], Ok(0)),
+    ] {
+        let mut reader = reader_of(lists);
+        let found = replacements_of(alloc, links, &index, &mut reader, &asked);
+        assert!(rt; found.map(|rows| rows.len()) == want);
+        assert_eq!(rt; reader.damages, u64::from(want.is_err()));
+    }
+    Ok(())
+}
