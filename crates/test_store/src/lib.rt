@@ -7,6 +7,8 @@ mod both_ways;
 #[cfg(test)]
 mod calls;
 #[cfg(test)]
+mod children_and_replacements;
+#[cfg(test)]
 mod components;
 #[cfg(test)]
 mod contents;
@@ -14,8 +16,6 @@ mod contents;
 mod imported;
 #[cfg(test)]
 mod line_limits;
-#[cfg(test)]
-mod links;
 #[cfg(test)]
 mod merge_beside;
 #[cfg(test)]

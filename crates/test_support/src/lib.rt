@@ -8,7 +8,7 @@ mod example;
 mod merging;
 mod queries;
 mod releases;
-mod samples;
+mod sample_rows;
 mod scarcity;
 mod text;
 
@@ -17,6 +17,6 @@ pub use example::{Example, merged_disk, root_disk};
 pub use releases::{
     MISUSED, copy_of, of_bytes, of_files, one_file, root_release, root_years, sample_named,
 };
-pub use samples::holds;
+pub use sample_rows::holds;
 pub use scarcity::Scarcity;
 pub use text::{line, line_of, lines, lines_of};
