@@ -4,6 +4,9 @@ of this repository by their paths.
 
 check_names.py
 
+It also checks that no module, type or trait of the sources has the name of a crate, which the gate
+refuses only once it comes to that crate.
+
 It reads README.md, CHANGELOG.md and docs/*.md. Of each text between backquotes that begins with the
 name of a crate and `::`, each further word has to stand in that crate's src/ or specs/, where
 `crate::{one, other}` names two. Each text that ends with .rt, .antt, .py, .md, .rs or .service and
@@ -21,6 +24,7 @@ ROOT = os.path.dirname(os.path.dirname(os.path.abspath(__file__)))
 QUOTED = re.compile(r"`([^`]+)`")
 NAMED = re.compile(r"(?<![\w:])(\w+)::((?:\w+::)*)(\{[^}]*\}|\w+)")
 PATH = re.compile(r"[\w.-]+(?:/[\w.-]+)+\.(?:rt|antt|py|md|rs|service)$")
+ITEM = re.compile(r"^\s*(?:pub(?:\([a-z]+\))? )?(mod|struct|enum|trait|type) (\w+)", re.M)
 # What is named as an example of a path or of a release, and not as a file of this repository.
 EXAMPLES = ("releases/",)
 
@@ -58,6 +62,14 @@ def faults_of(text, words):
             yield quoted + ": there is no such file"
 
 
+def named_as_crates(crates):
+    """The items of the sources that are named as a crate."""
+    for path in sorted(glob.glob(ROOT + "/crates/*/src/**/*.rt", recursive=True)):
+        for kind, name in ITEM.findall(text_of(path)):
+            if name in crates:
+                yield "%s: %s %s: a crate has that name" % (os.path.relpath(path, ROOT), kind, name)
+
+
 def main():
     crates = [os.path.basename(path) for path in glob.glob(ROOT + "/crates/*")]
     words = {crate: words_of(crate) for crate in crates}
@@ -69,6 +81,9 @@ def main():
         for fault in faults_of(text, words):
             lost += 1
             print("%s: %s" % (os.path.relpath(path, ROOT), fault), file=sys.stderr)
+    for fault in named_as_crates(crates):
+        lost += 1
+        print(fault, file=sys.stderr)
     print("quoted texts: %d, of what isn't there: %d" % (count, lost), file=sys.stderr)
     return 1 if lost else 0
 
