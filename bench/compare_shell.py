@@ -26,7 +26,10 @@ import subprocess
 import sys
 import time
 
-from compare import BEGINNINGS, COLUMNS, HERE, IS_A, SUBJECTS, TABLES, TEXTS, Served, release_rows
+from compare import BEGINNINGS, COLUMNS, HERE, IS_A, SUBJECTS, TABLES, TEXTS, Served
+
+# So many rows of a kind are held at most, of which the questions are drawn.
+MOST_DRAWN = 100000
 
 NEWEST = (
     " AND x.time <= {date} AND NOT EXISTS (SELECT 1 FROM {table} y"
@@ -75,6 +78,21 @@ def files_of(folder):
             kind = next(kind for kind in BEGINNINGS if name.startswith(BEGINNINGS[kind]))
             found.append((kind, os.path.join(folder, part, name)))
     return found
+
+
+def draw_rows(folder, chance):
+    """How many rows a release has, and some of each kind, drawn by chance: each row is as likely."""
+    counts, drawn = {}, {}
+    for kind, path in files_of(folder):
+        kept = drawn.setdefault(kind, [])
+        with open(path, encoding="utf-8", newline="") as file:
+            next(file)
+            for line in file:
+                counts[kind] = counts.get(kind, 0) + 1
+                place = len(kept) if len(kept) < MOST_DRAWN else chance.randrange(counts[kind])
+                if place < MOST_DRAWN:
+                    kept[place:place + 1] = [line.rstrip("\r\n").split("\t")]
+    return sum(counts.values()), drawn
 
 
 class Shell:
@@ -189,10 +207,9 @@ class Table:
     def __init__(self, rows):
         self.rows, self.alike = rows, True
 
-    def check_imports(self, told, full, delta):
+    def check_imports(self, told, of_full, of_delta):
         """Compares the replies to the imports with the numbers of rows. It is done once they are
         measured, since the rows would count in the peaks of what this process starts."""
-        of_full, of_delta = (sum(map(len, rows.values())) for rows in (full, delta))
         wanted = {1: (of_full, 0), 2: (0, of_full), 3: (of_delta, 0)}
         for number, counts in wanted.items():
             reply = b"OK %d %d %d\n" % (number, *counts)
@@ -245,12 +262,14 @@ def compare(program, folder, count):
     told[3], ours = ran(words + ["delta"], b"", place)
     table.show("import a Delta of 100 rows", ours, shell.take(os.path.join(place, "delta"), False))
     sctd = type("At", (), {"program": program, "path": store, "place": place})
-    rows = release_rows(full)
-    table.check_imports(told, rows, release_rows(os.path.join(place, "delta")))
+    chance = random.Random(7)
+    of_full, rows = draw_rows(full, chance)
+    of_delta, _ = draw_rows(os.path.join(place, "delta"), chance)
+    table.check_imports(told, of_full, of_delta)
     served = Served(sctd)
     table.show("open", Cost(*served.opening, served.held()), None)
     shell.kept = served.held()
-    for title, lines in questions(rows, random.Random(7)):
+    for title, lines in questions(rows, chance):
         told, (wall, used) = served.timed(lines)
         answered, theirs = shell.asked([query_of(line) for line in lines])
         theirs.peak = None
