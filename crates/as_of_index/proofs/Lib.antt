@@ -19,3 +19,6 @@ pub mod Pushing
 pub mod Numbered
 pub mod Near
 pub mod Hinted
+pub mod Counted
+pub mod Turns
+pub mod Unions

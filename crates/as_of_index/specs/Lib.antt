@@ -11,4 +11,6 @@ pub mod Search
 pub mod Current
 pub mod Chosen
 pub mod Postings
+pub mod Numbers
+pub mod Merging
 pub mod Private

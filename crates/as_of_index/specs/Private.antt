@@ -4,3 +4,4 @@ pub mod Reader
 pub mod Search
 pub mod Current
 pub mod Chosen
+pub mod Merging

@@ -297,7 +297,7 @@ pub(crate) fn sooner(
     }
 }
 
-fn is_under(p: &RowPlace, key: &Key) -> bool
+pub(crate) fn is_under(p: &RowPlace, key: &Key) -> bool
     ensures { result ≡ is_under (λ p. p.key) key.now p.now }
 {
     match p.key.compare(key) {

@@ -6,3 +6,4 @@ pub mod ReplacingRows
 pub mod Posted
 pub mod SubjectOrder
 pub mod AboutRows
+pub mod MergedEdges

@@ -10,8 +10,11 @@ pub use Rattle.as_of_index.specs.Places
 pub use Rattle.as_of_index.specs.Current
 pub use Rattle.as_of_index.specs.Chosen
 pub use Rattle.as_of_index.specs.Postings
+pub use Rattle.as_of_index.specs.Numbers
+pub use Rattle.as_of_index.specs.Merging
 pub mod Edges
 pub mod Children
 pub mod Replacements
 pub mod Laws
+pub mod MergedEdges
 pub mod Private

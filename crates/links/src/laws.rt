@@ -5,6 +5,7 @@ ghost use Rattle.links.specs.Replacements.{EachReplacementIsPosted};
 ghost use Rattle.links.specs.Laws.{PushedOneByOne, PostedLinksStand, PostedReferencesStand};
 ghost use Rattle.links.specs.Laws.{PostedLinksAreAll, PostedReferencesAreAll, EdgesMore};
 ghost use Rattle.links.specs.Laws.{EdgesMerged};
+ghost use Rattle.links.specs.MergedEdges.{AnyMergeBegins, PostingsAreFew, MergedArePosted};
 
 /// Where each child's version is posted, the children drawn from the postings are all.
 pub fn each_child_is_posted()
@@ -51,4 +52,19 @@ pub fn edges_more()
 /// The lists are postings of their rows still after one is put in the place of two.
 pub fn edges_merged()
     ensures { EdgesMerged }
+{}
+
+/// Where nothing is merged yet, a merge of any postings is so far.
+pub fn any_merge_begins()
+    ensures { AnyMergeBegins }
+{}
+
+/// Of rows there are no more postings of a kind than rows.
+pub fn postings_are_few()
+    ensures { PostingsAreFew }
+{}
+
+/// Once no posting of two segments is left, the merged ones are the postings of the rows of both.
+pub fn merged_are_posted()
+    ensures { MergedArePosted }
 {}

@@ -8,12 +8,14 @@
 
 mod hierarchy;
 pub mod laws;
+mod merging;
 mod postings;
 mod references;
 mod subjects;
 
 use as_of_index::PerList;
 pub use hierarchy::children;
+pub use merging::Merging;
 pub use postings::{EdgeCount, Link, Postings, Reference, Sealed, Subject};
 pub use references::replacements;
 pub use subjects::about;

@@ -187,7 +187,7 @@ fn sort_references(references: &mut Vec<Reference>)
 }
 
 /// The order of subjects: by what the rows are about, and then by kind.
-fn compare(a: &Subject, b: &Subject) -> Ordering
+pub(crate) fn compare(a: &Subject, b: &Subject) -> Ordering
     ensures { result ≡ nat_cmp (subject_rank a.now.subject a.now.kind)
         (subject_rank b.now.subject b.now.kind) }
 {
@@ -269,6 +269,24 @@ impl Postings {
 }
 
 impl Sealed {
+    pub(crate) fn of_parts(
+        links: Vec<Link>,
+        references: Vec<Reference>,
+        subjects: Vec<Subject>,
+    ) -> Sealed
+        requires links { IsNonDecreasingBy (λ l. l.destination) links.items }
+        requires references { IsNonDecreasingBy (λ r. r.referenced) references.items }
+        requires subjects { IsNonDecreasingBy (λ x. subject_rank x.subject x.kind) subjects.items }
+        ensures { result ≡ record
+            { links = links.items; references = references.items; subjects = subjects.items } }
+    {
+        Sealed {
+            links,
+            references,
+            subjects,
+        }
+    }
+
     pub(crate) fn links(&self) -> &[Link]
         ensures links { result.now ≡ self.now.links }
         ensures rising { IsNonDecreasingBy (λ l. l.destination) self.now.links }

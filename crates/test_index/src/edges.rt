@@ -243,7 +243,7 @@ fn compare_at(
 }
 
 /// How many children and associations there were; each answer is that of the plain program.
-fn compare(
+pub(crate) fn compare(
     rt: &impl Abort,
     alloc: Global,
     rows: &[StampedRow],

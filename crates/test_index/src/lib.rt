@@ -12,6 +12,8 @@ mod faults;
 #[cfg(test)]
 mod lists;
 #[cfg(test)]
+mod merging;
+#[cfg(test)]
 mod picks;
 #[cfg(test)]
 mod releases;

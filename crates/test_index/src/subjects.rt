@@ -241,7 +241,7 @@ fn compare_at(
 }
 
 /// How many rows are answered; each answer is that of the plain program.
-fn compare(
+pub(crate) fn compare(
     rt: &impl Abort,
     alloc: Global,
     rows: &[StampedRow],

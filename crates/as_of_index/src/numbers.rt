@@ -1,0 +1,80 @@
+//! The numbers that rows of two lists have in the one list of all these rows.
+
+ghost use Rattle.std.specs.Prelude.{◌≡◌, ◌<◌, ◌+◌, ◌^◌, length};
+ghost use Rattle.std.specs.List.{count_by};
+ghost use Rattle.history_model.specs.InOrder.{IsAscending};
+ghost use Rattle.as_of_index.specs.Places.{place_cmp};
+ghost use Rattle.as_of_index.specs.Numbers.{number_in_both};
+ghost use Rattle.as_of_index.specs.Private.Search.{is_under};
+
+use crate::search::{is_under, lent_at};
+use rf2_values::Key;
+use segment::RowPlace;
+use std::marker::Model;
+
+/// The places of two lists of rows, which tell the numbers that the rows have in a list of both.
+#[derive(Drop)]
+pub struct Numbers<'a> {
+    first: &'a [RowPlace],
+    second: &'a [RowPlace],
+}
+
+impl<'a> Model for Numbers<'a> {
+    ghost use Rattle.std.specs.Prelude.{◌+◌, ◌<◌, ◌^◌, length};
+    ghost use Rattle.history_model.specs.InOrder.{IsAscending};
+    ghost use Rattle.as_of_index.specs.Places.{place_cmp};
+    ghost use Rattle.as_of_index.specs.Numbers.{TwoLists};
+
+    ghost Value = { TwoLists };
+
+    ghost view = { λ a. record { first = a.first.now; second = a.second.now } };
+
+    ghost invariant = { λ a. (IsAscending place_cmp a.first.now
+        × IsAscending place_cmp a.second.now)
+        × (length a.first.now + length a.second.now < 2 ^ 32) };
+}
+
+/// How many places have a lesser key.
+fn count_under(list: &[RowPlace], key: &Key) -> usize
+    requires { IsAscending place_cmp list.now }
+    ensures { result ≡ count_by (is_under (λ p. p.key) key.now) list.now }
+{
+    list.partition_point(|p| is_under(p, key))
+}
+
+fn number_in_both(own: &[RowPlace], other: &[RowPlace], row: u32) -> u32
+    requires ascending { IsAscending place_cmp other.now }
+    requires few { length own.now + length other.now < 2 ^ 32 }
+    ensures { result ≡ number_in_both own.now other.now row }
+{
+    match lent_at(own, row as usize) {
+        Some(p) => row + count_under(other, &p.key) as u32,
+        None => row,
+    }
+}
+
+impl<'a> Numbers<'a> {
+    /// Takes the places of two lists of rows.
+    pub fn new(first: &'a [RowPlace], second: &'a [RowPlace]) -> Numbers<'a>
+        requires first { IsAscending place_cmp first.now }
+        requires second { IsAscending place_cmp second.now }
+        requires few { length first.now + length second.now < 2 ^ 32 }
+        ensures { result ≡ record { first = first.now; second = second.now } }
+    {
+        Numbers { first, second }
+    }
+
+    /// The number of a row of the first list among the rows of both, by a bisection.
+    pub fn of_first(&self, row: u32) -> u32
+        ensures { result ≡ number_in_both self.now.first self.now.second row }
+    {
+        number_in_both(self.first, self.second, row)
+    }
+
+    /// The number of a row of the second list among the rows of both, by a bisection.
+    pub fn of_second(&self, row: u32) -> u32
+        ensures { result ≡ number_in_both self.now.second self.now.first row }
+    {
+        number_in_both(self.second, self.first, row)
+    }
+}

@@ -1,0 +1,14 @@
+use Rattle.std.proofs.Common.{List, sym, subst}
+use Rattle.std.specs.List.Sorted.{IsNonDecreasingBy}
+use Rattle.links.specs.declared.postings.Subject.{Subject}
+use Rattle.links.specs.Edges.{subject_rank}
+use Rattle.links.proofs.merging.Merging.advance.Goals as goal
+
+abbrev IsRising : List Subject → Type 0
+IsRising xs = IsNonDecreasingBy (λ x. subject_rank x.subject x.kind) xs
+
+pub merge_on-requires-3-clause-first : goal.merge_on-requires-3-clause-first
+merge_on-requires-3-clause-first c = subst IsRising (sym c.subjects-3.ensures.subjects) c.subjects-3.ensures.rising
+
+pub merge_on-requires-3-clause-second : goal.merge_on-requires-3-clause-second
+merge_on-requires-3-clause-second c = subst IsRising (sym c.subjects-4.ensures.subjects) c.subjects-4.ensures.rising

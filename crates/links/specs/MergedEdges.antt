@@ -1,0 +1,107 @@
+-- Postings of two segments' rows that are merged in turns.
+use Rattle.std.specs.Prelude.{◌≤◌, ◌-◌, ℕ, List, [], ◌∷◌, length}
+use Rattle.history_model.specs.declared.stamped.StampedRow.{StampedRow}
+use Rattle.history_model.specs.Lists.{AreLists, union}
+use Rattle.segment.specs.Standing.{places_of}
+use Rattle.as_of_index.specs.Numbers.{TwoLists}
+use Rattle.as_of_index.specs.declared.merging.TakenCount.{TakenCount}
+use Rattle.as_of_index.specs.Merging.{PostingKind, IsMerged, count_left}
+use Rattle.links.specs.declared.postings.Link.{Link}
+use Rattle.links.specs.declared.postings.Reference.{Reference}
+use Rattle.links.specs.declared.postings.Subject.{Subject}
+use Rattle.links.specs.declared.postings.EdgeCount.{EdgeCount}
+use Rattle.links.specs.Edges.{Edges, no_edges, count_of, subject_rank}
+use Rattle.links.specs.Laws.{ArePostingsOf}
+
+-- links by destination, references by what they refer to, and subjects by what the rows are about
+-- and then by kind
+abbrev pub link_kind : PostingKind Link
+link_kind =
+    record {
+      rank = λ l. l.destination;
+      number = λ l. l.row;
+      renumbered = λ n l. record { destination = l.destination; source = l.source; row = n };
+    }
+
+abbrev pub reference_kind : PostingKind Reference
+reference_kind =
+    record {
+      rank = λ r. r.referenced;
+      number = λ r. r.row;
+      renumbered = λ n r. record
+          { referenced = r.referenced; refset = r.refset; target = r.target; row = n };
+    }
+
+abbrev pub subject_kind : PostingKind Subject
+subject_kind =
+    record {
+      rank = λ x. subject_rank x.subject x.kind;
+      number = λ x. x.row;
+      renumbered = λ n x. record { subject = x.subject; kind = x.kind; row = n };
+    }
+
+-- what is merged so far, and how many links, references and subjects of each of two segments it has
+pub record MergedEdges : Type 0 where
+  pub edges : Edges
+  pub links : TakenCount
+  pub references : TakenCount
+  pub subjects : TakenCount
+
+abbrev pub none_taken : TakenCount
+none_taken = record { first = 0; second = 0 }
+
+-- the beginning of a merge
+abbrev pub nothing_merged : MergedEdges
+nothing_merged =
+    record
+    { edges = no_edges; links = none_taken; references = none_taken; subjects = none_taken }
+
+-- of the postings of two segments so many are merged, with the numbers of their rows among the rows
+-- of both segments
+pub record IsMergeOf (lists : TwoLists) (a b : Edges) (m : MergedEdges) : Type 0 where
+  pub links : IsMerged link_kind lists a.links b.links m.links m.edges.links
+  pub references :
+      IsMerged reference_kind lists a.references b.references m.references m.edges.references
+  pub subjects : IsMerged subject_kind lists a.subjects b.subjects m.subjects m.edges.subjects
+
+-- how many postings aren't merged yet
+abbrev pub edges_left : Edges → Edges → MergedEdges → EdgeCount
+edges_left a b m =
+    record {
+      links = count_left a.links b.links m.links;
+      references = count_left a.references b.references m.references;
+      subjects = count_left a.subjects b.subjects m.subjects;
+    }
+
+-- of each n less, or none
+abbrev pub less_each : EdgeCount → ℕ → EdgeCount
+less_each count n =
+    record {
+      links = count.links - n;
+      references = count.references - n;
+      subjects = count.subjects - n;
+    }
+
+-- of each there are n at most
+pub record AtMostEach (n : ℕ) (count : EdgeCount) : Type 0 where
+  pub links : count.links ≤ n
+  pub references : count.references ≤ n
+  pub subjects : count.subjects ≤ n
+
+-- where nothing is merged yet, a merge of any postings is so far
+abbrev pub AnyMergeBegins : Type 0
+AnyMergeBegins = (lists : TwoLists) (a b : Edges) → IsMergeOf lists a b nothing_merged
+
+-- of rows there are no more links than rows, and no more references, and no more subjects
+abbrev pub PostingsAreFew : Type 0
+PostingsAreFew = (rows : List StampedRow) (e : Edges)
+    → ArePostingsOf rows e → AtMostEach (length rows) (count_of e)
+
+-- where none of the postings of two segments' rows is left, the merged ones are the postings of the
+-- rows of both segments in key order
+abbrev pub MergedArePosted : Type 0
+MergedArePosted = (a_rows b_rows : List StampedRow) (a b : Edges) (m : MergedEdges)
+    → AreLists (a_rows ∷ b_rows ∷ []) → ArePostingsOf a_rows a → ArePostingsOf b_rows b
+    → IsMergeOf (record { first = places_of a_rows; second = places_of b_rows }) a b m
+    → AtMostEach 0 (edges_left a b m)
+    → ArePostingsOf (union a_rows b_rows) m.edges

@@ -1,0 +1,172 @@
+//! The postings of two segments' rows, merged in turns.
+
+ghost use Rattle.std.specs.Prelude.{◌≡◌, [], OnOk, OnErr};
+ghost use Rattle.std.proofs.Common.{refl};
+ghost use Rattle.links.specs.MergedEdges.{link_kind, reference_kind, subject_kind, nothing_merged};
+ghost use Rattle.links.specs.MergedEdges.{none_taken};
+ghost use Rattle.links.specs.MergedEdges.{IsMergeOf, edges_left, less_each};
+
+use crate::postings::{Link, Reference, Sealed, Subject, compare};
+use as_of_index::{MergedList, Numbers, Posting, TakenCount, merge_on, reserve_left};
+use std::alloc::{AllocError, Global};
+use std::cmp::Ordering;
+use std::marker::Model;
+
+impl Posting for Link {
+    ghost kind = { link_kind };
+
+    ghost same_rank = { λ n x. refl };
+
+    fn row(&self) -> u32 {
+        self.row
+    }
+
+    fn with_row(self, row: u32) -> Self {
+        Link { row, ..self }
+    }
+
+    fn is_below(&self, other: &Self) -> bool {
+        self.destination < other.destination
+    }
+}
+
+impl Posting for Reference {
+    ghost kind = { reference_kind };
+
+    ghost same_rank = { λ n x. refl };
+
+    fn row(&self) -> u32 {
+        self.row
+    }
+
+    fn with_row(self, row: u32) -> Self {
+        Reference { row, ..self }
+    }
+
+    fn is_below(&self, other: &Self) -> bool {
+        self.referenced < other.referenced
+    }
+}
+
+impl Posting for Subject {
+    ghost kind = { subject_kind };
+
+    ghost same_rank = { λ n x. refl };
+
+    fn row(&self) -> u32 {
+        self.row
+    }
+
+    fn with_row(self, row: u32) -> Self {
+        Subject { row, ..self }
+    }
+
+    fn is_below(&self, other: &Self) -> bool {
+        match compare(self, other) {
+            Ordering::Less => true,
+            Ordering::Equal | Ordering::Greater => false,
+        }
+    }
+}
+
+/// The postings of two segments' rows that are merged so far, each with the number that its row has
+/// among the rows of both.
+#[derive(Drop)]
+pub struct Merging {
+    links: MergedList<Link>,
+    references: MergedList<Reference>,
+    subjects: MergedList<Subject>,
+}
+
+impl Model for Merging {
+    ghost use Rattle.links.specs.Edges.{IsSealed};
+    ghost use Rattle.links.specs.MergedEdges.{MergedEdges};
+
+    ghost Value = { MergedEdges };
+
+    ghost view = { λ a. record {
+      edges = record {
+        links = a.links.out.items;
+        references = a.references.out.items;
+        subjects = a.subjects.out.items;
+      };
+      links = a.links.taken;
+      references = a.references.taken;
+      subjects = a.subjects.taken;
+    } };
+
+    ghost invariant = { λ a. IsSealed (record {
+      links = a.links.out.items;
+      references = a.references.out.items;
+      subjects = a.subjects.out.items;
+    }) };
+}
+
+/// Nothing is merged yet. It takes no memory.
+fn none_of<T: Posting>(alloc: Global) -> MergedList<T>
+    ensures taken { result.taken ≡ none_taken }
+    ensures out { result.out.items ≡ [] }
+{
+    MergedList {
+        taken: TakenCount {
+            first: 0,
+            second: 0,
+        },
+        out: Vec::new(alloc),
+    }
+}
+
+impl Merging {
+    /// The beginning of a merge. It takes no memory; later calls take theirs from `alloc`.
+    pub fn new(alloc: Global) -> Merging
+        ensures { result ≡ nothing_merged }
+    {
+        Merging {
+            links: none_of(alloc),
+            references: none_of(alloc),
+            subjects: none_of(alloc),
+        }
+    }
+
+    /// Merges up to so many links, references and subjects more. The first call takes the memory
+    /// for all of them. An `Err` changes nothing.
+    pub fn advance(
+        &mut self,
+        a: &Sealed,
+        b: &Sealed,
+        numbers: &Numbers<'_>,
+        n: usize,
+    ) -> Result<(), AllocError>
+        requires { IsMergeOf numbers.now a.now b.now self.old }
+        ensures merged { IsMergeOf numbers.now a.now b.now self.new }
+        ensures ok { OnOk result
+            (edges_left a.now b.now self.new ≡ less_each (edges_left a.now b.now self.old) n) }
+        ensures err { OnErr result (self.new ≡ self.old) }
+    {
+        reserve_left(a.links(), b.links(), &mut self.links)?;
+        reserve_left(a.references(), b.references(), &mut self.references)?;
+        reserve_left(a.subjects(), b.subjects(), &mut self.subjects)?;
+        merge_on(a.links(), b.links(), numbers, &mut self.links, n);
+        merge_on(
+            a.references(),
+            b.references(),
+            numbers,
+            &mut self.references,
+            n,
+        );
+        merge_on(a.subjects(), b.subjects(), numbers, &mut self.subjects, n);
+        Ok(())
+    }
+
+    /// What is merged: the postings of the rows of both segments, once none is left.
+    pub fn seal(self) -> Sealed
+        ensures { result ≡ self.edges }
+    {
+        let Merging {
+            links,
+            references,
+            subjects,
+        } = self;
+        Sealed::of_parts(links.out, references.out, subjects.out)
+    }
+}

@@ -1,0 +1,120 @@
+//! Postings of two lists of rows, merged in turns.
+
+use crate::lists::{Indexed, index_all, places_of, post_links};
+use crate::releases::{lists_of, rows_of_imports};
+use crate::{edges, subjects};
+use as_of_index::{Numbers, PlaceList};
+use history_model::StampedRow;
+use links::{Links, Merging, Sealed, laws};
+use std::alloc::Global;
+use std::test::Fail;
+
+/// The places of a list of rows.
+fn listed(alloc: Global, rows: &[StampedRow]) -> Result<PlaceList, Fail> {
+    let places = places_of(alloc, rows)?;
+    if !PlaceList::may_list(&places) {
+        return Err(Fail::from("not in order"));
+    }
+    Ok(PlaceList::new(places))
+}
+
+/// The numbers of rows of two short lists in one of both.
+fn numbers_of<'a>(first: &'a PlaceList, second: &'a PlaceList) -> Result<Numbers<'a>, Fail> {
+    let first = first.places();
+    let second = second.places();
+    if first.len() > 1_000 || second.len() > 1_000 {
+        return Err(Fail::from("too many"));
+    }
+    Ok(Numbers::new(first, second))
+}
+
+#[test]
+fn rows_of_two_lists_are_numbered_as_in_one(rt: HostRuntime) -> Result<(), Fail> {
+    let alloc = rt.alloc();
+    let rows = edges::made_rows(alloc)?;
+    let first = listed(alloc, &rows_of_imports(alloc, &rows, 1, 3)?)?;
+    let second = listed(alloc, &rows_of_imports(alloc, &rows, 4, 6)?)?;
+    let numbers = numbers_of(&first, &second)?;
+    let mut of_first = 0u32;
+    let mut of_second = 0u32;
+    for (number, stamped) in rows.iter().enumerate() {
+        if stamped.import <= 3 {
+            assert_eq!(rt; numbers.of_first(of_first) as usize, number);
+            of_first = of_first.saturating_add(1);
+        } else {
+            assert_eq!(rt; numbers.of_second(of_second) as usize, number);
+            of_second = of_second.saturating_add(1);
+        }
+    }
+    assert!(rt; of_first > 20 && of_second > 20);
+    // A row that isn't there keeps its number.
+    assert_eq!(rt; numbers.of_first(of_first), of_first);
+    assert_eq!(rt; numbers.of_second(u32::MAX), u32::MAX);
+    Ok(())
+}
+
+/// Merges so many postings of each kind at a time.
+fn merge_in_steps(
+    alloc: Global,
+    first: &Sealed,
+    second: &Sealed,
+    numbers: &Numbers<'_>,
+    at_once: usize,
+    steps: usize,
+) -> Result<Sealed, Fail> {
+    laws::any_merge_begins();
+    let mut merging = Merging::new(alloc);
+    for _ in 0..steps {
+        merging.advance(first, second, numbers, at_once)?;
+    }
+    Ok(merging.seal())
+}
+
+/// The merged postings of two lists of rows.
+fn merge(
+    alloc: Global,
+    first: &[StampedRow],
+    second: &[StampedRow],
+    at_once: usize,
+    steps: usize,
+) -> Result<Sealed, Fail> {
+    let of_first = post_links(alloc, first)?.seal();
+    let of_second = post_links(alloc, second)?.seal();
+    let first = listed(alloc, first)?;
+    let second = listed(alloc, second)?;
+    let numbers = numbers_of(&first, &second)?;
+    merge_in_steps(alloc, &of_first, &of_second, &numbers, at_once, steps)
+}
+
+/// All rows as one list, with the merged postings of the earlier and the later imports' rows.
+fn index_merged(alloc: Global, rows: &[StampedRow], at_once: usize) -> Result<Indexed, Fail> {
+    let earlier = rows_of_imports(alloc, rows, 1, 3)?;
+    let later = rows_of_imports(alloc, rows, 4, 6)?;
+    let mut made = index_all(alloc, lists_of(alloc, rows, &[(1, 6)])?)?;
+    let mut links = Links::new(alloc)?;
+    links.add(merge(alloc, &earlier, &later, at_once, rows.len())?);
+    made.links = links;
+    Ok(made)
+}
+
+#[test]
+fn merged_links_and_references_are_those_of_all_rows(rt: HostRuntime) -> Result<(), Fail> {
+    let alloc = rt.alloc();
+    let rows = edges::made_rows(alloc)?;
+    for at_once in [1, 3, usize::MAX] {
+        let answered = edges::compare(&rt, alloc, &rows, &index_merged(alloc, &rows, at_once)?)?;
+        assert!(rt; answered.0 > 100 && answered.1 > 100);
+    }
+    Ok(())
+}
+
+#[test]
+fn merged_subjects_are_those_of_all_rows(rt: HostRuntime) -> Result<(), Fail> {
+    let alloc = rt.alloc();
+    let rows = subjects::made_rows(alloc)?;
+    for at_once in [1, 3, usize::MAX] {
+        let answered = subjects::compare(&rt, alloc, &rows, &index_merged(alloc, &rows, at_once)?)?;
+        assert!(rt; answered > 200);
+    }
+    Ok(())
+}
