@@ -3,3 +3,5 @@ pub mod FirstKept
 pub mod Terming
 pub mod Laid
 pub mod Posted
+pub mod Heads
+pub mod InTurns

@@ -1,10 +1,14 @@
 -- Terms that were pushed, each with the number of its row, are of rows of their lists, and none is left out.
-use Rattle.std.proofs.Common.{◌≡◌, ℕ, true, false, List, [], refl, sym, ap, subst, inl, inr, take}
+use Rattle.std.proofs.Common.{◌≡◌, ℕ, ◌+◌, ◌≤◌, Bool, true, false, List, [], ◌∷◌, length, arith, refl, sym, ap, subst, inl, inr, take}
 use Rattle.std.specs.Prelude.{if◌then◌else◌, slice_set, Option}
 use Rattle.rf2_values.specs.declared.row.Body.{Body}
 use Rattle.rf2_values.specs.declared.row.Body.TheVariants as body
 use Rattle.rf2_values.specs.Row.{RowValue}
+use Rattle.std.proofs.lemmas.List.{length-append}
+use Rattle.std.proofs.lemmas.List.Sorted.{length_permutation}
+use Rattle.history_model.specs.declared.stamped.StampedRow.{StampedRow}
 use Rattle.history_model.specs.InOrder.{Has}
+use Rattle.as_of_index.specs.Postings.{posted_all}
 use Rattle.history_model.specs.History.{rows_at}
 use Rattle.history_model.specs.Lists.{listed}
 use Rattle.history_model.specs.Queries.{snapshot, is_above, is_term, is_term_above, begins_with, folded, terms_above, search_terms}
@@ -13,7 +17,7 @@ use Rattle.as_of_index.specs.Current.{is_among}
 use Rattle.as_of_index.proofs.Among.{filter_both}
 use Rattle.as_of_index.proofs.Pushing.{stands, among_all, all_more, all_set, all_removed}
 use Rattle.term_prefix.specs.Terms.{TermAt, IsTermOf, HasFolded, term_keys, terms_among, EachTermIsPosted}
-use Rattle.term_prefix.specs.Pushed.{term_of_body, posted_term, PostedTermsStand, PostedTermsAreAll, PostedTermsMore, PostedTermsMerged}
+use Rattle.term_prefix.specs.Pushed.{term_of_body, posted_term, PostedTermsStand, PostedTermsAreAll, PostedTermsAreFew, PostedTermsMore, PostedTermsMerged}
 
 pub each_term_is_posted : EachTermIsPosted
 unfolding terms_among search_terms terms_above
@@ -60,6 +64,32 @@ pub posted_terms_are_all : PostedTermsAreAll
 posted_terms_are_all lists posts prefix date after limit pin a =
     each_term_is_posted (term_keys lists posts) prefix date after limit (rows_at pin (listed lists))
     (among_all posted_term (λ (t : TermAt). t.row) (is_term_above prefix after) (row_posted prefix after) lists posts date pin a)
+
+-- ---- how many there are
+
+few_of_row : (row : RowValue) (i : ℕ) → length (posted_term row i) ≤ 1
+few_of_row row i = split row.active row.body where
+  split : (b : Bool) (x : Body) → length (if b then term_of_body x i else []) ≤ 1
+  split true (body.Concept c) = omega arith
+  split true (body.Description d) = omega arith
+  split true (body.Relationship r) = omega arith
+  split true (body.Association x) = omega arith
+  split true (body.Concrete x) = omega arith
+  split false x = omega arith
+
+few_of_rows : (from : ℕ) (rows : List StampedRow) → length (posted_all posted_term from rows) ≤ length rows
+few_of_rows from [] = omega arith
+few_of_rows from (s ∷ rows) =
+    let one = few_of_row s.row from in
+    let rest = few_of_rows (from + 1) rows in
+    let both = length-append (posted_term s.row from) (posted_all posted_term (from + 1) rows) in
+    omega (arith, one, rest, both)
+
+pub posted_terms_are_few : PostedTermsAreFew
+posted_terms_are_few rows ts of_rows =
+    let few = few_of_rows 0 rows in
+    let same = length_permutation (posted_all posted_term 0 rows) ts of_rows in
+    omega (arith, few, same)
 
 -- ---- lists that change
 

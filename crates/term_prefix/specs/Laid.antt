@@ -1,5 +1,5 @@
 -- How the folded terms of a list stand in one text: words of the types' own invariants.
-use Rattle.std.specs.Prelude.{◌≡◌, ℕ, ◌+◌, List, [], ◌∷◌, map, take, drop}
+use Rattle.std.specs.Prelude.{◌≡◌, ℕ, zero, suc, ◌+◌, ◌*◌, ◌^◌, List, [], ◌∷◌, map, take, drop}
 use Rattle.term_prefix.specs.declared.text.Term.{Term}
 use Rattle.term_prefix.specs.Terms.{TermAt}
 
@@ -14,3 +14,17 @@ terms_at text ts = map (term_at text) ts
 abbrev pub AreLaid : ℕ → List Term → ℕ → Type 0
 AreLaid from [] end = from ≡ end
 AreLaid from (t ∷ ts) end = (t.start ≡ from) × AreLaid (from + t.len) ts end
+
+-- the first n bytes as one number, the first byte the highest, with zeros behind a shorter text
+unfoldable pub head : ℕ → List ℕ → ℕ
+head zero bytes = 0
+head (suc n) [] = 0
+head (suc n) (b ∷ bytes) = b * 256 ^ n + head n bytes
+
+-- the term has the head of its folding
+abbrev pub HasHead : List ℕ → Term → Type 0
+HasHead text t = t.head ≡ head 8 (term_at text t).folded
+
+-- the terms have the heads of their foldings
+abbrev pub HaveHeads : List ℕ → List Term → Type 0
+HaveHeads text ts = map (λ t. t.head) ts ≡ map (λ t. head 8 t.folded) (terms_at text ts)

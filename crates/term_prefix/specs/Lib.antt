@@ -4,7 +4,9 @@ pub use Rattle.as_of_index.specs.Places
 pub use Rattle.as_of_index.specs.Current
 pub use Rattle.as_of_index.specs.Chosen
 pub use Rattle.as_of_index.specs.Postings
+pub use Rattle.as_of_index.specs.Numbers
 pub mod Terms
 pub mod Pushed
+pub mod Merged
 pub mod Laid
 pub mod Private

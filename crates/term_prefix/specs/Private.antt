@@ -1,10 +1,12 @@
 -- Words that private functions and proofs need, of this crate or of one above it.
 -- No public clause cites them.
 use Rattle.std.specs.Prelude.{◌≡◌, ◌⊎◌, ◌≤◌, ◌<◌, ℕ, Bool, true, false, List, length, map, nat_eq}
-use Rattle.std.specs.Prelude.{nat_le}
+use Rattle.std.specs.Prelude.{nat_le, ◌+◌, if◌then◌else◌}
 use Rattle.std.specs.Prelude.{Option, Some, None, [], ◌∷◌, ◌++◌, take, flat_map}
 use Rattle.std.specs.List.{filter, starts_with}
 use Rattle.std.specs.Option.{option_to_list}
+use Rattle.std.specs.Ordering.{nat_cmp, is_lt}
+use Rattle.std.specs.Cmp.Lexicographic.{slice_cmp}
 use Rattle.rf2_values.specs.declared.row.Kind.TheVariants as kinds
 use Rattle.history_model.specs.declared.stamped.StampedRow.{StampedRow}
 use Rattle.history_model.specs.InOrder.{Has, IsAscending}
@@ -15,12 +17,16 @@ use Rattle.as_of_index.specs.Private.Chosen.{chosen, chosen_cmp}
 use Rattle.segment.specs.Standing.{places_of}
 use Rattle.as_of_index.specs.Places.{item_at}
 use Rattle.as_of_index.specs.Current.{IsPlaceOfRow, IsCurrentAt}
+use Rattle.as_of_index.specs.Numbers.{TwoLists, number_in_both}
 use Rattle.term_prefix.specs.declared.search.Bounds.{Bounds}
 use Rattle.term_prefix.specs.declared.search.Candidate.{Candidate}
 use Rattle.term_prefix.specs.declared.search.Candidate.TheVariants as candidates
 use Rattle.term_prefix.specs.declared.text.Term.{Term}
+use Rattle.term_prefix.specs.declared.merging.Next.{Next}
+use Rattle.term_prefix.specs.declared.merging.Next.TheVariants as next
 use Rattle.term_prefix.specs.Terms.{TermAt}
-use Rattle.term_prefix.specs.Laid.{terms_at, AreLaid}
+use Rattle.term_prefix.specs.Merged.{MergedTerms, moved}
+use Rattle.term_prefix.specs.Laid.{term_at, terms_at, AreLaid, head, HaveHeads}
 
 -- the folding begins with a text
 abbrev pub begins : List ℕ → TermAt → Bool
@@ -107,10 +113,45 @@ pub record AreKept (lists : List (List StampedRow)) (date : ℕ) (after : Option
 pub record AddsTerm (text : List ℕ) (ts : List Term) (folded : List ℕ) (row : ℕ)
     (text' : List ℕ) (ts' : List Term) : Type 0 where
   pub texts : text' ≡ text ++ folded
-  pub terms : ts' ≡ ts ++ record { start = length text; len = length folded; row = row } ∷ []
+  pub terms : ts' ≡ ts ++ record {
+    head = head 8 folded;
+    start = length text;
+    len = length folded;
+    row = row;
+  } ∷ []
 
 -- the first n terms are left, and no more text than theirs
 pub record IsCut (text : List ℕ) (ts : List Term) (n : ℕ) (text' : List ℕ) (ts' : List Term)
     : Type 0 where
   pub laid : AreLaid 0 ts' (length text')
+  pub heads : HaveHeads text ts → HaveHeads text' ts'
   pub same : terms_at text' ts' ≡ take n (terms_at text ts)
+
+-- what two terms are compared by: the head, and behind it the folding
+abbrev pub headed : List ℕ → Term → List ℕ
+headed text t = t.head ∷ (term_at text t).folded
+
+-- of which list the lesser of two terms is: the first one's, if they are equal
+abbrev pub lesser_of : TermAt → TermAt → Next
+lesser_of t u = if is_lt (slice_cmp nat_cmp u.folded t.folded) then next.Second else next.First
+
+-- of which list the next term is, where these are the next of both lists
+abbrev pub next_of : Option TermAt → Option TermAt → Next
+next_of None None = next.Neither
+next_of None (Some u) = next.Second
+next_of (Some t) None = next.First
+next_of (Some t) (Some u) = lesser_of t u
+
+-- a term of the first list is merged
+abbrev pub first_taken : TwoLists → TermAt → MergedTerms → MergedTerms
+first_taken lists t m = record {
+  terms = m.terms ++ moved (number_in_both lists.first lists.second) t ∷ [];
+  taken = record { first = m.taken.first + 1; second = m.taken.second };
+}
+
+-- a term of the second list is merged
+abbrev pub second_taken : TwoLists → TermAt → MergedTerms → MergedTerms
+second_taken lists t m = record {
+  terms = m.terms ++ moved (number_in_both lists.second lists.first) t ∷ [];
+  taken = record { first = m.taken.first; second = m.taken.second + 1 };
+}

@@ -1,5 +1,6 @@
 -- What is posted of rows, and lists of it that stay such.
-use Rattle.std.specs.Prelude.{◌≡◌, ℕ, List, [], ◌∷◌, ◌++◌, remove, slice_set, if◌then◌else◌, Option}
+use Rattle.std.specs.Prelude.{◌≡◌, ◌≤◌, ℕ, List, [], ◌∷◌, ◌++◌, length, remove, slice_set}
+use Rattle.std.specs.Prelude.{if◌then◌else◌, Option}
 use Rattle.std.specs.List.Sorted.{IsPermutation}
 use Rattle.rf2_values.specs.declared.row.Body.{Body}
 use Rattle.rf2_values.specs.declared.row.Body.TheVariants as body
@@ -35,6 +36,11 @@ ArePosted lists terms = AllPosted posted_term lists terms
 abbrev pub PostedTermsStand : Type 0
 PostedTermsStand = (lists : List (List StampedRow)) (terms : List (List TermAt))
     → ArePosted lists terms → PostsTerms lists terms
+
+-- there are no more postings than rows
+abbrev pub PostedTermsAreFew : Type 0
+PostedTermsAreFew = (rows : List StampedRow) (ts : List TermAt) → IsPosted rows ts
+    → length ts ≤ length rows
 
 -- if each list has the postings of its rows, no description is left out
 abbrev pub PostedTermsAreAll : Type 0

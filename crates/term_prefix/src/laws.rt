@@ -2,7 +2,8 @@
 
 ghost use Rattle.term_prefix.specs.Terms.{EachTermIsPosted};
 ghost use Rattle.term_prefix.specs.Pushed.{PostedTermsStand, PostedTermsAreAll, PostedTermsMore};
-ghost use Rattle.term_prefix.specs.Pushed.{PostedTermsMerged};
+ghost use Rattle.term_prefix.specs.Pushed.{PostedTermsAreFew, PostedTermsMerged};
+ghost use Rattle.term_prefix.specs.Merged.{MergedTermsArePosted};
 
 /// Where each term is posted, the rows drawn from the postings are all.
 pub fn each_term_is_posted()
@@ -13,6 +14,11 @@ pub fn each_term_is_posted()
 /// number.
 pub fn posted_terms_stand()
     ensures { PostedTermsStand }
+{}
+
+/// What is posted of rows has no more terms than there are rows.
+pub fn posted_terms_are_few()
+    ensures { PostedTermsAreFew }
 {}
 
 /// If each list has the postings of its rows, no term is left out.
@@ -28,4 +34,9 @@ pub fn posted_terms_more()
 /// The lists are postings of their rows still after one is put in the place of two.
 pub fn posted_terms_merged()
     ensures { PostedTermsMerged }
+{}
+
+/// What a merge put out once it took all terms has the postings of the rows of both lists.
+pub fn merged_terms_are_posted()
+    ensures { MergedTermsArePosted }
 {}

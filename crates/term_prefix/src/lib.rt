@@ -6,12 +6,14 @@
 #![tactic(auto)]
 
 pub mod laws;
+mod merging;
 mod postings;
 mod sealed;
 mod search;
 mod text;
 
 use as_of_index::PerList;
+pub use merging::Merging;
 pub use postings::Postings;
 pub use sealed::Sealed;
 pub use search::find;

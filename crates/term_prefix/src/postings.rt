@@ -4,21 +4,18 @@ ghost use Rattle.std.specs.Prelude.{◌≡◌, ◌++◌, [], List, length, take,
 ghost use Rattle.std.specs.Prelude.{string_bytes};
 ghost use Rattle.std.specs.List.Sorted.{IsPermutation};
 ghost use Rattle.std.specs.Str.{IsUtf8};
-ghost use Rattle.std.specs.Ordering.{nat_cmp};
-ghost use Rattle.std.specs.Cmp.Lexicographic.{slice_cmp};
 ghost use Rattle.history_model.specs.Queries.{folded};
 ghost use Rattle.term_prefix.specs.Terms.{TextsRise};
 ghost use Rattle.term_prefix.specs.Pushed.{posted_term};
-ghost use Rattle.term_prefix.specs.Laid.{term_at, terms_at, AreLaid};
+ghost use Rattle.term_prefix.specs.Laid.{terms_at, AreLaid, HaveHeads};
 ghost use Rattle.term_prefix.specs.Private.{AddsTerm, IsCut};
 
 use crate::sealed::Sealed;
-use crate::text::{Term, piece};
+use crate::text::{Term, compare, head_of};
 use caseless::default_case_fold_str;
 use history_model::StampedRow;
 use rf2_values::Body;
 use std::alloc::{AllocError, Global};
-use std::cmp::Ordering;
 use std::marker::Model;
 
 /// The terms of rows, in the order in which they were pushed. Their foldings stand in one text.
@@ -32,13 +29,14 @@ pub struct Postings {
 impl Model for Postings {
     ghost use Rattle.std.specs.Prelude.{List, length};
     ghost use Rattle.term_prefix.specs.Terms.{TermAt};
-    ghost use Rattle.term_prefix.specs.Laid.{terms_at, AreLaid};
+    ghost use Rattle.term_prefix.specs.Laid.{terms_at, AreLaid, HaveHeads};
 
     ghost Value = { List TermAt };
 
     ghost view = { λ a. terms_at a.text.items a.terms.items };
 
-    ghost invariant = { λ a. AreLaid 0 a.terms.items (length a.text.items) };
+    ghost invariant = { λ a. AreLaid 0 a.terms.items (length a.text.items)
+        × HaveHeads a.text.items a.terms.items };
 }
 
 /// A term in the default case folding.
@@ -54,7 +52,7 @@ fn folded(alloc: Global, term: &[u8]) -> Result<String, AllocError>
 }
 
 /// Adds a folded term, which is refused if it has 4 GiB and more. An `Err` changes nothing.
-fn push_term(
+pub(crate) fn push_term(
     text: &mut Vec<u8>,
     terms: &mut Vec<Term>,
     folded: &[u8],
@@ -71,7 +69,13 @@ fn push_term(
     terms.reserve(1)?;
     let start = text.len();
     text.extend_from_slice(folded)?;
-    let Ok(()) = terms.push(Term { start, len, row }) else {
+    let head = head_of(folded);
+    let Ok(()) = terms.push(Term {
+        head,
+        start,
+        len,
+        row,
+    }) else {
         unreachable!()
     };
     Ok(())
@@ -89,18 +93,12 @@ fn cut(text: &mut Vec<u8>, terms: &mut Vec<Term>, len: usize)
     }
 }
 
-fn compare(text: &[u8], a: &Term, b: &Term) -> Ordering
-    ensures { result ≡ slice_cmp nat_cmp (term_at text.now a.now).folded
-        (term_at text.now b.now).folded }
-{
-    piece(text, a.start, a.len as usize).cmp(piece(text, b.start, b.len as usize))
-}
-
 fn sort(text: &[u8], terms: &mut Vec<Term>)
     ensures permutation { IsPermutation terms.old.items terms.new.items }
-    ensures rising { TextsRise (terms_at text.now terms.new.items) }
+    ensures rising { HaveHeads text.now terms.old.items
+        → HaveHeads text.now terms.new.items × TextsRise (terms_at text.now terms.new.items) }
 {
-    terms.sort_unstable_by(|a, b| compare(text, a, b));
+    terms.sort_unstable_by(|a, b| compare(text, a, text, b));
 }
 
 impl Postings {

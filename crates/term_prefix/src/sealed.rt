@@ -23,13 +23,14 @@ pub struct Sealed {
 impl Model for Sealed {
     ghost use Rattle.std.specs.Prelude.{List};
     ghost use Rattle.term_prefix.specs.Terms.{TermAt, TextsRise};
-    ghost use Rattle.term_prefix.specs.Laid.{terms_at};
+    ghost use Rattle.term_prefix.specs.Laid.{terms_at, HaveHeads};
 
     ghost Value = { List TermAt };
 
     ghost view = { λ a. terms_at a.text.items a.terms.items };
 
-    ghost invariant = { λ a. TextsRise (terms_at a.text.items a.terms.items) };
+    ghost invariant = { λ a. TextsRise (terms_at a.text.items a.terms.items)
+        × HaveHeads a.text.items a.terms.items };
 }
 
 /// Whether the folding comes before the prefix.

@@ -1,10 +1,20 @@
 //! Folded terms in the text of their list.
 
-ghost use Rattle.std.specs.Prelude.{◌≡◌, take, drop};
+ghost use Rattle.std.specs.Prelude.{◌≡◌, take, drop, get_or, slice_get};
+ghost use Rattle.std.specs.Option.{option_copied};
+ghost use Rattle.std.specs.Ordering.{nat_cmp};
+ghost use Rattle.std.specs.Cmp.Lexicographic.{slice_cmp};
+ghost use Rattle.term_prefix.specs.Laid.{head};
+ghost use Rattle.term_prefix.specs.Private.{headed};
+
+use std::cmp::Ordering;
 
 /// Where a folded term stands in its list's text, and the number of its row in the list.
 #[derive(Clone, Copy, Debug)]
 pub(crate) struct Term {
+    /// The first eight bytes of the folding as one number, so that most of two terms are compared
+    /// without their texts.
+    pub(crate) head: u64,
     pub(crate) start: usize,
     pub(crate) len: u32,
     pub(crate) row: u32,
@@ -19,5 +29,50 @@ pub(crate) fn piece(text: &[u8], start: usize, len: usize) -> &[u8]
         if len < rest.len() { &rest[..len] } else { rest }
     } else {
         &[]
+    }
+}
+
+/// The term with a number, if there is one.
+pub(crate) fn lent_at(terms: &[Term], i: usize) -> Option<&Term>
+    ensures { option_copied result ≡ slice_get terms.now i }
+{
+    terms.get(i)
+}
+
+/// The byte at a place, or zero behind the text's end.
+fn byte_at(text: &[u8], place: usize) -> u8
+    ensures { result ≡ get_or text.now place 0 }
+{
+    if place < text.len() { text[place] } else { 0 }
+}
+
+/// The first eight bytes as one number, the first byte the highest, with zeros behind a shorter
+/// text.
+pub(crate) fn head_of(text: &[u8]) -> u64
+    ensures { result ≡ head 8 text.now }
+{
+    u64::from_be_bytes([
+        byte_at(text, 0),
+        byte_at(text, 1),
+        byte_at(text, 2),
+        byte_at(text, 3),
+        byte_at(text, 4),
+        byte_at(text, 5),
+        byte_at(text, 6),
+        byte_at(text, 7),
+    ])
+}
+
+/// How two terms stand to each other, each in the text of its list: by their heads, and only where
+/// these are equal by their texts.
+pub(crate) fn compare(a_text: &[u8], a: &Term, b_text: &[u8], b: &Term) -> Ordering
+    ensures { result ≡ slice_cmp nat_cmp (headed a_text.now a.now) (headed b_text.now b.now) }
+{
+    match a.head.cmp(&b.head) {
+        Ordering::Less => Ordering::Less,
+        Ordering::Equal => {
+            piece(a_text, a.start, a.len as usize).cmp(piece(b_text, b.start, b.len as usize))
+        }
+        Ordering::Greater => Ordering::Greater,
     }
 }

@@ -10,6 +10,8 @@ mod edges;
 #[cfg(test)]
 mod faults;
 #[cfg(test)]
+mod in_turns;
+#[cfg(test)]
 mod lists;
 #[cfg(test)]
 mod merging;

@@ -170,7 +170,7 @@ pub(crate) fn made_rows(alloc: Global) -> Result<Vec<StampedRow>, Fail> {
 }
 
 /// How many rows are found, which are those of the plain program.
-fn compare_search(
+pub(crate) fn compare_search(
     rt: &impl Abort,
     alloc: Global,
     made: &Indexed,
@@ -251,7 +251,7 @@ fn compare_at(
 }
 
 /// How many rows are found; each answer is that of the plain program.
-fn compare(
+pub(crate) fn compare(
     rt: &impl Abort,
     alloc: Global,
     rows: &[StampedRow],
@@ -436,6 +436,64 @@ fn terms_of_as_many_lists_as_may_be(rt: HostRuntime) -> Result<(), Fail> {
     assert_eq!(rt; terms.lists(), 249);
     let left = ids_found(alloc, &terms, &lists, "STRASS")?;
     assert!(rt; left.len() == 100 && left.first() == ids.first());
+    Ok(())
+}
+
+/// Terms that are the same in their first eight bytes, shorter ones, and ones with a zero byte where
+/// a shorter one ends.
+const ALIKE: [&str; 14] = [
+    "abcdefgh",
+    "ab\0",
+    "abcdefghi",
+    "ab",
+    "abcdefg\0",
+    "abcdefgha",
+    "abcdefg",
+    "ab\0c",
+    "abcdefgh\0",
+    "abcdefgz",
+    "abc",
+    "\0",
+    "ab\0\0\0\0\0\0\0",
+    "ÿbcdefghi",
+];
+
+#[test]
+fn terms_that_begin_alike(rt: HostRuntime) -> Result<(), Fail> {
+    let alloc = rt.alloc();
+    let mut rows = Vec::new(alloc);
+    for (number, term) in (100u32..).zip(ALIKE) {
+        let id = description_id(number)?;
+        let row = description(alloc, id, 20_200_131, true, term)?;
+        rows.push(StampedRow { row, import: 1 })?;
+    }
+    let shown = plain::rows_at(alloc, 1, &rows)?;
+    let made = index_all(alloc, vec![in alloc; rows]?)?;
+    let time = day(LAST_DAY)?;
+    for (prefix, found) in [
+        ("", 14),
+        ("ab", 12),
+        ("ab\0", 3),
+        ("ab\0\0", 1),
+        ("abc", 8),
+        ("abcdefg", 7),
+        ("abcdefg\0", 1),
+        ("abcdefgh", 4),
+        ("abcdefghi", 1),
+        ("abcdefghz", 0),
+        ("\0", 1),
+        ("ÿ", 1),
+    ] {
+        let asked = Search {
+            prefix,
+            time,
+            after: None,
+            limit: 100,
+            pin: 1,
+        };
+        let many = compare_search(&rt, alloc, &made, &shown, asked)?;
+        assert_eq!(rt; many, found, "{prefix:?}");
+    }
     Ok(())
 }
 

@@ -14,7 +14,7 @@ pub loop-term-preserved : goal.loop-term-preserved
 loop-term-preserved c = λ lists listed_so described seen start.
     let a = c.args in
     let i = c.loop-term.term-index in
-    let first : Term = record { start = 0; len = 0; row = 0 } in
+    let first : Term = record { head = 0; start = 0; len = 0; row = 0 } in
     let t = get_or a.terms.now i first in
     let so_far = c.loop-term.invariant lists listed_so described seen start in
     let some = seen ++ flat_map (λ (t : Term). chosen_at lists a.segment t.row) (take i a.terms.now) in

@@ -13,4 +13,4 @@ returns c = λ i.
     let prefix = c.args.prefix.now in
     subst (λ (ts : List TermAt). (Has (map (λ (t : Term). t.row) those) i → Has (map (λ (t : TermAt). t.row) (filter (begins prefix) ts)) i) × (Has (map (λ (t : TermAt). t.row) (filter (begins prefix) ts)) i → Has (map (λ (t : Term). t.row) those) i))
     c.self.view_is
-    (numbers_from c.self.inside.text.items prefix c.self.inside.terms.items those (λ t. (rw (c.as_slice.ensures.value, c.as_slice-2.ensures.value) at c.candidates.ensures.found) c.self.invariant t) i)
+    (numbers_from c.self.inside.text.items prefix c.self.inside.terms.items those (λ t. (rw (c.as_slice.ensures.value, c.as_slice-2.ensures.value) at c.candidates.ensures.found) c.self.invariant.0 t) i)
