@@ -1,15 +1,14 @@
--- The least id of a kind, of one list and of several.
-use Rattle.std.proofs.Common.{◌≡◌, ℕ, ◌≤◌, true, false, List, [], ◌++◌, refl, inl, inr, arith}
-use Rattle.std.specs.Prelude.{◌==◌, nat_lt, Option, Some, None, slice_get}
+-- The least id of a kind, of one list.
+use Rattle.std.proofs.Common.{◌≡◌, ℕ, true, false, List, [], refl, arith}
+use Rattle.std.specs.Prelude.{◌==◌, Option, Some, None, slice_get}
 use Rattle.std.proofs.lemmas.Bool.Decides.{nat_tests}
 use Rattle.rf2_values.specs.declared.row.Kind.{Kind}
 use Rattle.rf2_values.specs.Key.{kind_place}
 use Rattle.history_model.specs.InOrder.{IsAscending}
-use Rattle.history_model.proofs.InOrder.{Has-append_left, Has-append_right, Has-append_cases}
 use Rattle.segment.specs.declared.place.RowPlace.{RowPlace}
 use Rattle.as_of_index.specs.declared.search.Start.TheVariants.{Components}
 use Rattle.as_of_index.specs.Places.{place_cmp}
-use Rattle.as_of_index.specs.Private.Search.{in_segment, is_before, SplitsAt, IsNext, IsNextId, id_of_kind, lesser_of}
+use Rattle.as_of_index.specs.Private.Search.{in_segment, is_before, SplitsAt, IsNext, IsNextId, id_of_kind}
 use Rattle.as_of_index.proofs.Following.{next_nothing, next_more, next_of_list}
 use Rattle.as_of_index.proofs.Paging.{next_id_is, next_id_other, next_id_none}
 
@@ -19,10 +18,6 @@ itself n = grind (arith, nat_tests)
 module _ (kind : Kind) (after : Option ℕ) where
   abbrev pub NextIds : List (ℕ × RowPlace) → Option ℕ → Type 0
   NextIds xs best = IsNextId kind after xs best
-
-  pub id_nothing : NextIds [] None
-  unfolding IsNextId
-  id_nothing = λ x h e. absurd h
 
   id_found : (n : ℕ) (ps : List RowPlace) (found : Option RowPlace) → IsNext (Components kind after) (λ p. p) ps found → NextIds (in_segment n ps) (id_of_kind kind found)
   id_found n ps None r = next_id_none kind after (in_segment n ps) (next_more (Components kind after) n ps [] None None (next_nothing (Components kind after)) r)
@@ -36,36 +31,3 @@ module _ (kind : Kind) (after : Option ℕ) where
   -- where a search splits a list stands its least id
   pub id_of_list : (n : ℕ) (ps : List RowPlace) (i : ℕ) → IsAscending place_cmp ps → SplitsAt (is_before (Components kind after)) ps i → NextIds (in_segment n ps) (id_of_kind kind (slice_get ps i))
   id_of_list n ps i up split = id_found n ps (slice_get ps i) (next_of_list (Components kind after) ps i (slice_get ps i) up split refl)
-
-  pub id_more : (xs ys : List (ℕ × RowPlace)) (best found : Option ℕ) → NextIds xs best → NextIds ys found → NextIds (xs ++ ys) (lesser_of best found)
-  unfolding IsNextId
-  id_more xs ys None None a r = λ x h e. elim (Has-append_cases xs ys x h) [ inl l ↦ a x l e | inr t ↦ r x t e ]
-  id_more xs ys (Some b) None a r = record {
-    above = a.above;
-    there = (a.there.0, Has-append_left xs ys a.there.0 a.there.1, a.there.2);
-    least = λ x h e. elim (Has-append_cases xs ys x h) [ inl l ↦ a.least x l e | inr t ↦ absurd (r x t e) ];
-  }
-  id_more xs ys None (Some f) a r = record {
-    above = r.above;
-    there = (r.there.0, Has-append_right xs ys r.there.0 r.there.1, r.there.2);
-    least = λ x h e. elim (Has-append_cases xs ys x h) [ inl l ↦ absurd (a x l e) | inr t ↦ r.least x t e ];
-  }
-  id_more xs ys (Some b) (Some f) a r =
-      elim (nat_lt f b) as (λ t. nat_lt f b ≡ t → IsNextId kind after (xs ++ ys) (elim t [ true ↦ Some f | false ↦ Some b ])) [
-        | true ↦ λ e. record {
-          above = r.above;
-          there = (r.there.0, Has-append_right xs ys r.there.0 r.there.1, r.there.2);
-          least = λ x h k. elim (Has-append_cases xs ys x h) [
-            | inl l ↦ (let le = a.least x l k in let lt : f ≤ b = grind (arith, nat_tests, e) in omega arith)
-            | inr t ↦ r.least x t k
-          ];
-        }
-        | false ↦ λ e. record {
-          above = a.above;
-          there = (a.there.0, Has-append_left xs ys a.there.0 a.there.1, a.there.2);
-          least = λ x h k. elim (Has-append_cases xs ys x h) [
-            | inl l ↦ a.least x l k
-            | inr t ↦ (let le = r.least x t k in let ge : b ≤ f = grind (arith, nat_tests, e) in omega arith)
-          ];
-        }
-      ] refl

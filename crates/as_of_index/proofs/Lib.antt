@@ -22,3 +22,4 @@ pub mod Hinted
 pub mod Counted
 pub mod Turns
 pub mod Unions
+pub mod Shown

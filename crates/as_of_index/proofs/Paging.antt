@@ -1,6 +1,6 @@
 -- The next id of a kind, and what a page takes in turn.
 use Rattle.std.proofs.Common.{◌≡◌, ◌⊎◌, ℕ, suc, ◌+◌, ◌-◌, ◌<◌, ◌≤◌, Bool, true, false, cond, List, [], ◌∷◌, ◌++◌, length, take, map, refl, sym, ap, subst, inl, inr, ◌∙◌, arith, append-nil, append_assoc}
-use Rattle.std.specs.Prelude.{◌&&◌, ◌||◌, ◌==◌, not, nat_lt, Option, Some, None}
+use Rattle.std.specs.Prelude.{◌&&◌, ◌||◌, ◌==◌, not, nat_le, nat_lt, Option, Some, None}
 use Rattle.std.specs.List.{filter, find}
 use Rattle.std.specs.Ordering.{nat_cmp}
 use Rattle.std.specs.Cmp.{ranked, tied_itself, nat_cmp_total}
@@ -24,7 +24,7 @@ use Rattle.segment.specs.declared.place.RowPlace.{RowPlace}
 use Rattle.as_of_index.specs.declared.search.Start.TheVariants.{Components}
 use Rattle.segment.specs.Standing.{places_of}
 use Rattle.as_of_index.specs.Places.{place_cmp}
-use Rattle.as_of_index.specs.Private.Search.{all_places, is_of, IsNext, IsNextId, is_kind_above}
+use Rattle.as_of_index.specs.Private.Search.{all_places, is_of, is_shown, IsNext, IsNextId, IsNextShown, is_kind_above}
 use Rattle.as_of_index.proofs.Standing.{place_of_row}
 
 pub less_by_id : (a b : RowPlace) → kind_place a.key.kind ≡ kind_place b.key.kind → nat_cmp a.key.id b.key.id ≡ Less → place_cmp a b ≡ Less
@@ -139,6 +139,9 @@ kind_places k l e = let f = ap kind_place e in grind (arith, nat_tests, f)
 id_at : (after : Option ℕ) (k kind : ℕ) (a : Bool) → k ≡ kind → a ≡ true → (k == kind && a) ≡ true
 id_at after k kind a e f = rw f (grind (arith, nat_tests, e))
 
+shown_test : (t i date pin : ℕ) → t ≤ date → i ≤ pin → (nat_le t date && nat_le i pin) ≡ true
+shown_test t i date pin e f = grind (arith, nat_tests, e, f)
+
 module _ (kind : Kind) (date pin : ℕ) (lists : List (List StampedRow)) where
   abbrev shown : List RowValue
   shown = rows_at pin (listed lists)
@@ -146,36 +149,42 @@ module _ (kind : Kind) (date pin : ℕ) (lists : List (List StampedRow)) where
   abbrev places : List (ℕ × RowPlace)
   places = all_places 0 (map places_of lists)
 
+  -- a row that comes is shown where it stands
+  shown_there : (c : RowValue) (p : RowPlace) (s : StampedRow) → p.key ≡ key_of c → p.import ≡ s.import → c.time ≤ date → s.import ≤ pin → is_shown date pin p ≡ true
+  shown_there c p s key_is import_is early le =
+      let times : p.key.time ≡ c.time = ap (λ (z : Key). z.time) key_is in
+      shown_test p.key.time p.import date pin (omega arith) (omega arith)
+
   -- the next id is not above that of a row that comes
-  not_passed : (last : Option ℕ) (id : ℕ) → IsNextId kind last places (Some id) → (c : RowValue) → Has shown c → kind_of c ≡ kind → is_above last c.id ≡ true → id ≤ c.id
-  unfolding IsNextId
-  not_passed last id n c h k a =
+  not_passed : (last : Option ℕ) (id : ℕ) → IsNextShown kind last date pin places (Some id) → (c : RowValue) → Has shown c → kind_of c ≡ kind → is_above last c.id ≡ true → c.time ≤ date → id ≤ c.id
+  unfolding IsNextShown
+  not_passed last id n c h k a early =
       let w = Has-rows_at_cases pin (listed lists) c h in
       let q = place_of_row 0 lists w.stamped_row (Has-listed_cases lists w.stamped_row w.known) in
       let key_is : q.0.1.key ≡ key_of c = q.2.key_is ∙ ap key_of w.same in
       let kinds : kind_place q.0.1.key.kind ≡ kind_place kind = ap (λ (z : Key). kind_place z.kind) key_is ∙ ap kind_place k in
       let ids : q.0.1.key.id ≡ c.id = ap (λ (z : Key). z.id) key_is in
-      let le = n.least q.0 q.1 (id_at last _ _ _ kinds (ap (is_above last) ids ∙ a)) in
+      let le = n.first q.0 q.1 (id_at last _ _ _ kinds (ap (is_above last) ids ∙ a)) (shown_there c q.0.1 w.stamped_row key_is q.2.import_is early w.early) in
       omega arith
 
-  nothing_passed : (last : Option ℕ) → IsNextId kind last places None → (c : RowValue) → Has shown c → kind_of c ≡ kind → is_above last c.id ≡ true → ⊥
-  unfolding IsNextId
-  nothing_passed last n c h k a =
+  nothing_passed : (last : Option ℕ) → IsNextShown kind last date pin places None → (c : RowValue) → Has shown c → kind_of c ≡ kind → is_above last c.id ≡ true → c.time ≤ date → ⊥
+  unfolding IsNextShown
+  nothing_passed last n c h k a early =
       let w = Has-rows_at_cases pin (listed lists) c h in
       let q = place_of_row 0 lists w.stamped_row (Has-listed_cases lists w.stamped_row w.known) in
       let key_is : q.0.1.key ≡ key_of c = q.2.key_is ∙ ap key_of w.same in
       let kinds : kind_place q.0.1.key.kind ≡ kind_place kind = ap (λ (z : Key). kind_place z.kind) key_is ∙ ap kind_place k in
       let ids : q.0.1.key.id ≡ c.id = ap (λ (z : Key). z.id) key_is in
-      n q.0 q.1 (id_at last _ _ _ kinds (ap (is_above last) ids ∙ a))
+      n q.0 q.1 (id_at last _ _ _ kinds (ap (is_above last) ids ∙ a)) (shown_there c q.0.1 w.stamped_row key_is q.2.import_is early w.early)
 
-  next_above : (last : Option ℕ) (id : ℕ) → IsNextId kind last places (Some id) → is_above last id ≡ true
-  unfolding IsNextId
+  next_above : (last : Option ℕ) (id : ℕ) → IsNextShown kind last date pin places (Some id) → is_above last id ≡ true
+  unfolding IsNextShown
   next_above last id n = n.above
 
   ascends : IsAscending row_cmp shown
   ascends = IsAscending-rows_at pin (listed lists) (IsAscending-listed lists)
 
-  pub page_nobody : (last : Option ℕ) (id n : ℕ) → IsNextId kind last places (Some id) → get kind id date shown ≡ None → page kind date last n shown ≡ page kind date (Some id) n shown
+  pub page_nobody : (last : Option ℕ) (id n : ℕ) → IsNextShown kind last date pin places (Some id) → get kind id date shown ≡ None → page kind date last n shown ≡ page kind date (Some id) n shown
   unfolding page all_above get
   page_nobody last id n next none = ap (take n) (filter_same (λ row. is_kind kind row && is_above last row.id) (λ row. is_kind kind row && nat_lt id row.id) (snapshot shown date) (λ x h.
       same_test (is_kind kind x) (is_above last x.id) (nat_lt id x.id)
@@ -183,14 +192,14 @@ module _ (kind : Kind) (date pin : ℕ) (lists : List (List StampedRow)) where
       let q = both (is_kind kind x) (is_above last x.id) e in
       let k = same_kind (kind_of x) kind (kind_is (kind_place (kind_of x)) (kind_place kind) true (rw q.0 refl)) in
       let current = current_from_snapshot shown date x h in
-      let le = not_passed last id next x current.known k q.1 in
+      let le = not_passed last id next x current.known k q.1 current.early in
       above_test id x.id le (λ same. let yes = test_from_version kind id x k same in let not_so = found_nothing (is_version_of kind id) (snapshot shown date) x none h in absurd (cc)))
       (λ e. above_further last id x.id (next_above last id next) e)))
 
-  pub page_nomore : (last : Option ℕ) (n : ℕ) → IsNextId kind last places None → page kind date last n shown ≡ []
-  page_nomore last n next = page_none kind date last n shown (λ c h v. nothing_passed last next c h v.kind_is v.above)
+  pub page_nomore : (last : Option ℕ) (n : ℕ) → IsNextShown kind last date pin places None → page kind date last n shown ≡ []
+  page_nomore last n next = page_none kind date last n shown (λ c h v. nothing_passed last next c h v.kind_is v.above v.early)
 
-  pub page_somebody : (last : Option ℕ) (id n : ℕ) (b : RowValue) → IsNextId kind last places (Some id) → get kind id date shown ≡ Some b → page kind date last (suc n) shown ≡ b ∷ page kind date (Some id) n shown
+  pub page_somebody : (last : Option ℕ) (id n : ℕ) (b : RowValue) → IsNextShown kind last date pin places (Some id) → get kind id date shown ≡ Some b → page kind date last (suc n) shown ≡ b ∷ page kind date (Some id) n shown
   unfolding get
   page_somebody last id n b next found =
       let f = found_test (is_version_of kind id) (snapshot shown date) b found in
@@ -198,7 +207,7 @@ module _ (kind : Kind) (date pin : ℕ) (lists : List (List StampedRow)) where
       let current = current_from_snapshot shown date b f.0 in
       page_first kind date last n shown b ascends current.known (record { kind_is = v.kind_is; above = subst (λ m. is_above last m ≡ true) (sym v.id_is) (next_above last id next); early = current.early })
       (λ c h w.
-      let le = not_passed last id next c h w.kind_is w.above in
+      let le = not_passed last id next c h w.kind_is w.above w.early in
       let own = v.id_is in
       elim (nat_lt b.id c.id) as (λ t. nat_lt b.id c.id ≡ t → (b.id < c.id) ⊎ ((b.id ≡ c.id) × (c.time ≤ b.time))) [
         | true ↦ λ e. inl (grind (arith, nat_tests, e))
@@ -208,7 +217,7 @@ module _ (kind : Kind) (date pin : ℕ) (lists : List (List StampedRow)) where
 
   -- ---- the steps of the loop
 
-  pub page_more : (last : Option ℕ) (id limit : ℕ) (rows target : List RowValue) (b : RowValue) → length rows < limit → IsNextId kind last places (Some id) → get kind id date shown ≡ Some b → rows ++ page kind date last (limit - length rows) shown ≡ target → (rows ++ b ∷ []) ++ page kind date (Some id) (limit - length (rows ++ b ∷ [])) shown ≡ target
+  pub page_more : (last : Option ℕ) (id limit : ℕ) (rows target : List RowValue) (b : RowValue) → length rows < limit → IsNextShown kind last date pin places (Some id) → get kind id date shown ≡ Some b → rows ++ page kind date last (limit - length rows) shown ≡ target → (rows ++ b ∷ []) ++ page kind date (Some id) (limit - length (rows ++ b ∷ [])) shown ≡ target
   page_more last id limit rows target b lt next found so_far =
       let longer = length_push rows b in
       let left : limit - length (rows ++ b ∷ []) ≡ limit - (length rows + 1) = ap (λ n. limit - n) longer in
@@ -218,10 +227,10 @@ module _ (kind : Kind) (date pin : ℕ) (lists : List (List StampedRow)) where
       ∙ ap (λ ys. rows ++ ys) (sym (page_somebody last id (limit - (length rows + 1)) b next found))
       ∙ ap (λ n. rows ++ page kind date last n shown) (sym one_less) ∙ so_far
 
-  pub page_same : (last : Option ℕ) (id n : ℕ) (rows target : List RowValue) → IsNextId kind last places (Some id) → get kind id date shown ≡ None → rows ++ page kind date last n shown ≡ target → rows ++ page kind date (Some id) n shown ≡ target
+  pub page_same : (last : Option ℕ) (id n : ℕ) (rows target : List RowValue) → IsNextShown kind last date pin places (Some id) → get kind id date shown ≡ None → rows ++ page kind date last n shown ≡ target → rows ++ page kind date (Some id) n shown ≡ target
   page_same last id n rows target next none so_far = ap (λ ys. rows ++ ys) (sym (page_nobody last id n next none)) ∙ so_far
 
-  pub page_done : (last : Option ℕ) (n : ℕ) (rows target : List RowValue) → IsNextId kind last places None → rows ++ page kind date last n shown ≡ target → rows ≡ target
+  pub page_done : (last : Option ℕ) (n : ℕ) (rows target : List RowValue) → IsNextShown kind last date pin places None → rows ++ page kind date last n shown ≡ target → rows ≡ target
   page_done last n rows target next so_far = sym (append-nil rows) ∙ ap (λ ys. rows ++ ys) (sym (page_nomore last n next)) ∙ so_far
 
   pub page_full : (last : Option ℕ) (limit : ℕ) (rows target : List RowValue) → limit ≤ length rows → rows ++ page kind date last (limit - length rows) shown ≡ target → rows ≡ target
@@ -270,9 +279,9 @@ pub weaker : (k a b : Bool) → (b ≡ true → a ≡ true) → (k && b) ≡ tru
 weaker true a b f e = f e
 weaker false a b f e = e
 
-pub fewer_left : (kind : Kind) (last : Option ℕ) (id : ℕ) (xs : List (ℕ × RowPlace)) → IsNextId kind last xs (Some id) → length (filter (λ x. is_kind_above kind (Some id) x.1) xs) < length (filter (λ x. is_kind_above kind last x.1) xs)
-unfolding IsNextId
-fewer_left kind last id xs n =
+pub fewer_left : (kind : Kind) (last : Option ℕ) (date pin id : ℕ) (xs : List (ℕ × RowPlace)) → IsNextShown kind last date pin xs (Some id) → length (filter (λ x. is_kind_above kind (Some id) x.1) xs) < length (filter (λ x. is_kind_above kind last x.1) xs)
+unfolding IsNextShown
+fewer_left kind last date pin id xs n =
     let b = n.there.0 in
     let own = n.there.2 in
     let at_own : is_above last b.1.key.id ≡ true = ap (is_above last) (own_id _ _ b.1.key.id id own) ∙ n.above in

@@ -1,7 +1,9 @@
-//! One cursor a list: all that stands before it is passed over.
+//! One cursor a list: all that stands before it is passed over. A list that shows nothing at a date
+//! and a pin is walked as an empty one.
 
 ghost use Rattle.std.specs.Prelude.{IfOk, None};
-ghost use Rattle.as_of_index.specs.Private.Search.{all_places, ArePassed, IsPick, IsNextId};
+ghost use Rattle.as_of_index.specs.Private.Search.{all_places, shown_parts, ArePassed, IsPick};
+ghost use Rattle.as_of_index.specs.Private.Search.{IsNextShown};
 ghost use Rattle.as_of_index.specs.declared.search.Start.TheVariants as starts;
 
 use crate::place_list::PlaceList;
@@ -15,31 +17,38 @@ pub(crate) fn cursors_at(
     alloc: Global,
     lists: &[PlaceList],
     start: &Start,
+    time: EffectiveTime,
+    pin: u32,
 ) -> Result<Vec<usize>, AllocError>
-    ensures { IfOk result (λ cursors. ArePassed start.now lists.now cursors.items) }
+    ensures { IfOk result
+        (λ cursors. ArePassed start.now (shown_parts time pin lists.now) cursors.items) }
 {
     let mut cursors = Vec::with_capacity(alloc, lists.len())?;
     for list in lists {
-        cursors.push(place(list.places(), *start))?;
+        cursors.push(place(list.shown_part(time, pin), *start))?;
     }
     Ok(cursors)
 }
 
-/// The least id of a kind above `after`, if that is given.
+/// The least id of a kind above `after`, if that is given, in the lists that may show something.
 pub(crate) fn next_id(
     lists: &[PlaceList],
     cursors: &mut Vec<usize>,
     kind: Kind,
     after: Option<u128>,
+    time: EffectiveTime,
+    pin: u32,
 ) -> Option<u128>
-    requires { ArePassed (starts.Components kind after) lists.now cursors.old.items }
-    ensures next { IsNextId kind after (all_places 0 lists.now) result }
-    ensures passed { ArePassed (starts.Components kind after) lists.now cursors.new.items }
+    requires { ArePassed (starts.Components kind after)
+        (shown_parts time pin lists.now) cursors.old.items }
+    ensures next { IsNextShown kind after time pin (all_places 0 lists.now) result }
+    ensures passed { ArePassed (starts.Components kind after)
+        (shown_parts time pin lists.now) cursors.new.items }
 {
     let start = Start::Components { kind, after };
     let mut best = None;
     for (segment, list) in lists.iter().enumerate() {
-        let places = list.places();
+        let places = list.shown_part(time, pin);
         let first = go_on(places, cursors[segment], &start);
         cursors[segment] = first;
         best = lesser(best, id_at(places, first, kind));
@@ -57,12 +66,13 @@ pub(crate) fn latest_on(
     time: EffectiveTime,
     pin: u32,
 ) -> Option<(usize, RowPlace)>
-    requires { ArePassed (starts.Later kind id None) lists.now cursors.now }
+    requires { ArePassed (starts.Later kind id None) (shown_parts time pin lists.now) cursors.now }
     ensures { IsPick kind id time pin (λ x. x.1) (all_places 0 lists.now) result }
 {
     let mut best = None;
     for (segment, list) in lists.iter().enumerate() {
-        let found = latest_from(list.places(), cursors[segment], kind, id, time, pin);
+        let places = list.shown_part(time, pin);
+        let found = latest_from(places, cursors[segment], kind, id, time, pin);
         if let Some(p) = found {
             best = later(best, segment, Some(p));
         }

@@ -337,7 +337,8 @@ impl Index {
     }
 
     /// The first rows of a kind at the date with an id above `after`, ascending by id, of the rows
-    /// that the pin shows. It makes one bisection a list, and then goes on by a cursor a list.
+    /// that the pin shows. It makes one bisection a list, and then goes on by a cursor a list. It
+    /// passes over lists all of whose rows are of later dates, or all of later imports.
     pub fn page<R: RowReader>(
         &self,
         reader: &mut R,
@@ -365,9 +366,10 @@ impl Index {
         let lists = self.lists.as_slice();
         let mut rows = Vec::new(self.alloc);
         let mut last = after;
-        let mut cursors = cursors_at(self.alloc, lists, &Start::Components { kind, after })?;
+        let start = Start::Components { kind, after };
+        let mut cursors = cursors_at(self.alloc, lists, &start, time, pin)?;
         while rows.len() < limit as usize {
-            match next_id(lists, &mut cursors, kind, last) {
+            match next_id(lists, &mut cursors, kind, last, time, pin) {
                 Some(id) => {
                     if let Some((segment, at)) = latest_on(lists, &cursors, kind, id, time, pin) {
                         let found = reader.row(self.alloc, segment, at)?;

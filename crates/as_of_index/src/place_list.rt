@@ -2,9 +2,11 @@
 
 ghost use Rattle.std.specs.Prelude.{◌≡◌, ◌↔◌, IsTrue};
 ghost use Rattle.history_model.specs.InOrder.{IsAscending};
-ghost use Rattle.as_of_index.specs.Places.{place_cmp};
+ghost use Rattle.as_of_index.specs.Places.{place_cmp, least_by};
+ghost use Rattle.as_of_index.specs.Private.Search.{may_show, shown_part};
 
 use crate::search::are_ascending;
+use rf2_values::EffectiveTime;
 use segment::RowPlace;
 use std::marker::Model;
 
@@ -12,19 +14,48 @@ use std::marker::Model;
 #[derive(Drop)]
 pub struct PlaceList {
     places: Vec<RowPlace>,
+    /// The least effective time of a place, and the greatest number where there is none.
+    first_time: u32,
+    /// The least number of an import, and the greatest number where there is no place.
+    first_import: u32,
 }
 
 impl Model for PlaceList {
     ghost use Rattle.std.specs.Prelude.{List};
     ghost use Rattle.history_model.specs.InOrder.{IsAscending};
     ghost use Rattle.segment.specs.declared.place.RowPlace.{RowPlace};
-    ghost use Rattle.as_of_index.specs.Places.{place_cmp};
+    ghost use Rattle.std.specs.Prelude.{◌≡◌};
+    ghost use Rattle.as_of_index.specs.Places.{place_cmp, least_by};
 
     ghost Value = { List RowPlace };
 
     ghost view = { λ a. a.places.items };
 
-    ghost invariant = { λ a. IsAscending place_cmp a.places.items };
+    ghost invariant = { λ a. record {
+      ascending : IsAscending place_cmp a.places.items;
+      time : a.first_time ≡ least_by (λ p. p.key.time) a.places.items;
+      import : a.first_import ≡ least_by (λ p. p.import) a.places.items;
+    } };
+}
+
+fn first_time(places: &[RowPlace]) -> u32
+    ensures { result ≡ least_by (λ p. p.key.time) places.now }
+{
+    let mut first = u32::MAX;
+    for p in places {
+        first = first.min(p.key.time.value());
+    }
+    first
+}
+
+fn first_import(places: &[RowPlace]) -> u32
+    ensures { result ≡ least_by (λ p. p.import) places.now }
+{
+    let mut first = u32::MAX;
+    for p in places {
+        first = first.min(p.import);
+    }
+    first
 }
 
 impl PlaceList {
@@ -40,7 +71,13 @@ impl PlaceList {
         requires { IsAscending place_cmp places.items }
         ensures { result ≡ places.items }
     {
-        PlaceList { places }
+        let first_time = first_time(places.as_slice());
+        let first_import = first_import(places.as_slice());
+        PlaceList {
+            places,
+            first_time,
+            first_import,
+        }
     }
 
     /// The places, in key order.
@@ -49,5 +86,25 @@ impl PlaceList {
         ensures ascending { IsAscending place_cmp self.now }
     {
         self.places.as_slice()
+    }
+
+    /// Whether neither the date is before all places nor the pin below all imports.
+    fn may_show(&self, time: EffectiveTime, pin: u32) -> bool
+        ensures { result ≡ may_show time pin self.now }
+    {
+        self.first_time <= time.value() && self.first_import <= pin
+    }
+
+    /// The places, in key order, or none where the date is before all or the pin below all imports.
+    pub(crate) fn shown_part(&self, time: EffectiveTime, pin: u32) -> &[RowPlace]
+        ensures part { result.now ≡ shown_part time pin self.now }
+        ensures ascending { IsAscending place_cmp result.now }
+    {
+        let places = self.places.as_slice();
+        if self.may_show(time, pin) {
+            places
+        } else {
+            &places[..0]
+        }
     }
 }

@@ -3,3 +3,5 @@ pub mod Digits
 pub mod Ids
 pub mod Lengths
 pub mod Members
+pub mod Metadata
+pub mod Pairs

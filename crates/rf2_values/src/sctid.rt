@@ -3,7 +3,8 @@
 //! The form is that of the SNOMED CT Release File Specifications, in its sections "SCTID
 //! Representation", "SCTID Constraints", "Check-digit" and "Partition Identifier".
 
-ghost use Rattle.std.specs.Prelude.{◌≡◌, ℕ, ◌<◌, ◌≤◌, Option, Some, IfSome, SomeIff, decimal};
+ghost use Rattle.std.specs.Prelude.{◌≡◌, ℕ, ◌<◌, ◌≤◌, Option, Some, IfSome, SomeIff, IsTrue};
+ghost use Rattle.std.specs.Prelude.{decimal};
 ghost use Rattle.rf2_values.specs.Sctid.{IsSctid, check_digits, class_of};
 
 use crate::number;
@@ -23,17 +24,42 @@ const PRODUCTS: [[u8; 10]; 10] = [
     [9, 8, 7, 6, 5, 4, 3, 2, 1, 0],
 ];
 
-/// Verhoeff's permutations: what becomes of a digit
-/// at each of eight places, counted from the right.
-const TURNS: [[u8; 10]; 8] = [
+/// Verhoeff's permutations at the places 0, 2, 4 and 6, counted from the right:
+/// what becomes of a digit that no other stands before.
+const TURNS: [[u8; 10]; 4] = [
     [0, 1, 2, 3, 4, 5, 6, 7, 8, 9],
-    [1, 5, 7, 6, 2, 8, 3, 0, 9, 4],
     [5, 8, 0, 3, 7, 9, 6, 1, 4, 2],
-    [8, 9, 1, 6, 0, 4, 3, 5, 2, 7],
     [9, 4, 5, 3, 1, 2, 6, 8, 7, 0],
-    [4, 2, 8, 6, 5, 7, 3, 9, 0, 1],
     [2, 7, 9, 3, 8, 0, 6, 4, 1, 5],
-    [7, 0, 4, 6, 9, 1, 3, 2, 5, 8],
+];
+
+/// The product of what becomes of the two digits of a number below 100, at each of four pairs of
+/// places: of the right one at the places 0, 2, 4 and 6, of the left one at 1, 3, 5 and 7.
+const PAIRS: [[u8; 100]; 4] = [
+    [
+        1, 2, 3, 4, 0, 9, 5, 6, 7, 8, 5, 6, 7, 8, 9, 0, 1, 2, 3, 4, 7, 8, 9, 5, 6, 3, 4, 0, 1, 2,
+        6, 7, 8, 9, 5, 4, 0, 1, 2, 3, 2, 3, 4, 0, 1, 8, 9, 5, 6, 7, 8, 9, 5, 6, 7, 2, 3, 4, 0, 1,
+        3, 4, 0, 1, 2, 7, 8, 9, 5, 6, 0, 1, 2, 3, 4, 5, 6, 7, 8, 9, 9, 5, 6, 7, 8, 1, 2, 3, 4, 0,
+        4, 0, 1, 2, 3, 6, 7, 8, 9, 5,
+    ],
+    [
+        2, 0, 8, 6, 4, 1, 3, 9, 7, 5, 1, 4, 9, 7, 3, 0, 2, 5, 8, 6, 9, 7, 1, 4, 6, 8, 5, 2, 0, 3,
+        4, 2, 6, 9, 1, 3, 0, 7, 5, 8, 5, 8, 0, 3, 7, 9, 6, 1, 4, 2, 6, 9, 4, 2, 8, 5, 7, 0, 3, 1,
+        7, 5, 3, 1, 9, 6, 8, 4, 2, 0, 0, 3, 5, 8, 2, 4, 1, 6, 9, 7, 8, 6, 2, 0, 5, 7, 9, 3, 1, 4,
+        3, 1, 7, 5, 0, 2, 4, 8, 6, 9,
+    ],
+    [
+        5, 3, 6, 2, 0, 1, 7, 9, 8, 4, 7, 1, 8, 0, 3, 4, 9, 6, 5, 2, 1, 7, 2, 6, 9, 5, 3, 0, 4, 8,
+        3, 5, 4, 9, 7, 8, 0, 2, 1, 6, 4, 9, 0, 8, 6, 7, 1, 3, 2, 5, 2, 6, 3, 5, 8, 9, 4, 1, 0, 7,
+        6, 2, 7, 1, 4, 0, 8, 5, 9, 3, 0, 8, 1, 7, 5, 6, 2, 4, 3, 9, 9, 4, 5, 3, 1, 2, 6, 8, 7, 0,
+        8, 0, 9, 4, 2, 3, 5, 7, 6, 1,
+    ],
+    [
+        9, 0, 2, 5, 1, 7, 4, 6, 8, 3, 2, 7, 9, 3, 8, 0, 6, 4, 1, 5, 1, 8, 5, 2, 9, 4, 7, 3, 0, 6,
+        8, 1, 3, 9, 2, 6, 0, 5, 7, 4, 6, 3, 0, 7, 4, 9, 2, 8, 5, 1, 3, 6, 8, 4, 7, 1, 5, 0, 2, 9,
+        0, 9, 6, 1, 5, 3, 8, 2, 4, 7, 4, 5, 7, 0, 6, 2, 9, 1, 3, 8, 7, 2, 4, 8, 3, 5, 1, 9, 6, 0,
+        5, 4, 1, 6, 0, 8, 3, 7, 9, 2,
+    ],
 ];
 
 /// What an identifier identifies, by its partition: the two digits before the check digit.
@@ -66,14 +92,45 @@ fn check(number: u64) -> u8
 {
     let mut check = 0u8;
     let mut rest = number;
-    let mut place = 0usize;
-    while rest > 0 {
-        let turned = TURNS[place % 8][(rest % 10) as usize];
+    let mut pair = 0usize;
+    // The product is associative, so that two digits cost one step.
+    while rest >= 10 {
+        let turned = PAIRS[pair % 4][(rest % 100) as usize];
         check = PRODUCTS[check as usize][turned as usize];
-        rest /= 10;
-        place += 1;
+        rest /= 100;
+        pair += 1;
     }
-    check
+    if rest == 0 {
+        return check;
+    }
+    let turned = TURNS[pair % 4][rest as usize];
+    PRODUCTS[check as usize][turned as usize]
+}
+
+/// Whether the number is the identifier of a module, a type or another value of SNOMED CT's
+/// metadata that stands in many rows. The prover has checked their digits.
+fn is_metadata(value: u64) -> bool
+    ensures { IsTrue result → IsSctid value }
+{
+    matches!(
+        value,
+        900_000_000_000_003_001
+            | 900_000_000_000_010_007
+            | 900_000_000_000_011_006
+            | 900_000_000_000_012_004
+            | 900_000_000_000_013_009
+            | 900_000_000_000_017_005
+            | 900_000_000_000_020_002
+            | 900_000_000_000_073_002
+            | 900_000_000_000_074_008
+            | 900_000_000_000_207_008
+            | 900_000_000_000_227_009
+            | 900_000_000_000_448_009
+            | 900_000_000_000_451_002
+            | 900_000_000_000_523_009
+            | 900_000_000_000_526_001
+            | 900_000_000_000_527_005
+    )
 }
 
 impl Sctid {
@@ -81,6 +138,9 @@ impl Sctid {
     pub fn of(value: u64) -> Option<Sctid>
         ensures { SomeIff result (IsSctid value) value }
     {
+        if is_metadata(value) {
+            return Some(Sctid { value });
+        }
         if value >= 100_000 && value < 1_000_000_000_000_000_000 && check(value) == 0 {
             Some(Sctid { value })
         } else {

@@ -179,6 +179,26 @@ fn spread(alloc: Global, rows: &[StampedRow], lists: usize) -> Result<Vec<Vec<St
     Ok(spread)
 }
 
+/// The rows of a date, as a list.
+fn of_date(alloc: Global, rows: &[StampedRow], date: u32) -> Result<Vec<StampedRow>, Fail> {
+    let mut list = Vec::new(alloc);
+    for stamped in rows {
+        if stamped.row.time.value() == date {
+            list.push(stamped.try_clone(alloc)?)?;
+        }
+    }
+    Ok(list)
+}
+
+/// The rows in lists, of which each has the rows of one date.
+fn by_date(alloc: Global, rows: &[StampedRow]) -> Result<Vec<Vec<StampedRow>>, Fail> {
+    let mut lists = Vec::new(alloc);
+    for date in TIMES {
+        lists.push(of_date(alloc, rows, date)?)?;
+    }
+    Ok(lists)
+}
+
 /// Rows in lists, asked at a pin, and what the plain program looks at in their place.
 #[derive(Clone, Copy)]
 struct Pinned<'a> {
@@ -296,6 +316,18 @@ fn made_histories_in_one_list_and_in_many(rt: HostRuntime) -> Result<(), Fail> {
             answered
         );
     }
+    Ok(())
+}
+
+#[test]
+fn lists_that_show_nothing_change_no_page(rt: HostRuntime) -> Result<(), Fail> {
+    let alloc = rt.alloc();
+    let rows = made_rows(alloc)?;
+    let answered = compare(&rt, alloc, &rows, &spread(alloc, &rows, 1)?)?;
+    let dates = by_date(alloc, &rows)?;
+    assert_eq!(rt; compare(&rt, alloc, &rows, &dates)?, answered);
+    let imports = lists_of(alloc, &rows, &[(1, 1), (2, 2), (3, 3), (4, 4), (5, 5)])?;
+    assert_eq!(rt; compare(&rt, alloc, &rows, &imports)?, answered);
     Ok(())
 }
 

@@ -1,7 +1,7 @@
 -- What is searched for among places in the order of their keys.
 use Rattle.std.specs.Prelude.{◌≡◌, ℕ, ◌+◌, ◌≤◌, Bool, true, false, ◌&&◌, ◌||◌, ◌==◌, not, List, []}
 use Rattle.std.specs.Prelude.{◌∷◌, ◌++◌, nat_le, nat_lt, length, map, take, drop, Option, Some}
-use Rattle.std.specs.Prelude.{None}
+use Rattle.std.specs.Prelude.{None, if◌then◌else◌}
 use Rattle.std.specs.List.{AllByRecursion}
 use Rattle.std.specs.Ordering.{is_lt}
 use Rattle.std.specs.declared.cmp.Ordering.TheVariants.{Less, Equal, Greater}
@@ -13,7 +13,7 @@ use Rattle.history_model.specs.Queries.{is_above}
 use Rattle.segment.specs.declared.place.RowPlace.{RowPlace}
 use Rattle.as_of_index.specs.declared.search.Start.{Start}
 use Rattle.as_of_index.specs.declared.search.Start.TheVariants as start
-use Rattle.as_of_index.specs.Places.{place_cmp}
+use Rattle.as_of_index.specs.Places.{place_cmp, least_by}
 
 -- no key is in both lists
 abbrev pub ShareNoKey : List RowPlace → List RowPlace → Type 0
@@ -33,6 +33,22 @@ is_of kind id p = kind_place p.key.kind == kind_place kind && p.key.id == id
 -- a version of the component up to the date, which the pin shows
 abbrev pub is_candidate : Kind → ℕ → ℕ → ℕ → RowPlace → Bool
 is_candidate kind id date pin p = is_of kind id p && nat_le p.key.time date && nat_le p.import pin
+
+-- the date and the pin show what stands there
+abbrev pub is_shown : ℕ → ℕ → RowPlace → Bool
+is_shown date pin p = nat_le p.key.time date && nat_le p.import pin
+
+-- not all of the places are of later times, nor are all of later imports
+abbrev pub may_show : ℕ → ℕ → List RowPlace → Bool
+may_show date pin places =
+    nat_le (least_by (λ p. p.key.time) places) date && nat_le (least_by (λ p. p.import) places) pin
+
+-- the places, or none of them where all are of later times, or all of later imports
+abbrev pub shown_part : ℕ → ℕ → List RowPlace → List RowPlace
+shown_part date pin places = if may_show date pin places then places else []
+
+abbrev pub shown_parts : ℕ → ℕ → List (List RowPlace) → List (List RowPlace)
+shown_parts date pin lists = map (shown_part date pin) lists
 
 -- whether a search that begins here passes over the key
 abbrev pub is_before : Start → RowPlace → Bool
@@ -133,6 +149,19 @@ unfoldable pub IsNextId : Kind → Option ℕ → List (ℕ × RowPlace) → Opt
 IsNextId kind after xs None = (x : ℕ × RowPlace) → Has xs x → is_kind_above kind after x.1 ≡ true
     → ⊥
 IsNextId kind after xs (Some id) = IsLeastId kind after xs id
+
+-- the id of a place of the kind above `after`, with no place between that the date and the pin show
+pub record IsFirstShown (kind : Kind) (after : Option ℕ) (date pin : ℕ)
+    (xs : List (ℕ × RowPlace)) (id : ℕ) : Type 0 where
+  pub above : is_above after id ≡ true
+  pub there : (x : ℕ × RowPlace) × Has xs x × (is_of kind id x.1 ≡ true)
+  pub first : (x : ℕ × RowPlace) → Has xs x → is_kind_above kind after x.1 ≡ true
+      → is_shown date pin x.1 ≡ true → id ≤ x.1.key.id
+
+unfoldable pub IsNextShown : Kind → Option ℕ → ℕ → ℕ → List (ℕ × RowPlace) → Option ℕ → Type 0
+IsNextShown kind after date pin xs None = (x : ℕ × RowPlace) → Has xs x
+    → is_kind_above kind after x.1 ≡ true → is_shown date pin x.1 ≡ true → ⊥
+IsNextShown kind after date pin xs (Some id) = IsFirstShown kind after date pin xs id
 
 -- the id of a place of the kind
 abbrev pub id_of_kind : Kind → Option RowPlace → Option ℕ

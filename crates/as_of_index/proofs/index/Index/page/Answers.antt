@@ -4,7 +4,7 @@ use Rattle.std.proofs.lemmas.List.Sums.{sum_by_push}
 use Rattle.history_model.specs.declared.stamped.StampedRow.{StampedRow}
 use Rattle.segment.specs.Standing.{StandsAt}
 use Rattle.as_of_index.specs.declared.search.Start.TheVariants.{Components}
-use Rattle.as_of_index.specs.Private.Search.{ArePassed}
+use Rattle.as_of_index.specs.Private.Search.{shown_parts, ArePassed}
 use Rattle.as_of_index.proofs.Standing.{are_lists, get_from_pick}
 use Rattle.as_of_index.proofs.Walking.{id_above, versions_ahead, others_ahead}
 use Rattle.as_of_index.proofs.Paging.{page_more, page_same, page_done, page_full, fewer_left}
@@ -13,8 +13,8 @@ use Rattle.as_of_index.proofs.index.Index.page.Goals as goal
 pub latest_on-requires : goal.latest_on-requires
 latest_on-requires g c =
     let a = c.args in
-    let above = id_above a.kind c.loop-lists.last _ c.in-Some.id c.in-Some.ensures.next in
-    let ahead = versions_ahead a.kind c.in-Some.id c.as_slice-lists.result.now c.next_id.new.cursors.items c.loop-lists.last above c.in-Some.ensures.passed in
+    let above = id_above a.kind c.loop-lists.last a.time a.pin _ c.in-Some.id c.in-Some.ensures.next in
+    let ahead = versions_ahead a.kind c.in-Some.id (shown_parts a.time a.pin c.as_slice-lists.result.now) c.next_id.new.cursors.items c.loop-lists.last above c.in-Some.ensures.passed in
     rw c.deref.ensures.value ahead
 
 pub returns-in_err-found-in-Some-clause-undamaged : goal.returns-in_err-found-in-Some-clause-undamaged
@@ -25,17 +25,17 @@ returns-in_err-found-in-Some-clause-undamaged g c = λ honest listed_so.
     search rules
 
 pub loop-lists-smaller-in_ok-push-in-Some : goal.loop-lists-smaller-in_ok-push-in-Some
-loop-lists-smaller-in_ok-push-in-Some g c = fewer_left c.args.kind c.loop-lists.last c.in-Some.id _ (rw (c.as_slice-lists.ensures.value, c.self.view_is) at c.in-Some.ensures.next)
+loop-lists-smaller-in_ok-push-in-Some g c = fewer_left c.args.kind c.loop-lists.last c.args.time c.args.pin c.in-Some.id _ (rw (c.as_slice-lists.ensures.value, c.self.view_is) at c.in-Some.ensures.next)
 
 pub loop-lists-smaller : goal.loop-lists-smaller
-loop-lists-smaller g c = fewer_left c.args.kind c.loop-lists.last c.in-Some.id _ (rw (c.as_slice-lists.ensures.value, c.self.view_is) at c.in-Some.ensures.next)
+loop-lists-smaller g c = fewer_left c.args.kind c.loop-lists.last c.args.time c.args.pin c.in-Some.id _ (rw (c.as_slice-lists.ensures.value, c.self.view_is) at c.in-Some.ensures.next)
 
 pub loop-lists-preserved-in_ok-push-in-Some : goal.loop-lists-preserved-in_ok-push-in-Some
 loop-lists-preserved-in_ok-push-in-Some g c =
     let a = c.args in
-    let above = id_above a.kind c.loop-lists.last _ c.in-Some.id c.in-Some.ensures.next in
-    let passed : ArePassed (Components a.kind c.loop-lists.last) c.args.self.now c.next_id.new.cursors.items = rw (c.as_slice-lists.ensures.value, c.self.view_is) at c.in-Some.ensures.passed in
-    let ahead = others_ahead a.kind c.in-Some.id c.args.self.now c.next_id.new.cursors.items c.loop-lists.last above passed in
+    let above = id_above a.kind c.loop-lists.last a.time a.pin _ c.in-Some.id c.in-Some.ensures.next in
+    let passed : ArePassed (Components a.kind c.loop-lists.last) (shown_parts a.time a.pin c.args.self.now) c.next_id.new.cursors.items = rw (c.as_slice-lists.ensures.value, c.self.view_is) at c.in-Some.ensures.passed in
+    let ahead = others_ahead a.kind c.in-Some.id (shown_parts a.time a.pin c.args.self.now) c.next_id.new.cursors.items c.loop-lists.last above passed in
     let so_far = c.loop-lists.invariant in
     let found = c.in_ok-found-in-Some in
     record {
@@ -59,9 +59,9 @@ loop-lists-preserved-in_ok-push-in-Some g c =
 pub loop-lists-preserved : goal.loop-lists-preserved
 loop-lists-preserved g c =
     let a = c.args in
-    let above = id_above a.kind c.loop-lists.last _ c.in-Some.id c.in-Some.ensures.next in
-    let passed : ArePassed (Components a.kind c.loop-lists.last) c.args.self.now c.next_id.new.cursors.items = rw (c.as_slice-lists.ensures.value, c.self.view_is) at c.in-Some.ensures.passed in
-    let ahead = others_ahead a.kind c.in-Some.id c.args.self.now c.next_id.new.cursors.items c.loop-lists.last above passed in
+    let above = id_above a.kind c.loop-lists.last a.time a.pin _ c.in-Some.id c.in-Some.ensures.next in
+    let passed : ArePassed (Components a.kind c.loop-lists.last) (shown_parts a.time a.pin c.args.self.now) c.next_id.new.cursors.items = rw (c.as_slice-lists.ensures.value, c.self.view_is) at c.in-Some.ensures.passed in
+    let ahead = others_ahead a.kind c.in-Some.id (shown_parts a.time a.pin c.args.self.now) c.next_id.new.cursors.items c.loop-lists.last above passed in
     let so_far = c.loop-lists.invariant in
     record {
       passed = ahead;
