@@ -21,5 +21,6 @@ pub mod Near
 pub mod Hinted
 pub mod Counted
 pub mod Turns
+pub mod OneNumber
 pub mod Unions
 pub mod Shown

@@ -16,17 +16,17 @@ use Rattle.as_of_index.proofs.Ordered.{has_at}
 
 -- ---- what is there with a number
 
-take_one : {X : Type 0} (xs : List X) (i : ℕ) (x : X) → slice_get xs i ≡ Some x → take (suc i) xs ≡ take i xs ++ x ∷ []
+pub take_one : {X : Type 0} (xs : List X) (i : ℕ) (x : X) → slice_get xs i ≡ Some x → take (suc i) xs ≡ take i xs ++ x ∷ []
 take_one [] i x e = absurd cc
 take_one (y ∷ xs) zero x e = let same : y ≡ x = cc in ap (λ z. z ∷ []) same
 take_one (y ∷ xs) (suc i) x e = ap (λ l. y ∷ l) (take_one xs i x e)
 
-has_there : {X : Type 0} (xs : List X) (i : ℕ) (x : X) → slice_get xs i ≡ Some x → Has (drop i xs) x
+pub has_there : {X : Type 0} (xs : List X) (i : ℕ) (x : X) → slice_get xs i ≡ Some x → Has (drop i xs) x
 has_there [] i x e = absurd cc
 has_there (y ∷ xs) zero x e = let same : y ≡ x = cc in inl same
 has_there (y ∷ xs) (suc i) x e = has_there xs i x e
 
-has_more : {X : Type 0} (xs : List X) (i : ℕ) (x : X) → Has (drop (suc i) xs) x → Has (drop i xs) x
+pub has_more : {X : Type 0} (xs : List X) (i : ℕ) (x : X) → Has (drop (suc i) xs) x → Has (drop i xs) x
 has_more [] zero x h = h
 has_more [] (suc i) x h = h
 has_more (y ∷ xs) zero x h = inr h

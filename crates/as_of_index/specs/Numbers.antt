@@ -1,7 +1,9 @@
 -- The numbers that rows of two lists have in the one list of all these rows.
-use Rattle.std.specs.Prelude.{ℕ, ◌+◌, List, Option, Some, None, slice_get}
+use Rattle.std.specs.Prelude.{◌≡◌, ◌≤◌, ℕ, ◌+◌, List, [], length, take, drop, Option, Some, None, slice_get}
 use Rattle.std.specs.List.{count_by}
 use Rattle.std.specs.Ordering.{is_lt}
+use Rattle.std.specs.declared.cmp.Ordering.TheVariants.{Less}
+use Rattle.history_model.specs.InOrder.{Has}
 use Rattle.segment.specs.declared.place.RowPlace.{RowPlace}
 use Rattle.as_of_index.specs.Places.{place_cmp}
 
@@ -19,3 +21,31 @@ number_in_both own other i = i + count_below (slice_get own i) other
 pub record TwoLists : Type 0 where
   pub first : List RowPlace
   pub second : List RowPlace
+
+-- numbers that rows have among the rows of both lists, for the first rows of each list
+pub record KnownNumbers : Type 0 where
+  pub first : List ℕ
+  pub second : List ℕ
+
+abbrev pub no_numbers : KnownNumbers
+no_numbers = record { first = []; second = [] }
+
+-- they are the numbers of the first rows of a list
+abbrev pub AreNumbersOf : List RowPlace → List RowPlace → List ℕ → Type 0
+AreNumbersOf own other numbers =
+    (i n : ℕ) → slice_get numbers i ≡ Some n → n ≡ number_in_both own other i
+
+-- each of the places is below each of the others
+abbrev pub AreBelow : List RowPlace → List RowPlace → Type 0
+AreBelow places others = (p q : RowPlace) → Has places p → Has others q → place_cmp p q ≡ Less
+
+-- the numbers of those rows of two lists that come first among the rows of both
+pub record AreKnown (lists : TwoLists) (known : KnownNumbers) : Type 0 where
+  pub first_within : length known.first ≤ length lists.first
+  pub second_within : length known.second ≤ length lists.second
+  pub first : AreNumbersOf lists.first lists.second known.first
+  pub second : AreNumbersOf lists.second lists.first known.second
+  pub first_below :
+      AreBelow (take (length known.first) lists.first) (drop (length known.second) lists.second)
+  pub second_below :
+      AreBelow (take (length known.second) lists.second) (drop (length known.first) lists.first)

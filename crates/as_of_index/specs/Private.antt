@@ -5,3 +5,4 @@ pub mod Search
 pub mod Current
 pub mod Chosen
 pub mod Merging
+pub mod Numbers

@@ -274,7 +274,7 @@ pub(crate) fn lesser(best: Option<u128>, found: Option<u128>) -> Option<u128>
     }
 }
 
-fn compare(a: &RowPlace, b: &RowPlace) -> Ordering
+pub(crate) fn compare(a: &RowPlace, b: &RowPlace) -> Ordering
     ensures { result ≡ place_cmp a.now b.now }
 {
     a.key.compare(&b.key)

@@ -3,10 +3,11 @@
 use crate::lists::{Indexed, index_all, places_of, post_links};
 use crate::releases::{lists_of, rows_of_imports};
 use crate::{edges, subjects};
-use as_of_index::{Numbers, PlaceList};
+use as_of_index::{NumberTable, Numbers, PlaceList};
 use history_model::StampedRow;
 use links::{Links, Merging, Sealed, laws};
 use std::alloc::Global;
+use std::process::Abort;
 use std::test::Fail;
 
 /// The places of a list of rows.
@@ -28,13 +29,8 @@ fn numbers_of<'a>(first: &'a PlaceList, second: &'a PlaceList) -> Result<Numbers
     Ok(Numbers::new(first, second))
 }
 
-#[test]
-fn rows_of_two_lists_are_numbered_as_in_one(rt: HostRuntime) -> Result<(), Fail> {
-    let alloc = rt.alloc();
-    let rows = edges::made_rows(alloc)?;
-    let first = listed(alloc, &rows_of_imports(alloc, &rows, 1, 3)?)?;
-    let second = listed(alloc, &rows_of_imports(alloc, &rows, 4, 6)?)?;
-    let numbers = numbers_of(&first, &second)?;
+/// Each row of either list has the number that it has in the list of all rows.
+fn check_numbers(rt: &impl Abort, rows: &[StampedRow], numbers: &Numbers<'_>) {
     let mut of_first = 0u32;
     let mut of_second = 0u32;
     for (number, stamped) in rows.iter().enumerate() {
@@ -50,6 +46,34 @@ fn rows_of_two_lists_are_numbered_as_in_one(rt: HostRuntime) -> Result<(), Fail>
     // A row that isn't there keeps its number.
     assert_eq!(rt; numbers.of_first(of_first), of_first);
     assert_eq!(rt; numbers.of_second(u32::MAX), u32::MAX);
+}
+
+#[test]
+fn rows_of_two_lists_are_numbered_as_in_one(rt: HostRuntime) -> Result<(), Fail> {
+    let alloc = rt.alloc();
+    let rows = edges::made_rows(alloc)?;
+    let first = listed(alloc, &rows_of_imports(alloc, &rows, 1, 3)?)?;
+    let second = listed(alloc, &rows_of_imports(alloc, &rows, 4, 6)?)?;
+    check_numbers(&rt, &rows, &numbers_of(&first, &second)?);
+    Ok(())
+}
+
+#[test]
+fn a_table_that_grows_tells_the_same_numbers(rt: HostRuntime) -> Result<(), Fail> {
+    let alloc = rt.alloc();
+    let rows = edges::made_rows(alloc)?;
+    let first = listed(alloc, &rows_of_imports(alloc, &rows, 1, 3)?)?;
+    let second = listed(alloc, &rows_of_imports(alloc, &rows, 4, 6)?)?;
+    let first = first.places();
+    let second = second.places();
+    if first.len() > 1_000 || second.len() > 1_000 {
+        return Err(Fail::from("too many"));
+    }
+    let mut table = NumberTable::new(alloc);
+    table.extend(first, second, 15)?;
+    check_numbers(&rt, &rows, &Numbers::with_table(first, second, &table));
+    table.extend(first, second, 1_000)?;
+    check_numbers(&rt, &rows, &Numbers::with_table(first, second, &table));
     Ok(())
 }
 

@@ -1,0 +1,128 @@
+//! A table of the numbers that rows of two lists have in the one list of all these rows.
+
+ghost use Rattle.std.specs.Prelude.{◌≡◌, ◌<◌, ◌+◌, ◌^◌, length, IsTrue, IfOk};
+ghost use Rattle.history_model.specs.InOrder.{IsAscending};
+ghost use Rattle.as_of_index.specs.Places.{place_cmp};
+ghost use Rattle.as_of_index.specs.Numbers.{AreKnown, TwoLists, no_numbers};
+ghost use Rattle.as_of_index.specs.Private.Numbers.{ComesBefore};
+
+use crate::search::compare;
+use segment::RowPlace;
+use std::alloc::{AllocError, Global};
+use std::cmp::Ordering;
+use std::marker::Model;
+
+/// The numbers of the first rows of two lists among the rows of both, in key order.
+#[derive(Drop)]
+pub struct NumberTable {
+    first: Vec<u32>,
+    second: Vec<u32>,
+}
+
+impl Model for NumberTable {
+    ghost use Rattle.as_of_index.specs.Numbers.{KnownNumbers};
+
+    ghost Value = { KnownNumbers };
+
+    ghost view = { λ a. record { first = a.first.items; second = a.second.items } };
+}
+
+/// Whether the place with a number is there, and below the other list's, if that is there.
+fn comes_before(own: &[RowPlace], i: usize, other: &[RowPlace], j: usize) -> bool
+    ensures { IsTrue result → ComesBefore own.now i other.now j }
+{
+    match (own.get(i), other.get(j)) {
+        (Some(p), Some(q)) => match compare(p, q) {
+            Ordering::Less => true,
+            Ordering::Equal | Ordering::Greater => false,
+        },
+        (Some(_), None) => true,
+        (None, _) => false,
+    }
+}
+
+/// Adds the number of the next row in key order. It adds none where all are known, or where both
+/// lists have the next key.
+fn push_next(
+    first: &[RowPlace],
+    second: &[RowPlace],
+    first_known: &mut Vec<u32>,
+    second_known: &mut Vec<u32>,
+) -> Result<(), AllocError>
+    requires first { IsAscending place_cmp first.now }
+    requires second { IsAscending place_cmp second.now }
+    requires few { length first.now + length second.now < 2 ^ 32 }
+    requires known { AreKnown (record { first = first.now; second = second.now })
+        (record { first = first_known.old.items; second = second_known.old.items }) }
+    ensures { AreKnown (record { first = first.now; second = second.now })
+        (record { first = first_known.new.items; second = second_known.new.items }) }
+{
+    let i = first_known.len();
+    let j = second_known.len();
+    if comes_before(first, i, second, j) {
+        first_known.push(number_at(i, j)?)?;
+    } else if comes_before(second, j, first, i) {
+        second_known.push(number_at(j, i)?)?;
+    }
+    Ok(())
+}
+
+/// The number of row i, where j rows of the other list stand before it.
+fn number_at(i: usize, j: usize) -> Result<u32, AllocError>
+    ensures { IfOk result (λ n. n ≡ i + j) }
+{
+    match i.checked_add(j) {
+        Some(number) => u32::try_from(number).map_err(|_| AllocError),
+        None => Err(AllocError),
+    }
+}
+
+impl NumberTable {
+    /// No numbers. It takes no memory; later calls take theirs from `alloc`.
+    pub fn new(alloc: Global) -> NumberTable
+        ensures none { result ≡ no_numbers }
+        ensures known { (lists : TwoLists) → AreKnown lists result }
+    {
+        NumberTable {
+            first: Vec::new(alloc),
+            second: Vec::new(alloc),
+        }
+    }
+
+    pub(crate) fn first(&self) -> &[u32]
+        ensures { result.now ≡ self.now.first }
+    {
+        self.first.as_slice()
+    }
+
+    pub(crate) fn second(&self) -> &[u32]
+        ensures { result.now ≡ self.now.second }
+    {
+        self.second.as_slice()
+    }
+
+    /// Adds the numbers of up to so many rows more, in key order. The first call takes the memory
+    /// for all. After an `Err` the table has what was added before it.
+    pub fn extend(
+        &mut self,
+        first: &[RowPlace],
+        second: &[RowPlace],
+        n: usize,
+    ) -> Result<(), AllocError>
+        requires first { IsAscending place_cmp first.now }
+        requires second { IsAscending place_cmp second.now }
+        requires few { length first.now + length second.now < 2 ^ 32 }
+        requires known { AreKnown (record { first = first.now; second = second.now }) self.old }
+        ensures { AreKnown (record { first = first.now; second = second.now }) self.new }
+    {
+        self.first
+            .reserve(first.len().saturating_sub(self.first.len()))?;
+        self.second
+            .reserve(second.len().saturating_sub(self.second.len()))?;
+        let left = first.len() + second.len();
+        for _ in 0..n.min(left) {
+            push_next(first, second, &mut self.first, &mut self.second)?;
+        }
+        Ok(())
+    }
+}
