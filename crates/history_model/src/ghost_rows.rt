@@ -1,7 +1,8 @@
 //! Rows that only clauses see.
 
-ghost use Rattle.std.specs.Prelude.{◌≡◌, ◌++◌, ◌∷◌, [], length, take, OnOk, OnErr};
+ghost use Rattle.std.specs.Prelude.{◌≡◌, ◌++◌, ◌+◌, ◌^◌, ◌<◌, ◌∷◌, [], length, take, OnOk, OnErr};
 
+use crate::shown::ShownRows;
 use crate::stamped::StampedRow;
 use std::alloc::{AllocError, Global};
 use std::marker::Model;
@@ -10,25 +11,53 @@ use std::snapshot::Snapshot;
 /// A list of rows that only clauses see: how many there are is all that is held of them.
 #[derive(Drop)]
 pub struct GhostRows {
-    rows: Vec<Snapshot<StampedRow>>,
+    count: usize,
+    rows: ShownRows,
 }
 
 impl Model for GhostRows {
-    ghost use Rattle.std.specs.Prelude.{List, map};
+    ghost use Rattle.std.specs.Prelude.{List, ◌≡◌, length};
     ghost use Rattle.history_model.specs.declared.stamped.StampedRow.{StampedRow};
 
     ghost Value = { List StampedRow };
 
-    ghost view = { λ s. map (λ r. r.value) s.rows.items };
+    ghost view = { λ s. s.rows.rows };
+
+    ghost invariant = { λ s. s.count ≡ length s.rows.rows };
 }
 
 impl GhostRows {
+    ghost use Rattle.history_model.specs.Lists.{AreLists, union};
+
     /// No rows.
-    pub fn new(alloc: Global) -> GhostRows
+    pub fn new(_alloc: Global) -> GhostRows
         ensures { result ≡ [] }
     {
         GhostRows {
-            rows: Vec::new(alloc),
+            count: 0,
+            rows: ShownRows::any(&()),
+        }
+    }
+
+    /// The same rows. It takes no memory.
+    pub fn copy(&self) -> GhostRows
+        ensures { result ≡ self.now }
+    {
+        GhostRows {
+            count: self.count,
+            rows: ShownRows::any(self),
+        }
+    }
+
+    /// The rows of two lists in key order. It takes no memory.
+    pub fn union(a: GhostRows, b: GhostRows) -> GhostRows
+        requires lists { AreLists (a ∷ b ∷ []) }
+        requires few { length a + length b < 2 ^ 64 }
+        ensures { result ≡ union a b }
+    {
+        GhostRows {
+            count: a.count + b.count,
+            rows: ShownRows::any(&(Snapshot::of(&a), Snapshot::of(&b))),
         }
     }
 
@@ -37,23 +66,27 @@ impl GhostRows {
         ensures ok { OnOk result (self.new ≡ self.old ++ row.now ∷ []) }
         ensures err { OnErr result (self.new ≡ self.old) }
     {
-        match self.rows.push(Snapshot::of(row)) {
-            Ok(()) => Ok(()),
-            Err(_) => Err(AllocError),
-        }
+        let Some(count) = self.count.checked_add(1) else {
+            return Err(AllocError);
+        };
+        let rows = ShownRows::any(&(Snapshot::of(self), Snapshot::of(row)));
+        *self = GhostRows { count, rows };
+        Ok(())
     }
 
     /// How many rows there are.
     pub fn len(&self) -> usize
         ensures { result ≡ length self.now }
     {
-        self.rows.len()
+        self.count
     }
 
     /// Takes away all rows from a place on: what `len` answered once is left.
     pub fn cut_to(&mut self, len: usize)
         ensures { self.new ≡ take len self.old }
     {
-        self.rows.truncate(len);
+        let count = self.count.min(len);
+        let rows = ShownRows::any(&(Snapshot::of(self), len));
+        *self = GhostRows { count, rows };
     }
 }

@@ -8,6 +8,7 @@ pub mod laws;
 pub mod listing;
 pub mod plain;
 mod receipt;
+mod shown;
 mod stamped;
 
 pub use component::{IS_A, subject_of};

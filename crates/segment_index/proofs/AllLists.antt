@@ -1,5 +1,5 @@
 -- What is kept of the rows of several segments, with one segment more, and with one in the place of two.
-use Rattle.std.proofs.Common.{◌≡◌, ℕ, suc, ◌<◌, ◌≤◌, List, [], ◌∷◌, ◌++◌, length, map, refl, sym, ap, subst, ◌∙◌, arith}
+use Rattle.std.proofs.Common.{◌≡◌, ℕ, suc, List, [], ◌∷◌, ◌++◌, length, map, refl, sym, ap, subst, ◌∙◌}
 use Rattle.std.specs.Prelude.{slice_set, remove}
 use Rattle.std.specs.List.{AllByRecursion}
 use Rattle.std.proofs.lemmas.List.{length-map}
@@ -12,10 +12,10 @@ use Rattle.as_of_index.specs.Places.{place_cmp, EachApart, ArePlaces, Lists}
 use Rattle.as_of_index.specs.Private.Search.{ShareNoKey}
 use Rattle.as_of_index.proofs.Storing.{places_of_lists, lists_more, lists_merged}
 use Rattle.term_prefix.specs.Terms.{TermAt}
-use Rattle.term_prefix.specs.Pushed.{IsPosted, ArePosted}
+use Rattle.term_prefix.specs.Pushed.{ArePosted}
 use Rattle.term_prefix.proofs.Posted.{posted_terms_more, posted_terms_merged}
 use Rattle.links.specs.Edges.{Edges}
-use Rattle.links.specs.Laws.{ArePostingsOf, EachPosted}
+use Rattle.links.specs.Laws.{EachPosted}
 use Rattle.links.proofs.Posted.{edges_more, edges_merged}
 use Rattle.segment_index.specs.Indexed.{IsIndexed, AreIndexed}
 

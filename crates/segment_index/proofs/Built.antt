@@ -84,7 +84,7 @@ ends_within rows row at place here is =
 
 -- ---- the first rows
 
-first_places : (n at : ℕ) (rows : List StampedRow) → take n (map (λ (x : StampedRow × RowPlace). x.1) (with_places at rows)) ≡ map (λ (x : StampedRow × RowPlace). x.1) (with_places at (take n rows))
+pub first_places : (n at : ℕ) (rows : List StampedRow) → take n (map (λ (x : StampedRow × RowPlace). x.1) (with_places at rows)) ≡ map (λ (x : StampedRow × RowPlace). x.1) (with_places at (take n rows))
 first_places zero at rows = refl
 first_places (suc n) at [] = refl
 first_places (suc n) at (r ∷ rows) = ap (λ (l : List RowPlace). row_place r at ∷ l) (first_places n (at + record_len r) rows)
@@ -129,7 +129,7 @@ may_cut old more now len len_is now_is = len_is ∙ ap length_of (sym (cut_back 
 -- ---- rows one after the other
 
 -- the first of some rows have no more bytes than all of them
-segment_within : (n : ℕ) (rows : List StampedRow) → length (segment_of (take n rows)) ≤ length (segment_of rows)
+pub segment_within : (n : ℕ) (rows : List StampedRow) → length (segment_of (take n rows)) ≤ length (segment_of rows)
 unfolding segment_of
 segment_within zero rows = omega arith
 segment_within (suc n) [] = omega arith

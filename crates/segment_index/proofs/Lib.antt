@@ -1,2 +1,5 @@
 pub mod Built
 pub mod AllLists
+mod Moving
+mod Outputs
+mod UnderWay

@@ -5,4 +5,10 @@ pub use Rattle.segment.specs.Standing
 pub use Rattle.as_of_index.specs.Places
 pub use Rattle.term_prefix.specs.Pushed
 pub use Rattle.links.specs.Laws
+pub use Rattle.merge.specs.Merged
+pub use Rattle.as_of_index.specs.Numbers
+pub use Rattle.links.specs.MergedEdges
 pub mod Indexed
+pub mod Output
+pub mod Moved
+pub mod UnderWay

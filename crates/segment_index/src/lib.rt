@@ -2,10 +2,15 @@
 //! it, its folded term, its link or reference, and its subject.
 #![tactic(auto)]
 
+mod added_places;
 mod builder;
+mod index_merge;
+mod output_postings;
+mod postings_merge;
 mod sealed;
 mod store_index;
 
 pub use builder::{IndexBuilder, IndexLength};
+pub use index_merge::{IndexMerge, MergeMark};
 pub use sealed::SegmentIndex;
 pub use store_index::StoreIndex;

@@ -1,13 +1,15 @@
 //! The index of all segments of a store.
 
-ghost use Rattle.std.specs.Prelude.{◌≡◌, ◌<◌, ◌≤◌, ◌++◌, ◌∷◌, [], length, map, vec_items, remove};
-ghost use Rattle.std.specs.Prelude.{slice_set, IfOk};
+ghost use Rattle.std.specs.Prelude.{◌≡◌, ◌<◌, ◌≤◌, ◌+◌, ◌^◌, ◌++◌, ◌∷◌, [], length, map, vec_items, remove};
+ghost use Rattle.std.specs.Prelude.{slice_set, IfOk, List, Some, slice_get, IsSome, IfSome, true};
 ghost use Rattle.history_model.specs.Lists.{AreLists};
 ghost use Rattle.as_of_index.specs.Places.{ArePlaces, Lists, max_lists};
 ghost use Rattle.term_prefix.specs.Pushed.{ArePosted};
 ghost use Rattle.links.specs.Laws.{EachPosted};
 ghost use Rattle.segment_index.specs.Indexed.{AreIndexed};
 
+use crate::output_postings::OutputPostings;
+use crate::postings_merge::PostingsMerge;
 use crate::sealed::SegmentIndex;
 use as_of_index::{Index, PerList, PlaceList};
 use history_model::GhostRows;
@@ -25,18 +27,22 @@ pub struct StoreIndex {
     terms: Terms,
     links: Links,
     rows: PerList<GhostRows>,
+    /// How far what is posted of two of the segments is merged, which no value shows.
+    merging: Option<PostingsMerge>,
 }
 
 impl Model for StoreIndex {
     ghost use Rattle.std.specs.Prelude.{List};
     ghost use Rattle.history_model.specs.declared.stamped.StampedRow.{StampedRow};
     ghost use Rattle.segment_index.specs.Indexed.{AreIndexed};
+    ghost use Rattle.segment_index.specs.UnderWay.{IsUnderWay};
 
     ghost Value = { List (List StampedRow) };
 
     ghost view = { λ a. a.rows };
 
-    ghost invariant = { λ a. AreIndexed a.rows a.places a.terms a.links };
+    ghost invariant = { λ a. AreIndexed a.rows a.places a.terms a.links
+        × IsUnderWay a.places a.terms a.links a.merging };
 }
 
 /// An index of these places.
@@ -65,6 +71,10 @@ fn per_list<T: Drop>(alloc: Global, items: Vec<T>) -> Result<PerList<T>, AllocEr
 }
 
 impl StoreIndex {
+    ghost use Rattle.history_model.specs.declared.stamped.StampedRow.{StampedRow};
+    ghost use Rattle.history_model.specs.Lists.{union};
+    ghost use Rattle.segment_index.specs.Output.{HasPostings};
+
     /// No segments, with room for all that there may be.
     pub fn new(alloc: Global) -> Result<StoreIndex, AllocError>
         ensures { IfOk result (λ index. index ≡ []) }
@@ -74,6 +84,7 @@ impl StoreIndex {
             terms: Terms::new(alloc)?,
             links: Links::new(alloc)?,
             rows: PerList::new(alloc)?,
+            merging: None,
         })
     }
 
@@ -97,6 +108,7 @@ impl StoreIndex {
             terms: per_list(alloc, terms)?,
             links: per_list(alloc, links)?,
             rows: per_list(alloc, rows)?,
+            merging: None,
         })
     }
 
@@ -135,6 +147,48 @@ impl StoreIndex {
         self.terms.replace_two(i, j, terms);
         self.links.replace_two(i, j, links);
         self.rows.replace_two(i, j, rows);
+        self.merging = None;
+    }
+
+    /// Merges what is posted of the rows of two segments by up to `n` postings of each kind, or to
+    /// the end, and then gives what is posted of the rows of both. An `Err` may leave them merged
+    /// further than before.
+    pub(crate) fn merge_postings(
+        &mut self,
+        alloc: Global,
+        i: usize,
+        j: usize,
+        n: u32,
+        all: bool,
+    ) -> Result<Option<OutputPostings>, AllocError>
+        requires within { (i < length self.old) × (j < length self.old) }
+        requires lists { (a b : List StampedRow) → slice_get self.old i ≡ Some a
+            → slice_get self.old j ≡ Some b
+            → AreLists (a ∷ b ∷ []) × (length a + length b < 2 ^ 32) }
+        ensures index { self.new ≡ self.old }
+        ensures all { IfOk result (λ p. all ≡ true → IsSome p) }
+        ensures posted { (a b : List StampedRow) → slice_get self.old i ≡ Some a
+            → slice_get self.old j ≡ Some b
+            → IfOk result (λ p. IfSome p (HasPostings (union a b))) }
+    {
+        let mut merge = PostingsMerge::resume(self.merging.take(), alloc, i, j);
+        let count = if all { usize::MAX } else { n as usize };
+        if let Err(error) = merge.advance(&self.places, &self.terms, &self.links, count) {
+            self.merging = Some(merge);
+            return Err(error);
+        }
+        if all {
+            return Ok(Some(merge.seal()));
+        }
+        self.merging = Some(merge);
+        Ok(None)
+    }
+
+    /// Forgets how far what is posted of two segments was merged.
+    pub fn forget_merge(&mut self)
+        ensures { self.new ≡ self.old }
+    {
+        self.merging = None;
     }
 
     /// The place of each row.

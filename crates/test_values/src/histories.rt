@@ -10,7 +10,6 @@ use rf2_values::{
 use std::alloc::{AllocError, Global};
 use std::mem::size_of;
 use std::process::Abort;
-use std::snapshot::Snapshot;
 use std::test::Fail;
 
 const CORE: u64 = 900_000_000_000_207_008;
@@ -413,9 +412,25 @@ fn shown_rows_take_rows_and_no_memory(rt: HostRuntime) -> Result<(), Fail> {
     for row in first_release(alloc)? {
         assert!(rt; shown.push(&StampedRow { row, import: 1 }).is_ok());
     }
-    let all = shown.len();
+    let all = shown.copy();
     shown.cut_to(2);
-    assert_eq!(rt; (all, shown.len()), (6, 2));
-    assert_eq!(rt; size_of::<Snapshot<StampedRow>>(), 0);
+    assert_eq!(rt; (all.len(), shown.len()), (6, 2));
+    assert_eq!(rt; size_of::<GhostRows>(), size_of::<usize>());
+    Ok(())
+}
+
+#[test]
+fn shown_rows_of_two_lists_are_counted_together(rt: HostRuntime) -> Result<(), Fail> {
+    let alloc = rt.alloc();
+    let mut odd = GhostRows::new(alloc);
+    let mut even = GhostRows::new(alloc);
+    let mut import = 1;
+    for row in first_release(alloc)? {
+        let list = if import == 1 { &mut odd } else { &mut even };
+        assert!(rt; list.push(&StampedRow { row, import }).is_ok());
+        import = 2;
+    }
+    assert_eq!(rt; (odd.len(), even.len()), (1, 5));
+    assert_eq!(rt; GhostRows::union(odd, even).len(), 6);
     Ok(())
 }

@@ -1,0 +1,186 @@
+-- What is posted of two segments, merged while their store goes on.
+use Rattle.std.specs.Prelude.{Some, None, Option, slice_get, slice_index_or, option_map}
+use Rattle.std.proofs.Common.{◌≡◌, ℕ, zero, suc, ◌+◌, ◌-◌, ◌^◌, ◌<◌, List, [], ◌∷◌, ◌++◌, length, map, get_or, length-append, refl, sym, ap, subst, ◌∙◌, arith}
+use Rattle.std.proofs.lemmas.Option.{slice_get-map, slice_get-get_or}
+use Rattle.history_model.specs.declared.stamped.StampedRow.{StampedRow}
+use Rattle.history_model.specs.InOrder.{IsAscending}
+use Rattle.history_model.specs.Lists.{AreLists, union}
+use Rattle.segment.specs.declared.place.RowPlace.{RowPlace}
+use Rattle.segment.specs.Standing.{places_of}
+use Rattle.as_of_index.specs.Numbers.{TwoLists}
+use Rattle.as_of_index.specs.Places.{Lists, place_cmp}
+use Rattle.term_prefix.specs.Terms.{TermAt}
+use Rattle.term_prefix.specs.Pushed.{IsPosted, ArePosted}
+use Rattle.term_prefix.specs.Merged.{AreMerged, terms_left}
+use Rattle.term_prefix.proofs.Posted.{posted_terms_are_few}
+use Rattle.term_prefix.proofs.InTurns.{merged_terms_are_posted}
+use Rattle.links.specs.declared.postings.EdgeCount.{EdgeCount}
+use Rattle.links.specs.Edges.{Edges, no_edges}
+use Rattle.links.specs.Laws.{ArePostingsOf, EachPosted}
+use Rattle.links.specs.MergedEdges.{IsMergeOf, AtMostEach, edges_left, less_each}
+use Rattle.links.proofs.MergedEdges.{postings_are_few, merged_are_posted}
+use Rattle.segment_index.specs.declared.output_postings.OutputPostings.{OutputPostings}
+use Rattle.segment_index.specs.declared.postings_merge.PostingsMerge.{PostingsMerge}
+use Rattle.segment_index.specs.Indexed.{AreIndexed}
+use Rattle.segment_index.specs.Output.{HasPostings}
+use Rattle.segment_index.specs.UnderWay.{IsPostingsMerge, IsUnderWay, places_at, terms_at, edges_at}
+use Rattle.segment_index.proofs.Built.{ascending_places}
+use Rattle.segment_index.proofs.Moving.{length-places}
+
+abbrev pub two : List RowPlace → List RowPlace → TwoLists
+two first second = record { first = first; second = second }
+
+-- ---- the item at a place
+
+pub item_is : {X : Type 0} (xs : List X) (i : ℕ) (x d : X) → slice_get xs i ≡ Some x → slice_index_or xs i d ≡ x
+item_is [] i x d at = absurd cc
+item_is (y ∷ xs) zero x d at = let same : Some y ≡ Some x = at in cc
+item_is (y ∷ xs) (suc i) x d at = item_is xs i x d at
+
+pub item_read : {X : Type 0} (xs : List X) (i : ℕ) (x d : X) → i < length xs → x ≡ get_or xs i x → slice_index_or xs i d ≡ x
+item_read [] i x d within at = absurd (omega (arith, within))
+item_read (y ∷ xs) zero x d within at = sym at
+item_read (y ∷ xs) (suc i) x d within at = item_read xs i x d (omega (arith, within)) at
+
+pub read_at : {X : Type 0} (xs shown : List X) (i : ℕ) (x d : X) → shown ≡ xs → i < length xs → x ≡ get_or shown i x → slice_index_or xs i d ≡ x
+read_at {X = X} xs shown i x d same within at = item_read xs i x d within (subst (λ (l : List X). x ≡ get_or l i x) same at)
+
+item_before : {X : Type 0} (xs : List X) (y : X) (i : ℕ) (d : X) → i < length xs → slice_index_or (xs ++ y ∷ []) i d ≡ slice_index_or xs i d
+item_before [] y i d within = absurd (omega (arith, within))
+item_before (x ∷ xs) y zero d within = refl
+item_before (x ∷ xs) y (suc i) d within = item_before xs y i d (omega (arith, within))
+
+-- ---- a segment more
+
+module _ (places : List (List RowPlace)) (terms : List (List TermAt)) (links : List Edges) (p : List RowPlace) (ts : List TermAt) (e : Edges) (terms_many : length terms ≡ length places) (links_many : length links ≡ length places) where
+  two_before : (m : PostingsMerge) → m.i < length places → m.j < length places → places_at (places ++ p ∷ []) m ≡ places_at places m
+  two_before m i_in j_in =
+      ap (λ (l : List RowPlace). two l (slice_index_or (places ++ p ∷ []) m.j [])) (item_before places p m.i [] i_in) ∙ ap (λ (l : List RowPlace). two (slice_index_or places m.i []) l) (item_before places p m.j [] j_in)
+
+  still_merge : (m : PostingsMerge) → IsPostingsMerge places terms links m → IsPostingsMerge (places ++ p ∷ []) (terms ++ ts ∷ []) (links ++ e ∷ []) m
+  still_merge m is =
+      let more = length-append places (p ∷ []) in
+      let both = two_before m is.first_within is.second_within in
+      let i_terms = item_before terms ts m.i [] (omega (arith, is.first_within, terms_many)) in
+      let j_terms = item_before terms ts m.j [] (omega (arith, is.second_within, terms_many)) in
+      let i_links = item_before links e m.i no_edges (omega (arith, is.first_within, links_many)) in
+      let j_links = item_before links e m.j no_edges (omega (arith, is.second_within, links_many)) in
+      record {
+        first_within = omega (arith, is.first_within, more);
+        second_within = omega (arith, is.second_within, more);
+        terms_are = subst (λ (l : TwoLists). AreMerged l (terms_at (terms ++ ts ∷ []) m.i) (terms_at (terms ++ ts ∷ []) m.j) m.terms) (sym both)
+            (subst (λ (l : List TermAt). AreMerged (places_at places m) l (terms_at (terms ++ ts ∷ []) m.j) m.terms) (sym i_terms) (subst (λ (l : List TermAt). AreMerged (places_at places m) (terms_at terms m.i) l m.terms) (sym j_terms) is.terms_are));
+        links_are = subst (λ (l : TwoLists). IsMergeOf l (edges_at (links ++ e ∷ []) m.i) (edges_at (links ++ e ∷ []) m.j) m.links) (sym both)
+            (subst (λ (l : Edges). IsMergeOf (places_at places m) l (edges_at (links ++ e ∷ []) m.j) m.links) (sym i_links) (subst (λ (l : Edges). IsMergeOf (places_at places m) (edges_at links m.i) l m.links) (sym j_links) is.links_are));
+      }
+
+  pub still_under_way : (m : Option PostingsMerge) → IsUnderWay places terms links m → IsUnderWay (places ++ p ∷ []) (terms ++ ts ∷ []) (links ++ e ∷ []) m
+  still_under_way None is = tt
+  still_under_way (Some m) is = still_merge m is
+
+pub under_way_is : (places nplaces : List (List RowPlace)) (terms nterms : List (List TermAt)) (links nlinks : List Edges) (m : Option PostingsMerge) → nplaces ≡ places → nterms ≡ terms → nlinks ≡ links → IsUnderWay places terms links m → IsUnderWay nplaces nterms nlinks m
+under_way_is places nplaces terms nterms links nlinks m p t l is =
+    subst (λ x. IsUnderWay x nterms nlinks m) (sym p) (subst (λ x. IsUnderWay places x nlinks m) (sym t) (subst (λ x. IsUnderWay places terms x m) (sym l) is))
+
+-- ---- what is posted of the segment with a number
+
+posted_at : (lists : List (List StampedRow)) (terms : List (List TermAt)) (i : ℕ) (rows : List StampedRow) → ArePosted lists terms → slice_get lists i ≡ Some rows → IsPosted rows (terms_at terms i)
+posted_at [] terms i rows are at = absurd cc
+posted_at (r ∷ lists) [] i rows are at = absurd are
+posted_at (r ∷ lists) (ts ∷ terms) zero rows are at = let same : r ≡ rows = cc in subst (λ (l : List StampedRow). IsPosted l ts) same are.0
+posted_at (r ∷ lists) (ts ∷ terms) (suc i) rows are at = posted_at lists terms i rows are.1 at
+
+linked_at : (lists : List (List StampedRow)) (links : List Edges) (i : ℕ) (rows : List StampedRow) → EachPosted lists links → slice_get lists i ≡ Some rows → ArePostingsOf rows (edges_at links i)
+linked_at [] links i rows are at = absurd cc
+linked_at (r ∷ lists) [] i rows are at = absurd are
+linked_at (r ∷ lists) (e ∷ links) zero rows are at = let same : r ≡ rows = cc in subst (λ (l : List StampedRow). ArePostingsOf l e) same are.0
+linked_at (r ∷ lists) (e ∷ links) (suc i) rows are at = linked_at lists links i rows are.1 at
+
+pub placed_at : (lists : List (List StampedRow)) (places : List (List RowPlace)) (i : ℕ) (rows : List StampedRow) → Lists places lists → slice_get lists i ≡ Some rows → slice_index_or places i [] ≡ places_of rows
+placed_at lists places i rows same at = ap (λ (l : List (List RowPlace)). slice_index_or l i []) same ∙ item_is (map places_of lists) i (places_of rows) [] (slice_get-map places_of lists i ∙ ap (option_map places_of) at)
+
+-- ---- the two segments
+
+pub renumbered : (P : ℕ → ℕ → Type 0) (i j k l : ℕ) → k ≡ i → l ≡ j → P i j → P k l
+renumbered P i j k l first second is = subst (λ x. P x l) (sym first) (subst (P i) (sym second) is)
+
+module _ (lists : List (List StampedRow)) (places : List (List RowPlace)) (are : Lists places lists) (i j : ℕ) (i_in : i < length lists) (j_in : j < length lists)
+    (both : (a b : List StampedRow) → slice_get lists i ≡ Some a → slice_get lists j ≡ Some b → AreLists (a ∷ b ∷ []) × (length a + length b < 2 ^ 32)) where
+  abbrev a_rows : List StampedRow
+  a_rows = get_or lists i []
+
+  abbrev b_rows : List StampedRow
+  b_rows = get_or lists j []
+
+  a_at : slice_get lists i ≡ Some a_rows
+  a_at = slice_get-get_or lists i [] i_in
+
+  b_at : slice_get lists j ≡ Some b_rows
+  b_at = slice_get-get_or lists j [] j_in
+
+  pub first_ascends : IsAscending place_cmp (slice_index_or places i [])
+  first_ascends = subst (λ (l : List RowPlace). IsAscending place_cmp l) (sym (placed_at lists places i a_rows are a_at)) (ascending_places a_rows (both a_rows b_rows a_at b_at).0.ascending.0)
+
+  pub second_ascends : IsAscending place_cmp (slice_index_or places j [])
+  second_ascends = subst (λ (l : List RowPlace). IsAscending place_cmp l) (sym (placed_at lists places j b_rows are b_at)) (ascending_places b_rows (both a_rows b_rows a_at b_at).0.ascending.1.0)
+
+  pub both_few : length (slice_index_or places i []) + length (slice_index_or places j []) < 2 ^ 32
+  both_few =
+      let first = ap length (placed_at lists places i a_rows are a_at) ∙ length-places 0 a_rows in
+      let second = ap length (placed_at lists places j b_rows are b_at) ∙ length-places 0 b_rows in
+      omega (arith, first, second, (both a_rows b_rows a_at b_at).1)
+
+-- ---- a merge that went on
+
+pub went_on : (places : List (List RowPlace)) (terms : List (List TermAt)) (links : List Edges) (old m : PostingsMerge) (numbers : TwoLists) (a_places b_places : List RowPlace) (a_terms b_terms : List TermAt) (a_links b_links : Edges) → m.i ≡ old.i → m.j ≡ old.j → IsPostingsMerge places terms links old
+    → slice_index_or places old.i [] ≡ a_places → slice_index_or places old.j [] ≡ b_places → numbers ≡ two a_places b_places → terms_at terms old.i ≡ a_terms → terms_at terms old.j ≡ b_terms → edges_at links old.i ≡ a_links → edges_at links old.j ≡ b_links
+    → (AreMerged numbers a_terms b_terms old.terms → AreMerged numbers a_terms b_terms m.terms) → IsMergeOf numbers a_links b_links m.links → IsPostingsMerge places terms links m
+went_on places terms links old m numbers ap_ bp at bt al bl i j is pa pb two_is ta tb la lb merged linked =
+    let both : places_at places old ≡ numbers = ap (λ (l : List RowPlace). two l (slice_index_or places old.j [])) pa ∙ ap (two ap_) pb ∙ sym two_is in
+    let before : AreMerged numbers at bt old.terms = subst (λ (l : TwoLists). AreMerged l at bt old.terms) both (subst (λ (l : List TermAt). AreMerged (places_at places old) l bt old.terms) ta (subst (λ (l : List TermAt). AreMerged (places_at places old) (terms_at terms old.i) l old.terms) tb is.terms_are)) in
+    let terms_are : AreMerged (places_at places old) (terms_at terms old.i) (terms_at terms old.j) m.terms =
+    subst (λ (l : TwoLists). AreMerged l (terms_at terms old.i) (terms_at terms old.j) m.terms) (sym both) (subst (λ (l : List TermAt). AreMerged numbers l (terms_at terms old.j) m.terms) (sym ta) (subst (λ (l : List TermAt). AreMerged numbers at l m.terms) (sym tb) (merged before))) in
+    let links_are : IsMergeOf (places_at places old) (edges_at links old.i) (edges_at links old.j) m.links =
+    subst (λ (l : TwoLists). IsMergeOf l (edges_at links old.i) (edges_at links old.j) m.links) (sym both) (subst (λ (l : Edges). IsMergeOf numbers l (edges_at links old.j) m.links) (sym la) (subst (λ (l : Edges). IsMergeOf numbers al l m.links) (sym lb) linked)) in
+    record {
+      first_within = omega (arith, is.first_within, i);
+      second_within = omega (arith, is.second_within, j);
+      terms_are = renumbered (λ k l. AreMerged (two (slice_index_or places k []) (slice_index_or places l [])) (terms_at terms k) (terms_at terms l) m.terms) old.i old.j m.i m.j i j terms_are;
+      links_are = renumbered (λ k l. IsMergeOf (two (slice_index_or places k []) (slice_index_or places l [])) (edges_at links k) (edges_at links l) m.links) old.i old.j m.i m.j i j links_are;
+    }
+
+-- ---- the end of a merge
+
+-- more steps than there may be postings
+abbrev pub most_steps : ℕ
+most_steps = 18446744073709551615
+
+module _ (lists : List (List StampedRow)) (places : List (List RowPlace)) (terms : List (List TermAt)) (links : List Edges) (are : AreIndexed lists places terms links) (old m : PostingsMerge) (a b : List StampedRow)
+    (a_is : slice_get lists m.i ≡ Some a) (b_is : slice_get lists m.j ≡ Some b) (both : AreLists (a ∷ b ∷ [])) (few : length a + length b < 2 ^ 32) (merged : IsPostingsMerge places terms links m) where
+  two_are : places_at places m ≡ record { first = places_of a; second = places_of b }
+  two_are =
+      ap (λ (l : List RowPlace). two l (slice_index_or places m.j [])) (placed_at lists places m.i a are.places_are a_is) ∙ ap (λ (l : List RowPlace). two (places_of a) l) (placed_at lists places m.j b are.places_are b_is)
+
+  terms_end : terms_left (terms_at terms m.i) (terms_at terms m.j) m.terms ≡ terms_left (terms_at terms m.i) (terms_at terms m.j) old.terms - most_steps → IsPosted (union a b) m.terms.out
+  terms_end left =
+      let first = posted_at lists terms m.i a are.terms_are a_is in
+      let second = posted_at lists terms m.j b are.terms_are b_is in
+      let none : terms_left (terms_at terms m.i) (terms_at terms m.j) m.terms ≡ 0 = omega (arith, left, posted_terms_are_few a (terms_at terms m.i) first, posted_terms_are_few b (terms_at terms m.j) second, few) in
+      merged_terms_are_posted a b (terms_at terms m.i) (terms_at terms m.j) m.terms both first second (subst (λ (l : TwoLists). AreMerged l (terms_at terms m.i) (terms_at terms m.j) m.terms) two_are merged.terms_are) none
+
+  links_end : edges_left (edges_at links m.i) (edges_at links m.j) m.links ≡ less_each (edges_left (edges_at links m.i) (edges_at links m.j) old.links) most_steps → ArePostingsOf (union a b) m.links.edges
+  links_end left =
+      let first = linked_at lists links m.i a are.links_are a_is in
+      let second = linked_at lists links m.j b are.links_are b_is in
+      let x = postings_are_few a (edges_at links m.i) first in
+      let y = postings_are_few b (edges_at links m.j) second in
+      let none : AtMostEach 0 (edges_left (edges_at links m.i) (edges_at links m.j) m.links) = record {
+        links = omega (arith, ap (λ (n : EdgeCount). n.links) left, x.links, y.links, few);
+        references = omega (arith, ap (λ (n : EdgeCount). n.references) left, x.references, y.references, few);
+        subjects = omega (arith, ap (λ (n : EdgeCount). n.subjects) left, x.subjects, y.subjects, few);
+      } in
+      merged_are_posted a b (edges_at links m.i) (edges_at links m.j) m.links both first second (subst (λ (l : TwoLists). IsMergeOf l (edges_at links m.i) (edges_at links m.j) m.links) two_are merged.links_are) none
+
+  pub all_posted : (p : OutputPostings) → terms_left (terms_at terms m.i) (terms_at terms m.j) m.terms ≡ terms_left (terms_at terms m.i) (terms_at terms m.j) old.terms - most_steps
+      → edges_left (edges_at links m.i) (edges_at links m.j) m.links ≡ less_each (edges_left (edges_at links m.i) (edges_at links m.j) old.links) most_steps → p.terms ≡ m.terms.out → p.links ≡ m.links.edges → HasPostings (union a b) p
+  all_posted p t l terms_are links_are = record { terms_are = subst (IsPosted (union a b)) (sym terms_are) (terms_end t); links_are = subst (ArePostingsOf (union a b)) (sym links_are) (links_end l) }

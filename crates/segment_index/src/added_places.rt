@@ -1,0 +1,34 @@
+//! Places of rows that are taken, one behind the other.
+
+ghost use Rattle.std.specs.Prelude.{◌≡◌, ◌+◌, ◌^◌, ◌<◌, ◌++◌, IfOk, OnOk, OnErr};
+ghost use Rattle.std.specs.List.{sum_by};
+ghost use Rattle.segment_index.specs.Moved.{moved_from};
+
+use merge::Taken;
+use segment::RowPlace;
+use std::alloc::AllocError;
+
+/// Adds the places of rows whose records stand from a byte on, one behind the other, and answers
+/// the byte behind them. An `Err` changes nothing.
+pub(crate) fn add_places(
+    places: &mut Vec<RowPlace>,
+    from: u32,
+    taken: &[Taken],
+) -> Result<u32, AllocError>
+    requires { from + sum_by (λ t. t.place.bytes) taken.now < 2 ^ 32 }
+    ensures places { OnOk result (places.new.items ≡ places.old.items ++ moved_from from taken.now) }
+    ensures bytes { IfOk result (λ end. end ≡ from + sum_by (λ t. t.place.bytes) taken.now) }
+    ensures err { OnErr result (places.new.items ≡ places.old.items) }
+{
+    let len = places.len();
+    let mut at = from;
+    for t in taken {
+        let place = RowPlace { at, ..t.place };
+        if let Err(_) = places.push(place) {
+            places.truncate(len);
+            return Err(AllocError);
+        }
+        at += t.place.bytes;
+    }
+    Ok(at)
+}

@@ -1,0 +1,180 @@
+//! The index of a merge's output, as its rows are taken.
+
+ghost use Rattle.std.specs.Prelude.{◌≡◌, ◌≤◌, ◌<◌, ◌↔◌, ◌+◌, ◌-◌, ◌^◌, ◌++◌, ◌∷◌, [], List, length, take};
+ghost use Rattle.std.specs.Prelude.{IsTrue, IsSome, IfSome, IfOk, OnOk, OnErr, Some, slice_get, map, true};
+ghost use Rattle.std.specs.List.{AllZip, sum_by};
+ghost use Rattle.history_model.specs.declared.stamped.StampedRow.{StampedRow};
+ghost use Rattle.history_model.specs.Lists.{AreLists, union};
+ghost use Rattle.segment.specs.Records.{segment_of};
+ghost use Rattle.merge.specs.Merged.{StandsTaken};
+
+use crate::added_places::add_places;
+use crate::output_postings::{OutputPostings, go_on, no_postings};
+use crate::sealed::SegmentIndex;
+use crate::store_index::StoreIndex;
+use as_of_index::PlaceList;
+use history_model::GhostRows;
+use merge::{MergeProgress, Taken};
+use segment::RowPlace;
+use std::alloc::{AllocError, Global};
+use std::marker::Model;
+
+/// How far a merge is, for `cut_to`.
+#[derive(Clone, Copy)]
+pub struct MergeMark {
+    pub(crate) progress: MergeProgress,
+    pub(crate) rows: usize,
+    /// How many bytes the records of the rows taken have.
+    pub bytes: u32,
+}
+
+/// The index of the output of a merge of two segments, whose rows are taken in turns. What is
+/// posted of them is merged meanwhile, so that nothing is left to sort at the end.
+#[derive(Drop)]
+pub struct IndexMerge {
+    at: MergeMark,
+    places: Vec<RowPlace>,
+    a: GhostRows,
+    b: GhostRows,
+    /// What is posted of all rows, once it is merged.
+    postings: Option<OutputPostings>,
+}
+
+impl Model for IndexMerge {
+    ghost use Rattle.segment_index.specs.Output.{OutputRows, IsOutput};
+
+    ghost Value = { OutputRows };
+
+    ghost view = { λ m. record { a = m.a; b = m.b; taken = m.at.rows } };
+
+    ghost invariant = { λ m. IsOutput m.a m.b m.at m.places.items m.postings };
+}
+
+impl IndexMerge {
+    ghost use Rattle.segment_index.specs.Output.{left_rows, left_count, taken_rows, with_more};
+    ghost use Rattle.segment_index.specs.Output.{IsMarkOf};
+
+    /// The merge of two segments that a store lists, of which no row is taken yet. It takes no
+    /// memory; later calls take theirs from `alloc`.
+    pub fn new(alloc: Global, index: &StoreIndex, i: usize, j: usize) -> IndexMerge
+        requires places { i < j }
+        requires within { j < length index.now }
+        requires lists { AreLists index.now }
+        requires short { (a b : List StampedRow) → slice_get index.now i ≡ Some a
+            → slice_get index.now j ≡ Some b
+            → length (segment_of a) + length (segment_of b) < 2 ^ 32 }
+        ensures first { slice_get index.now i ≡ Some result.a }
+        ensures second { slice_get index.now j ≡ Some result.b }
+        ensures none { result.taken ≡ 0 }
+    {
+        let rows = index.rows();
+        let a = rows[i].copy();
+        let b = rows[j].copy();
+        let progress = MergeProgress::new(a.len(), b.len());
+        let postings = if progress.is_done() {
+            Some(no_postings(alloc))
+        } else {
+            None
+        };
+        IndexMerge {
+            at: MergeMark {
+                progress,
+                rows: 0,
+                bytes: 0,
+            },
+            places: Vec::new(alloc),
+            a,
+            b,
+            postings,
+        }
+    }
+
+    /// How many rows are left.
+    pub fn left(&self) -> u64
+        ensures { result ≡ left_count self.now }
+    {
+        self.at.progress.left()
+    }
+
+    /// Whether no row is left.
+    pub fn is_done(&self) -> bool
+        ensures { IsTrue result ↔ (left_count self.now ≡ 0) }
+    {
+        self.at.progress.is_done()
+    }
+
+    /// How far it is, for `cut_to`, and how many bytes the records of the rows taken have.
+    pub fn mark(&self) -> MergeMark
+        ensures mark { IsMarkOf self.now result }
+        ensures bytes { result.bytes ≡ length (segment_of (taken_rows self.now)) }
+    {
+        self.at
+    }
+
+    /// Takes up to `n` rows more, in key order, and answers their places in the two segments. Each
+    /// row costs one step, and what is posted of the two segments is merged by as many steps, or
+    /// to the end where no row is left. An `Err` changes nothing.
+    pub fn take(
+        &mut self,
+        alloc: Global,
+        index: &mut StoreIndex,
+        i: usize,
+        j: usize,
+        n: u32,
+    ) -> Result<Vec<Taken>, AllocError>
+        requires places { i < j }
+        requires first { slice_get index.old i ≡ Some self.old.a }
+        requires second { slice_get index.old j ≡ Some self.old.b }
+        ensures index { index.new ≡ index.old }
+        ensures ok { OnOk result (self.new ≡ with_more n self.old) }
+        ensures standing { IfOk result (λ taken. AllZip (StandsTaken self.old.a self.old.b)
+            taken.items (take n (left_rows self.old))) }
+        ensures err { OnErr result (self.new ≡ self.old) }
+    {
+        let a = index.places().list(i);
+        let b = index.places().list(j);
+        let (taken, progress) = self.at.progress.take(alloc, a, b, n)?;
+        let all = progress.is_done();
+        go_on(&mut self.postings, alloc, index, i, j, n, all)?;
+        let bytes = add_places(&mut self.places, self.at.bytes, &taken)?;
+        self.at = MergeMark {
+            progress,
+            rows: self.places.len(),
+            bytes,
+        };
+        Ok(taken)
+    }
+
+    /// Gives back the rows that were taken since: what `mark` answered once is left.
+    pub fn cut_to(&mut self, mark: MergeMark)
+        requires rows { mark.rows ≤ self.old.taken }
+        requires mark { IsMarkOf (record self.old { taken = mark.rows }) mark }
+        ensures { self.new ≡ record self.old { taken = mark.rows } }
+    {
+        self.places.truncate(mark.rows);
+        self.at = mark;
+    }
+
+    /// The index of the rows of both segments. It takes no memory, and sorts nothing.
+    pub fn seal(self) -> SegmentIndex
+        requires { left_count self ≡ 0 }
+        ensures { result ≡ union self.a self.b }
+    {
+        let IndexMerge {
+            places,
+            a,
+            b,
+            postings,
+            ..
+        } = self;
+        let Some(OutputPostings { terms, links }) = postings else {
+            unreachable!()
+        };
+        SegmentIndex {
+            places: PlaceList::new(places),
+            terms,
+            links,
+            rows: GhostRows::union(a, b),
+        }
+    }
+}

@@ -1,0 +1,58 @@
+//! What is posted of the rows of two segments.
+
+ghost use Rattle.std.specs.Prelude.{◌≡◌, ◌+◌, ◌^◌, ◌<◌, ◌∷◌, [], List, length, Some, true, slice_get, IsSome, IfSome, OnOk, OnErr};
+ghost use Rattle.history_model.specs.declared.stamped.StampedRow.{StampedRow};
+ghost use Rattle.history_model.specs.Lists.{AreLists, union};
+ghost use Rattle.segment_index.specs.Output.{HasPostings};
+
+use crate::store_index::StoreIndex;
+use std::alloc::{AllocError, Global};
+
+/// What is posted of the rows of a merge's output, of which no more come.
+#[derive(Drop)]
+pub(crate) struct OutputPostings {
+    /// The folded terms of the descriptions.
+    pub(crate) terms: term_prefix::Sealed,
+    /// What relationships and associations say, and what rows are about.
+    pub(crate) links: links::Sealed,
+}
+
+/// What is posted of no rows.
+pub(crate) fn no_postings(alloc: Global) -> OutputPostings
+    ensures { HasPostings [] result }
+{
+    OutputPostings {
+        terms: term_prefix::Postings::new(alloc).seal(),
+        links: links::Postings::new(alloc).seal(),
+    }
+}
+
+/// Lets what is posted of the rows of two segments go on by up to `n` postings of each kind, or to
+/// the end. An `Err` changes nothing.
+pub(crate) fn go_on(
+    postings: &mut Option<OutputPostings>,
+    alloc: Global,
+    index: &mut StoreIndex,
+    i: usize,
+    j: usize,
+    n: u32,
+    all: bool,
+) -> Result<(), AllocError>
+    requires within { (i < length index.old) × (j < length index.old) }
+    requires lists { (a b : List StampedRow) → slice_get index.old i ≡ Some a
+        → slice_get index.old j ≡ Some b
+        → AreLists (a ∷ b ∷ []) × (length a + length b < 2 ^ 32) }
+    ensures index { index.new ≡ index.old }
+    ensures all { OnOk result (all ≡ true → IsSome postings.new) }
+    ensures kept { IsSome postings.old → IsSome postings.new }
+    ensures posted { (a b : List StampedRow) → slice_get index.old i ≡ Some a
+        → slice_get index.old j ≡ Some b
+        → IfSome postings.old (HasPostings (union a b))
+        → IfSome postings.new (HasPostings (union a b)) }
+    ensures err { OnErr result (postings.new ≡ postings.old) }
+{
+    if postings.is_none() {
+        *postings = index.merge_postings(alloc, i, j, n, all)?;
+    }
+    Ok(())
+}

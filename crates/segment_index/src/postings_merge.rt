@@ -1,0 +1,114 @@
+//! What is posted of two segments of a store, merged while the store goes on.
+
+ghost use Rattle.std.specs.Prelude.{◌≡◌, ◌+◌, ◌-◌, ◌^◌, ◌<◌, ℕ, List, [], length, OnOk};
+ghost use Rattle.history_model.specs.InOrder.{IsAscending};
+ghost use Rattle.segment.specs.declared.place.RowPlace.{RowPlace};
+ghost use Rattle.as_of_index.specs.Places.{place_cmp};
+ghost use Rattle.term_prefix.specs.Terms.{TermAt, TextsRise};
+ghost use Rattle.term_prefix.specs.Merged.{terms_left};
+ghost use Rattle.links.specs.Edges.{Edges};
+ghost use Rattle.links.specs.MergedEdges.{edges_left, less_each};
+
+use crate::output_postings::OutputPostings;
+use as_of_index::{Index, Numbers};
+use links::Links;
+use std::alloc::{AllocError, Global};
+use term_prefix::Terms;
+
+/// How far what is posted of two segments is merged.
+#[derive(Drop)]
+pub(crate) struct PostingsMerge {
+    /// The numbers of the two segments.
+    pub(crate) i: usize,
+    pub(crate) j: usize,
+    terms: term_prefix::Merging,
+    links: links::Merging,
+}
+
+impl PostingsMerge {
+    ghost use Rattle.segment_index.specs.UnderWay.{IsPostingsMerge, IsUnderWay, places_at};
+    ghost use Rattle.segment_index.specs.UnderWay.{terms_at, edges_at};
+
+    fn new(alloc: Global, i: usize, j: usize) -> PostingsMerge
+        ensures numbers { (result.i ≡ i) × (result.j ≡ j) }
+        ensures merge { (places : List (List RowPlace)) (terms : List (List TermAt))
+            (links : List Edges) → i < length places → j < length places
+            → IsPostingsMerge places terms links result }
+    {
+        PostingsMerge {
+            i,
+            j,
+            terms: term_prefix::Merging::new(alloc),
+            links: links::Merging::new(alloc),
+        }
+    }
+
+    /// The merge of two segments that goes on, or else a new one. It takes no memory.
+    pub(crate) fn resume(
+        merging: Option<PostingsMerge>,
+        alloc: Global,
+        i: usize,
+        j: usize,
+    ) -> PostingsMerge
+        ensures numbers { (result.i ≡ i) × (result.j ≡ j) }
+        ensures merge { (places : List (List RowPlace)) (terms : List (List TermAt))
+            (links : List Edges) → i < length places → j < length places
+            → IsUnderWay places terms links merging → IsPostingsMerge places terms links result }
+    {
+        if let Some(merge) = merging {
+            if merge.i == i && merge.j == j {
+                return merge;
+            }
+        }
+        PostingsMerge::new(alloc, i, j)
+    }
+
+    /// Goes on by up to so many postings of each kind. After an `Err` it may be called again.
+    pub(crate) fn advance(
+        &mut self,
+        places: &Index,
+        terms: &Terms,
+        links: &Links,
+        n: usize,
+    ) -> Result<(), AllocError>
+        requires merge { IsPostingsMerge places.now terms.now links.now self.old }
+        requires first { IsAscending place_cmp (places_at places.now self.old).first }
+        requires second { IsAscending place_cmp (places_at places.now self.old).second }
+        requires few { length (places_at places.now self.old).first
+            + length (places_at places.now self.old).second < 2 ^ 32 }
+        requires terms { length terms.now ≡ length places.now }
+        requires links { length links.now ≡ length places.now }
+        ensures numbers { (self.new.i ≡ self.old.i) × (self.new.j ≡ self.old.j) }
+        ensures merge { IsPostingsMerge places.now terms.now links.now self.new }
+        ensures terms { OnOk result
+            (terms_left (terms_at terms.now self.old.i) (terms_at terms.now self.old.j)
+            self.new.terms
+            ≡ terms_left (terms_at terms.now self.old.i) (terms_at terms.now self.old.j)
+            self.old.terms - n) }
+        ensures links { OnOk result
+            (edges_left (edges_at links.now self.old.i) (edges_at links.now self.old.j)
+            self.new.links
+            ≡ less_each (edges_left (edges_at links.now self.old.i) (edges_at links.now self.old.j)
+            self.old.links) n) }
+    {
+        let numbers = Numbers::new(places.list(self.i), places.list(self.j));
+        let a = &terms.as_slice()[self.i];
+        let b = &terms.as_slice()[self.j];
+        self.terms.advance(a, b, &numbers, n)?;
+        let a = &links.as_slice()[self.i];
+        let b = &links.as_slice()[self.j];
+        self.links.advance(a, b, &numbers, n)
+    }
+
+    /// What is merged. It takes no memory.
+    pub(crate) fn seal(self) -> OutputPostings
+        requires { TextsRise self.terms.out }
+        ensures terms { result.terms ≡ self.terms.out }
+        ensures links { result.links ≡ self.links.edges }
+    {
+        OutputPostings {
+            terms: self.terms.seal(),
+            links: self.links.seal(),
+        }
+    }
+}
