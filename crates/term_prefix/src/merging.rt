@@ -159,8 +159,8 @@ impl Merging {
         self.text.reserve(room)
     }
 
-    /// Merges up to so many terms more. The first call takes the memory for all of them. It takes as
-    /// long as so many bisections of the places, and as their texts are, however long the lists
+    /// Merges up to so many terms more. The first call takes the memory for all of them. It takes
+    /// as long as so many bisections of the places, and as their texts are, however long the lists
     /// are. After an `Err` it may be called again.
     pub fn advance(
         &mut self,

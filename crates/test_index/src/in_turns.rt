@@ -10,7 +10,6 @@ use as_of_index::{Numbers, PlaceList};
 use history_model::{StampedRow, plain};
 use segment::RowPlace;
 use std::alloc::Global;
-use std::process::Abort;
 use std::test::Fail;
 use term_prefix::{Merging, Sealed, Terms};
 
@@ -30,7 +29,6 @@ fn numbers_of<'a>(first: &'a [RowPlace], second: &'a [RowPlace]) -> Result<Numbe
 
 /// Takes so many terms in each turn until none is left.
 fn advance_all(
-    rt: &impl Abort,
     merging: &mut Merging,
     a: &Sealed,
     b: &Sealed,
@@ -47,18 +45,15 @@ fn advance_all(
         }
         merging.advance(a, b, numbers, many)?;
         left = left.saturating_sub(many);
-        assert_eq!(rt; merging.left(a, b), left);
+        if merging.left(a, b) != left {
+            return Err(Fail::from("not so many"));
+        }
     }
     Err(Fail::from("no end"))
 }
 
 /// The terms of two lists of rows, put into one list by so many in each turn.
-fn merge_terms(
-    rt: &impl Abort,
-    alloc: Global,
-    lists: &[Vec<StampedRow>],
-    many: usize,
-) -> Result<Sealed, Fail> {
+fn merge_terms(alloc: Global, lists: &[Vec<StampedRow>], many: usize) -> Result<Sealed, Fail> {
     let [first, second] = lists else {
         return Err(Fail::from("not two lists"));
     };
@@ -67,20 +62,19 @@ fn merge_terms(
     let a = post_terms(alloc, first)?.seal();
     let b = post_terms(alloc, second)?.seal();
     let mut merging = Merging::new(alloc);
-    advance_all(rt, &mut merging, &a, &b, &numbers, many)?;
+    advance_all(&mut merging, &a, &b, &numbers, many)?;
     Ok(merging.seal())
 }
 
 /// The rows as one list, with the terms of the rows of these imports, and of the others, put into
 /// one list.
 fn merged(
-    rt: &impl Abort,
     alloc: Global,
     rows: &[StampedRow],
     imports: [(u32, u32); 2],
     many: usize,
 ) -> Result<Indexed, Fail> {
-    let merged = merge_terms(rt, alloc, &lists_of(alloc, rows, &imports)?, many)?;
+    let merged = merge_terms(alloc, &lists_of(alloc, rows, &imports)?, many)?;
     let mut whole = index_all(alloc, lists_of(alloc, rows, &[(1, 100)])?)?;
     let mut terms = Terms::new(alloc)?;
     terms.add(merged);
@@ -101,7 +95,7 @@ fn made_terms_are_merged_in_turns(rt: HostRuntime) -> Result<(), Fail> {
         ([(1, 6), (7, 9)], 1000),
         ([(7, 9), (1, 6)], 3),
     ] {
-        let whole = merged(&rt, alloc, &rows, imports, many)?;
+        let whole = merged(alloc, &rows, imports, many)?;
         assert_eq!(rt; compare(&rt, alloc, &rows, &whole)?, wanted);
     }
     Ok(())
@@ -133,7 +127,7 @@ fn terms_that_are_in_both_lists_are_merged(rt: HostRuntime) -> Result<(), Fail> 
     let shown = plain::rows_at(alloc, 2, &rows)?;
     let time = day(LAST_DAY)?;
     for many in [1usize, 2, 100] {
-        let whole = merged(&rt, alloc, &rows, [(1, 1), (2, 2)], many)?;
+        let whole = merged(alloc, &rows, [(1, 1), (2, 2)], many)?;
         for (prefix, found) in [
             ("", 10),
             ("strasse", 6),

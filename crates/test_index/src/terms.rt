@@ -439,8 +439,8 @@ fn terms_of_as_many_lists_as_may_be(rt: HostRuntime) -> Result<(), Fail> {
     Ok(())
 }
 
-/// Terms that are the same in their first eight bytes, shorter ones, and ones with a zero byte where
-/// a shorter one ends.
+/// Terms that are the same in their first eight bytes, shorter ones, and ones with a zero byte
+/// where a shorter one ends.
 const ALIKE: [&str; 14] = [
     "abcdefgh",
     "ab\0",
