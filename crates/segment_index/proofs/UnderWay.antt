@@ -7,11 +7,11 @@ use Rattle.history_model.specs.InOrder.{IsAscending}
 use Rattle.history_model.specs.Lists.{AreLists, union}
 use Rattle.segment.specs.declared.place.RowPlace.{RowPlace}
 use Rattle.segment.specs.Standing.{places_of}
-use Rattle.as_of_index.specs.Numbers.{TwoLists}
+use Rattle.as_of_index.specs.Numbers.{TwoLists, AreKnown}
 use Rattle.as_of_index.specs.Places.{Lists, place_cmp}
 use Rattle.term_prefix.specs.Terms.{TermAt}
 use Rattle.term_prefix.specs.Pushed.{IsPosted, ArePosted}
-use Rattle.term_prefix.specs.Merged.{AreMerged, terms_left}
+use Rattle.term_prefix.specs.Merged.{IsMergeOfTerms, terms_left}
 use Rattle.term_prefix.proofs.Posted.{posted_terms_are_few}
 use Rattle.term_prefix.proofs.InTurns.{merged_terms_are_posted}
 use Rattle.links.specs.declared.postings.EdgeCount.{EdgeCount}
@@ -68,8 +68,9 @@ module _ (places : List (List RowPlace)) (terms : List (List TermAt)) (links : L
       record {
         first_within = omega (arith, is.first_within, more);
         second_within = omega (arith, is.second_within, more);
-        terms_are = subst (λ (l : TwoLists). AreMerged l (terms_at (terms ++ ts ∷ []) m.i) (terms_at (terms ++ ts ∷ []) m.j) m.terms) (sym both)
-            (subst (λ (l : List TermAt). AreMerged (places_at places m) l (terms_at (terms ++ ts ∷ []) m.j) m.terms) (sym i_terms) (subst (λ (l : List TermAt). AreMerged (places_at places m) (terms_at terms m.i) l m.terms) (sym j_terms) is.terms_are));
+        numbers_are = subst (λ (l : TwoLists). AreKnown l m.numbers) (sym both) is.numbers_are;
+        terms_are = subst (λ (l : TwoLists). IsMergeOfTerms l (terms_at (terms ++ ts ∷ []) m.i) (terms_at (terms ++ ts ∷ []) m.j) m.terms) (sym both)
+            (subst (λ (l : List TermAt). IsMergeOfTerms (places_at places m) l (terms_at (terms ++ ts ∷ []) m.j) m.terms) (sym i_terms) (subst (λ (l : List TermAt). IsMergeOfTerms (places_at places m) (terms_at terms m.i) l m.terms) (sym j_terms) is.terms_are));
         links_are = subst (λ (l : TwoLists). IsMergeOf l (edges_at (links ++ e ∷ []) m.i) (edges_at (links ++ e ∷ []) m.j) m.links) (sym both)
             (subst (λ (l : Edges). IsMergeOf (places_at places m) l (edges_at (links ++ e ∷ []) m.j) m.links) (sym i_links) (subst (λ (l : Edges). IsMergeOf (places_at places m) (edges_at links m.i) l m.links) (sym j_links) is.links_are));
       }
@@ -134,18 +135,19 @@ module _ (lists : List (List StampedRow)) (places : List (List RowPlace)) (are :
 
 pub went_on : (places : List (List RowPlace)) (terms : List (List TermAt)) (links : List Edges) (old m : PostingsMerge) (numbers : TwoLists) (a_places b_places : List RowPlace) (a_terms b_terms : List TermAt) (a_links b_links : Edges) → m.i ≡ old.i → m.j ≡ old.j → IsPostingsMerge places terms links old
     → slice_index_or places old.i [] ≡ a_places → slice_index_or places old.j [] ≡ b_places → numbers ≡ two a_places b_places → terms_at terms old.i ≡ a_terms → terms_at terms old.j ≡ b_terms → edges_at links old.i ≡ a_links → edges_at links old.j ≡ b_links
-    → (AreMerged numbers a_terms b_terms old.terms → AreMerged numbers a_terms b_terms m.terms) → IsMergeOf numbers a_links b_links m.links → IsPostingsMerge places terms links m
-went_on places terms links old m numbers ap_ bp at bt al bl i j is pa pb two_is ta tb la lb merged linked =
+    → AreKnown numbers m.numbers → (IsMergeOfTerms numbers a_terms b_terms old.terms → IsMergeOfTerms numbers a_terms b_terms m.terms) → IsMergeOf numbers a_links b_links m.links → IsPostingsMerge places terms links m
+went_on places terms links old m numbers ap_ bp at bt al bl i j is pa pb two_is ta tb la lb known merged linked =
     let both : places_at places old ≡ numbers = ap (λ (l : List RowPlace). two l (slice_index_or places old.j [])) pa ∙ ap (two ap_) pb ∙ sym two_is in
-    let before : AreMerged numbers at bt old.terms = subst (λ (l : TwoLists). AreMerged l at bt old.terms) both (subst (λ (l : List TermAt). AreMerged (places_at places old) l bt old.terms) ta (subst (λ (l : List TermAt). AreMerged (places_at places old) (terms_at terms old.i) l old.terms) tb is.terms_are)) in
-    let terms_are : AreMerged (places_at places old) (terms_at terms old.i) (terms_at terms old.j) m.terms =
-    subst (λ (l : TwoLists). AreMerged l (terms_at terms old.i) (terms_at terms old.j) m.terms) (sym both) (subst (λ (l : List TermAt). AreMerged numbers l (terms_at terms old.j) m.terms) (sym ta) (subst (λ (l : List TermAt). AreMerged numbers at l m.terms) (sym tb) (merged before))) in
+    let before : IsMergeOfTerms numbers at bt old.terms = subst (λ (l : TwoLists). IsMergeOfTerms l at bt old.terms) both (subst (λ (l : List TermAt). IsMergeOfTerms (places_at places old) l bt old.terms) ta (subst (λ (l : List TermAt). IsMergeOfTerms (places_at places old) (terms_at terms old.i) l old.terms) tb is.terms_are)) in
+    let terms_are : IsMergeOfTerms (places_at places old) (terms_at terms old.i) (terms_at terms old.j) m.terms =
+    subst (λ (l : TwoLists). IsMergeOfTerms l (terms_at terms old.i) (terms_at terms old.j) m.terms) (sym both) (subst (λ (l : List TermAt). IsMergeOfTerms numbers l (terms_at terms old.j) m.terms) (sym ta) (subst (λ (l : List TermAt). IsMergeOfTerms numbers at l m.terms) (sym tb) (merged before))) in
     let links_are : IsMergeOf (places_at places old) (edges_at links old.i) (edges_at links old.j) m.links =
     subst (λ (l : TwoLists). IsMergeOf l (edges_at links old.i) (edges_at links old.j) m.links) (sym both) (subst (λ (l : Edges). IsMergeOf numbers l (edges_at links old.j) m.links) (sym la) (subst (λ (l : Edges). IsMergeOf numbers al l m.links) (sym lb) linked)) in
     record {
       first_within = omega (arith, is.first_within, i);
       second_within = omega (arith, is.second_within, j);
-      terms_are = renumbered (λ k l. AreMerged (two (slice_index_or places k []) (slice_index_or places l [])) (terms_at terms k) (terms_at terms l) m.terms) old.i old.j m.i m.j i j terms_are;
+      numbers_are = renumbered (λ k l. AreKnown (two (slice_index_or places k []) (slice_index_or places l [])) m.numbers) old.i old.j m.i m.j i j (subst (λ (l : TwoLists). AreKnown l m.numbers) (sym both) known);
+      terms_are = renumbered (λ k l. IsMergeOfTerms (two (slice_index_or places k []) (slice_index_or places l [])) (terms_at terms k) (terms_at terms l) m.terms) old.i old.j m.i m.j i j terms_are;
       links_are = renumbered (λ k l. IsMergeOf (two (slice_index_or places k []) (slice_index_or places l [])) (edges_at links k) (edges_at links l) m.links) old.i old.j m.i m.j i j links_are;
     }
 
@@ -161,12 +163,12 @@ module _ (lists : List (List StampedRow)) (places : List (List RowPlace)) (terms
   two_are =
       ap (λ (l : List RowPlace). two l (slice_index_or places m.j [])) (placed_at lists places m.i a are.places_are a_is) ∙ ap (λ (l : List RowPlace). two (places_of a) l) (placed_at lists places m.j b are.places_are b_is)
 
-  terms_end : terms_left (terms_at terms m.i) (terms_at terms m.j) m.terms ≡ terms_left (terms_at terms m.i) (terms_at terms m.j) old.terms - most_steps → IsPosted (union a b) m.terms.out
+  terms_end : terms_left (terms_at terms m.i) (terms_at terms m.j) m.terms ≡ terms_left (terms_at terms m.i) (terms_at terms m.j) old.terms - most_steps → IsPosted (union a b) m.terms.terms
   terms_end left =
       let first = posted_at lists terms m.i a are.terms_are a_is in
       let second = posted_at lists terms m.j b are.terms_are b_is in
       let none : terms_left (terms_at terms m.i) (terms_at terms m.j) m.terms ≡ 0 = omega (arith, left, posted_terms_are_few a (terms_at terms m.i) first, posted_terms_are_few b (terms_at terms m.j) second, few) in
-      merged_terms_are_posted a b (terms_at terms m.i) (terms_at terms m.j) m.terms both first second (subst (λ (l : TwoLists). AreMerged l (terms_at terms m.i) (terms_at terms m.j) m.terms) two_are merged.terms_are) none
+      merged_terms_are_posted a b (terms_at terms m.i) (terms_at terms m.j) m.terms both first second (subst (λ (l : TwoLists). IsMergeOfTerms l (terms_at terms m.i) (terms_at terms m.j) m.terms) two_are merged.terms_are) none
 
   links_end : edges_left (edges_at links m.i) (edges_at links m.j) m.links ≡ less_each (edges_left (edges_at links m.i) (edges_at links m.j) old.links) most_steps → ArePostingsOf (union a b) m.links.edges
   links_end left =
@@ -182,5 +184,5 @@ module _ (lists : List (List StampedRow)) (places : List (List RowPlace)) (terms
       merged_are_posted a b (edges_at links m.i) (edges_at links m.j) m.links both first second (subst (λ (l : TwoLists). IsMergeOf l (edges_at links m.i) (edges_at links m.j) m.links) two_are merged.links_are) none
 
   pub all_posted : (p : OutputPostings) → terms_left (terms_at terms m.i) (terms_at terms m.j) m.terms ≡ terms_left (terms_at terms m.i) (terms_at terms m.j) old.terms - most_steps
-      → edges_left (edges_at links m.i) (edges_at links m.j) m.links ≡ less_each (edges_left (edges_at links m.i) (edges_at links m.j) old.links) most_steps → p.terms ≡ m.terms.out → p.links ≡ m.links.edges → HasPostings (union a b) p
+      → edges_left (edges_at links m.i) (edges_at links m.j) m.links ≡ less_each (edges_left (edges_at links m.i) (edges_at links m.j) old.links) most_steps → p.terms ≡ m.terms.terms → p.links ≡ m.links.edges → HasPostings (union a b) p
   all_posted p t l terms_are links_are = record { terms_are = subst (IsPosted (union a b)) (sym terms_are) (terms_end t); links_are = subst (ArePostingsOf (union a b)) (sym links_are) (links_end l) }

@@ -6,7 +6,6 @@ use Rattle.history_model.specs.Lists.{AreLists, union}
 use Rattle.segment.specs.declared.place.RowPlace.{RowPlace}
 use Rattle.segment.specs.Records.{segment_of}
 use Rattle.segment.specs.Standing.{places_of}
-use Rattle.merge.specs.declared.Taken.{Taken}
 use Rattle.merge.specs.Merged.{IsOf, count_left, rows_left}
 use Rattle.term_prefix.specs.Pushed.{IsPosted}
 use Rattle.links.specs.Laws.{ArePostingsOf}

@@ -1,9 +1,9 @@
 -- What is posted of two of a store's segments, merged while the store goes on.
 use Rattle.std.specs.Prelude.{◌<◌, ℕ, List, [], length, slice_index_or, Option, Some, None}
 use Rattle.segment.specs.declared.place.RowPlace.{RowPlace}
-use Rattle.as_of_index.specs.Numbers.{TwoLists}
+use Rattle.as_of_index.specs.Numbers.{TwoLists, AreKnown}
 use Rattle.term_prefix.specs.Terms.{TermAt}
-use Rattle.term_prefix.specs.Merged.{AreMerged}
+use Rattle.term_prefix.specs.Merged.{IsMergeOfTerms}
 use Rattle.links.specs.Edges.{Edges, no_edges}
 use Rattle.links.specs.MergedEdges.{IsMergeOf}
 use Rattle.segment_index.specs.declared.postings_merge.PostingsMerge.{PostingsMerge}
@@ -20,12 +20,14 @@ terms_at terms i = slice_index_or terms i []
 abbrev pub edges_at : List Edges → ℕ → Edges
 edges_at links i = slice_index_or links i no_edges
 
--- both segments are listed, and of what is posted of them so much is merged
+-- both segments are listed, some numbers of their rows are known, and of what is posted of them so
+-- much is merged
 pub record IsPostingsMerge (places : List (List RowPlace)) (terms : List (List TermAt))
     (links : List Edges) (m : PostingsMerge) : Type 0 where
   pub first_within : m.i < length places
   pub second_within : m.j < length places
-  pub terms_are : AreMerged (places_at places m) (terms_at terms m.i) (terms_at terms m.j) m.terms
+  pub numbers_are : AreKnown (places_at places m) m.numbers
+  pub terms_are : IsMergeOfTerms (places_at places m) (terms_at terms m.i) (terms_at terms m.j) m.terms
   pub links_are : IsMergeOf (places_at places m) (edges_at links m.i) (edges_at links m.j) m.links
 
 -- a merge that goes on is of two segments that are listed

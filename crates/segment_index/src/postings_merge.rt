@@ -10,10 +10,14 @@ ghost use Rattle.links.specs.Edges.{Edges};
 ghost use Rattle.links.specs.MergedEdges.{edges_left, less_each};
 
 use crate::output_postings::OutputPostings;
-use as_of_index::{Index, Numbers};
+use as_of_index::{Index, NumberTable, Numbers};
 use links::Links;
 use std::alloc::{AllocError, Global};
 use term_prefix::Terms;
+
+/// So many times as many numbers of rows are found in a step as postings are merged: once the first
+/// steps have found all, no posting's row is searched for.
+const NUMBERS_AHEAD: usize = 8;
 
 /// How far what is posted of two segments is merged.
 #[derive(Drop)]
@@ -21,6 +25,8 @@ pub(crate) struct PostingsMerge {
     /// The numbers of the two segments.
     pub(crate) i: usize,
     pub(crate) j: usize,
+    /// The numbers that rows of the two have among the rows of both, as far as they are found.
+    numbers: NumberTable,
     terms: term_prefix::Merging,
     links: links::Merging,
 }
@@ -38,6 +44,7 @@ impl PostingsMerge {
         PostingsMerge {
             i,
             j,
+            numbers: NumberTable::new(alloc),
             terms: term_prefix::Merging::new(alloc),
             links: links::Merging::new(alloc),
         }
@@ -91,7 +98,11 @@ impl PostingsMerge {
             ≡ less_each (edges_left (edges_at links.now self.old.i) (edges_at links.now self.old.j)
             self.old.links) n) }
     {
-        let numbers = Numbers::new(places.list(self.i), places.list(self.j));
+        let first = places.list(self.i);
+        let second = places.list(self.j);
+        self.numbers
+            .extend(first, second, n.saturating_mul(NUMBERS_AHEAD))?;
+        let numbers = Numbers::with_table(first, second, &self.numbers);
         let a = &terms.as_slice()[self.i];
         let b = &terms.as_slice()[self.j];
         self.terms.advance(a, b, &numbers, n)?;
@@ -102,8 +113,8 @@ impl PostingsMerge {
 
     /// What is merged. It takes no memory.
     pub(crate) fn seal(self) -> OutputPostings
-        requires { TextsRise self.terms.out }
-        ensures terms { result.terms ≡ self.terms.out }
+        requires { TextsRise self.terms.terms }
+        ensures terms { result.terms ≡ self.terms.terms }
         ensures links { result.links ≡ self.links.edges }
     {
         OutputPostings {

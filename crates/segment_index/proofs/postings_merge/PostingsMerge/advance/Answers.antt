@@ -1,4 +1,5 @@
-use Rattle.std.proofs.Common.{[], refl, arith}
+use Rattle.std.proofs.Common.{[], refl, arith, sym, subst}
+use Rattle.as_of_index.specs.Numbers.{TwoLists, AreKnown}
 use Rattle.links.specs.Edges.{no_edges}
 use Rattle.segment_index.proofs.UnderWay.{item_is, read_at, went_on}
 use Rattle.segment_index.proofs.postings_merge.PostingsMerge.advance.Goals as goal
@@ -10,11 +11,12 @@ returns-clause-merge c =
     let places = c.args.places.now in
     let terms = c.args.terms.now in
     let links = c.args.links.now in
-    went_on places terms links m (record { i = m.i; j = m.j; terms = c.advance.new.self; links = c.advance-2.new.self }) c.new-numbers.result c.list.result.now c.list-2.result.now
+    let known = subst (λ (l : TwoLists). AreKnown l c.extend.new.self) (sym c.with_table-numbers.ensures) c.extend.ensures in
+    went_on places terms links m (record { i = m.i; j = m.j; numbers = c.extend.new.self; terms = c.advance.new.self; links = c.advance-2.new.self }) c.with_table-numbers.result c.list-first.result.now c.list-second.result.now
     c.index-as_slice-self.result c.index-as_slice-self-2.result c.index-as_slice-self-3.result c.index-as_slice-self-4.result refl refl is
-    (item_is places m.i c.list.result.now [] c.list.ensures) (item_is places m.j c.list-2.result.now [] c.list-2.ensures) c.new-numbers.ensures
+    (item_is places m.i c.list-first.result.now [] c.list-first.ensures) (item_is places m.j c.list-second.result.now [] c.list-second.ensures) c.with_table-numbers.ensures
     (read_at terms c.as_slice.result.now m.i c.index-as_slice-self.result [] c.as_slice.ensures (omega (arith, is.first_within, c.requires.terms)) c.index-as_slice-self.is)
     (read_at terms c.as_slice-2.result.now m.j c.index-as_slice-self-2.result [] c.as_slice-2.ensures (omega (arith, is.second_within, c.requires.terms)) c.index-as_slice-self-2.is)
     (read_at links c.as_slice-3.result.now m.i c.index-as_slice-self-3.result no_edges c.as_slice-3.ensures (omega (arith, is.first_within, c.requires.links)) c.index-as_slice-self-3.is)
     (read_at links c.as_slice-4.result.now m.j c.index-as_slice-self-4.result no_edges c.as_slice-4.ensures (omega (arith, is.second_within, c.requires.links)) c.index-as_slice-self-4.is)
-    c.advance.ensures.merged c.advance-2.ensures.merged
+    known c.advance.ensures.merged c.advance-2.ensures.merged
