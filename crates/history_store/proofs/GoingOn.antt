@@ -19,10 +19,7 @@ use Rattle.directory.specs.Listings.{DirectoryValue, IsEntry}
 use Rattle.directory.specs.Places.{AreBeside, extent_of, extents_of}
 use Rattle.directory.specs.Fit.{fit}
 use Rattle.directory.proofs.Fitting.{fit_is_apart}
-use Rattle.merge.specs.declared.MergeProgress.{MergeProgress}
-use Rattle.merge.specs.Merged.{rows_left}
 use Rattle.segment.specs.Records.{segment_of}
-use Rattle.segment.proofs.SegmentLaws.{pieces_join}
 use Rattle.store_image.proofs.Beside.{blocks_cover, one_ends}
 use Rattle.store_image.proofs.Unlisted.{begins_elsewhere}
 use Rattle.history_store.specs.declared.merge_in_progress.MergeInProgress.{MergeInProgress}
@@ -31,16 +28,13 @@ use Rattle.history_store.specs.Merging.{GoesOn}
 use Rattle.history_store.specs.Private.Reading.{MomentsStay}
 use Rattle.history_store.specs.MergeInProgress.{IsMergeOf, IsMergingOf, IsWritten, HasMerge, merge_of}
 use Rattle.history_store.specs.Private.Prepared.{IsPlacedAt}
-use Rattle.history_store.proofs.Alike.{alike_bytes}
+use Rattle.segment_index.specs.Output.{OutputRows, taken_rows}
+use Rattle.segment_index.proofs.Built.{segment_within}
 
-module _ (honest : Type 0) (d : DirectoryValue) (lists : List (List StampedRow)) (i j : ℕ) (entry : Entry) (places : MergeProgress) (rows : List StampedRow) (is : IsMergeOf honest d lists i j entry places rows) where
+module _ (d : DirectoryValue) (lists : List (List StampedRow)) (i j : ℕ) (entry : Entry) (output : OutputRows) (is : IsMergeOf d lists i j entry output) where
   -- what is written fits
-  pub written_fits : length (segment_of rows) ≤ entry.bytes
-  written_fits =
-      let whole = alike_bytes (rows ++ rows_left places is.a is.b) (union is.a is.b) is.alike in
-      let join = ap length (pieces_join rows (rows_left places is.a is.b)) in
-      let parts = length-append (segment_of rows) (segment_of (rows_left places is.a is.b)) in
-      omega (arith, whole, join, parts, is.segment.bytes)
+  pub written_fits : length (segment_of (taken_rows output)) ≤ entry.bytes
+  written_fits = omega (arith, segment_within output.taken (union output.a output.b), is.segment.bytes)
 
 -- ---- what is written stays
 
@@ -58,37 +52,31 @@ outside_entry entry other i is is_other beside ge lt = elim (one_ends (extent_of
 ]
 
 -- while a directory is published
-written_published : (honest : Type 0) (d : DirectoryValue) (lists : List (List StampedRow)) (merge : Option MergeInProgress) (slot : Slot) (old new : List ℕ) → IsMergingOf honest d lists merge → SameOutside (slot_range slot ∷ []) old new → IsWritten merge old → IsWritten merge new
-written_published honest d lists None slot old new is same written = tt
-written_published honest d lists (Some m) slot old new is same written =
-    begins_elsewhere (extent_of m.entry) (slot_range slot ∷ []) (segment_of m.taken) old new same
+written_published : (d : DirectoryValue) (lists : List (List StampedRow)) (merge : Option MergeInProgress) (slot : Slot) (old new : List ℕ) → IsMergingOf d lists merge → SameOutside (slot_range slot ∷ []) old new → IsWritten merge old → IsWritten merge new
+written_published d lists None slot old new is same written = tt
+written_published d lists (Some m) slot old new is same written =
+    begins_elsewhere (extent_of m.entry) (slot_range slot ∷ []) (segment_of (taken_rows m.output)) old new same
     (λ i ge lt. All-cons (IsOutside i) (slot_range slot) [] (outside_slot m.entry slot i is.is_entry ge) (All-nil (IsOutside i))) written
 
 -- while a segment is added beside it
-written_added : (honest : Type 0) (d : DirectoryValue) (lists : List (List StampedRow)) (merge : Option MergeInProgress) (other : Entry) (slot : Slot) (old new : List ℕ) → IsMergingOf honest d lists merge → IsEntry other → ((m : MergeInProgress) → merge ≡ Some m → AreBeside (extent_of m.entry) (extent_of other))
+written_added : (d : DirectoryValue) (lists : List (List StampedRow)) (merge : Option MergeInProgress) (other : Entry) (slot : Slot) (old new : List ℕ) → IsMergingOf d lists merge → IsEntry other → ((m : MergeInProgress) → merge ≡ Some m → AreBeside (extent_of m.entry) (extent_of other))
     → SameOutside (byte_range (extent_of other) ∷ slot_range slot ∷ []) old new → IsWritten merge old → IsWritten merge new
-written_added honest d lists None other slot old new is is_other beside same written = tt
-written_added honest d lists (Some m) other slot old new is is_other beside same written =
-    let fits = written_fits honest d lists m.i m.j m.entry m.places m.taken is in
-    begins_elsewhere (extent_of m.entry) (byte_range (extent_of other) ∷ slot_range slot ∷ []) (segment_of m.taken) old new same
+written_added d lists None other slot old new is is_other beside same written = tt
+written_added d lists (Some m) other slot old new is is_other beside same written =
+    let fits = written_fits d lists m.i m.j m.entry m.output is in
+    begins_elsewhere (extent_of m.entry) (byte_range (extent_of other) ∷ slot_range slot ∷ []) (segment_of (taken_rows m.output)) old new same
     (λ i ge lt. All-cons (IsOutside i) (byte_range (extent_of other)) (slot_range slot ∷ []) (outside_entry m.entry other i is.is_entry is_other (beside m refl) ge (omega (arith, lt, fits)))
     (All-cons (IsOutside i) (slot_range slot) [] (outside_slot m.entry slot i is.is_entry ge) (All-nil (IsOutside i)))) written
 
 -- ---- it goes on beside the next directory
 
-pub merging_on : (before after : Type 0) (d e : DirectoryValue) (lists : List (List StampedRow)) (merge : Option MergeInProgress) → (after → before) → e.entries ≡ d.entries → IsMergingOf before d lists merge → IsMergingOf after e lists merge
-merging_on before after d e lists None back same is = tt
-merging_on before after d e lists (Some m) back same is = record {
-  a = is.a;
-  b = is.b;
+pub merging_on : (d e : DirectoryValue) (lists : List (List StampedRow)) (merge : Option MergeInProgress) → e.entries ≡ d.entries → IsMergingOf d lists merge → IsMergingOf e lists merge
+merging_on d e lists None same is = tt
+merging_on d e lists (Some m) same is = record {
   below = is.below;
   within = subst (λ (l : List Entry). m.j < length l) (sym same) is.within;
   a_is = is.a_is;
   b_is = is.b_is;
-  lengths = is.lengths;
-  taken = λ up. is.taken (back up);
-  alike = is.alike;
-  each = is.each;
   segment = is.segment;
   is_entry = is.is_entry;
   beside = subst (λ (l : List Entry). AllByRecursion (AreBeside (extent_of m.entry)) (extents_of l)) (sym same) is.beside;
@@ -116,20 +104,14 @@ all_pushed : (P : Extent → Type 0) (entries : List Entry) (other : Entry) → 
 all_pushed P [] other all is = (is, tt)
 all_pushed P (e ∷ es) other all is = (all.0, all_pushed P es other all.1 is)
 
-merging_added : (before after : Type 0) (d e : DirectoryValue) (lists : List (List StampedRow)) (more : List StampedRow) (merge : Option MergeInProgress) (other : Entry) → (after → before) → e.entries ≡ d.entries ++ other ∷ [] → ((m : MergeInProgress) → merge ≡ Some m → AreBeside (extent_of m.entry) (extent_of other))
-    → IsMergingOf before d lists merge → IsMergingOf after e (lists ++ more ∷ []) merge
-merging_added before after d e lists more None other back same beside is = tt
-merging_added before after d e lists more (Some m) other back same beside is = record {
-  a = is.a;
-  b = is.b;
+merging_added : (d e : DirectoryValue) (lists : List (List StampedRow)) (more : List StampedRow) (merge : Option MergeInProgress) (other : Entry) → e.entries ≡ d.entries ++ other ∷ [] → ((m : MergeInProgress) → merge ≡ Some m → AreBeside (extent_of m.entry) (extent_of other))
+    → IsMergingOf d lists merge → IsMergingOf e (lists ++ more ∷ []) merge
+merging_added d e lists more None other same beside is = tt
+merging_added d e lists more (Some m) other same beside is = record {
   below = is.below;
   within = subst (λ (l : List Entry). m.j < length l) (sym same) (let long = length-append d.entries (other ∷ []) in omega (arith, long, is.within));
-  a_is = get_pushed lists is.a more m.i is.a_is;
-  b_is = get_pushed lists is.b more m.j is.b_is;
-  lengths = is.lengths;
-  taken = λ up. is.taken (back up);
-  alike = is.alike;
-  each = is.each;
+  a_is = get_pushed lists m.output.a more m.i is.a_is;
+  b_is = get_pushed lists m.output.b more m.j is.b_is;
   segment = is.segment;
   is_entry = is.is_entry;
   beside = subst (λ (l : List Entry). AllByRecursion (AreBeside (extent_of m.entry)) (extents_of l)) (sym same) (all_pushed (AreBeside (extent_of m.entry)) d.entries other is.beside (beside m refl));
@@ -140,7 +122,7 @@ merging_added before after d e lists more (Some m) other back same beside is = r
 -- after reads
 pub merge_read : (was is : Type 0) (old new : Moments) (d : DirectoryValue) (lists : List (List StampedRow)) (merge : Option MergeInProgress) (needs : Bool) → HasMerge was old.state.now d lists merge needs → MomentsStay was is old new → HasMerge is new.state.now d lists merge needs
 merge_read was is old new d lists merge needs held stays = record {
-  merging = merging_on was is d d lists merge stays.0.1 refl held.merging;
+  merging = merging_on d d lists merge refl held.merging;
   written = λ up still. let before = stays.0.1 up in subst (λ (m : Moments). IsWritten merge m.state.now) (sym (stays.1 before)) (held.written before still);
 }
 
@@ -148,8 +130,8 @@ merge_read was is old new d lists merge needs held stays = record {
 pub merge_repeated : (before after : Type 0) (old new : List ℕ) (slot : Slot) (d e : DirectoryValue) (lists : List (List StampedRow)) (merge : Option MergeInProgress) (needs : Bool) → HasMerge before old d lists merge needs → (after → before)
     → e.entries ≡ d.entries → (before → SameOutside (slot_range slot ∷ []) old new) → HasMerge after new e lists merge needs
 merge_repeated before after old new slot d e lists merge needs held back same elsewhere = record {
-  merging = merging_on before after d e lists merge back same held.merging;
-  written = λ up still. written_published before d lists merge slot old new held.merging (elsewhere (back up)) (held.written (back up) still);
+  merging = merging_on d e lists merge same held.merging;
+  written = λ up still. written_published d lists merge slot old new held.merging (elsewhere (back up)) (held.written (back up) still);
 }
 
 -- after a segment was added beside it
@@ -158,8 +140,8 @@ pub merge_added : (before after : Type 0) (old new : List ℕ) (slot : Slot) (d 
 merge_added before after old new slot d e entry lists nlists more merge needs held back entries is_entry placed elsewhere lists_are =
     let beside = beside_reserved d merge more entry placed in
     record {
-      merging = subst (λ l. IsMergingOf after e l merge) (sym lists_are) (merging_added before after d e lists more merge entry back entries beside held.merging);
-      written = λ up still. written_added before d lists merge entry slot old new held.merging is_entry beside (elsewhere (back up)) (held.written (back up) still);
+      merging = subst (λ l. IsMergingOf e l merge) (sym lists_are) (merging_added d e lists more merge entry entries beside held.merging);
+      written = λ up still. written_added d lists merge entry slot old new held.merging is_entry beside (elsewhere (back up)) (held.written (back up) still);
     }
 
 -- no merge goes on

@@ -10,7 +10,6 @@ pub mod NewSegment
 pub mod Refusing
 pub mod Lent
 pub mod Querying
-pub mod Alike
 pub mod GoingOn
 pub mod FewestRows
 pub mod BegunMerge
@@ -22,7 +21,7 @@ pub mod Apart
 pub mod FreshRows
 pub mod Imported
 pub mod Reopened
-pub mod Likeness
+pub mod ReadRows
 pub mod SteppedMerge
 pub mod SteppedStore
 pub mod StepWrites

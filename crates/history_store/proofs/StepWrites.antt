@@ -1,14 +1,14 @@
 -- What a step of a merge writes.
-use Rattle.std.specs.Prelude.{Option, Some, None, Result, Ok, Err, MatchResult, slice_get}
-use Rattle.std.proofs.Common.{◌≡◌, inl, inr, ℕ, zero, suc, ◌+◌, ◌≤◌, List, [], ◌∷◌, ◌++◌, length, take, drop, length-take, length-drop, append_assoc, refl, sym, ap, subst, ◌∙◌, arith}
-use Rattle.std.proofs.lemmas.List.{take-append-drop}
+use Rattle.std.specs.Prelude.{Option, Some, None, Result, Ok, Err, min, slice_get}
+use Rattle.std.proofs.Common.{◌≡◌, inl, inr, ℕ, zero, suc, ◌+◌, ◌≤◌, List, [], ◌∷◌, ◌++◌, length, take, drop, length-take, length-drop, length-append, append_assoc, refl, sym, ap, subst, ◌∙◌, arith}
+use Rattle.std.proofs.lemmas.List.{take-append-drop, take_min}
 use Rattle.std.proofs.lemmas.List.Elements.{All-head, All-tail}
-use Rattle.disk_model.specs.Disk.{Moments, Fails, followed_by, after_write}
+use Rattle.disk_model.specs.Disk.{Moments}
 use Rattle.blocks.specs.Extents.{start_of}
 use Rattle.history_model.specs.declared.stamped.StampedRow.{StampedRow}
 use Rattle.history_model.specs.InOrder.{Has, IsAscending, joined}
 use Rattle.history_model.specs.History.{History, stamped_cmp}
-use Rattle.history_model.specs.Lists.{AreLists, union, listed}
+use Rattle.history_model.specs.Lists.{union, listed}
 use Rattle.history_model.proofs.InOrder.{Has-append_left, Has-append_right}
 use Rattle.history_model.proofs.Snapshots.{Has-listed_from}
 use Rattle.history_model.proofs.Listings.{two_lists, Has-union_cases, IsAscending-union}
@@ -17,15 +17,19 @@ use Rattle.import_check.proofs.Searching.{IsAscending-drop}
 use Rattle.directory.specs.declared.entry.Entry.{Entry}
 use Rattle.directory.specs.Listings.{DirectoryValue}
 use Rattle.directory.specs.Places.{extent_of}
-use Rattle.merge.specs.declared.MergeProgress.{MergeProgress}
-use Rattle.merge.specs.Merged.{IsOf, count_left, rows_left}
 use Rattle.segment.specs.Records.{segment_of}
+use Rattle.segment.proofs.SegmentLaws.{pieces_join}
+use Rattle.as_of_index.proofs.Ordered.{IsAscending-take}
+use Rattle.segment_index.specs.Output.{taken_rows, left_rows, left_count, with_more}
+use Rattle.segment_index.proofs.Built.{segment_within}
+use Rattle.segment_index.proofs.Outputs.{take_more}
 use Rattle.store_image.specs.Pieces.{Holds, HoldsAll}
 use Rattle.store_image.specs.Kept.{AreSegments, IsKept, pieces_of, history_of}
 use Rattle.store_image.specs.Ahead.{BeginsWith}
 use Rattle.history_store.specs.declared.merge_in_progress.MergeInProgress.{MergeInProgress}
 use Rattle.history_store.specs.Catalog.{Merge, Catalog, catalog_of}
 use Rattle.history_store.specs.Private.Reading.{AreThere}
+use Rattle.history_store.specs.Private.Stepping.{IsOneWrite}
 use Rattle.history_store.specs.MergeInProgress.{IsMergeOf, merge_of}
 use Rattle.history_store.specs.Merging.{IsUnfinished}
 use Rattle.history_store.specs.Written.{HasRows, AreNext, WritesNext}
@@ -51,70 +55,86 @@ has_joined (x ∷ lists) (suc k) rows s found h = Has-append_right x (joined lis
 
 -- ---- what is left of two lists
 
+has_front : (n : ℕ) (rows : List StampedRow) (s : StampedRow) → Has (take n rows) s → Has rows s
+has_front zero rows s h = absurd h
+has_front (suc n) [] s h = absurd h
+has_front (suc n) (x ∷ rows) s h = elim h [ inl one ↦ inl one | inr rest ↦ inr (has_front n rows s rest) ]
+
 has_drop : (n : ℕ) (rows : List StampedRow) (s : StampedRow) → Has (drop n rows) s → Has rows s
 has_drop zero rows s h = h
-has_drop (suc n) [] s h = h
+has_drop (suc n) [] s h = absurd h
 has_drop (suc n) (x ∷ rows) s h = inr (has_drop n rows s h)
-
-left_count : (m : MergeProgress) (a b : List StampedRow) → IsOf m a b → AreLists (a ∷ b ∷ []) → length (rows_left m a b) ≡ count_left m
-left_count m a b of are =
-    let all = length-union (drop m.a_place a) (drop m.b_place b) (IsAscending-drop stamped_cmp m.a_place a are.ascending.0) (IsAscending-drop stamped_cmp m.b_place b are.ascending.1.0)
-    (λ s t h k. are.apart.0.0 s t (has_drop m.a_place a s h) (has_drop m.b_place b t k)) in
-    omega (arith, all, length-drop m.a_place a, length-drop m.b_place b, of.0, of.1)
 
 -- ---- what is written
 
--- one write of the bytes at a place, which was made or failed
-abbrev pub IsOneWrite : {T E : Type 0} → Result T E → ℕ → List ℕ → Moments → Moments → Type 0
-IsOneWrite result at bytes old new = MatchResult result (λ _. new ≡ followed_by old (after_write old.state at bytes)) (λ _. Fails old (after_write old.state at bytes) new)
+module _ (d : DirectoryValue) (lists : List (List StampedRow)) (m : MergeInProgress) (is : IsMergeOf d lists m.i m.j m.entry m.output) (kept : IsKept d lists) (n : ℕ) where
+  abbrev all_rows : List StampedRow
+  all_rows = union m.output.a m.output.b
 
-module _ (honest : Type 0) (d : DirectoryValue) (lists : List (List StampedRow)) (m : MergeInProgress) (is : IsMergeOf honest d lists m.i m.j m.entry m.places m.taken) (kept : IsKept d lists) (n : ℕ) (up : honest) where
   abbrev rest : List StampedRow
-  rest = rows_left m.places is.a is.b
+  rest = left_rows m.output
 
-  all_rows : m.taken ++ take n rest ++ drop n rest ≡ union is.a is.b
-  all_rows = append_assoc m.taken (take n rest) (drop n rest) ∙ ap (λ (l : List StampedRow). m.taken ++ l) (take-append-drop n rest) ∙ is.taken up
+  together : taken_rows m.output ++ take n rest ++ drop n rest ≡ all_rows
+  together = append_assoc (taken_rows m.output) (take n rest) (drop n rest) ∙ ap (λ (l : List StampedRow). taken_rows m.output ++ l) (take-append-drop n rest) ∙ take-append-drop m.output.taken all_rows
 
-  rest_count : length rest ≡ count_left m.places
-  rest_count = left_count m.places is.a is.b is.lengths (two_lists lists m.i m.j is.a is.b kept.apart is.below is.a_is is.b_is)
+  all_count : length all_rows ≡ length m.output.a + length m.output.b
+  all_count =
+      let both = two_lists lists m.i m.j m.output.a m.output.b kept.apart is.below is.a_is is.b_is in
+      length-union m.output.a m.output.b both.ascending.0 both.ascending.1.0 both.apart.0.0
+
+  rest_count : length rest ≡ left_count m.output
+  rest_count = omega (arith, all_count, length-drop m.output.taken all_rows)
 
   of_history : (s : StampedRow) → Has (take n rest) s → Has (listed lists) s
   of_history s h =
-      let in_all : Has (m.taken ++ take n rest ++ drop n rest) s = Has-append_left (m.taken ++ take n rest) (drop n rest) s (Has-append_right m.taken (take n rest) s h) in
       Has-listed_from lists s kept.apart
-      (elim (Has-union_cases is.a is.b s (subst (λ (l : List StampedRow). Has l s) all_rows in_all)) [
-        | inl p ↦ has_joined lists m.i is.a s is.a_is p
-        | inr q ↦ has_joined lists m.j is.b s is.b_is q
+      (elim (Has-union_cases m.output.a m.output.b s (has_drop m.output.taken all_rows s (has_front n rest s h))) [
+        | inl p ↦ has_joined lists m.i m.output.a s is.a_is p
+        | inr q ↦ has_joined lists m.j m.output.b s is.b_is q
       ])
 
-  are_next : (now : List ℕ) → AreThere d.entries lists now → BeginsWith (extent_of m.entry) (segment_of m.taken) now → AreNext n (catalog_of d (merge_of (Some m))) (record { i = m.i; j = m.j; output = extent_of m.entry; left = count_left m.places }) m.taken (take n rest) now
+  are_next : (now : List ℕ) → AreThere d.entries lists now → BeginsWith (extent_of m.entry) (segment_of (taken_rows m.output)) now
+      → AreNext n (catalog_of d (merge_of (Some m))) (record { i = m.i; j = m.j; output = extent_of m.entry; left = left_count m.output }) (taken_rows m.output) (take n rest) now
   are_next now there behind = record {
-    a = is.a;
-    b = is.b;
-    first = has_rows d.entries lists m.i is.a now there.segments there.pieces is.a_is;
-    second = has_rows d.entries lists m.j is.b now there.segments there.pieces is.b_is;
+    a = m.output.a;
+    b = m.output.b;
+    first = has_rows d.entries lists m.i m.output.a now there.segments there.pieces is.a_is;
+    second = has_rows d.entries lists m.j m.output.b now there.segments there.pieces is.b_is;
     behind = behind;
     left = drop n rest;
-    all = all_rows;
-    ascending = subst (λ (l : List StampedRow). IsAscending stamped_cmp l) (sym all_rows) (IsAscending-union is.a is.b);
+    all = together;
+    ascending = subst (λ (l : List StampedRow). IsAscending stamped_cmp l) (sym together) (IsAscending-union m.output.a m.output.b);
     count = omega (arith, length-take n rest, rest_count);
     count_left = omega (arith, length-drop n rest, rest_count);
   }
 
-  pub writes_next : {T E : Type 0} (result : Result T E) (old mid new : Moments) (bytes : List ℕ) → AreThere d.entries lists old.state.now → BeginsWith (extent_of m.entry) (segment_of m.taken) old.state.now → mid ≡ old → bytes ≡ segment_of (take n (rows_left m.places is.a is.b))
-      → IsOneWrite result (start_of (extent_of m.entry) + length (segment_of m.taken)) bytes mid new → WritesNext result n (catalog_of d (merge_of (Some m))) (history_of d lists) old new
-  writes_next {T} {E} result old mid new bytes there behind same bytes_are one =
-      let P : Moments → Type 0 = λ x. IsOneWrite result (start_of (extent_of m.entry) + length (segment_of m.taken)) bytes x new in
-      let Q : List ℕ → Type 0 = λ l. IsOneWrite result (start_of (extent_of m.entry) + length (segment_of m.taken)) l old new in
-      record {
-        merge = record { i = m.i; j = m.j; output = extent_of m.entry; left = count_left m.places };
-        goes_on = refl;
-        taken = m.taken;
-        rows = take n rest;
-        next = are_next old.state.now there behind;
-        of_history = of_history;
-        write = subst Q bytes_are (subst P same one);
-      }
+  pub writes_next : {T E : Type 0} (result : Result T E) (old new : Moments) → AreThere d.entries lists old.state.now → BeginsWith (extent_of m.entry) (segment_of (taken_rows m.output)) old.state.now
+      → IsOneWrite result (start_of (extent_of m.entry) + length (segment_of (taken_rows m.output))) (segment_of (take n rest)) old new → WritesNext result n (catalog_of d (merge_of (Some m))) (history_of d lists) old new
+  writes_next {T} {E} result old new there behind one = record {
+    merge = record { i = m.i; j = m.j; output = extent_of m.entry; left = left_count m.output };
+    goes_on = refl;
+    taken = taken_rows m.output;
+    rows = take n rest;
+    next = are_next old.state.now there behind;
+    of_history = of_history;
+    write = one;
+  }
+
+  -- ---- the merge with the rows that are taken
+
+  pub grown : taken_rows (with_more n m.output) ≡ taken_rows m.output ++ take n rest
+  grown =
+      let k = m.output.taken in
+      let same : k + min n (left_count m.output) ≡ k + min n (length rest) = omega (arith, rest_count) in
+      ap (λ (i : ℕ). take i all_rows) same ∙ take_more k (min n (length rest)) all_rows ∙ ap (λ (l : List StampedRow). take k all_rows ++ l) (take_min n rest)
+
+  pub part_fits : length (segment_of (taken_rows m.output)) + length (segment_of (take n rest)) ≤ m.entry.bytes
+  part_fits =
+      let join = ap (λ (l : List StampedRow). length (segment_of l)) grown ∙ ap length (pieces_join (taken_rows m.output) (take n rest)) ∙ length-append (segment_of (taken_rows m.output)) (segment_of (take n rest)) in
+      omega (arith, join, segment_within (m.output.taken + min n (left_count m.output)) all_rows, is.segment.bytes)
+
+  pub next_ascend : IsAscending stamped_cmp (take n rest)
+  next_ascend = IsAscending-take stamped_cmp rest n (IsAscending-drop stamped_cmp m.output.taken all_rows (IsAscending-union m.output.a m.output.b))
 
 -- ---- as a store shows it
 
@@ -123,8 +143,8 @@ left_of None = 0
 left_of (Some m) = m.left
 
 -- rows of the merge are left
-pub some_rows : (d : DirectoryValue) (merge : Option MergeInProgress) (m : MergeInProgress) → Some m ≡ merge → IsUnfinished (catalog_of d (merge_of merge)) → 1 ≤ count_left m.places
-some_rows d merge m value going = let same : count_left m.places ≡ going.0.left = ap left_of (ap merge_of value ∙ going.1) in omega (arith, same, going.2)
+pub some_rows : (d : DirectoryValue) (merge : Option MergeInProgress) (m : MergeInProgress) → Some m ≡ merge → IsUnfinished (catalog_of d (merge_of merge)) → 1 ≤ left_count m.output
+some_rows d merge m value going = let same : left_count m.output ≡ going.0.left = ap left_of (ap merge_of value ∙ going.1) in omega (arith, same, going.2)
 
 pub none_unfinished : (d : DirectoryValue) (merge : Option MergeInProgress) → merge ≡ None → IsUnfinished (catalog_of d (merge_of merge)) → ⊥
 none_unfinished d merge none going = let e : None ≡ Some going.0 = sym (ap merge_of none) ∙ going.1 in absurd cc

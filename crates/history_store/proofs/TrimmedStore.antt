@@ -26,6 +26,7 @@ use Rattle.history_store.specs.Catalog.{reserved_by}
 use Rattle.history_store.specs.MergeInProgress.{IsMergingOf, IsWritten, HasMerge, merge_of}
 use Rattle.history_store.specs.StoreValue.{IsHeld}
 use Rattle.history_store.specs.Merging.{end_of_taken}
+use Rattle.segment_index.specs.Output.{taken_rows}
 use Rattle.history_store.proofs.GoingOn.{written_fits, merging_on}
 use Rattle.history_store.proofs.EndOf.{end_within, entries_within, end_reserved, ends_below}
 
@@ -40,18 +41,18 @@ begins_cut extent (byte ∷ bytes) old len first fits begins =
     let short = length-take len old in
     window_same (start_of extent) n (take len old) old (omega (arith, there, short, fits)) there (λ i ge lt. get_or-take len old i 0 (omega (arith, lt, fits))) ∙ begins
 
-written_cut : (honest : Type 0) (d : DirectoryValue) (lists : List (List StampedRow)) (merge : Option MergeInProgress) (entries : List Entry) (len : ℕ) (old new : List ℕ) → IsMergingOf honest d lists merge → 4096 * end_of_taken (extents_of entries ++ option_to_list (reserved_by (merge_of merge))) ≤ len → new ≡ take len old → IsWritten merge old → IsWritten merge new
-written_cut honest d lists None entries len old new is below cut written = tt
-written_cut honest d lists (Some m) entries len old new is below cut written =
-    let fits = written_fits honest d lists m.i m.j m.entry m.places m.taken is in
+written_cut : (d : DirectoryValue) (lists : List (List StampedRow)) (merge : Option MergeInProgress) (entries : List Entry) (len : ℕ) (old new : List ℕ) → IsMergingOf d lists merge → 4096 * end_of_taken (extents_of entries ++ option_to_list (reserved_by (merge_of merge))) ≤ len → new ≡ take len old → IsWritten merge old → IsWritten merge new
+written_cut d lists None entries len old new is below cut written = tt
+written_cut d lists (Some m) entries len old new is below cut written =
+    let fits = written_fits d lists m.i m.j m.entry m.output is in
     let end = end_reserved entries (extent_of m.entry) in
-    let P : List ℕ → Type 0 = λ l. BeginsWith (extent_of m.entry) (segment_of m.taken) l in
-    subst P (sym cut) (begins_cut (extent_of m.entry) (segment_of m.taken) old len is.is_entry.first (omega (arith, fits, end, below, blocks_cover m.entry.bytes)) written)
+    let P : List ℕ → Type 0 = λ l. BeginsWith (extent_of m.entry) (segment_of (taken_rows m.output)) l in
+    subst P (sym cut) (begins_cut (extent_of m.entry) (segment_of (taken_rows m.output)) old len is.is_entry.first (omega (arith, fits, end, below, blocks_cover m.entry.bytes)) written)
 
 -- nothing that is taken ends above the last block
-pub end_limit : (honest : Type 0) (d : DirectoryValue) (lists : List (List StampedRow)) (merge : Option MergeInProgress) → IsListing d → IsMergingOf honest d lists merge → end_of_taken (extents_of d.entries ++ option_to_list (reserved_by (merge_of merge))) ≤ 4194304
-end_limit honest d lists None listing is = end_within (extents_of d.entries ++ []) 4194304 (omega arith) (entries_within d.entries [] listing.entries tt)
-end_limit honest d lists (Some m) listing is = end_within (extents_of d.entries ++ extent_of m.entry ∷ []) 4194304 (omega arith) (entries_within d.entries (extent_of m.entry ∷ []) listing.entries (is.is_entry.end_is, tt))
+pub end_limit : (d : DirectoryValue) (lists : List (List StampedRow)) (merge : Option MergeInProgress) → IsListing d → IsMergingOf d lists merge → end_of_taken (extents_of d.entries ++ option_to_list (reserved_by (merge_of merge))) ≤ 4194304
+end_limit d lists None listing is = end_within (extents_of d.entries ++ []) 4194304 (omega arith) (entries_within d.entries [] listing.entries tt)
+end_limit d lists (Some m) listing is = end_within (extents_of d.entries ++ extent_of m.entry ∷ []) 4194304 (omega arith) (entries_within d.entries (extent_of m.entry ∷ []) listing.entries (is.is_entry.end_is, tt))
 
 -- the end of all that is taken, as it was computed
 pub end_is : (d : DirectoryValue) (merge : Option MergeInProgress) (entries : List Entry) (reserved : Option Extent) (end : ℕ) → entries ≡ d.entries → reserved ≡ reserved_by (merge_of merge) → end ≡ end_of_taken (taken entries reserved) → end ≡ end_of_taken (taken d.entries (reserved_by (merge_of merge)))
@@ -74,6 +75,6 @@ trimmed_held before after old new cache left slot d lists needs end held back on
 pub trimmed_merge : (before after : Type 0) (old new : List ℕ) (d : DirectoryValue) (lists : List (List StampedRow)) (merge : Option MergeInProgress) (needs : Bool) (end : ℕ) → HasMerge before old d lists merge needs → (after → before)
     → end ≡ end_of_taken (taken d.entries (reserved_by (merge_of merge))) → (before → new ≡ take (4096 * end) old) → HasMerge after new d lists merge needs
 trimmed_merge before after old new d lists merge needs end held back is cut = record {
-  merging = merging_on before after d d lists merge back refl held.merging;
-  written = λ up still. written_cut before d lists merge d.entries (4096 * end) old new held.merging (omega (arith, is)) (cut (back up)) (held.written (back up) still);
+  merging = merging_on d d lists merge refl held.merging;
+  written = λ up still. written_cut d lists merge d.entries (4096 * end) old new held.merging (omega (arith, is)) (cut (back up)) (held.written (back up) still);
 }

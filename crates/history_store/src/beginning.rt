@@ -1,7 +1,8 @@
 //! The beginning of a merge: which two segments it takes, and where its output is to lie.
 
 ghost use Rattle.std.specs.Prelude.{◌≡◌, ◌<◌, ◌≤◌, length, IfOk, IfErr, IfSome, IsNone, IsSome};
-ghost use Rattle.std.specs.Prelude.{nat_lt};
+ghost use Rattle.std.specs.Prelude.{nat_lt, Some, slice_get};
+ghost use Rattle.store_image.specs.Kept.{IsKept};
 ghost use Rattle.directory.specs.Listings.{IsListing};
 ghost use Rattle.history_store.specs.Merging.{AreFewest, rows_at_place};
 ghost use Rattle.history_store.specs.Private.Beginning.{AreLong, IsNewMerge, IsUnbegun};
@@ -10,8 +11,7 @@ use crate::merge_in_progress::MergeInProgress;
 use crate::refusal::Refusal;
 use blocks::Extent;
 use directory::{Directory, Entry, first_fit};
-use merge::MergeProgress;
-use segment_index::IndexBuilder;
+use segment_index::{IndexMerge, StoreIndex};
 use std::alloc::Global;
 
 /// Whether the segment at the one place has fewer rows than the one at the other.
@@ -54,9 +54,16 @@ fn fewest(entries: &[Entry]) -> Option<(usize, usize)>
 }
 
 /// A merge of the two segments of fewest rows, of which nothing is taken yet. It takes no memory.
-pub(crate) fn begin(alloc: Global, directory: &Directory) -> Result<MergeInProgress, Refusal>
-    requires { AreLong directory.now.entries }
+pub(crate) fn begin(
+    alloc: Global,
+    directory: &Directory,
+    index: &StoreIndex,
+) -> Result<MergeInProgress, Refusal>
+    requires long { AreLong directory.now.entries }
+    requires kept { IsKept directory.now index.now }
     ensures begun { IfOk result (IsNewMerge directory.now) }
+    ensures first { IfOk result (λ m. slice_get index.now m.i ≡ Some m.output.a) }
+    ensures second { IfOk result (λ m. slice_get index.now m.j ≡ Some m.output.b) }
     ensures refused { IfErr result (λ e. IsUnbegun e directory.now.entries) }
     ensures listing { IsListing directory.now }
 {
@@ -79,7 +86,6 @@ pub(crate) fn begin(alloc: Global, directory: &Directory) -> Result<MergeInProgr
             bytes,
             rows: a.rows + b.rows,
         },
-        places: MergeProgress::new(a.rows as usize, b.rows as usize),
-        taken: IndexBuilder::new(alloc),
+        output: IndexMerge::new(alloc, index, i, j),
     })
 }

@@ -1,8 +1,7 @@
 //! A merge that goes on, as it stands in memory.
 
 use directory::Entry;
-use merge::MergeProgress;
-use segment_index::IndexBuilder;
+use segment_index::IndexMerge;
 
 /// A merge of two segments into one, of which some rows are taken.
 #[derive(Drop)]
@@ -12,7 +11,6 @@ pub(crate) struct MergeInProgress {
     pub(crate) j: usize,
     /// Its output, as the directory is going to list it.
     pub(crate) entry: Entry,
-    pub(crate) places: MergeProgress,
-    /// What is kept of the rows that were taken. Their records are written.
-    pub(crate) taken: IndexBuilder,
+    /// The index of the output. The records of the rows that were taken are written.
+    pub(crate) output: IndexMerge,
 }

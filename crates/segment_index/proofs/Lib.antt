@@ -1,5 +1,5 @@
 pub mod Built
 pub mod AllLists
-mod Moving
-mod Outputs
+pub mod Moving
+pub mod Outputs
 mod UnderWay

@@ -1,11 +1,10 @@
 -- What the parts of the beginning of a merge give. Only private functions cite these words.
-use Rattle.std.specs.Prelude.{◌≡◌, ◌+◌, ◌^◌, ◌<◌, ◌≤◌, List, [], length, Some, None, slice_get}
+use Rattle.std.specs.Prelude.{◌≡◌, ◌+◌, ◌^◌, ◌<◌, ◌≤◌, List, length, Some, None, slice_get}
 use Rattle.std.specs.Int.{div_ceil}
 use Rattle.std.specs.List.{AllByRecursion}
 use Rattle.directory.specs.declared.entry.Entry.{Entry}
 use Rattle.directory.specs.Listings.{DirectoryValue}
 use Rattle.directory.specs.Fit.{fit}
-use Rattle.merge.specs.Merged.{IsNew}
 use Rattle.history_store.specs.declared.refusal.Refusal.{Refusal}
 use Rattle.history_store.specs.declared.refusal.Refusal.TheVariants as refusals
 use Rattle.history_store.specs.declared.merge_in_progress.MergeInProgress.{MergeInProgress}
@@ -27,8 +26,7 @@ pub record IsNewMerge (d : DirectoryValue) (m : MergeInProgress) : Type 0 where
   pub rows_are : m.entry.rows ≡ a.rows + b.rows
   pub rows_fit : m.entry.rows < 2 ^ 32
   pub place : fit (div_ceil m.entry.bytes 4096) d.entries None ≡ Some m.entry.first
-  pub places : IsNew m.places a.rows b.rows
-  pub none_taken : m.taken ≡ []
+  pub none_taken : m.output.taken ≡ 0
 
 -- why no merge begins
 abbrev pub IsUnbegun : Refusal → List Entry → Type 0

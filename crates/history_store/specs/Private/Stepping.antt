@@ -1,24 +1,24 @@
 -- What the parts of a step of a merge give. Only private functions cite these words.
-use Rattle.std.specs.Prelude.{◌≡◌, ◌⊎◌, ℕ, ◌+◌, ◌-◌, ◌≤◌, Bool, true, false, List, ◌++◌, length}
-use Rattle.std.specs.Prelude.{take, drop}
-use Rattle.std.specs.Prelude.{Some, Result, Ok, Err, if◌then◌else◌}
-use Rattle.std.specs.List.{AllByRecursion, AllZip}
-use Rattle.disk_model.specs.Disk.{DiskState}
+use Rattle.std.specs.Prelude.{◌≡◌, ◌⊎◌, ℕ, ◌≤◌, Bool, true, false, List, map}
+use Rattle.std.specs.Prelude.{Some, Result, Ok, Err, MatchResult, if◌then◌else◌}
+use Rattle.std.specs.List.{AllZip, sum_by}
+use Rattle.disk_model.specs.Disk.{DiskState, Moments, followed_by, after_write, Fails}
 use Rattle.lru.specs.LruCache.{LruCache}
 use Rattle.blocks.specs.declared.slots.Slot.{Slot}
 use Rattle.history_model.specs.declared.stamped.StampedRow.{StampedRow}
+use Rattle.history_model.specs.InOrder.{IsAscending}
+use Rattle.directory.specs.declared.entry.Entry.{Entry}
 use Rattle.directory.specs.Listings.{DirectoryValue}
-use Rattle.segment.specs.Records.{IsStamped, segment_of}
 use Rattle.segment.specs.Standing.{StandsAt}
 use Rattle.merge.specs.declared.Taken.{Taken}
-use Rattle.merge.specs.Merged.{IsOf, count_left, rows_left}
+use Rattle.as_of_index.specs.Places.{place_cmp}
+use Rattle.segment_index.specs.Output.{left_count, with_more}
 use Rattle.history_store.specs.declared.refusal.Refusal.{Refusal}
 use Rattle.history_store.specs.declared.refusal.Refusal.TheVariants as refusals
 use Rattle.history_store.specs.declared.merge_in_progress.MergeInProgress.{MergeInProgress}
-use Rattle.history_store.specs.declared.stepping.Part.{Part}
-use Rattle.history_store.specs.Private.Reading.{IsOfPlace}
+use Rattle.history_store.specs.Private.Reading.{IsOfPlace, AreThere}
 use Rattle.history_store.specs.StoreValue.{IsHeld}
-use Rattle.history_store.specs.MergeInProgress.{IsLike, HasMerge}
+use Rattle.history_store.specs.MergeInProgress.{HasMerge}
 
 -- the row stands at the place, in the one or the other of two lists
 abbrev pub StandsIn : List (List StampedRow) → ℕ → ℕ → Taken → StampedRow → Type 0
@@ -35,38 +35,28 @@ pub record IsReady (honest : Type 0) (state : DiskState) (cache : LruCache ℕ (
   pub held : IsHeld honest state cache slot d lists false
   pub merge : HasMerge honest state.now d lists (Some m) false
 
--- The next rows of two lists, up to n, and their records. On every disk they
--- are alike in key, number and length; on an honest one they are the rows.
-pub record IsPart (honest : Type 0) (a b : List StampedRow) (m : MergeInProgress) (n : ℕ)
-    (p : Part) : Type 0 where
-  pub lengths : IsOf p.places a b
-  pub left : count_left p.places ≡ count_left m.places - n
-  pub rest : rows_left p.places a b ≡ drop n (rows_left m.places a b)
-  pub alike : AllZip IsLike p.rows.items (take n (rows_left m.places a b))
-  pub exact : honest → p.rows.items ≡ take n (rows_left m.places a b)
-  pub each : AllByRecursion IsStamped p.rows.items
-  pub bytes : p.bytes.items ≡ segment_of p.rows.items
+-- the places ascend by their keys
+abbrev pub AreAscending : List Taken → Type 0
+AreAscending taken = IsAscending place_cmp (map (λ t. t.place) taken)
+
+-- how many bytes the records at the places have
+abbrev pub bytes_at : List Taken → ℕ
+bytes_at taken = sum_by (λ t. t.place.bytes) taken
+
+-- what is said of a reading of rows on an honest disk: each stands at its place
+abbrev pub AreRead : List Entry → ℕ → ℕ → List ℕ → List Taken → List StampedRow → Type 0
+AreRead entries i j file taken want = (lists : List (List StampedRow))
+    × AreThere entries lists file × AllZip (StandsIn lists i j) taken want
 
 -- why rows are not read
 abbrev pub IsUnread : Refusal → Type 0
 IsUnread e = (e ≡ refusals.OutOfMemory) ⊎ (e ≡ refusals.DiskFault) ⊎ (e ≡ refusals.Damaged)
 
--- why rows are not written
-abbrev pub IsUnwritten : Refusal → Type 0
-IsUnwritten e = (e ≡ refusals.OutOfMemory) ⊎ (e ≡ refusals.DiskFault)
-
--- the merge with these rows more
-pub record IsGrown (m next : MergeInProgress) (p : Part) : Type 0 where
-  pub i : next.i ≡ m.i
-  pub j : next.j ≡ m.j
-  pub entry : next.entry ≡ m.entry
-  pub places : next.places ≡ p.places
-  pub taken : next.taken ≡ m.taken ++ p.rows.items
-
--- the records of more rows lie within the output of a merge, behind those that are written
-pub record HasRoom (m : MergeInProgress) (p : Part) : Type 0 where
-  pub bytes : p.bytes.items ≡ segment_of p.rows.items
-  pub inside : length (segment_of m.taken) + length p.bytes.items ≤ m.entry.bytes
+-- one write of the bytes at a place, which was made or failed
+abbrev pub IsOneWrite : {T E : Type 0} → Result T E → ℕ → List ℕ → Moments → Moments → Type 0
+IsOneWrite result at bytes old new = MatchResult result
+    (λ _. new ≡ followed_by old (after_write old.state at bytes))
+    (λ _. Fails old (after_write old.state at bytes) new)
 
 -- the call failed at the device
 abbrev pub is_fault : Result (Unit {0}) Refusal → Bool
@@ -80,6 +70,5 @@ UnlessFault _ P = P
 
 -- what a step makes of a merge
 abbrev pub IsStepOf : Result (Unit {0}) Refusal → MergeInProgress → MergeInProgress → ℕ → Type 0
-IsStepOf (Ok done) m next n = (next.i ≡ m.i) × (next.j ≡ m.j) × (next.entry ≡ m.entry)
-    × (count_left next.places ≡ count_left m.places - n)
-IsStepOf (Err e) m next n = IsUnread e × (1 ≤ n) × (1 ≤ count_left m.places) × (next ≡ m)
+IsStepOf (Ok done) m next n = next ≡ record m { output = with_more n m.output }
+IsStepOf (Err e) m next n = IsUnread e × (1 ≤ n) × (1 ≤ left_count m.output) × (next ≡ m)

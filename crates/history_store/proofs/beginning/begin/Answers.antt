@@ -6,7 +6,8 @@ use Rattle.std.proofs.lemmas.Result.{err_from_is_err_and}
 use Rattle.directory.specs.declared.entry.Entry.{Entry}
 use Rattle.directory.specs.Fit.{fit}
 use Rattle.history_store.specs.Merging.{AreFewest}
-use Rattle.history_store.proofs.BegunMerge.{all_at, no_entry, lacks_output}
+use Rattle.history_store.proofs.BegunMerge.{all_at, no_entry, lacks_output, both_short}
+use Rattle.history_store.proofs.Held.{lists_count}
 use Rattle.history_store.proofs.beginning.begin.Goals as goal
 
 pub returns-in_default-checked_add-clause-refused : goal.returns-in_default-checked_add-clause-refused
@@ -40,8 +41,23 @@ returns-clause-begun c =
       bytes = sum.1;
       bytes_fit = omega (arith, sum.0, sum.1);
       rows_are = refl;
-      rows_fit = omega (arith, sum.0, all_at (λ e. e.rows ≤ e.bytes) c.args.directory.now.entries c.in-Some.i a c.requires a_is, all_at (λ e. e.rows ≤ e.bytes) c.args.directory.now.entries c.in-Some.j b c.requires b_is);
+      rows_fit = omega (arith, sum.0, all_at (λ e. e.rows ≤ e.bytes) c.args.directory.now.entries c.in-Some.i a c.requires.long a_is, all_at (λ e. e.rows ≤ e.bytes) c.args.directory.now.entries c.in-Some.j b c.requires.long b_is);
       place = ap (λ (x : List Entry). fit (div_ceil c.in-Some-checked_add.bytes 4096) x None) (sym same) ∙ ap (λ n. fit n l None) (sym c.blocks-2.ensures) ∙ c.in_ok-first.ensures.fit;
-      places = c.new.ensures;
-      none_taken = c.new-2.ensures;
+      none_taken = c.new.ensures.none;
     }
+
+pub new-requires-clause-within : goal.new-requires-clause-within
+new-requires-clause-within c =
+    let within = subst (λ (x : List Entry). AreFewest x c.in-Some.i c.in-Some.j) c.entries-entries.ensures.entries c.in-Some.ensures.found in
+    omega (arith, within.within, lists_count c.args.directory.now.entries c.args.index.now c.requires.kept.segments)
+
+pub new-requires-clause-short : goal.new-requires-clause-short
+new-requires-clause-short c a b a_is b_is =
+    let same = c.entries-entries.ensures.entries in
+    let l = c.entries-entries.result.now in
+    let fewest = c.in-Some.ensures.found in
+    let first = get_or l c.in-Some.i no_entry in
+    let second = get_or l c.in-Some.j no_entry in
+    let first_is : slice_get c.args.directory.now.entries c.in-Some.i ≡ Some first = subst (λ (x : List Entry). slice_get x c.in-Some.i ≡ Some first) same (slice_get-get_or l c.in-Some.i no_entry (omega (arith, fewest.below, fewest.within))) in
+    let second_is : slice_get c.args.directory.now.entries c.in-Some.j ≡ Some second = subst (λ (x : List Entry). slice_get x c.in-Some.j ≡ Some second) same (slice_get-get_or l c.in-Some.j no_entry fewest.within) in
+    both_short c.args.directory.now.entries c.args.index.now c.in-Some.i c.in-Some.j first second a b c.requires.kept.segments first_is second_is a_is b_is (omega (arith, c.in-Some-checked_add.ensures.0, c.in-Some-checked_add.ensures.1))

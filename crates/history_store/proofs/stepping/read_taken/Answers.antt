@@ -11,7 +11,7 @@ use Rattle.disk_model.specs.Disk.{Moments}
 use Rattle.history_store.specs.Queries.{is_listed}
 use Rattle.history_store.specs.Private.Reading.{AreThere}
 use Rattle.history_store.specs.Private.Stepping.{StandsIn, IsReadAt}
-use Rattle.history_store.proofs.Likeness.{zip_at, zip_end}
+use Rattle.history_store.proofs.ReadRows.{zip_at, zip_end}
 use Rattle.history_store.proofs.stepping.read_taken.Goals as goal
 
 pub loop-t-preserved : goal.loop-t-preserved

@@ -1,4 +1,6 @@
-use Rattle.std.proofs.Common.{sym, ap, refl}
+use Rattle.std.proofs.Common.{sym, ap, subst}
+use Rattle.store_image.specs.Kept.{history_of}
+use Rattle.history_store.specs.StoreValue.{IsHeld}
 use Rattle.history_store.specs.Catalog.{catalog_of}
 use Rattle.history_store.specs.MergeInProgress.{merge_of}
 use Rattle.history_store.proofs.GoingOn.{no_merge}
@@ -9,4 +11,4 @@ invariant_of-self g c = (c.self.invariant.0, no_merge _ _ _ _ _ _ c.take.ensures
 
 pub returns-clause-answer : goal.returns-clause-answer
 returns-clause-answer g c =
-    rw (← c.self.view_is) ((_, ap merge_of (sym c.in-Some.ensures.value)), ap (λ o. catalog_of c.self.inside.directory (merge_of o)) c.take.ensures.after, record { history = refl; was_open = c.if-self.false; open_still = c.if-self.false })
+    rw (← c.self.view_is) ((_, ap merge_of (sym c.in-Some.ensures.value)), ap (λ o. catalog_of c.self.inside.directory (merge_of o)) c.take.ensures.after, record { history = ap (λ l. history_of c.self.inside.directory l) c.forget_merge.ensures; was_open = c.if-self.false; open_still = c.if-self.false })

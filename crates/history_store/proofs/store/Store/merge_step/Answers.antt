@@ -1,15 +1,17 @@
-use Rattle.std.specs.Prelude.{Option, Ok, Err}
+use Rattle.std.specs.Prelude.{Option, Some, Ok, Err}
 use Rattle.std.specs.Option.{option_to_list}
-use Rattle.std.proofs.Common.{◌≡◌, ◌≢◌, map, refl, sym, subst, ◌∙◌}
+use Rattle.std.proofs.Common.{◌≡◌, ◌≢◌, map, refl, sym, ap, subst, ◌∙◌}
 use Rattle.disk_model.proofs.MomentSteps.{stayed}
 use Rattle.history_store.specs.declared.refusal.Refusal.TheVariants as refusals
 use Rattle.blocks.specs.Extents.{byte_range}
 use Rattle.blocks.specs.Outside.{SameOutside}
 use Rattle.history_store.specs.declared.merge_in_progress.MergeInProgress.{MergeInProgress}
+use Rattle.store_image.specs.Kept.{history_of}
+use Rattle.history_store.specs.StoreValue.{IsHeld}
 use Rattle.history_store.specs.Catalog.{reserved_by}
 use Rattle.history_store.specs.MergeInProgress.{merge_of}
 use Rattle.history_store.proofs.Held.{held_stands}
-use Rattle.history_store.proofs.SteppedStore.{held_lent, held_back, merge_back, no_fault, is_stepped, stepping_refused}
+use Rattle.history_store.proofs.SteppedStore.{held_lent, held_back, merge_back, same_lists, no_fault, is_stepped, stepping_refused}
 use Rattle.history_store.proofs.StepWrites.{some_rows, none_unfinished, wrote_shown, wrote_ok, wrote_err}
 use Rattle.history_store.proofs.store.Store.merge_step.Goals as goal
 use Rattle.history_store.proofs.store.Store.merge_step.Goals.{in-DiskFault, in_default-matches}
@@ -26,7 +28,8 @@ pub invariant_of-self-in-Ok : goal.invariant_of-self-in-Ok
 invariant_of-self-in-Ok g c =
     let s = c.self.inside in
     let new = c.step-stepped.new in
-    let lent = held_lent (g.D.Disk.is_honest s.disk) (g.D.Disk.moments s.disk).state s.cache s.slot s.directory s.index s.needs_reopen c.self.invariant.0 c.if-self.false in (
+    let lent = held_lent (g.D.Disk.is_honest s.disk) (g.D.Disk.moments s.disk).state s.cache s.slot s.directory s.index s.needs_reopen c.self.invariant.0 c.if-self.false in
+    same_lists (g.D.Disk.is_honest new.disk) (g.D.Disk.moments new.disk).state new.cache s.slot s.directory s.index new.index (Some new.merge) s.needs_reopen c.step-stepped.ensures.index (
       held_back (g.D.Disk.is_honest new.disk) (g.D.Disk.moments new.disk).state new.cache s.slot s.directory s.index _ s.needs_reopen (c.in-Ok.ensures.held s.slot lent) (sym c.if-self.false),
       merge_back (g.D.Disk.is_honest new.disk) (g.D.Disk.moments new.disk).state.now s.directory s.index new.merge _ s.needs_reopen c.in-Ok.ensures.merge (sym c.if-self.false),
     )
@@ -37,14 +40,15 @@ invariant_of-self-else-matches g c =
     let new = c.step-stepped.new in
     let other : c.in-Err.refusal ≢ refusals.DiskFault = elim c.match-matches.branch [ in-DiskFault w ↦ absurd (let off = c.if-matches.false in let on = w.matches-is in cc) | in_default-matches w ↦ λ is. w.in_default-matches.not-DiskFault is ] in
     let open_still = no_fault c.in-Err.refusal c.in-Err.ensures.step.0 other ∙ sym c.if-self.false in
-    let lent = held_lent (g.D.Disk.is_honest s.disk) (g.D.Disk.moments s.disk).state s.cache s.slot s.directory s.index s.needs_reopen c.self.invariant.0 c.if-self.false in (
+    let lent = held_lent (g.D.Disk.is_honest s.disk) (g.D.Disk.moments s.disk).state s.cache s.slot s.directory s.index s.needs_reopen c.self.invariant.0 c.if-self.false in
+    same_lists (g.D.Disk.is_honest new.disk) (g.D.Disk.moments new.disk).state new.cache s.slot s.directory s.index new.index (Some new.merge) s.needs_reopen c.step-stepped.ensures.index (
       held_back (g.D.Disk.is_honest new.disk) (g.D.Disk.moments new.disk).state new.cache s.slot s.directory s.index _ s.needs_reopen (c.in-Err.ensures.held s.slot lent) open_still,
       merge_back (g.D.Disk.is_honest new.disk) (g.D.Disk.moments new.disk).state.now s.directory s.index new.merge _ s.needs_reopen c.in-Err.ensures.merge open_still,
     )
 
 pub returns-in-Ok-clause-answer : goal.returns-in-Ok-clause-answer
 returns-in-Ok-clause-answer g c =
-    rw (← c.self.view_is) (is_stepped c.args.n c.left-left.result c.self.inside.directory c.self.inside.merge c.in-Some.merge c.step-stepped.new.merge c.in-Some.ensures.value c.left-left.ensures c.in-Ok.ensures.step, record { history = refl; was_open = c.if-self.false; open_still = c.if-self.false })
+    rw (← c.self.view_is) (is_stepped c.args.n c.left-left.result c.self.inside.directory c.self.inside.merge c.in-Some.merge c.step-stepped.new.merge c.in-Some.ensures.value c.left-left.ensures c.in-Ok.ensures.step, record { history = ap (λ l. history_of c.self.inside.directory l) c.step-stepped.ensures.index; was_open = c.if-self.false; open_still = c.if-self.false })
 
 pub returns-in-Ok-clause-acknowledged : goal.returns-in-Ok-clause-acknowledged
 returns-in-Ok-clause-acknowledged g c =
@@ -52,17 +56,17 @@ returns-in-Ok-clause-acknowledged g c =
     let new = c.step-stepped.new in
     let lent = held_lent (g.D.Disk.is_honest s.disk) (g.D.Disk.moments s.disk).state s.cache s.slot s.directory s.index s.needs_reopen c.self.invariant.0 c.if-self.false in
     let held = held_back (g.D.Disk.is_honest new.disk) (g.D.Disk.moments new.disk).state new.cache s.slot s.directory s.index _ s.needs_reopen (c.in-Ok.ensures.held s.slot lent) (sym c.if-self.false) in
-    rw (← c.self.view_is) (λ honest still. record { open_still = still; each = held_stands _ _ _ _ _ _ _ held (c.step-stepped.ensures.honesty.0 honest) still })
+    rw (← c.self.view_is) (λ honest still. record { open_still = still; each = held_stands _ _ _ _ _ _ _ (subst (λ l. IsHeld (g.D.Disk.is_honest new.disk) (g.D.Disk.moments new.disk).state new.cache s.slot s.directory l s.needs_reopen) (sym c.step-stepped.ensures.index) held) (c.step-stepped.ensures.honesty.0 honest) still })
 
 pub returns-then-matches-clause-answer : goal.returns-then-matches-clause-answer
 returns-then-matches-clause-answer g c =
     let device : c.in-Err.refusal ≡ refusals.DiskFault = elim c.match-matches.branch [ in-DiskFault w ↦ w.in-DiskFault.is | in_default-matches w ↦ absurd (let on = c.if-matches.true in let off = w.matches-is in cc) ] in
-    rw (← c.self.view_is) (stepping_refused c.in-Err.refusal _ _ c.args.n c.self.inside.directory c.self.inside.merge c.in-Some.merge c.step-stepped.new.merge c.in-Some.ensures.value c.if-self.false refl refl refl c.in-Err.ensures.step (λ is. refl) (λ other. absurd (other device)))
+    rw (← c.self.view_is) (stepping_refused c.in-Err.refusal _ _ c.args.n c.self.inside.directory c.self.inside.merge c.in-Some.merge c.step-stepped.new.merge c.in-Some.ensures.value c.if-self.false refl refl (ap (λ l. history_of c.self.inside.directory l) c.step-stepped.ensures.index) c.in-Err.ensures.step (λ is. refl) (λ other. absurd (other device)))
 
 pub returns-else-matches-clause-answer : goal.returns-else-matches-clause-answer
 returns-else-matches-clause-answer g c =
     let other : c.in-Err.refusal ≢ refusals.DiskFault = elim c.match-matches.branch [ in-DiskFault w ↦ absurd (let off = c.if-matches.false in let on = w.matches-is in cc) | in_default-matches w ↦ λ is. w.in_default-matches.not-DiskFault is ] in
-    rw (← c.self.view_is) (stepping_refused c.in-Err.refusal _ _ c.args.n c.self.inside.directory c.self.inside.merge c.in-Some.merge c.step-stepped.new.merge c.in-Some.ensures.value c.if-self.false refl refl refl c.in-Err.ensures.step (λ is. absurd (other is)) (λ still. refl))
+    rw (← c.self.view_is) (stepping_refused c.in-Err.refusal _ _ c.args.n c.self.inside.directory c.self.inside.merge c.in-Some.merge c.step-stepped.new.merge c.in-Some.ensures.value c.if-self.false refl refl (ap (λ l. history_of c.self.inside.directory l) c.step-stepped.ensures.index) c.in-Err.ensures.step (λ is. absurd (other is)) (λ still. refl))
 
 pub returns-else-matches-clause-acknowledged : goal.returns-else-matches-clause-acknowledged
 returns-else-matches-clause-acknowledged g c =
@@ -72,7 +76,7 @@ returns-else-matches-clause-acknowledged g c =
     let open_still = no_fault c.in-Err.refusal c.in-Err.ensures.step.0 other ∙ sym c.if-self.false in
     let lent = held_lent (g.D.Disk.is_honest s.disk) (g.D.Disk.moments s.disk).state s.cache s.slot s.directory s.index s.needs_reopen c.self.invariant.0 c.if-self.false in
     let held = held_back (g.D.Disk.is_honest new.disk) (g.D.Disk.moments new.disk).state new.cache s.slot s.directory s.index _ s.needs_reopen (c.in-Err.ensures.held s.slot lent) open_still in
-    rw (← c.self.view_is) (λ honest still. record { open_still = still; each = held_stands _ _ _ _ _ _ _ held (c.step-stepped.ensures.honesty.0 honest) still })
+    rw (← c.self.view_is) (λ honest still. record { open_still = still; each = held_stands _ _ _ _ _ _ _ (subst (λ l. IsHeld (g.D.Disk.is_honest new.disk) (g.D.Disk.moments new.disk).state new.cache s.slot s.directory l s.needs_reopen) (sym c.step-stepped.ensures.index) held) (c.step-stepped.ensures.honesty.0 honest) still })
 
 pub returns-in-Ok-clause-elsewhere : goal.returns-in-Ok-clause-elsewhere
 returns-in-Ok-clause-elsewhere g c =

@@ -11,7 +11,7 @@ trim-requires g c = omega (arith, at_least_four (taken c.entries.result.now c.re
 pub overflow_cast-end : goal.overflow_cast-end
 overflow_cast-end g c =
     let end = end_is c.self.inside.directory c.self.inside.merge c.entries.result.now c.reserved.result c.end_of-end.result c.entries.ensures.entries c.reserved.ensures c.end_of-end.ensures.end in
-    let limit = end_limit (g.D.Disk.is_honest c.self.inside.disk) c.self.inside.directory c.self.inside.index c.self.inside.merge c.self.invariant.0.kept.listing c.self.invariant.1.merging in
+    let limit = end_limit c.self.inside.directory c.self.inside.index c.self.inside.merge c.self.invariant.0.kept.listing c.self.invariant.1.merging in
     omega (arith, end, limit)
 
 pub invariant_of-self : goal.invariant_of-self

@@ -1,0 +1,51 @@
+use Rattle.std.proofs.Common.{[], ◌∷◌, ◌∙◌, sym, subst}
+use Rattle.std.proofs.lemmas.Result.{err_from_is_err_and}
+use Rattle.disk_model.specs.Disk.{Moments, LeavesOnly}
+use Rattle.blocks.specs.declared.extent.Extent.{Extent}
+use Rattle.blocks.specs.Cache.{AgreesWith}
+use Rattle.store_image.specs.Kept.{history_of}
+use Rattle.store_image.specs.Images.{RepresentsAs}
+use Rattle.store_image.specs.Ahead.{IsAhead}
+use Rattle.history_store.proofs.KeptBlocks.{capacity_stays}
+use Rattle.history_store.proofs.SteppedMerge.{not_called, on_still, agrees_still, unless_given, unless_written}
+use Rattle.history_store.proofs.stepping.write_taken.Goals as goal
+
+pub returns-in_err-bytes-clause-undamaged : goal.returns-in_err-bytes-clause-undamaged
+returns-in_err-bytes-clause-undamaged g c up agrees want read =
+    let p = err_from_is_err_and c.from_residual.result c.from_residual.ensures.1 in
+    rw (p.1, p.2) (c.in_err-bytes.ensures.found up agrees want read)
+
+pub returns-in_err-bytes-clause-any_moment : goal.returns-in_err-bytes-clause-any_moment
+returns-in_err-bytes-clause-any_moment g c up slot d lists on ahead = not_called _ _ slot d lists (c.read_part.ensures.moments up) on
+
+pub returns-in_err-bytes-clause-agrees : goal.returns-in_err-bytes-clause-agrees
+returns-in_err-bytes-clause-agrees g c up agrees =
+    unless_given c.from_residual.result (AgreesWith c.read_part.new.cache (g.D.Disk.moments c.read_part.new.disk).state.now)
+    (agrees_still (g.D.Disk.moments c.args.disk.now) (g.D.Disk.moments c.read_part.new.disk) c.read_part.new.cache (c.read_part.ensures.moments up) (c.read_part.ensures.agrees up agrees))
+
+pub returns-in_err-bytes-clause-capacity : goal.returns-in_err-bytes-clause-capacity
+returns-in_err-bytes-clause-capacity g c = capacity_stays _ _ _ _ _ c.in_err-bytes.ensures.looked_up
+
+pub returns-clause-any_moment : goal.returns-clause-any_moment
+returns-clause-any_moment g c up slot d lists on ahead =
+    let old = g.D.Disk.moments c.args.disk.now in
+    let mid = g.D.Disk.moments c.read_part.new.disk in
+    let read = c.read_part.ensures in
+    subst (λ (x : Moments). LeavesOnly x (g.D.Disk.moments c.write_part.new.disk) (RepresentsAs d.layout (history_of d lists))) (read.moments up)
+    (c.write_part.ensures.any_moment (read.honesty.0 up) slot d lists (on_still old mid slot d lists (read.moments up) on) (subst (λ (e : Extent). IsAhead e d.entries) (sym c.extent.ensures) ahead))
+
+pub returns-clause-on_disk : goal.returns-clause-on_disk
+returns-clause-on_disk g c up slot d lists on ahead =
+    let old = g.D.Disk.moments c.args.disk.now in
+    let mid = g.D.Disk.moments c.read_part.new.disk in
+    let read = c.read_part.ensures in
+    c.write_part.ensures.on_disk (read.honesty.0 up) slot d lists (on_still old mid slot d lists (read.moments up) on) (subst (λ (e : Extent). IsAhead e d.entries) (sym c.extent.ensures) ahead)
+
+pub returns-clause-agrees : goal.returns-clause-agrees
+returns-clause-agrees g c up agrees =
+    let read = c.read_part.ensures in
+    unless_written c.write_part.result (AgreesWith c.write_part.new.cache (g.D.Disk.moments c.write_part.new.disk).state.now) c.write_part.ensures.refused
+    (c.write_part.ensures.agrees (read.honesty.0 up) (agrees_still (g.D.Disk.moments c.args.disk.now) (g.D.Disk.moments c.read_part.new.disk) c.read_part.new.cache (read.moments up) (read.agrees up agrees)))
+
+pub returns-clause-capacity : goal.returns-clause-capacity
+returns-clause-capacity g c = c.write_part.ensures.capacity ∙ capacity_stays _ _ _ _ _ c.in_ok-bytes.ensures.looked_up
