@@ -1,14 +1,13 @@
--- What is kept of rows, with one row more and cut back.
-use Rattle.std.proofs.Common.{◌≡◌, ℕ, zero, suc, ◌+◌, ◌≤◌, List, [], ◌∷◌, ◌++◌, length, take, map, refl, sym, ap, ◌∙◌, arith, length-append, append_assoc}
-use Rattle.std.proofs.lemmas.List.{map-append, take_all, take-append-le}
-use Rattle.rf2_values.specs.Row.{RowValue}
+-- What is kept of rows, with one row more.
+use Rattle.std.proofs.Common.{◌≡◌, ℕ, zero, suc, ◌+◌, ◌≤◌, List, [], ◌∷◌, ◌++◌, length, take, map, refl, sym, ap, ◌∙◌, arith, length-append}
+use Rattle.std.proofs.lemmas.List.{map-append}
 use Rattle.history_model.specs.declared.stamped.StampedRow.{StampedRow}
 use Rattle.history_model.specs.InOrder.{IsAscending}
 use Rattle.history_model.specs.History.{stamped_cmp}
 use Rattle.segment.specs.declared.place.RowPlace.{RowPlace}
 use Rattle.segment.specs.Records.{record_of, segment_of}
 use Rattle.segment.specs.Standing.{record_len, row_place, with_places, places_of}
-use Rattle.segment.proofs.SegmentLaws.{segment_push, no_rows, pieces_join}
+use Rattle.segment.proofs.SegmentLaws.{segment_push, no_rows}
 use Rattle.segment.proofs.RecordLaws.{length-record}
 use Rattle.as_of_index.specs.Places.{place_cmp}
 use Rattle.as_of_index.specs.Postings.{posted_all}
@@ -16,10 +15,9 @@ use Rattle.as_of_index.proofs.Pushing.{posted_push}
 use Rattle.as_of_index.proofs.Storing.{places_of_lists}
 use Rattle.term_prefix.specs.Terms.{TermAt}
 use Rattle.term_prefix.specs.Pushed.{posted_term}
-use Rattle.links.specs.Edges.{Edges, no_edges, edges_of, joined_edges, first_edges, posted_edges, posted_link, posted_reference, posted_subject}
+use Rattle.links.specs.Edges.{Edges, no_edges, edges_of, joined_edges, posted_edges}
 use Rattle.links.proofs.Posted.{pushed_one_by_one}
-use Rattle.segment_index.specs.declared.builder.IndexLength.{IndexLength}
-use Rattle.segment_index.specs.Indexed.{terms_of, links_of, length_of, IsBuilt}
+use Rattle.segment_index.specs.Indexed.{terms_of, links_of, IsBuilt}
 
 -- ---- no rows
 
@@ -89,43 +87,6 @@ first_places zero at rows = refl
 first_places (suc n) at [] = refl
 first_places (suc n) at (r ∷ rows) = ap (λ (l : List RowPlace). row_place r at ∷ l) (first_places n (at + record_len r) rows)
 
-first_past : {X : Type 0} (xs ys zs : List X) → take (length (xs ++ ys)) (xs ++ zs) ≡ xs ++ take (length ys) zs
-first_past [] ys zs = refl
-first_past {X = X} (x ∷ xs) ys zs = ap (λ (l : List X). x ∷ l) (first_past xs ys zs)
-
-first_posted : {X : Type 0} (posted : RowValue → ℕ → List X) (n from : ℕ) (rows : List StampedRow) → take (length (posted_all posted from (take n rows))) (posted_all posted from rows) ≡ posted_all posted from (take n rows)
-first_posted posted zero from rows = refl
-first_posted posted (suc n) from [] = refl
-first_posted {X = X} posted (suc n) from (r ∷ rows) =
-    let first = posted r.row from in
-    let rest = first_posted posted n (from + 1) rows in
-    first_past first (posted_all posted (from + 1) (take n rows)) (posted_all posted (from + 1) rows) ∙ ap (λ (l : List X). first ++ l) rest
-
-first_links : (n : ℕ) (rows : List StampedRow) → first_edges (length_of (take n rows)).links (links_of rows) ≡ links_of (take n rows)
-first_links n rows =
-    let links = first_posted posted_link n 0 rows in
-    let references = first_posted posted_reference n 0 rows in
-    let subjects = first_posted posted_subject n 0 rows in
-    λ k. record { links = links k; references = references k; subjects = subjects k }
-
-pub built_cut : (rows next : List StampedRow) (places less : List RowPlace) (terms terms' : List TermAt) (links links' : Edges) (bytes : ℕ) (len : IndexLength) → IsBuilt rows places terms links bytes → len ≡ length_of (take len.rows rows)
-    → next ≡ take len.rows rows → less ≡ take len.rows places → terms' ≡ take len.terms terms → links' ≡ first_edges len.links links → IsBuilt next less terms' links' len.bytes
-built_cut rows next places less terms terms' links links' bytes len is len_is next_is less_is terms_is links_is = record {
-  places_are = less_is ∙ ap (take len.rows) is.places_are ∙ first_places len.rows 0 rows ∙ sym (ap places_of next_is);
-  terms_are = terms_is ∙ ap (take len.terms) is.terms_are ∙ ap (λ (l : IndexLength). take l.terms (terms_of rows)) len_is ∙ first_posted posted_term len.rows 0 rows ∙ sym (ap terms_of next_is);
-  links_are = links_is ∙ ap (first_edges len.links) is.links_are ∙ ap (λ (l : IndexLength). first_edges l.links (links_of rows)) len_is ∙ first_links len.rows rows ∙ sym (ap links_of next_is);
-  bytes_are = ap (λ (l : IndexLength). l.bytes) len_is ∙ sym (ap (λ (l : List StampedRow). length (segment_of l)) next_is);
-}
-
--- rows that were pushed behind others are taken away again
-pub cut_back : (old more now : List StampedRow) (len : IndexLength) → len ≡ length_of old → now ≡ old ++ more → take len.rows now ≡ old
-cut_back old more now len len_is now_is =
-    let rows : len.rows ≡ length old = ap (λ (l : IndexLength). l.rows) len_is in
-    ap (λ n. take n now) rows ∙ ap (take (length old)) now_is ∙ take-append-le (length old) old more (omega arith) ∙ take_all (length old) old (omega arith)
-
-pub may_cut : (old more now : List StampedRow) (len : IndexLength) → len ≡ length_of old → now ≡ old ++ more → len ≡ length_of (take len.rows now)
-may_cut old more now len len_is now_is = len_is ∙ ap length_of (sym (cut_back old more now len len_is now_is))
-
 -- ---- rows one after the other
 
 -- the first of some rows have no more bytes than all of them
@@ -138,13 +99,6 @@ segment_within (suc n) (r ∷ rows) =
     let some = length-append (record_of r) (segment_of (take n rows)) in
     let all = length-append (record_of r) (segment_of rows) in
     omega (arith, rest, some, all)
-
-pub next_fits : (old so_far rows : List StampedRow) (i : ℕ) (row : StampedRow) → so_far ≡ old ++ take i rows → take (i + 1) rows ≡ take i rows ++ row ∷ [] → length (segment_of (so_far ++ row ∷ [])) ≤ length (segment_of (old ++ rows))
-next_fits old so_far rows i row is one =
-    let next : so_far ++ row ∷ [] ≡ old ++ take (i + 1) rows = ap (λ (l : List StampedRow). l ++ row ∷ []) is ∙ append_assoc old (take i rows) (row ∷ []) ∙ ap (λ (l : List StampedRow). old ++ l) (sym one) in
-    let first = ap (λ (l : List StampedRow). length (segment_of l)) next ∙ ap length (pieces_join old (take (i + 1) rows)) ∙ length-append (segment_of old) (segment_of (take (i + 1) rows)) in
-    let all = ap length (pieces_join old rows) ∙ length-append (segment_of old) (segment_of rows) in
-    omega (arith, first, all, segment_within (i + 1) rows)
 
 -- ---- in order
 

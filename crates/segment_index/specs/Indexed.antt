@@ -8,9 +8,8 @@ use Rattle.as_of_index.specs.Places.{Lists}
 use Rattle.as_of_index.specs.Postings.{posted_all}
 use Rattle.term_prefix.specs.Terms.{TermAt}
 use Rattle.term_prefix.specs.Pushed.{posted_term, IsPosted, ArePosted}
-use Rattle.links.specs.Edges.{Edges, posted_edges, count_of}
+use Rattle.links.specs.Edges.{Edges, posted_edges}
 use Rattle.links.specs.Laws.{ArePostingsOf, EachPosted}
-use Rattle.segment_index.specs.declared.builder.IndexLength.{IndexLength}
 
 -- what is posted of rows, each with its number from 0 on
 abbrev pub terms_of : List StampedRow → List TermAt
@@ -18,16 +17,6 @@ terms_of rows = posted_all posted_term 0 rows
 
 abbrev pub links_of : List StampedRow → Edges
 links_of rows = posted_edges rows
-
--- how much is kept of rows
-abbrev pub length_of : List StampedRow → IndexLength
-length_of rows =
-    record {
-      rows = length rows;
-      bytes = length (segment_of rows);
-      terms = length (terms_of rows);
-      links = count_of (links_of rows);
-    }
 
 -- what is kept of rows while they come, in their order, and how many bytes their records have
 pub record IsBuilt (rows : List StampedRow) (places : List RowPlace) (terms : List TermAt)

@@ -1,17 +1,15 @@
 //! The index of one segment, as its rows come.
 
-ghost use Rattle.std.specs.Prelude.{◌≡◌, ◌<◌, ◌^◌, ◌++◌, ◌∷◌, [], length, take, IfOk, OnOk, OnErr};
+ghost use Rattle.std.specs.Prelude.{◌≡◌, ◌<◌, ◌^◌, ◌++◌, ◌∷◌, [], length, IfOk, OnOk, OnErr};
 ghost use Rattle.history_model.specs.InOrder.{IsAscending};
 ghost use Rattle.history_model.specs.History.{stamped_cmp};
 ghost use Rattle.segment.specs.Records.{segment_of};
 ghost use Rattle.term_prefix.specs.Pushed.{posted_term};
 ghost use Rattle.links.specs.Edges.{edges_of, joined_edges};
-ghost use Rattle.segment_index.specs.Indexed.{length_of};
 
 use crate::sealed::SegmentIndex;
 use as_of_index::PlaceList;
 use history_model::{GhostRows, StampedRow};
-use links::EdgeCount;
 use segment::RowPlace;
 use std::alloc::{AllocError, Global};
 use std::marker::Model;
@@ -39,19 +37,6 @@ impl Model for IndexBuilder {
     ghost invariant = { λ a. IsBuilt a.rows a.places.items a.terms a.links a.bytes };
 }
 
-/// How much is kept of some rows.
-#[derive(Clone, Copy)]
-pub struct IndexLength {
-    /// How many rows there are.
-    pub rows: usize,
-    /// How many bytes their records have.
-    pub bytes: u32,
-    /// How many terms are posted of them.
-    pub terms: usize,
-    /// How many links, references and subjects are posted of them.
-    pub links: EdgeCount,
-}
-
 /// Adds what is posted of the row with a number. An `Err` changes nothing.
 fn post(
     terms: &mut term_prefix::Postings,
@@ -75,19 +60,6 @@ fn post(
 }
 
 impl IndexBuilder {
-    /// No rows. It takes no memory; later calls take theirs from `alloc`.
-    pub fn new(alloc: Global) -> IndexBuilder
-        ensures { result ≡ [] }
-    {
-        IndexBuilder {
-            places: Vec::new(alloc),
-            terms: term_prefix::Postings::new(alloc),
-            links: links::Postings::new(alloc),
-            rows: GhostRows::new(alloc),
-            bytes: 0,
-        }
-    }
-
     /// No rows, with room for the places of so many.
     pub fn with_capacity(alloc: Global, rows: usize) -> Result<IndexBuilder, AllocError>
         ensures { IfOk result (λ index. index ≡ []) }
@@ -125,47 +97,6 @@ impl IndexBuilder {
                 Err(error)
             }
         }
-    }
-
-    /// Adds rows, the records of which stand behind those of the rows before them. An `Err` changes
-    /// nothing.
-    pub fn extend(&mut self, rows: &[StampedRow]) -> Result<(), AllocError>
-        requires { length (segment_of (self.old ++ rows.now)) < 2 ^ 32 }
-        ensures ok { OnOk result (self.new ≡ self.old ++ rows.now) }
-        ensures err { OnErr result (self.new ≡ self.old) }
-    {
-        let len = self.len();
-        for row in rows {
-            if let Err(error) = self.push(row) {
-                self.cut_to(len);
-                return Err(error);
-            }
-        }
-        Ok(())
-    }
-
-    /// How much is kept, for `cut_to`.
-    pub fn len(&self) -> IndexLength
-        ensures { result ≡ length_of self.now }
-    {
-        IndexLength {
-            rows: self.rows.len(),
-            bytes: self.bytes,
-            terms: self.terms.len(),
-            links: self.links.len(),
-        }
-    }
-
-    /// Takes away all rows from a place on: what `len` answered once is left.
-    pub fn cut_to(&mut self, len: IndexLength)
-        requires { len ≡ length_of (take len.rows self.old) }
-        ensures { self.new ≡ take len.rows self.old }
-    {
-        self.places.truncate(len.rows);
-        self.terms.cut_to(len.terms);
-        self.links.cut_to(len.links);
-        self.rows.cut_to(len.rows);
-        self.bytes = len.bytes;
     }
 
     /// What is kept, in the orders in which it is looked for. It takes no memory.

@@ -10,7 +10,7 @@ mod postings_merge;
 mod sealed;
 mod store_index;
 
-pub use builder::{IndexBuilder, IndexLength};
+pub use builder::IndexBuilder;
 pub use index_merge::{IndexMerge, MergeMark};
 pub use sealed::SegmentIndex;
 pub use store_index::StoreIndex;

@@ -4,8 +4,6 @@
 #![tactic(auto)]
 
 #[cfg(test)]
-mod builders;
-#[cfg(test)]
 mod edges;
 #[cfg(test)]
 mod faults;
