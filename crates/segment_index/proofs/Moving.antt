@@ -10,7 +10,7 @@ use Rattle.segment.specs.Records.{record_of, segment_of}
 use Rattle.segment.specs.Standing.{record_len, row_place, with_places}
 use Rattle.merge.specs.declared.Taken.{Taken}
 use Rattle.merge.specs.Merged.{StandsTaken}
-use Rattle.segment_index.specs.Moved.{moved_from}
+use Rattle.segment_index.specs.Private.{moved_from}
 
 abbrev bytes_of : Taken → ℕ
 bytes_of t = t.place.bytes

@@ -19,7 +19,7 @@ use Rattle.as_of_index.specs.Places.{Lists}
 use Rattle.segment_index.specs.declared.output_postings.OutputPostings.{OutputPostings}
 use Rattle.segment_index.specs.declared.index_merge.MergeMark.{MergeMark}
 use Rattle.segment_index.specs.Output.{OutputRows, IsMarkOf, IsOutput, HasPostings, left_count}
-use Rattle.segment_index.specs.Moved.{moved_from}
+use Rattle.segment_index.specs.Private.{moved_from}
 use Rattle.segment_index.specs.Indexed.{IsIndexed}
 use Rattle.segment_index.proofs.Built.{first_places, segment_within, as_many_bytes}
 use Rattle.segment_index.proofs.Moving.{places_append, places_from, length-places, moved_places, moved_bytes, moved_length, zip_length}

@@ -10,5 +10,5 @@ pub use Rattle.as_of_index.specs.Numbers
 pub use Rattle.links.specs.MergedEdges
 pub mod Indexed
 pub mod Output
-pub mod Moved
+pub mod Private
 pub mod UnderWay

@@ -2,7 +2,7 @@
 
 ghost use Rattle.std.specs.Prelude.{◌≡◌, ◌+◌, ◌^◌, ◌<◌, ◌++◌, IfOk, OnOk, OnErr};
 ghost use Rattle.std.specs.List.{sum_by};
-ghost use Rattle.segment_index.specs.Moved.{moved_from};
+ghost use Rattle.segment_index.specs.Private.{moved_from};
 
 use merge::Taken;
 use segment::RowPlace;

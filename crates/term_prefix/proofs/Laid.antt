@@ -19,8 +19,8 @@ use Rattle.as_of_index.proofs.Current.{map-push}
 use Rattle.term_prefix.specs.declared.text.Term.{Term}
 use Rattle.term_prefix.specs.Terms.{TermAt, TextsRise}
 use Rattle.term_prefix.specs.Pushed.{posted_term, term_of_body}
-use Rattle.term_prefix.specs.Laid.{term_at, terms_at, AreLaid, head, HasHead, HaveHeads}
-use Rattle.term_prefix.specs.Private.{AddsTerm, IsCut, headed}
+use Rattle.term_prefix.specs.Laid.{term_at, terms_at, AreLaid, head, HaveHeads}
+use Rattle.term_prefix.specs.Private.{AddsTerm, IsCut, HasHead, headed}
 use Rattle.term_prefix.proofs.Heads.{by_head}
 use Rattle.segment.proofs.Numbers.{IsBytes, IsBytes-take, IsBytes-drop}
 use Rattle.std.specs.List.Sorted.{IsPermutation}

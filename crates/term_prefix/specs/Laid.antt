@@ -21,10 +21,6 @@ head zero bytes = 0
 head (suc n) [] = 0
 head (suc n) (b ∷ bytes) = b * 256 ^ n + head n bytes
 
--- the term has the head of its folding
-abbrev pub HasHead : List ℕ → Term → Type 0
-HasHead text t = t.head ≡ head 8 (term_at text t).folded
-
 -- the terms have the heads of their foldings
 abbrev pub HaveHeads : List ℕ → List Term → Type 0
 HaveHeads text ts = map (λ t. t.head) ts ≡ map (λ t. head 8 t.folded) (terms_at text ts)

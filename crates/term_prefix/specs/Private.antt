@@ -155,3 +155,7 @@ second_taken lists t m = record {
   terms = m.terms ++ moved (number_in_both lists.second lists.first) t ∷ [];
   taken = record { first = m.taken.first; second = m.taken.second + 1 };
 }
+
+-- the term has the head of its folding
+abbrev pub HasHead : List ℕ → Term → Type 0
+HasHead text t = t.head ≡ head 8 (term_at text t).folded

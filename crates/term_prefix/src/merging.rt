@@ -4,8 +4,8 @@ ghost use Rattle.std.specs.Prelude.{◌≡◌, ◌-◌, ◌≤◌, List, [], Som
 ghost use Rattle.as_of_index.specs.Numbers.{TwoLists};
 ghost use Rattle.term_prefix.specs.Terms.{TermAt, TextsRise};
 ghost use Rattle.term_prefix.specs.Merged.{IsMergeOfTerms, no_terms_merged, terms_left};
-ghost use Rattle.term_prefix.specs.Laid.{term_at, HasHead};
-ghost use Rattle.term_prefix.specs.Private.{first_taken, second_taken, next_of, lesser_of};
+ghost use Rattle.term_prefix.specs.Laid.{term_at};
+ghost use Rattle.term_prefix.specs.Private.{first_taken, second_taken, next_of, lesser_of, HasHead};
 
 use crate::postings::push_term;
 use crate::sealed::Sealed;

@@ -2,7 +2,7 @@ use Rattle.std.proofs.Common.{◌≡◌, ◌+◌, ◌++◌, ◌∷◌, [], ◌�
 use Rattle.std.specs.List.{sum_by}
 use Rattle.segment.specs.declared.place.RowPlace.{RowPlace}
 use Rattle.merge.specs.declared.Taken.{Taken}
-use Rattle.segment_index.specs.Moved.{moved_from}
+use Rattle.segment_index.specs.Private.{moved_from}
 use Rattle.segment_index.proofs.Moving.{moved_push, bytes_push, next_taken}
 use Rattle.segment_index.proofs.added_places.add_places.Goals as goal
 

@@ -1,6 +1,6 @@
 use Rattle.std.proofs.Common.{◌≡◌, ◌+◌, ◌++◌, length, take}
 use Rattle.std.specs.List.{sum_by}
-use Rattle.segment_index.specs.Moved.{moved_from}
+use Rattle.segment_index.specs.Private.{moved_from}
 use Rattle.segment_index.proofs.added_places.add_places.Given as goal
 
 -- the places so far are added

@@ -7,7 +7,7 @@ use Rattle.segment.specs.declared.place.RowPlace.{RowPlace}
 use Rattle.merge.specs.Merged.{StandsTaken, rows_left}
 use Rattle.merge.specs.declared.Taken.{Taken}
 use Rattle.segment_index.specs.declared.index_merge.MergeMark.{MergeMark}
-use Rattle.segment_index.specs.Moved.{moved_from}
+use Rattle.segment_index.specs.Private.{moved_from}
 use Rattle.segment_index.specs.Output.{OutputRows, left_rows, with_more}
 use Rattle.segment_index.proofs.Outputs.{list_is, of_lists, of_rows, step_fits, step_output, more_taken, posted_on, few_rows, found_same}
 use Rattle.segment_index.proofs.index_merge.IndexMerge.take.Goals as goal

@@ -1,7 +1,7 @@
 use Rattle.std.proofs.Common.{◌≡◌, sym, ap, subst, ◌∙◌}
 use Rattle.std.specs.Prelude.{Some, slice_get}
 use Rattle.as_of_index.proofs.Keyed.{has_got}
-use Rattle.term_prefix.specs.Laid.{HasHead}
+use Rattle.term_prefix.specs.Private.{HasHead}
 use Rattle.term_prefix.proofs.Laid.{heads_at}
 use Rattle.term_prefix.proofs.InTurns.{seen_at}
 use Rattle.term_prefix.proofs.merging.Merging.next.Goals as goal

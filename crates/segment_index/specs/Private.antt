@@ -1,4 +1,4 @@
--- Places of rows that are written one behind the other.
+-- Places of rows that are written one behind the other: words of private functions and proofs.
 use Rattle.std.specs.Prelude.{ℕ, ◌+◌, List, [], ◌∷◌}
 use Rattle.segment.specs.declared.place.RowPlace.{RowPlace}
 use Rattle.merge.specs.declared.Taken.{Taken}
