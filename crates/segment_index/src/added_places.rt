@@ -16,7 +16,8 @@ pub(crate) fn add_places(
     taken: &[Taken],
 ) -> Result<u32, AllocError>
     requires { from + sum_by (λ t. t.place.bytes) taken.now < 2 ^ 32 }
-    ensures places { OnOk result (places.new.items ≡ places.old.items ++ moved_from from taken.now) }
+    ensures places { OnOk result
+        (places.new.items ≡ places.old.items ++ moved_from from taken.now) }
     ensures bytes { IfOk result (λ end. end ≡ from + sum_by (λ t. t.place.bytes) taken.now) }
     ensures err { OnErr result (places.new.items ≡ places.old.items) }
 {

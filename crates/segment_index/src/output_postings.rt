@@ -1,6 +1,7 @@
 //! What is posted of the rows of two segments.
 
-ghost use Rattle.std.specs.Prelude.{◌≡◌, ◌+◌, ◌^◌, ◌<◌, ◌∷◌, [], List, length, Some, true, slice_get, IsSome, IfSome, OnOk, OnErr};
+ghost use Rattle.std.specs.Prelude.{◌≡◌, ◌+◌, ◌^◌, ◌<◌, ◌∷◌, [], List, length};
+ghost use Rattle.std.specs.Prelude.{Some, true, slice_get, IsSome, IfSome, OnOk, OnErr};
 ghost use Rattle.history_model.specs.declared.stamped.StampedRow.{StampedRow};
 ghost use Rattle.history_model.specs.Lists.{AreLists, union};
 ghost use Rattle.segment_index.specs.Output.{HasPostings};

@@ -1,6 +1,7 @@
 //! The index of all segments of a store.
 
-ghost use Rattle.std.specs.Prelude.{◌≡◌, ◌<◌, ◌≤◌, ◌+◌, ◌^◌, ◌++◌, ◌∷◌, [], length, map, vec_items, remove};
+ghost use Rattle.std.specs.Prelude.{◌≡◌, ◌<◌, ◌≤◌, ◌+◌, ◌^◌, ◌++◌};
+ghost use Rattle.std.specs.Prelude.{◌∷◌, [], length, map, vec_items, remove};
 ghost use Rattle.std.specs.Prelude.{slice_set, IfOk, List, Some, slice_get, IsSome, IfSome, true};
 ghost use Rattle.history_model.specs.Lists.{AreLists};
 ghost use Rattle.as_of_index.specs.Places.{ArePlaces, Lists, max_lists};
