@@ -100,7 +100,8 @@ impl<'a> Numbers<'a> {
         }
     }
 
-    /// The number of a row of the first list among the rows of both, by a bisection where it isn't known.
+    /// The number of a row of the first list among the rows of both, by a bisection where it isn't
+    /// known.
     pub fn of_first(&self, row: u32) -> u32
         ensures { result ≡ number_in_both self.now.first self.now.second row }
     {
@@ -110,7 +111,8 @@ impl<'a> Numbers<'a> {
         }
     }
 
-    /// The number of a row of the second list among the rows of both, by a bisection where it isn't known.
+    /// The number of a row of the second list among the rows of both, by a bisection where it isn't
+    /// known.
     pub fn of_second(&self, row: u32) -> u32
         ensures { result ≡ number_in_both self.now.second self.now.first row }
     {

@@ -27,7 +27,8 @@ pub record IsPostingsMerge (places : List (List RowPlace)) (terms : List (List T
   pub first_within : m.i < length places
   pub second_within : m.j < length places
   pub numbers_are : AreKnown (places_at places m) m.numbers
-  pub terms_are : IsMergeOfTerms (places_at places m) (terms_at terms m.i) (terms_at terms m.j) m.terms
+  pub terms_are :
+      IsMergeOfTerms (places_at places m) (terms_at terms m.i) (terms_at terms m.j) m.terms
   pub links_are : IsMergeOf (places_at places m) (edges_at links m.i) (edges_at links m.j) m.links
 
 -- a merge that goes on is of two segments that are listed
