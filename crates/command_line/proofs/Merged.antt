@@ -13,7 +13,6 @@ use Rattle.import_check.specs.Release.{files_of}
 use Rattle.history_store.specs.Catalog.{Catalog}
 use Rattle.history_store.specs.Merging.{IsBegun, IsStepped, IsPublished}
 use Rattle.history_store.specs.StoreValue.{StoreValue}
-use Rattle.history_store.proofs.Likeness.{all_append}
 use Rattle.line_commands.specs.Commands.{Command, Merge, Step, Publish, Trim}
 use Rattle.line_commands.specs.Requests.{Asks}
 use Rattle.line_commands.proofs.Readings.{one_reading}
@@ -29,6 +28,12 @@ use Rattle.command_line.specs.Merging.{IsMergeTurn, IsMergeLine, IsHaltedBy, IsM
 use Rattle.command_line.specs.Private.{IsAsked, IsHalted, HaveMerged, IsOneLess, IsTrimmedTo}
 use Rattle.command_line.specs.Endings.{Report, Tells}
 use Rattle.command_line.specs.Tasks.{status_line}
+
+-- ---- lists one after the other
+
+all_append : {X : Type 0} (P : X → Type 0) (xs ys : List X) → AllByRecursion P xs → AllByRecursion P ys → AllByRecursion P (xs ++ ys)
+all_append P [] ys first second = second
+all_append P (x ∷ xs) ys first second = (first.0, all_append P xs ys first.1 second)
 
 -- ---- which command a line asks
 
