@@ -13,11 +13,11 @@ use std::marker::Model;
 /// The places of a segment's rows, in strictly ascending key order.
 #[derive(Drop)]
 pub struct PlaceList {
-    places: Vec<RowPlace>,
+    pub(crate) places: Vec<RowPlace>,
     /// The least effective time of a place, and the greatest number where there is none.
-    first_time: u32,
+    pub(crate) first_time: u32,
     /// The least number of an import, and the greatest number where there is no place.
-    first_import: u32,
+    pub(crate) first_import: u32,
 }
 
 impl Model for PlaceList {
@@ -38,17 +38,24 @@ impl Model for PlaceList {
     } };
 }
 
-fn first_time(places: &[RowPlace]) -> u32
+/// The effective time, as a number.
+pub(crate) fn time_of(place: &RowPlace) -> u32
+    ensures { result ≡ place.now.key.time }
+{
+    place.key.time.value()
+}
+
+pub(crate) fn first_time(places: &[RowPlace]) -> u32
     ensures { result ≡ least_by (λ p. p.key.time) places.now }
 {
     let mut first = u32::MAX;
     for p in places {
-        first = first.min(p.key.time.value());
+        first = first.min(time_of(p));
     }
     first
 }
 
-fn first_import(places: &[RowPlace]) -> u32
+pub(crate) fn first_import(places: &[RowPlace]) -> u32
     ensures { result ≡ least_by (λ p. p.import) places.now }
 {
     let mut first = u32::MAX;

@@ -4,6 +4,7 @@ ghost use Rattle.std.specs.Prelude.{◌≡◌, ◌+◌, ◌^◌, ◌<◌, ◌++�
 ghost use Rattle.std.specs.List.{sum_by};
 ghost use Rattle.segment_index.specs.Private.{moved_from};
 
+use as_of_index::PlaceListBuilder;
 use merge::Taken;
 use segment::RowPlace;
 use std::alloc::AllocError;
@@ -11,23 +12,22 @@ use std::alloc::AllocError;
 /// Adds the places of rows whose records stand from a byte on, one behind the other, and answers
 /// the byte behind them. An `Err` changes nothing.
 pub(crate) fn add_places(
-    places: &mut Vec<RowPlace>,
+    places: &mut PlaceListBuilder,
     from: u32,
     taken: &[Taken],
 ) -> Result<u32, AllocError>
     requires { from + sum_by (λ t. t.place.bytes) taken.now < 2 ^ 32 }
-    ensures places { OnOk result
-        (places.new.items ≡ places.old.items ++ moved_from from taken.now) }
+    ensures places { OnOk result (places.new ≡ places.old ++ moved_from from taken.now) }
     ensures bytes { IfOk result (λ end. end ≡ from + sum_by (λ t. t.place.bytes) taken.now) }
-    ensures err { OnErr result (places.new.items ≡ places.old.items) }
+    ensures err { OnErr result (places.new ≡ places.old) }
 {
     let len = places.len();
     let mut at = from;
     for t in taken {
         let place = RowPlace { at, ..t.place };
-        if let Err(_) = places.push(place) {
-            places.truncate(len);
-            return Err(AllocError);
+        if let Err(error) = places.push(place) {
+            places.cut_to(len);
+            return Err(error);
         }
         at += t.place.bytes;
     }

@@ -14,10 +14,9 @@ use crate::added_places::add_places;
 use crate::output_postings::{OutputPostings, go_on, no_postings};
 use crate::sealed::SegmentIndex;
 use crate::store_index::StoreIndex;
-use as_of_index::PlaceList;
+use as_of_index::PlaceListBuilder;
 use history_model::GhostRows;
 use merge::{MergeProgress, Taken};
-use segment::RowPlace;
 use std::alloc::{AllocError, Global};
 use std::marker::Model;
 
@@ -35,7 +34,7 @@ pub struct MergeMark {
 #[derive(Drop)]
 pub struct IndexMerge {
     at: MergeMark,
-    places: Vec<RowPlace>,
+    places: PlaceListBuilder,
     a: GhostRows,
     b: GhostRows,
     /// What is posted of all rows, once it is merged.
@@ -49,7 +48,7 @@ impl Model for IndexMerge {
 
     ghost view = { λ m. record { a = m.a; b = m.b; taken = m.at.rows } };
 
-    ghost invariant = { λ m. IsOutput m.a m.b m.at m.places.items m.postings };
+    ghost invariant = { λ m. IsOutput m.a m.b m.at m.places m.postings };
 }
 
 impl IndexMerge {
@@ -84,7 +83,7 @@ impl IndexMerge {
                 rows: 0,
                 bytes: 0,
             },
-            places: Vec::new(alloc),
+            places: PlaceListBuilder::new(alloc),
             a,
             b,
             postings,
@@ -153,7 +152,7 @@ impl IndexMerge {
         requires mark { IsMarkOf (record self.old { taken = mark.rows }) mark }
         ensures { self.new ≡ record self.old { taken = mark.rows } }
     {
-        self.places.truncate(mark.rows);
+        self.places.cut_to(mark.rows);
         self.at = mark;
     }
 
@@ -173,7 +172,7 @@ impl IndexMerge {
             unreachable!()
         };
         SegmentIndex {
-            places: PlaceList::new(places),
+            places: places.seal(),
             terms,
             links,
             rows: GhostRows::union(a, b),

@@ -13,9 +13,9 @@ loop-t-preserved c =
     let so_far = take l.t-index c.args.taken.now in
     let more : take (l.t-index + 1) c.args.taken.now ≡ so_far ++ t ∷ [] = next_taken c.args.taken.now l.t-index t c.loop-t-test.true c.t-item.is in
     record {
-      places = c.in_default.ensures.items ∙ ap (λ (p : List RowPlace). p ++ (record t.place { at = l.at }) ∷ []) l.invariant.places
-          ∙ append_assoc c.args.places.now.items (moved_from c.args.from so_far) ((record t.place { at = l.at }) ∷ [])
-          ∙ ap (λ (p : List RowPlace). c.args.places.now.items ++ p) (ap (λ n. moved_from c.args.from so_far ++ (record t.place { at = n }) ∷ []) l.invariant.at ∙ sym (moved_push c.args.from so_far t) ∙ ap (moved_from c.args.from) (sym more));
+      places = c.in_default.ensures.ok ∙ ap (λ (p : List RowPlace). p ++ (record t.place { at = l.at }) ∷ []) l.invariant.places
+          ∙ append_assoc c.args.places.now (moved_from c.args.from so_far) ((record t.place { at = l.at }) ∷ [])
+          ∙ ap (λ (p : List RowPlace). c.args.places.now ++ p) (ap (λ n. moved_from c.args.from so_far ++ (record t.place { at = n }) ∷ []) l.invariant.at ∙ sym (moved_push c.args.from so_far t) ∙ ap (moved_from c.args.from) (sym more));
       at = omega (arith, l.invariant.at, bytes_push so_far t, ap (sum_by (λ (u : Taken). u.place.bytes)) more);
       before = l.invariant.before;
     }

@@ -29,7 +29,7 @@ invariant_of-result c =
       | then-is_done w ↦ subst (AreComplete a b progress) (sym w.postings-is) (none_complete a b progress w.no_postings.result new (c.is_done.ensures.0 w.if-is_done.true) w.no_postings.ensures)
       | else-is_done w ↦ subst (AreComplete a b progress) (sym w.postings-is) (some_left a b progress (λ none. absurd (let on = c.is_done.ensures.1 none in let off = w.if-is_done.false in cc)))
     ] in
-    new_output a b _ c.new.result.items c.if-is_done.postings (two_lists c.args.index.now c.args.i c.args.j a b c.requires.lists c.requires.places (first_is c) (second_is c)) (c.requires.short a b (first_is c) (second_is c)) new refl refl c.new.ensures.items complete
+    new_output a b _ c.new.result c.if-is_done.postings (two_lists c.args.index.now c.args.i c.args.j a b c.requires.lists c.requires.places (first_is c) (second_is c)) (c.requires.short a b (first_is c) (second_is c)) new refl refl c.new.ensures complete
 
 pub returns-clause-first : goal.returns-clause-first
 returns-clause-first c = first_is c

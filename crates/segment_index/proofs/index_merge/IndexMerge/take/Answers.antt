@@ -1,9 +1,8 @@
-use Rattle.std.proofs.Common.{◌≡◌, ◌+◌, ◌^◌, ◌<◌, ◌++◌, ◌∷◌, [], ◌∙◌, ℕ, List, Vec, Global, vec_len, length, take, ap, sym, subst, arith}
+use Rattle.std.proofs.Common.{◌≡◌, ◌+◌, ◌^◌, ◌<◌, ◌++◌, ◌∷◌, [], ◌∙◌, ℕ, List, length, take, ap, sym, subst}
 use Rattle.std.specs.Prelude.{Some, slice_get}
 use Rattle.std.specs.List.{AllZip, sum_by}
 use Rattle.history_model.specs.declared.stamped.StampedRow.{StampedRow}
 use Rattle.history_model.specs.Lists.{AreLists}
-use Rattle.segment.specs.declared.place.RowPlace.{RowPlace}
 use Rattle.merge.specs.Merged.{StandsTaken, rows_left}
 use Rattle.merge.specs.declared.Taken.{Taken}
 use Rattle.segment_index.specs.declared.index_merge.MergeMark.{MergeMark}
@@ -11,9 +10,6 @@ use Rattle.segment_index.specs.Private.{moved_from}
 use Rattle.segment_index.specs.Output.{OutputRows, left_rows, with_more}
 use Rattle.segment_index.proofs.Outputs.{list_is, of_lists, of_rows, step_fits, step_output, more_taken, posted_on, few_rows, found_same}
 use Rattle.segment_index.proofs.index_merge.IndexMerge.take.Goals as goal
-
-rows_are : (places : Vec RowPlace Global) (len : ℕ) → len ≡ vec_len places → len ≡ length places.items
-rows_are places len is = omega (arith, is, places.ok)
 
 abbrev made : List StampedRow → List StampedRow → ℕ → OutputRows
 made a b k = record { a = a; b = b; taken = k }
@@ -35,7 +31,7 @@ add_places-requires c =
     let a = list_is c.places.result.now c.args.index.now c.args.i m.a c.list-a.result.now c.places.ensures first c.list-a.ensures in
     let b = list_is c.places-2.result.now c.args.index.now c.args.j m.b c.list-b.result.now c.places-2.ensures second c.list-b.ensures in
     let stand = c.in_ok-taken.ensures.in_order m.a m.b c.self.invariant.lists a b in
-    step_fits m.a m.b m.at c.deref.result.now c.args.n m.places.items m.postings c.self.invariant (subst (λ (t : List Taken). AllZip (StandsTaken m.a m.b) t (take c.args.n (rows_left m.at.progress m.a m.b))) (sym c.deref.ensures.value) stand)
+    step_fits m.a m.b m.at c.deref.result.now c.args.n m.places m.postings c.self.invariant (subst (λ (t : List Taken). AllZip (StandsTaken m.a m.b) t (take c.args.n (rows_left m.at.progress m.a m.b))) (sym c.deref.ensures.value) stand)
 
 pub invariant_of-self-2 : goal.invariant_of-self-2
 invariant_of-self-2 c =
@@ -48,18 +44,18 @@ invariant_of-self-2 c =
     let got = c.in_ok-taken.ensures in
     let is = c.self.invariant in
     let taken = c.deref.ensures.value in
-    step_output m.a m.b m.at (record { progress = p; rows = c.len.result; bytes = c.in_ok-bytes.bytes }) m.places.items c.add_places.new.places.items c.in_ok-taken.taken.items c.args.n m.postings c.go_on.new.postings is
+    step_output m.a m.b m.at (record { progress = p; rows = c.len.result; bytes = c.in_ok-bytes.bytes }) m.places c.add_places.new.places c.in_ok-taken.taken.items c.args.n m.postings c.go_on.new.postings is
     m.at.progress.a_within m.at.progress.b_within p.a_within p.b_within (of_rows p m.a m.b _ _ a b got.of_both) got.count got.left (got.in_order m.a m.b is.lists a b) (got.others m.a m.b is.lists a b)
-    (subst (λ (t : List Taken). c.add_places.new.places.items ≡ m.places.items ++ moved_from m.at.bytes t) taken c.in_ok-bytes.ensures.places) (rows_are c.add_places.new.places c.len.result c.len.ensures) (c.in_ok-bytes.ensures.bytes ∙ ap (λ (t : List Taken). m.at.bytes + sum_by (λ (u : Taken). u.place.bytes) t) taken)
+    (subst (λ (t : List Taken). c.add_places.new.places ≡ m.places ++ moved_from m.at.bytes t) taken c.in_ok-bytes.ensures.places) c.len.ensures (c.in_ok-bytes.ensures.bytes ∙ ap (λ (t : List Taken). m.at.bytes + sum_by (λ (u : Taken). u.place.bytes) t) taken)
     (posted_on m.a m.b p m.postings c.go_on.new.postings c.is_done-all.result is.lists is.posted (c.go_on.ensures.posted m.a m.b first second) c.is_done-all.ensures.1 c.in_ok-go_on.ensures.all)
 
 pub returns-clause-ok : goal.returns-clause-ok
 returns-clause-ok c =
     let m = c.self.inside in
     let next : MergeMark = record { progress = c.in_ok-taken.progress; rows = c.len.result; bytes = c.in_ok-bytes.bytes } in
-    let places = subst (λ (t : List Taken). c.add_places.new.places.items ≡ m.places.items ++ moved_from m.at.bytes t) c.deref.ensures.value c.in_ok-bytes.ensures.places in
-    let rows = more_taken m.a m.b m.at next m.places.items c.add_places.new.places.items c.in_ok-taken.taken.items c.args.n m.postings c.go_on.new.postings c.self.invariant m.at.progress.a_within m.at.progress.b_within c.in_ok-taken.ensures.count places
-    (rows_are c.add_places.new.places c.len.result c.len.ensures) in
+    let places = subst (λ (t : List Taken). c.add_places.new.places ≡ m.places ++ moved_from m.at.bytes t) c.deref.ensures.value c.in_ok-bytes.ensures.places in
+    let rows = more_taken m.a m.b m.at next m.places c.add_places.new.places c.in_ok-taken.taken.items c.args.n m.postings c.go_on.new.postings c.self.invariant m.at.progress.a_within m.at.progress.b_within c.in_ok-taken.ensures.count places
+    c.len.ensures in
     ap (λ (k : ℕ). made m.a m.b k) rows ∙ ap (with_more c.args.n) c.self.view_is
 
 pub returns-clause-standing : goal.returns-clause-standing

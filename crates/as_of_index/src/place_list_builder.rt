@@ -1,0 +1,94 @@
+//! The places of one segment's rows, as they come.
+
+ghost use Rattle.std.specs.Prelude.{◌≡◌, ◌++◌, ◌∷◌, [], length, take, OnOk, OnErr};
+ghost use Rattle.history_model.specs.InOrder.{IsAscending};
+ghost use Rattle.as_of_index.specs.Places.{place_cmp};
+
+use crate::place_list::{PlaceList, first_import, first_time, time_of};
+use segment::RowPlace;
+use std::alloc::{AllocError, Global};
+use std::marker::Model;
+
+/// Places of rows, with their least time and import, so that a list of them looks at none again.
+#[derive(Drop)]
+pub struct PlaceListBuilder {
+    places: Vec<RowPlace>,
+    /// The least effective time of a place, and the greatest number where there is none.
+    first_time: u32,
+    /// The least number of an import, and the greatest number where there is no place.
+    first_import: u32,
+}
+
+impl Model for PlaceListBuilder {
+    ghost use Rattle.std.specs.Prelude.{List, ◌≡◌};
+    ghost use Rattle.segment.specs.declared.place.RowPlace.{RowPlace};
+    ghost use Rattle.as_of_index.specs.Places.{least_by};
+
+    ghost Value = { List RowPlace };
+
+    ghost view = { λ a. a.places.items };
+
+    ghost invariant = { λ a. record {
+      time : a.first_time ≡ least_by (λ p. p.key.time) a.places.items;
+      import : a.first_import ≡ least_by (λ p. p.import) a.places.items;
+    } };
+}
+
+impl PlaceListBuilder {
+    /// No places. It takes no memory; later calls take theirs from `alloc`.
+    pub fn new(alloc: Global) -> PlaceListBuilder
+        ensures { result ≡ [] }
+    {
+        PlaceListBuilder {
+            places: Vec::new(alloc),
+            first_time: u32::MAX,
+            first_import: u32::MAX,
+        }
+    }
+
+    /// Adds a place. An `Err` changes nothing.
+    pub fn push(&mut self, place: RowPlace) -> Result<(), AllocError>
+        ensures ok { OnOk result (self.new ≡ self.old ++ place ∷ []) }
+        ensures err { OnErr result (self.new ≡ self.old) }
+    {
+        if let Err(_) = self.places.push(place) {
+            return Err(AllocError);
+        }
+        self.first_time = self.first_time.min(time_of(&place));
+        self.first_import = self.first_import.min(place.import);
+        Ok(())
+    }
+
+    /// How many places there are.
+    pub fn len(&self) -> usize
+        ensures { result ≡ length self.now }
+    {
+        self.places.len()
+    }
+
+    /// Takes away all places from one on: what `len` answered once is left. It looks at these.
+    pub fn cut_to(&mut self, len: usize)
+        ensures { self.new ≡ take len self.old }
+    {
+        self.places.truncate(len);
+        self.first_time = first_time(self.places.as_slice());
+        self.first_import = first_import(self.places.as_slice());
+    }
+
+    /// The list of the places. It takes no memory, and looks at none of them.
+    pub fn seal(self) -> PlaceList
+        requires { IsAscending place_cmp self }
+        ensures { result ≡ self }
+    {
+        let PlaceListBuilder {
+            places,
+            first_time,
+            first_import,
+        } = self;
+        PlaceList {
+            places,
+            first_time,
+            first_import,
+        }
+    }
+}
