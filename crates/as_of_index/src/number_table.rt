@@ -115,12 +115,11 @@ impl NumberTable {
         requires known { AreKnown (record { first = first.now; second = second.now }) self.old }
         ensures { AreKnown (record { first = first.now; second = second.now }) self.new }
     {
-        self.first
-            .reserve(first.len().saturating_sub(self.first.len()))?;
-        self.second
-            .reserve(second.len().saturating_sub(self.second.len()))?;
-        let left = first.len() + second.len();
-        for _ in 0..n.min(left) {
+        let first_left = first.len().saturating_sub(self.first.len());
+        let second_left = second.len().saturating_sub(self.second.len());
+        self.first.reserve(first_left)?;
+        self.second.reserve(second_left)?;
+        for _ in 0..n.min(first_left + second_left) {
             push_next(first, second, &mut self.first, &mut self.second)?;
         }
         Ok(())
