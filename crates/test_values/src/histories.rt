@@ -418,19 +418,3 @@ fn shown_rows_take_rows_and_no_memory(rt: HostRuntime) -> Result<(), Fail> {
     assert_eq!(rt; size_of::<GhostRows>(), size_of::<usize>());
     Ok(())
 }
-
-#[test]
-fn shown_rows_of_two_lists_are_counted_together(rt: HostRuntime) -> Result<(), Fail> {
-    let alloc = rt.alloc();
-    let mut odd = GhostRows::new(alloc);
-    let mut even = GhostRows::new(alloc);
-    let mut import = 1;
-    for row in first_release(alloc)? {
-        let list = if import == 1 { &mut odd } else { &mut even };
-        assert!(rt; list.push(&StampedRow { row, import }).is_ok());
-        import = 2;
-    }
-    assert_eq!(rt; (odd.len(), even.len()), (1, 5));
-    assert_eq!(rt; GhostRows::union(odd, even).len(), 6);
-    Ok(())
-}
