@@ -5,6 +5,7 @@ use disk_model::MemDisk;
 use history_store::{Receipt, Refusal, Store};
 use import_check::Release;
 use std::alloc::Global;
+use std::mem::size_of;
 
 /// A store on a disk in memory. It is boxed, so that a test
 /// which lets it go is proved without what a store is made of.
@@ -31,9 +32,15 @@ impl Example {
         }
     }
 
-    /// A new store on this disk, or the disk back.
+    /// A new store on this disk, or the disk back. Memory for the box is taken first, so that what
+    /// is refused for want of memory leaves the disk as it was.
     pub fn create(alloc: Global, disk: MemDisk) -> Result<Example, (Refusal, MemDisk)> {
-        put_in_box(alloc, Store::create(alloc, disk)?)
+        let Ok(room) = Vec::<u8>::with_capacity(alloc, size_of::<Store<MemDisk>>()) else {
+            return Err((Refusal::OutOfMemory, disk));
+        };
+        let store = Store::create(alloc, disk)?;
+        drop(room);
+        put_in_box(alloc, store)
     }
 
     /// The store that a disk represents, or the disk back.
