@@ -1,5 +1,5 @@
 #!/usr/bin/env python3
-"""Tries, for each public call that may be refused for want of memory, a body that always is.
+"""Tries, for each public call that may run out of memory, a body that always is.
 
 always_refused.py [--rt COMMAND] [--only WORD] [--keep FOLDER] [--table]
 

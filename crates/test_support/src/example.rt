@@ -32,8 +32,8 @@ impl Example {
         }
     }
 
-    /// A new store on this disk, or the disk back. Memory for the box is taken first, so that what
-    /// is refused for want of memory leaves the disk as it was.
+    /// A new store on this disk, or the disk back. Memory for the box is taken first, so that a
+    /// call that runs out of memory leaves the disk as it was.
     pub fn create(alloc: Global, disk: MemDisk) -> Result<Example, (Refusal, MemDisk)> {
         let Ok(room) = Vec::<u8>::with_capacity(alloc, size_of::<Store<MemDisk>>()) else {
             return Err((Refusal::OutOfMemory, disk));
