@@ -37,7 +37,8 @@ pub(crate) fn latest(
 {
     let mut best = None;
     for (segment, list) in lists.iter().enumerate() {
-        let found = latest_in(list.places(), number_in(near, segment), kind, id, time, pin);
+        let places = list.shown_part(time, pin);
+        let found = latest_in(places, number_in(near, segment), kind, id, time, pin);
         best = later(best, segment, found);
     }
     best

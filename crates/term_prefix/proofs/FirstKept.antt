@@ -31,6 +31,11 @@ use Rattle.as_of_index.specs.Private.Search.{SplitsAt}
 use Rattle.as_of_index.proofs.Paging.{less_from}
 use Rattle.as_of_index.proofs.First.{Has-take, taken_or_above, length-put, put_there, put_new}
 use Rattle.as_of_index.proofs.First.{Falls}
+use Rattle.std.specs.List.Sorted.{IsPermutation}
+use Rattle.std.proofs.lemmas.List.Sorted.{IsPermutation-sym}
+use Rattle.as_of_index.proofs.Numbered.{Has-flat_map, Has-flat_map_from}
+use Rattle.as_of_index.proofs.Pushing.{Has-permuted}
+use Rattle.term_prefix.specs.declared.text.Term.{Term}
 use Rattle.as_of_index.proofs.Current.{chosen_total}
 
 few : {X : Type 0} (n : ℕ) (xs : List X) → length (take n xs) ≤ n
@@ -110,6 +115,27 @@ module _ (lists : List (List StampedRow)) (date : ℕ) (after : Option ℕ) (lim
     all = λ k h now. a.all k (g k h) now;
     only = λ k h. let o = a.only k h in (f k o.0, o.1);
   }
+
+-- the terms of a list, in whatever order they are met
+pub terms_same : (lists : List (List StampedRow)) (date : ℕ) (after : Option ℕ) (limit pin n : ℕ) (seen kept : List Chosen) (ts others : List Term) → IsPermutation ts others
+    → AreKept lists date after limit pin (seen ++ flat_map (λ (t : Term). chosen_at lists n t.row) others) kept
+    → AreKept lists date after limit pin (seen ++ flat_map (λ (t : Term). chosen_at lists n t.row) ts) kept
+terms_same lists date after limit pin n seen kept ts others same are =
+    kept_same lists date after limit pin (seen ++ those others) (seen ++ those ts) kept (moved others ts same) (moved ts others (IsPermutation-sym ts others same)) are where
+      those : List Term → List Chosen
+      those = flat_map (λ (t : Term). chosen_at lists n t.row)
+
+      moved : (xs ys : List Term) → IsPermutation ys xs → (k : Chosen) → Has (seen ++ those xs) k → Has (seen ++ those ys) k
+      moved xs ys same k h = elim (Has-append_cases seen (those xs) k h) [
+        | inl l ↦ Has-append_left seen (those ys) k l
+        | inr r ↦
+            let m = Has-flat_map (λ (t : Term). chosen_at lists n t.row) xs k r in
+            Has-append_right seen (those ys) k (Has-flat_map_from (λ (t : Term). chosen_at lists n t.row) ys m.0 k (Has-permuted ys xs same m.0 m.1) m.2)
+      ]
+
+pub ok_so : {A B : Type 0} (r : Result A B) (P Q : Type 0) → (P → Q) → OnOk r P → OnOk r Q
+ok_so (Ok x) P Q f p = f p
+ok_so (Err e) P Q f p = tt
 
 -- ---- whether one is taken
 

@@ -68,7 +68,7 @@ terms-append text more (t ∷ ts) a =
 -- ---- the heads of their foldings
 
 abbrev head_of_fold : TermAt → ℕ
-head_of_fold t = head 8 t.folded
+head_of_fold t = head 16 t.folded
 
 pub heads_at : (text : List ℕ) (ts : List Term) → HaveHeads text ts → (t : Term) → Has ts t → HasHead text t
 heads_at text [] h t there = absurd there
@@ -94,7 +94,7 @@ pub record IsAdded (text : List ℕ) (ts : List Term) (folded : List ℕ) (row :
 
 pub added : (text : List ℕ) (ts : List Term) (folded : List ℕ) (row : ℕ) (text' : List ℕ) (ts' : List Term) → AreLaid 0 ts (length text) → HaveHeads text ts → AddsTerm text ts folded row text' ts' → IsAdded text ts folded row text' ts'
 added text ts folded row text' ts' a heads w =
-    let t : Term = record { head = head 8 folded; start = length text; len = length folded; row = row } in
+    let t : Term = record { head = head 16 folded; start = length text; len = length folded; row = row } in
     let one : take (length folded) (drop (length text) (text ++ folded)) ≡ folded = ap (take (length folded)) (drop-append_seam text folded) ∙ take_all (length folded) folded (omega arith) in
     let seen : terms_at text' ts' ≡ terms_at text ts ++ record { folded = folded; row = row } ∷ [] =
     (λ i. terms_at (w.texts i) (w.terms i))
@@ -102,11 +102,11 @@ added text ts folded row text' ts' a heads w =
     ∙ ap (λ xs. xs ++ term_at (text ++ folded) t ∷ []) (terms-append text folded ts (laid-each 0 ts (length text) a))
     ∙ ap (λ (f : List ℕ). terms_at text ts ++ record { folded = f; row = row } ∷ []) one in
     record {
-      laid = subst (λ x. AreLaid 0 x (length text')) (sym w.terms) (subst (λ x. AreLaid 0 (ts ++ t ∷ []) (length x)) (sym w.texts) (subst (λ n. AreLaid 0 (ts ++ t ∷ []) n) (sym (length-append text folded)) (laid-push 0 ts (length text) (length folded) (head 8 folded) row a)));
+      laid = subst (λ x. AreLaid 0 x (length text')) (sym w.terms) (subst (λ x. AreLaid 0 (ts ++ t ∷ []) (length x)) (sym w.texts) (subst (λ n. AreLaid 0 (ts ++ t ∷ []) n) (sym (length-append text folded)) (laid-push 0 ts (length text) (length folded) (head 16 folded) row a)));
       heads =
           ap (map (λ (u : Term). u.head)) w.terms
           ∙ map-push (λ (u : Term). u.head) ts t
-          ∙ ap (λ ns. ns ++ head 8 folded ∷ []) heads
+          ∙ ap (λ ns. ns ++ head 16 folded ∷ []) heads
           ∙ sym (map-push head_of_fold (terms_at text ts) (record { folded = folded; row = row }))
           ∙ ap (map head_of_fold) (sym seen);
       seen = seen;
@@ -135,7 +135,7 @@ cut_short text ts n t a lt e =
 
 -- what two terms with heads are compared by stands to each other as their foldings do
 pub as_headed : (text more : List ℕ) (t u : Term) → IsBytes text → IsBytes more → HasHead text t → HasHead more u → slice_cmp nat_cmp (headed text t) (headed more u) ≡ slice_cmp nat_cmp (term_at text t).folded (term_at more u).folded
-as_headed text more t u bytes others t_is u_is = by_head 8 t.head u.head (term_at text t).folded (term_at more u).folded (IsBytes-take t.len (drop t.start text) (IsBytes-drop t.start text bytes)) (IsBytes-take u.len (drop u.start more) (IsBytes-drop u.start more others)) t_is u_is
+as_headed text more t u bytes others t_is u_is = by_head 16 t.head u.head (term_at text t).folded (term_at more u).folded (IsBytes-take t.len (drop t.start text) (IsBytes-drop t.start text bytes)) (IsBytes-take u.len (drop u.start more) (IsBytes-drop u.start more others)) t_is u_is
 
 module _ (text : List ℕ) where
   abbrev fold_of : Term → List ℕ

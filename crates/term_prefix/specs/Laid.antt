@@ -23,4 +23,4 @@ head (suc n) (b ∷ bytes) = b * 256 ^ n + head n bytes
 
 -- the terms have the heads of their foldings
 abbrev pub HaveHeads : List ℕ → List Term → Type 0
-HaveHeads text ts = map (λ t. t.head) ts ≡ map (λ t. head 8 t.folded) (terms_at text ts)
+HaveHeads text ts = map (λ t. t.head) ts ≡ map (λ t. head 16 t.folded) (terms_at text ts)

@@ -114,7 +114,7 @@ pub record AddsTerm (text : List ℕ) (ts : List Term) (folded : List ℕ) (row 
     (text' : List ℕ) (ts' : List Term) : Type 0 where
   pub texts : text' ≡ text ++ folded
   pub terms : ts' ≡ ts ++ record {
-    head = head 8 folded;
+    head = head 16 folded;
     start = length text;
     len = length folded;
     row = row;
@@ -158,4 +158,4 @@ second_taken lists t m = record {
 
 -- the term has the head of its folding
 abbrev pub HasHead : List ℕ → Term → Type 0
-HasHead text t = t.head ≡ head 8 (term_at text t).folded
+HasHead text t = t.head ≡ head 16 (term_at text t).folded

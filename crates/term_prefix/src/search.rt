@@ -3,6 +3,7 @@
 ghost use Rattle.std.specs.Prelude.{◌≡◌, ◌≢◌, ◌≤◌, ◌+◌, ◌++◌, List, length, take, flat_map, IfOk};
 ghost use Rattle.std.specs.Prelude.{IfErr, OnOk};
 ghost use Rattle.std.specs.List.{sum_by};
+ghost use Rattle.std.specs.List.Sorted.{IsPermutation};
 ghost use Rattle.history_model.specs.declared.stamped.StampedRow.{StampedRow};
 ghost use Rattle.history_model.specs.InOrder.{IsAscending, put};
 ghost use Rattle.history_model.specs.Private.{IsPlace};
@@ -231,6 +232,57 @@ fn keep_current(
     Ok(())
 }
 
+/// Whether it pays to bring so many terms in the order of their rows before the first so many rows
+/// are kept: then hardly a row displaces one that is kept.
+fn are_few(count: usize, limit: u32) -> bool {
+    count / 32 <= limit as usize
+}
+
+/// The terms in the order of their rows.
+fn by_row(alloc: Global, terms: &[Term]) -> Result<Vec<Term>, AllocError>
+    ensures { IfOk result (λ sorted. IsPermutation terms.now sorted.items) }
+{
+    let mut sorted = Vec::with_capacity(alloc, terms.len())?;
+    sorted.extend_from_slice(terms)?;
+    sorted.sort_unstable_by(|a, b| a.row.cmp(&b.row));
+    Ok(sorted)
+}
+
+/// Keeps those of the terms that are current and have an id above `after`, and of all that are kept
+/// the first so many by id, in whatever order they are met.
+fn keep_candidates(
+    alloc: Global,
+    kept: &mut Vec<Chosen>,
+    terms: &[Term],
+    segment: usize,
+    index: &Index,
+    time: EffectiveTime,
+    after: Option<u128>,
+    limit: u32,
+    pin: u32,
+) -> Result<(), AllocError>
+    ensures { OnOk result ((lists : List (List StampedRow)) → Lists index.now lists
+        → AreOfDescriptions lists segment terms.now
+        → (seen : List Chosen) → AreKept lists time after limit pin seen kept.old.items
+        → AreKept lists time after limit pin
+        (seen ++ flat_map (λ t. chosen_at lists segment t.row) terms.now) kept.new.items) }
+{
+    if !are_few(terms.len(), limit) {
+        return keep_current(kept, terms, segment, index, time, after, limit, pin);
+    }
+    let sorted = by_row(alloc, terms)?;
+    keep_current(
+        kept,
+        sorted.as_slice(),
+        segment,
+        index,
+        time,
+        after,
+        limit,
+        pin,
+    )
+}
+
 /// The first places by id, above `after`, of the current terms that begin with the prefix.
 fn keep_all(
     alloc: Global,
@@ -250,7 +302,9 @@ fn keep_all(
     let mut kept = Vec::new(alloc);
     for (segment, list) in lists.iter().enumerate() {
         let those = list.candidates(prefix);
-        keep_current(&mut kept, those, segment, index, time, after, limit, pin)?;
+        keep_candidates(
+            alloc, &mut kept, those, segment, index, time, after, limit, pin,
+        )?;
     }
     Ok(kept)
 }
@@ -258,7 +312,8 @@ fn keep_all(
 /// The first rows by id, above `after` if that is given, of active descriptions at the date of
 /// which the folded term begins with the folded prefix, of the rows that the pin shows and of the
 /// versions that are posted. Of the posted terms that begin so, one with an id above `after` costs
-/// a bisection a list at most, and another none.
+/// a bisection a list at most, and another none. Where a list has at most 32 times `limit` such
+/// terms, they are sorted by their rows first, which takes memory for as many.
 pub fn find<R: RowReader>(
     alloc: Global,
     terms: &Terms,

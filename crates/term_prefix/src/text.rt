@@ -12,9 +12,9 @@ use std::cmp::Ordering;
 /// Where a folded term stands in its list's text, and the number of its row in the list.
 #[derive(Clone, Copy, Debug)]
 pub(crate) struct Term {
-    /// The first eight bytes of the folding as one number, so that most of two terms are compared
+    /// The first 16 bytes of the folding as one number, so that most of two terms are compared
     /// without their texts.
-    pub(crate) head: u64,
+    pub(crate) head: u128,
     pub(crate) start: usize,
     pub(crate) len: u32,
     pub(crate) row: u32,
@@ -46,12 +46,12 @@ fn byte_at(text: &[u8], place: usize) -> u8
     if place < text.len() { text[place] } else { 0 }
 }
 
-/// The first eight bytes as one number, the first byte the highest, with zeros behind a shorter
+/// The first 16 bytes as one number, the first byte the highest, with zeros behind a shorter
 /// text.
-pub(crate) fn head_of(text: &[u8]) -> u64
-    ensures { result ≡ head 8 text.now }
+pub(crate) fn head_of(text: &[u8]) -> u128
+    ensures { result ≡ head 16 text.now }
 {
-    u64::from_be_bytes([
+    u128::from_be_bytes([
         byte_at(text, 0),
         byte_at(text, 1),
         byte_at(text, 2),
@@ -60,6 +60,14 @@ pub(crate) fn head_of(text: &[u8]) -> u64
         byte_at(text, 5),
         byte_at(text, 6),
         byte_at(text, 7),
+        byte_at(text, 8),
+        byte_at(text, 9),
+        byte_at(text, 10),
+        byte_at(text, 11),
+        byte_at(text, 12),
+        byte_at(text, 13),
+        byte_at(text, 14),
+        byte_at(text, 15),
     ])
 }
 

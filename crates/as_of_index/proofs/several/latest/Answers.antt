@@ -1,6 +1,7 @@
 use Rattle.std.proofs.Common.{subst, take, take_all}
 use Rattle.as_of_index.specs.Private.Search.{all_places}
 use Rattle.as_of_index.proofs.Found.{Picks, pick_nothing, pick_more, places-more}
+use Rattle.as_of_index.proofs.Shown.{pick_of_part}
 use Rattle.as_of_index.proofs.several.latest.Goals as goal
 
 pub loop-segment-init : goal.loop-segment-init
@@ -9,10 +10,10 @@ loop-segment-init c = pick_nothing c.args.kind c.args.id c.args.time c.args.pin
 pub loop-segment-preserved : goal.loop-segment-preserved
 loop-segment-preserved c =
     let a = c.args in
-    let found = c.latest_in-found.ensures (rw c.places.ensures.places c.places.ensures.ascending) in
-    rw (c.later-best.ensures, places-more a.lists.now c.loop-segment.segment c.index-lists-segment.result c.loop-segment-test.true c.index-lists-segment.is)
-    (pick_more a.kind a.id a.time a.pin c.loop-segment.segment c.index-lists-segment.result (all_places 0 (take c.loop-segment.segment a.lists.now)) c.loop-segment.best c.latest_in-found.result c.loop-segment.invariant
-    (rw c.places.ensures.places at found))
+    let ps = c.index-lists-segment.result in
+    let found = pick_of_part a.time a.pin a.kind a.id ps c.latest_in-found.result (rw c.shown_part-places.ensures.part at (c.latest_in-found.ensures c.shown_part-places.ensures.ascending)) in
+    rw (c.later-best.ensures, places-more a.lists.now c.loop-segment.segment ps c.loop-segment-test.true c.index-lists-segment.is)
+    (pick_more a.kind a.id a.time a.pin c.loop-segment.segment ps (all_places 0 (take c.loop-segment.segment a.lists.now)) c.loop-segment.best c.latest_in-found.result c.loop-segment.invariant found)
 
 pub returns : goal.returns
 returns c =

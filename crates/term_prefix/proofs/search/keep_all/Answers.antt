@@ -13,10 +13,10 @@ loop-segment-preserved c = λ rows listed_so posts.
     let i = c.loop-segment.segment in
     let list = c.index-lists-segment.result in
     let those = c.candidates-those.result.now in
-    let new = c.keep_current.new.kept.items in
+    let new = c.keep_candidates.new.kept.items in
     let before = numbered 0 (take i a.lists.now) in
     let described = described_those rows a.lists.now posts i list c.loop-segment-test.true c.index-lists-segment.is a.prefix.now those c.candidates-those.ensures in
-    let step = c.in_ok-keep_current.ensures rows listed_so described (begun rows a.prefix.now before) (c.loop-segment.invariant rows listed_so posts) in
+    let step = c.in_ok-keep_candidates.ensures rows listed_so described (begun rows a.prefix.now before) (c.loop-segment.invariant rows listed_so posts) in
     let same = begun_more rows a.prefix.now before i list those c.candidates-those.ensures in
     rw (terms-more a.lists.now i list c.loop-segment-test.true c.index-lists-segment.is)
     (kept_same rows a.time a.after a.limit a.pin (begun rows a.prefix.now before ++ flat_map (λ (t : Term). chosen_at rows i t.row) those) (begun rows a.prefix.now (before ++ map (λ t. (i, t)) list)) new (λ k. (same k).0) (λ k. (same k).1) step)
