@@ -235,7 +235,7 @@ fn keep_current(
 /// Whether it pays to bring so many terms in the order of their rows before the first so many rows
 /// are kept: then hardly a row displaces one that is kept.
 fn are_few(count: usize, limit: u32) -> bool {
-    count / 32 <= limit as usize
+    count / 128 <= limit as usize
 }
 
 /// The terms in the order of their rows.
@@ -312,7 +312,7 @@ fn keep_all(
 /// The first rows by id, above `after` if that is given, of active descriptions at the date of
 /// which the folded term begins with the folded prefix, of the rows that the pin shows and of the
 /// versions that are posted. Of the posted terms that begin so, one with an id above `after` costs
-/// a bisection a list at most, and another none. Where a list has at most 32 times `limit` such
+/// a bisection a list at most, and another none. Where a list has at most 128 times `limit` such
 /// terms, they are sorted by their rows first, which takes memory for as many.
 pub fn find<R: RowReader>(
     alloc: Global,
