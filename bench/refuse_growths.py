@@ -146,7 +146,7 @@ class Runs:
             if said == REFUSED:
                 refused += 1
                 if line.partition(" ")[2].startswith(NEVER):
-                    raise soak.Wrong("%r: refused for want of memory" % line)
+                    raise soak.Wrong("%r: refused, as if memory had run out" % line)
             elif said != model.reply(line):
                 raise soak.Wrong("%r: %r" % (line, said[:3]))
         return refused

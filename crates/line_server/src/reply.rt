@@ -1,13 +1,16 @@
 //! What is written for a line.
 
-ghost use Rattle.std.specs.Prelude.{◌≡◌, ◌≤◌, length};
+ghost use Rattle.std.specs.Prelude.{◌≡◌, ◌≤◌, length, IfSome};
 ghost use Rattle.line_server.specs.ReplyValue.{bytes_of};
 ghost use Rattle.line_server.specs.Streams.{IsPut};
 
 use crate::outgoing::{WriteFault, put_all};
-use arrayvec::ArrayString;
+use arrayvec::{ArrayString, ArrayVec};
 use std::io::Write;
 use std::marker::Model;
+
+/// How many bytes a reply has at most that is written in one piece.
+const SHORT: usize = 1024;
 
 /// The lines that are written for a line, each with its LF: those
 /// of rows or identifiers, and a last one, which takes no memory.
@@ -47,12 +50,25 @@ impl Reply {
         self.last.as_str().as_bytes()
     }
 
-    /// Writes its lines, in as many writes as the writer wants.
-    /// A write that takes no byte is a fault.
+    /// All that it writes, if that is short.
+    fn short(&self) -> Option<ArrayVec<u8, SHORT>>
+        ensures { IfSome result (λ bytes. bytes.items ≡ bytes_of self.now) }
+    {
+        let mut bytes = ArrayVec::new();
+        bytes.try_extend_from_slice(self.body()).ok()?;
+        bytes.try_extend_from_slice(self.last()).ok()?;
+        Some(bytes)
+    }
+
+    /// Writes its lines, in as many writes as the writer wants: a short reply in one, if the writer
+    /// takes it whole. A write that takes no byte is a fault.
     pub fn write_to<W: Write>(&self, writer: &mut W) -> Result<(), WriteFault>
         ensures { IsPut result (W.contents writer.old) (W.contents writer.new)
             (bytes_of self.now) }
     {
+        if let Some(bytes) = self.short() {
+            return put_all(writer, bytes.as_slice());
+        }
         put_all(writer, self.body())?;
         put_all(writer, self.last())
     }

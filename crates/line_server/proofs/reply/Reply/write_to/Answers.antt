@@ -7,4 +7,4 @@ returns-in_err-put_all g c =
 
 pub returns : goal.returns
 returns g c =
-    put_both c.put_all-2.result _ _ _ c.body.result.now c.last.result.now _ _ c.in_ok-put_all.ensures c.put_all-2.ensures c.body.ensures c.last.ensures.value
+    put_both c.put_all-3.result _ _ _ c.body.result.now c.last.result.now _ _ c.in_ok-put_all.ensures c.put_all-3.ensures c.body.ensures c.last.ensures.value
