@@ -89,13 +89,15 @@ impl NumberTable {
         }
     }
 
-    pub(crate) fn first(&self) -> &[u32]
+    /// Those of the first list's rows.
+    pub fn first(&self) -> &[u32]
         ensures { result.now ≡ self.now.first }
     {
         self.first.as_slice()
     }
 
-    pub(crate) fn second(&self) -> &[u32]
+    /// Those of the second list's rows.
+    pub fn second(&self) -> &[u32]
         ensures { result.now ≡ self.now.second }
     {
         self.second.as_slice()

@@ -113,8 +113,8 @@ impl IndexMerge {
     }
 
     /// Takes up to `n` rows more, in key order, and answers their places in the two segments. Each
-    /// row costs one step, and what is posted of the two segments is merged by as many steps, or
-    /// to the end where no row is left. An `Err` changes nothing.
+    /// row costs one step, and what is posted of the two segments is merged by steps that go with
+    /// them, or to the end where no row is left. An `Err` changes nothing.
     pub fn take(
         &mut self,
         alloc: Global,

@@ -28,8 +28,8 @@ pub(crate) fn no_postings(alloc: Global) -> OutputPostings
     }
 }
 
-/// Lets what is posted of the rows of two segments go on by up to `n` postings of each kind, or to
-/// the end. An `Err` changes nothing.
+/// Lets what is posted of the rows of two segments go on by a step of `n` rows, or to the end. An
+/// `Err` changes nothing.
 pub(crate) fn go_on(
     postings: &mut Option<OutputPostings>,
     alloc: Global,

@@ -15,8 +15,8 @@ use links::Links;
 use std::alloc::{AllocError, Global};
 use term_prefix::Terms;
 
-/// So many times as many numbers of rows are found in a step as postings are merged: once the first
-/// steps have found all, no posting's row is searched for.
+/// For each row of a step so many numbers of rows are found. Only once the first steps have found all
+/// are postings merged: until then the number of a posting's row would have to be searched for.
 const NUMBERS_AHEAD: usize = 8;
 
 /// How far what is posted of two segments is merged.
@@ -70,12 +70,30 @@ impl PostingsMerge {
         PostingsMerge::new(alloc, i, j)
     }
 
-    /// Goes on by up to so many postings of each kind. After an `Err` it may be called again.
+    /// How many postings of each kind a step of so many rows merges. None are merged while numbers
+    /// of rows are still to be found, so it is more than rows later on.
+    pub(crate) fn postings_in_step(&self, places: &Index, rows: usize) -> usize
+        requires { (self.now.i < length places.now) × (self.now.j < length places.now) }
+    {
+        let numbers = &self.numbers;
+        let found_first = places.list(self.i).len() <= numbers.first().len();
+        let found_second = places.list(self.j).len() <= numbers.second().len();
+        if found_first && found_second {
+            rows.saturating_add(rows / (NUMBERS_AHEAD - 1))
+                .saturating_add(1)
+        } else {
+            0
+        }
+    }
+
+    /// Goes on by the numbers of rows that a step of so many rows finds, and by up to `n` postings of
+    /// each kind. After an `Err` it may be called again.
     pub(crate) fn advance(
         &mut self,
         places: &Index,
         terms: &Terms,
         links: &Links,
+        rows: usize,
         n: usize,
     ) -> Result<(), AllocError>
         requires merge { IsPostingsMerge places.now terms.now links.now self.old }
@@ -101,7 +119,7 @@ impl PostingsMerge {
         let first = places.list(self.i);
         let second = places.list(self.j);
         self.numbers
-            .extend(first, second, n.saturating_mul(NUMBERS_AHEAD))?;
+            .extend(first, second, rows.saturating_mul(NUMBERS_AHEAD))?;
         let numbers = Numbers::with_table(first, second, &self.numbers);
         let a = &terms.as_slice()[self.i];
         let b = &terms.as_slice()[self.j];

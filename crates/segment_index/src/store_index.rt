@@ -151,9 +151,9 @@ impl StoreIndex {
         self.merging = None;
     }
 
-    /// Merges what is posted of the rows of two segments by up to `n` postings of each kind, or to
-    /// the end, and then gives what is posted of the rows of both. An `Err` may leave them merged
-    /// further than before.
+    /// Merges what is posted of the rows of two segments by a step of `n` rows, or to the end, and
+    /// then gives what is posted of the rows of both. An `Err` may leave them merged further than
+    /// before.
     pub(crate) fn merge_postings(
         &mut self,
         alloc: Global,
@@ -173,8 +173,13 @@ impl StoreIndex {
             → IfOk result (λ p. IfSome p (HasPostings (union a b))) }
     {
         let mut merge = PostingsMerge::resume(self.merging.take(), alloc, i, j);
-        let count = if all { usize::MAX } else { n as usize };
-        if let Err(error) = merge.advance(&self.places, &self.terms, &self.links, count) {
+        let rows = n as usize;
+        let count = if all {
+            usize::MAX
+        } else {
+            merge.postings_in_step(&self.places, rows)
+        };
+        if let Err(error) = merge.advance(&self.places, &self.terms, &self.links, rows, count) {
             self.merging = Some(merge);
             return Err(error);
         }

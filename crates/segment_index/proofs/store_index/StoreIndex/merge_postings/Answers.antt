@@ -20,6 +20,14 @@ Within lists i j = (i < length lists) × (j < length lists)
 abbrev Both : List (List StampedRow) → ℕ → ℕ → Type 0
 Both lists i j = (a b : List StampedRow) → slice_get lists i ≡ Some a → slice_get lists j ≡ Some b → AreLists (a ∷ b ∷ []) × (length a + length b < 2 ^ 32)
 
+pub postings_in_step-count-requires : goal.postings_in_step-count-requires
+postings_in_step-count-requires c =
+    let x = c.self.inside in
+    let within = subst (λ l. Within l c.args.i c.args.j) (sym c.self.view_is) c.requires.within in
+    let count = places_count x.rows x.places c.self.invariant.0.places_are in
+    let numbers = c.resume-merge.ensures.numbers in
+    (omega (arith, within.0, count, numbers.0), omega (arith, within.1, count, numbers.1))
+
 pub advance-requires-clause-merge : goal.advance-requires-clause-merge
 advance-requires-clause-merge c =
     let x = c.self.inside in
