@@ -1,11 +1,12 @@
 -- One number more of a table of numbers.
-use Rattle.std.proofs.Common.{◌≡◌, ℕ, zero, suc, ◌+◌, ◌≤◌, true, false, List, [], ◌∷◌, ◌++◌, length, take, drop, refl, sym, ap, subst, inl, inr, ◌∙◌, arith, length-append}
-use Rattle.std.specs.Prelude.{Some, Option, slice_get}
+use Rattle.std.proofs.Common.{◌≡◌, ℕ, zero, suc, ◌+◌, ◌-◌, ◌≤◌, true, false, List, [], ◌∷◌, ◌++◌, length, take, drop, refl, sym, ap, subst, inl, inr, ◌∙◌, arith, length-append}
+use Rattle.std.specs.Prelude.{Some, None, Option, slice_get}
 use Rattle.std.specs.Ordering.{is_lt}
 use Rattle.std.specs.Cmp.{on_total}
 use Rattle.std.specs.declared.cmp.Ordering.TheVariants.{Less, Equal, Greater}
-use Rattle.history_model.specs.InOrder.{Has, IsAscending}
-use Rattle.history_model.proofs.InOrder.{Has-append_cases, all_from_has, below_all, not_both, Has-all}
+use Rattle.history_model.specs.InOrder.{Has, IsAscending, ShareNone}
+use Rattle.history_model.proofs.InOrder.{Has-append_cases, all_from_has, below_all, not_both, above, Has-all}
+use Rattle.history_model.proofs.Keys.{same_key}
 use Rattle.rf2_values.specs.Private.{keys_total}
 use Rattle.std.specs.Cmp.{IsTotalOrder}
 use Rattle.segment.specs.declared.place.RowPlace.{RowPlace}
@@ -13,6 +14,7 @@ use Rattle.as_of_index.specs.Places.{place_cmp}
 use Rattle.as_of_index.specs.Numbers.{TwoLists, number_in_both, count_below, AreNumbersOf, AreBelow, AreKnown}
 use Rattle.as_of_index.specs.Private.Numbers.{ComesBefore}
 use Rattle.as_of_index.proofs.Counted.{count_at, number_within}
+use Rattle.as_of_index.proofs.Keyed.{has_got}
 use Rattle.as_of_index.proofs.Turns.{take_one, has_there, has_more}
 
 places_total : IsTotalOrder place_cmp
@@ -113,3 +115,40 @@ pub none_known_yet : (lists : TwoLists) (xs ys : List ℕ) → xs ≡ [] → ys 
 none_known_yet lists xs ys x_none y_none =
     subst (λ l. AreKnown lists (record { first = l; second = ys })) (sym x_none)
     (subst (λ l. AreKnown lists (record { first = []; second = l })) (sym y_none) (none_known lists))
+
+-- ---- where no row comes next
+
+past : {X : Type 0} (xs : List X) (i : ℕ) → slice_get xs i ≡ None → length xs ≤ i
+past [] i e = omega arith
+past (x ∷ xs) zero e = absurd cc
+past (x ∷ xs) (suc i) e = let le = past xs i e in omega (arith, le)
+
+none_before : (p : RowPlace) (other : List RowPlace) (j : ℕ) → slice_get other j ≡ None → (q : RowPlace) → slice_get other j ≡ Some q → place_cmp p q ≡ Less
+none_before p other j none q there = absurd cc
+
+this_before : (p q : RowPlace) (other : List RowPlace) (j : ℕ) → slice_get other j ≡ Some q → place_cmp p q ≡ Less → (r : RowPlace) → slice_get other j ≡ Some r → place_cmp p r ≡ Less
+this_before p q other j there less r also = let same : q ≡ r = cc in subst (λ w. place_cmp p w ≡ Less) same less
+
+-- where no key is in both lists, none is left
+module _ (a b : List RowPlace) (i j : ℕ) (apart : ShareNone (λ (p : RowPlace). p.key) a b) (not_a : ComesBefore a i b j → ⊥) (not_b : ComesBefore b j a i → ⊥) where
+  abbrev IsNone : Type 0
+  IsNone = (length a - i) + (length b - j) ≡ 0
+
+  not_two : (p q : RowPlace) → slice_get a i ≡ Some p → slice_get b j ≡ Some q → IsNone
+  not_two p q e f = elim (place_cmp p q) as (λ r. place_cmp p q ≡ r → IsNone) [
+    | Less ↦ λ g. absurd (not_a (record { p = p; there = e; below = this_before p q b j f g }))
+    | Equal ↦ λ g. absurd (apart p q (has_got a i p (sym e)) (has_got b j q (sym f)) (same_key p.key q.key g))
+    | Greater ↦ λ g. absurd (not_b (record { p = q; there = f; below = this_before q p a i e (above places_total p q g) }))
+  ] refl
+
+  pub none_left : (length a - i) + (length b - j) ≡ 0
+  none_left = elim (slice_get a i) as (λ o. slice_get a i ≡ o → IsNone) [
+    | None ↦ λ e. elim (slice_get b j) as (λ o. slice_get b j ≡ o → IsNone) [
+      | None ↦ λ f. let x = past a i e in let y = past b j f in omega (arith, x, y)
+      | Some q ↦ λ f. absurd (not_b (record { p = q; there = f; below = none_before q a i e }))
+    ] refl
+    | Some p ↦ λ e. elim (slice_get b j) as (λ o. slice_get b j ≡ o → IsNone) [
+      | None ↦ λ f. absurd (not_a (record { p = p; there = e; below = none_before p b j f }))
+      | Some q ↦ λ f. not_two p q e f
+    ] refl
+  ] refl

@@ -1,5 +1,5 @@
 -- The numbers that rows of two lists have in the one list of all these rows.
-use Rattle.std.specs.Prelude.{◌≡◌, ◌≤◌, ℕ, ◌+◌, List, [], length, take, drop, Option, Some, None}
+use Rattle.std.specs.Prelude.{◌≡◌, ◌≤◌, ℕ, ◌+◌, ◌-◌, List, [], length, take, drop, Option, Some, None}
 use Rattle.std.specs.Prelude.{slice_get}
 use Rattle.std.specs.List.{count_by}
 use Rattle.std.specs.Ordering.{is_lt}
@@ -30,6 +30,16 @@ pub record KnownNumbers : Type 0 where
 
 abbrev pub no_numbers : KnownNumbers
 no_numbers = record { first = []; second = [] }
+
+-- how many rows of two lists have no number that is known
+abbrev pub count_unknown : TwoLists → KnownNumbers → ℕ
+count_unknown lists known =
+    (length lists.first - length known.first) + (length lists.second - length known.second)
+
+-- what was known is known still
+abbrev pub IsKept : KnownNumbers → KnownNumbers → Type 0
+IsKept old new =
+    (length old.first ≤ length new.first) × (length old.second ≤ length new.second)
 
 -- they are the numbers of the first rows of a list
 abbrev pub AreNumbersOf : List RowPlace → List RowPlace → List ℕ → Type 0

@@ -182,6 +182,9 @@ pub fn merge_on<T: Posting>(
         merged.new.taken merged.new.out.items }
     ensures left { count_left first.now second.now merged.new.taken
         ≡ count_left first.now second.now merged.old.taken - n }
+    // The room for what is left stays.
+    ensures room { length merged.new.out.items
+        + count_left first.now second.now merged.new.taken ≤ vec_capacity merged.new.out }
 {
     let mut count = 0;
     while count < n && is_left(first, second, merged.taken) {

@@ -1,9 +1,9 @@
 //! A table of the numbers that rows of two lists have in the one list of all these rows.
 
-ghost use Rattle.std.specs.Prelude.{◌≡◌, ◌<◌, ◌+◌, ◌^◌, length, IsTrue, IfOk};
-ghost use Rattle.history_model.specs.InOrder.{IsAscending};
+ghost use Rattle.std.specs.Prelude.{◌≡◌, ◌<◌, ◌≤◌, ◌↔◌, ◌+◌, ◌-◌, ◌^◌, length, IsTrue, IfOk, OnOk};
+ghost use Rattle.history_model.specs.InOrder.{IsAscending, ShareNone};
 ghost use Rattle.as_of_index.specs.Places.{place_cmp};
-ghost use Rattle.as_of_index.specs.Numbers.{AreKnown, TwoLists, no_numbers};
+ghost use Rattle.as_of_index.specs.Numbers.{AreKnown, TwoLists, no_numbers, count_unknown, IsKept};
 ghost use Rattle.as_of_index.specs.Private.Numbers.{ComesBefore};
 
 use crate::search::compare;
@@ -29,7 +29,7 @@ impl Model for NumberTable {
 
 /// Whether the place with a number is there, and below the other list's, if that is there.
 fn comes_before(own: &[RowPlace], i: usize, other: &[RowPlace], j: usize) -> bool
-    ensures { IsTrue result → ComesBefore own.now i other.now j }
+    ensures { IsTrue result ↔ ComesBefore own.now i other.now j }
 {
     match (own.get(i), other.get(j)) {
         (Some(p), Some(q)) => match compare(p, q) {
@@ -54,8 +54,19 @@ fn push_next(
     requires few { length first.now + length second.now < 2 ^ 32 }
     requires known { AreKnown (record { first = first.now; second = second.now })
         (record { first = first_known.old.items; second = second_known.old.items }) }
-    ensures { AreKnown (record { first = first.now; second = second.now })
+    ensures known { AreKnown (record { first = first.now; second = second.now })
         (record { first = first_known.new.items; second = second_known.new.items }) }
+    ensures kept { IsKept (record { first = first_known.old.items; second = second_known.old.items })
+        (record { first = first_known.new.items; second = second_known.new.items }) }
+    ensures few { count_unknown (record { first = first.now; second = second.now })
+        (record { first = first_known.old.items; second = second_known.old.items })
+        ≤ count_unknown (record { first = first.now; second = second.now })
+        (record { first = first_known.new.items; second = second_known.new.items }) + 1 }
+    ensures ok { OnOk result (ShareNone (λ p. p.key) first.now second.now
+        → count_unknown (record { first = first.now; second = second.now })
+        (record { first = first_known.new.items; second = second_known.new.items })
+        ≡ count_unknown (record { first = first.now; second = second.now })
+        (record { first = first_known.old.items; second = second_known.old.items }) - 1) }
 {
     let i = first_known.len();
     let j = second_known.len();
@@ -103,8 +114,8 @@ impl NumberTable {
         self.second.as_slice()
     }
 
-    /// Adds the numbers of up to so many rows more, in key order. The first call takes the memory
-    /// for all. After an `Err` the table has what was added before it.
+    /// Adds the numbers of so many rows more, in key order, as long as no key is in both lists. The
+    /// first call takes the memory for all. After an `Err` the table has what was added before it.
     pub fn extend(
         &mut self,
         first: &[RowPlace],
@@ -115,7 +126,13 @@ impl NumberTable {
         requires second { IsAscending place_cmp second.now }
         requires few { length first.now + length second.now < 2 ^ 32 }
         requires known { AreKnown (record { first = first.now; second = second.now }) self.old }
-        ensures { AreKnown (record { first = first.now; second = second.now }) self.new }
+        ensures known { AreKnown (record { first = first.now; second = second.now }) self.new }
+        ensures kept { IsKept self.old self.new }
+        ensures few { count_unknown (record { first = first.now; second = second.now }) self.old
+            ≤ count_unknown (record { first = first.now; second = second.now }) self.new + n }
+        ensures ok { OnOk result (ShareNone (λ p. p.key) first.now second.now
+            → count_unknown (record { first = first.now; second = second.now }) self.new
+            ≡ count_unknown (record { first = first.now; second = second.now }) self.old - n) }
     {
         let first_left = first.len().saturating_sub(self.first.len());
         let second_left = second.len().saturating_sub(self.second.len());

@@ -151,6 +151,13 @@ went_on places terms links old m numbers ap_ bp at bt al bl i j is pa pb two_is 
       links_are = renumbered (λ k l. IsMergeOf (two (slice_index_or places k []) (slice_index_or places l [])) (edges_at links k) (edges_at links l) m.links) old.i old.j m.i m.j i j links_are;
     }
 
+-- the other postings of two segments, of which the places and the postings are these
+pub merged_before : (places : List (List RowPlace)) (terms : List (List TermAt)) (links : List Edges) (m : PostingsMerge) (numbers : TwoLists) (a_places b_places : List RowPlace) (a_links b_links : Edges) → IsPostingsMerge places terms links m
+    → slice_index_or places m.i [] ≡ a_places → slice_index_or places m.j [] ≡ b_places → numbers ≡ two a_places b_places → edges_at links m.i ≡ a_links → edges_at links m.j ≡ b_links → IsMergeOf numbers a_links b_links m.links
+merged_before places terms links m numbers ap_ bp al bl is pa pb two_is la lb =
+    let both : places_at places m ≡ numbers = ap (λ (l : List RowPlace). two l (slice_index_or places m.j [])) pa ∙ ap (two ap_) pb ∙ sym two_is in
+    subst (λ (l : TwoLists). IsMergeOf l al bl m.links) both (subst (λ (l : Edges). IsMergeOf (places_at places m) l bl m.links) la (subst (λ (l : Edges). IsMergeOf (places_at places m) (edges_at links m.i) l m.links) lb is.links_are))
+
 -- ---- the end of a merge
 
 -- more steps than there may be postings

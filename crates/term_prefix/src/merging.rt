@@ -1,6 +1,6 @@
 //! The terms of two lists of rows, merged in turns.
 
-ghost use Rattle.std.specs.Prelude.{◌≡◌, ◌-◌, ◌≤◌, List, [], Some, slice_get, OnOk, OnErr};
+ghost use Rattle.std.specs.Prelude.{◌≡◌, ◌+◌, ◌-◌, ◌≤◌, List, [], Some, slice_get, OnOk, OnErr};
 ghost use Rattle.as_of_index.specs.Numbers.{TwoLists};
 ghost use Rattle.term_prefix.specs.Terms.{TermAt, TextsRise};
 ghost use Rattle.term_prefix.specs.Merged.{IsMergeOfTerms, no_terms_merged, terms_left};
@@ -175,6 +175,8 @@ impl Merging {
             (terms_left a.now b.now self.new ≡ terms_left a.now b.now self.old - n) }
         ensures err { OnErr result
             (terms_left a.now b.now self.new ≤ terms_left a.now b.now self.old) }
+        // Whatever it answers, no more are merged than it was asked for.
+        ensures few { terms_left a.now b.now self.old ≤ terms_left a.now b.now self.new + n }
     {
         self.reserve(a, b)?;
         for _step in 0..n.min(self.left(a, b)) {

@@ -3,7 +3,7 @@
 ghost use Rattle.std.specs.Prelude.{◌≡◌, ◌≢◌, ◌≤◌, ◌+◌, ◌++◌, List, length, take, flat_map, IfOk};
 ghost use Rattle.std.specs.Prelude.{IfErr, OnOk};
 ghost use Rattle.std.specs.List.{sum_by};
-ghost use Rattle.std.specs.List.Sorted.{IsPermutation};
+ghost use Rattle.std.specs.List.Sorted.{IsPermutation, IsNonDecreasingBy};
 ghost use Rattle.history_model.specs.declared.stamped.StampedRow.{StampedRow};
 ghost use Rattle.history_model.specs.InOrder.{IsAscending, put};
 ghost use Rattle.history_model.specs.Private.{IsPlace};
@@ -240,7 +240,8 @@ fn are_few(count: usize, limit: u32) -> bool {
 
 /// The terms in the order of their rows.
 fn by_row(alloc: Global, terms: &[Term]) -> Result<Vec<Term>, AllocError>
-    ensures { IfOk result (λ sorted. IsPermutation terms.now sorted.items) }
+    ensures permutation { IfOk result (λ sorted. IsPermutation terms.now sorted.items) }
+    ensures sorted { IfOk result (λ sorted. IsNonDecreasingBy (λ t. t.row) sorted.items) }
 {
     let mut sorted = Vec::with_capacity(alloc, terms.len())?;
     sorted.extend_from_slice(terms)?;
