@@ -1,6 +1,6 @@
 -- What is posted of rows: links of relationships, references of associations, and what any but a
 -- concept is about.
-use Rattle.std.specs.Prelude.{ℕ, ◌+◌, ◌*◌, ◌==◌, List, [], ◌∷◌, ◌++◌, length, take, map}
+use Rattle.std.specs.Prelude.{ℕ, ◌+◌, ◌*◌, ◌==◌, List, [], ◌∷◌, ◌++◌, length, map}
 use Rattle.std.specs.Prelude.{if◌then◌else◌}
 use Rattle.std.specs.Prelude.{Option, Some, None}
 use Rattle.std.specs.List.Sorted.{IsNonDecreasingBy, IsPermutation}
@@ -17,7 +17,6 @@ use Rattle.as_of_index.specs.Postings.{posted_all}
 use Rattle.links.specs.declared.postings.Link.{Link}
 use Rattle.links.specs.declared.postings.Reference.{Reference}
 use Rattle.links.specs.declared.postings.Subject.{Subject}
-use Rattle.links.specs.declared.postings.EdgeCount.{EdgeCount}
 
 -- links of relationships, references of associations, and subjects of rows
 pub record Edges : Type 0 where
@@ -38,21 +37,17 @@ joined_edges a b =
     }
 
 -- how many links, references and subjects there are
+pub record EdgeCount : Type 0 where
+  pub links : ℕ
+  pub references : ℕ
+  pub subjects : ℕ
+
 abbrev pub count_of : Edges → EdgeCount
 count_of e =
     record {
       links = length e.links;
       references = length e.references;
       subjects = length e.subjects;
-    }
-
--- the first so many links, references and subjects
-abbrev pub first_edges : EdgeCount → Edges → Edges
-first_edges n e =
-    record {
-      links = take n.links e.links;
-      references = take n.references e.references;
-      subjects = take n.subjects e.subjects;
     }
 
 -- the same links, references and subjects, in whatever order

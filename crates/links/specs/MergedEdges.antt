@@ -9,8 +9,7 @@ use Rattle.as_of_index.specs.Merging.{PostingKind, IsMerged, count_left}
 use Rattle.links.specs.declared.postings.Link.{Link}
 use Rattle.links.specs.declared.postings.Reference.{Reference}
 use Rattle.links.specs.declared.postings.Subject.{Subject}
-use Rattle.links.specs.declared.postings.EdgeCount.{EdgeCount}
-use Rattle.links.specs.Edges.{Edges, no_edges, count_of, subject_rank}
+use Rattle.links.specs.Edges.{Edges, EdgeCount, no_edges, count_of, subject_rank}
 use Rattle.links.specs.Laws.{ArePostingsOf}
 
 -- links by destination, references by what they refer to, and subjects by what the rows are about

@@ -16,7 +16,7 @@ mod subjects;
 use as_of_index::PerList;
 pub use hierarchy::children;
 pub use merging::Merging;
-pub use postings::{EdgeCount, Link, Postings, Reference, Sealed, Subject};
+pub use postings::{Link, Postings, Reference, Sealed, Subject};
 pub use references::replacements;
 pub use subjects::about;
 

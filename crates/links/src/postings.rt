@@ -6,7 +6,7 @@ ghost use Rattle.std.specs.List.Sorted.{IsNonDecreasingBy, IsPermutation};
 ghost use Rattle.std.specs.Ordering.{nat_cmp};
 ghost use Rattle.links.specs.Edges.{Edges, no_edges, link, reference, posted_link};
 ghost use Rattle.links.specs.Edges.{posted_reference, posted_subject, edges_of, joined_edges};
-ghost use Rattle.links.specs.Edges.{count_of, first_edges, AreSameEdges, IsSealed, subject_rank};
+ghost use Rattle.links.specs.Edges.{AreSameEdges, IsSealed, subject_rank};
 
 use history_model::{IS_A, StampedRow, subject_of};
 use rf2_values::{Association, Body, Kind, Relationship};
@@ -49,14 +49,6 @@ pub struct Subject {
     pub kind: Kind,
     /// The row's number in its segment, from 0 on.
     pub row: u32,
-}
-
-/// How many links, references and subjects there are.
-#[derive(Clone, Copy, Debug, PartialEq, Eq)]
-pub struct EdgeCount {
-    pub links: usize,
-    pub references: usize,
-    pub subjects: usize,
 }
 
 /// The links, references and subjects of the rows of one segment, in the order in which they were
@@ -225,26 +217,6 @@ impl Postings {
         push_edge(&mut self.links, &mut self.references, row, number)?;
         push_subject(&mut self.subjects, row, number);
         Ok(())
-    }
-
-    /// How many links, references and subjects there are, for `cut_to`.
-    pub fn len(&self) -> EdgeCount
-        ensures { result ≡ count_of self.now }
-    {
-        EdgeCount {
-            links: self.links.len(),
-            references: self.references.len(),
-            subjects: self.subjects.len(),
-        }
-    }
-
-    /// Keeps the first so many of each, all where there are fewer.
-    pub fn cut_to(&mut self, len: EdgeCount)
-        ensures { self.new ≡ first_edges len self.old }
-    {
-        self.links.truncate(len.links);
-        self.references.truncate(len.references);
-        self.subjects.truncate(len.subjects);
     }
 
     /// The links, references and subjects, each in order. It takes no memory.

@@ -14,8 +14,7 @@ use Rattle.term_prefix.specs.Pushed.{IsPosted, ArePosted}
 use Rattle.term_prefix.specs.Merged.{IsMergeOfTerms, terms_left}
 use Rattle.term_prefix.proofs.Posted.{posted_terms_are_few}
 use Rattle.term_prefix.proofs.InTurns.{merged_terms_are_posted}
-use Rattle.links.specs.declared.postings.EdgeCount.{EdgeCount}
-use Rattle.links.specs.Edges.{Edges, no_edges}
+use Rattle.links.specs.Edges.{Edges, EdgeCount, no_edges}
 use Rattle.links.specs.Laws.{ArePostingsOf, EachPosted}
 use Rattle.links.specs.MergedEdges.{IsMergeOf, AtMostEach, edges_left, less_each}
 use Rattle.links.proofs.MergedEdges.{postings_are_few, merged_are_posted}

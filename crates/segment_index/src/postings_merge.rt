@@ -1,6 +1,6 @@
 //! What is posted of two segments of a store, merged while the store goes on.
 
-ghost use Rattle.std.specs.Prelude.{◌≡◌, ◌+◌, ◌-◌, ◌^◌, ◌<◌, ℕ, List, [], length, OnOk};
+ghost use Rattle.std.specs.Prelude.{◌≡◌, ◌+◌, ◌-◌, ◌^◌, ◌<◌, ℕ, List, [], length, Some, OnOk};
 ghost use Rattle.history_model.specs.InOrder.{IsAscending};
 ghost use Rattle.segment.specs.declared.place.RowPlace.{RowPlace};
 ghost use Rattle.as_of_index.specs.Places.{place_cmp};
@@ -32,6 +32,7 @@ pub(crate) struct PostingsMerge {
 }
 
 impl PostingsMerge {
+    ghost use Rattle.segment_index.specs.declared.postings_merge.PostingsMerge.{PostingsMerge};
     ghost use Rattle.segment_index.specs.UnderWay.{IsPostingsMerge, IsUnderWay, places_at};
     ghost use Rattle.segment_index.specs.UnderWay.{terms_at, edges_at};
 
@@ -58,6 +59,7 @@ impl PostingsMerge {
         j: usize,
     ) -> PostingsMerge
         ensures numbers { (result.i ≡ i) × (result.j ≡ j) }
+        ensures same { (m : PostingsMerge) → merging ≡ Some m → m.i ≡ i → m.j ≡ j → result ≡ m }
         ensures merge { (places : List (List RowPlace)) (terms : List (List TermAt))
             (links : List Edges) → i < length places → j < length places
             → IsUnderWay places terms links merging → IsPostingsMerge places terms links result }

@@ -10,8 +10,8 @@ use crate::rows::{
 };
 use as_of_index::{Index, ReadFault, RowReader};
 use history_model::{StampedRow, plain};
-use links::{EdgeCount, Links, Postings, children, replacements};
-use rf2_values::{EffectiveTime, Row, Sctid};
+use links::{Links, Postings, about, children, replacements};
+use rf2_values::{EffectiveTime, Kind, Row, Sctid};
 use std::alloc::{AllocError, Global};
 use std::process::Abort;
 use std::test::Fail;
@@ -370,37 +370,89 @@ fn links_of_as_many_lists_as_may_be(rt: HostRuntime) -> Result<(), Fail> {
     Ok(())
 }
 
-fn count(links: usize, references: usize, subjects: usize) -> EdgeCount {
-    EdgeCount {
-        links,
-        references,
-        subjects,
+/// How many rows of a list are found to be about one of the streets.
+fn count_about(alloc: Global, links: &Links, list: &[Vec<StampedRow>]) -> Result<usize, Fail> {
+    let index = index_of(alloc, list)?;
+    let time = day(LAST_DAY)?;
+    let mut found = 0usize;
+    for (kind, id) in [
+        (Kind::Description, STREET),
+        (Kind::Relationship, STREET),
+        (Kind::Association, STREET),
+        (Kind::Relationship, OTHER),
+    ] {
+        let mut reader = reader_of(list);
+        let rows = about(alloc, links, &index, &mut reader, kind, sctid(id)?, time, 3)?;
+        found = found.saturating_add(rows.len());
     }
+    Ok(found)
+}
+
+/// How many children of the root, associations of a street, and rows about one of the streets are
+/// found by some postings of a list's rows.
+fn found_by(
+    alloc: Global,
+    postings: Postings,
+    list: &[Vec<StampedRow>],
+) -> Result<(usize, usize, usize), Fail> {
+    let index = index_of(alloc, list)?;
+    let mut links = Links::new(alloc)?;
+    links.add(postings.seal());
+    let below = children_of(alloc, &links, &index, &Asked::of(ROOT, LAST_DAY, 3)?)?;
+    let street = Asked::of(STREET, LAST_DAY, 3)?;
+    let instead = members(alloc, &links, &index, list, &street)?;
+    let subjects = count_about(alloc, &links, list)?;
+    Ok((below.len(), instead.len(), subjects))
+}
+
+/// How many are found where each row of a list is posted alone, by its number.
+fn found_alone(
+    alloc: Global,
+    list: &[Vec<StampedRow>],
+    rows: &[StampedRow],
+) -> Result<(usize, usize, usize), Fail> {
+    let mut all = (0usize, 0usize, 0usize);
+    let mut number = 0u32;
+    for stamped in rows {
+        let mut postings = Postings::new(alloc);
+        postings.push(stamped, number)?;
+        let found = found_by(alloc, postings, list)?;
+        all.0 = all.0.saturating_add(found.0);
+        all.1 = all.1.saturating_add(found.1);
+        all.2 = all.2.saturating_add(found.2);
+        number = number.saturating_add(1);
+    }
+    Ok(all)
 }
 
 #[test]
-fn posted_links_grow_and_are_cut(rt: HostRuntime) -> Result<(), Fail> {
+fn each_row_is_found_by_its_own_postings(rt: HostRuntime) -> Result<(), Fail> {
+    let alloc = rt.alloc();
+    let lists = three_lists(alloc)?;
+    let all = lists.as_slice();
+    for (list, want) in [
+        (&all[..1], (2, 0, 3)),
+        (&all[1..2], (0, 1, 2)),
+        (&all[2..], (0, 0, 1)),
+    ] {
+        assert!(rt; found_by(alloc, Postings::new(alloc), list)? == (0, 0, 0));
+        assert!(rt; found_alone(alloc, list, &list[0])? == want);
+    }
+    Ok(())
+}
+
+#[test]
+fn one_of_two_links_gives_the_child(rt: HostRuntime) -> Result<(), Fail> {
     let alloc = rt.alloc();
     let lists = three_lists(alloc)?;
     let index = index_of(alloc, &lists)?;
-    let mut of_links = post_links(alloc, &lists[0])?;
-    let mut of_references = post_links(alloc, &lists[1])?;
-    let none = count(0, 0, 0);
-    let begun = count(1, 0, 2);
-    assert_eq!(rt; Postings::new(alloc).len(), none);
-    assert_eq!(rt; of_links.len(), count(2, 0, 3));
-    assert_eq!(rt; of_references.len(), count(0, 1, 2));
-    assert_eq!(rt; post_links(alloc, &lists[2])?.len(), count(0, 0, 1));
-    of_links.cut_to(count(3, 3, 4));
-    assert_eq!(rt; of_links.len(), count(2, 0, 3));
-    of_links.cut_to(begun);
-    assert_eq!(rt; of_links.len(), begun);
-    of_references.cut_to(count(1, 0, 1));
-    assert_eq!(rt; of_references.len(), count(0, 0, 1));
-    of_references.cut_to(none);
-    assert_eq!(rt; of_references.len(), none);
+    // The row behind these is a link too.
+    let mut postings = Postings::new(alloc);
+    for (number, stamped) in (0..5u32).zip(lists[0].iter()) {
+        postings.push(stamped, number)?;
+    }
     let mut links = Links::new(alloc)?;
-    links.add(of_links.seal());
+    links.add(postings.seal());
     let found = children_of(alloc, &links, &index, &Asked::of(ROOT, LAST_DAY, 1)?)?;
     assert!(rt; found == vec![in alloc; STREET]?);
     Ok(())
