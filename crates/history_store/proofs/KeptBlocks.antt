@@ -1,14 +1,15 @@
 -- What looking up leaves of the cache, and which blocks are looked up.
 use Rattle.std.proofs.Common.{◌≡◌, ℕ, zero, suc, ◌+◌, ◌*◌, ◌<◌, ◌≤◌, ◌||◌, Bool, true, false, ◌/◌, List, [], ◌∷◌, length, get_or, inl, inr, refl, sym, ap, subst, ◌∙◌, arith}
-use Rattle.std.specs.Prelude.{Result}
+use Rattle.std.specs.Prelude.{Option, Some, Result, Ok, Err, OnOk, OnErr}
 use Rattle.std.specs.List.{list_any}
 use Rattle.std.proofs.lemmas.Bool.Decides.{nat_tests}
 use Rattle.lru.specs.LruCache.{LruCache}
-use Rattle.blocks.specs.Cache.{LooksUp, LooksUpAll, LooksUpSome, LooksUpPart, is_in, spanned}
-use Rattle.blocks.proofs.Looked.{part_looks_up, spanned_below}
+use Rattle.blocks.specs.declared.extent.Extent.{Extent}
+use Rattle.blocks.specs.Cache.{LooksUp, LooksUpAll, LooksUpSome, LooksUpPart, Forgets, is_in, spanned}
+use Rattle.blocks.proofs.Looked.{none_looks_up, part_looks_up, spanned_below}
 use Rattle.directory.specs.declared.entry.Entry.{Entry}
 use Rattle.directory.specs.Places.{extent_of}
-use Rattle.history_store.specs.Queries.{is_listed}
+use Rattle.history_store.specs.Queries.{is_listed, LooksUpAndForgets}
 
 -- there is room for as many blocks as before
 one_capacity : (block missing : ℕ) (old new : LruCache ℕ (List ℕ)) → LooksUp block missing old new → new.cap ≡ old.cap
@@ -44,3 +45,15 @@ record_looks_up result entries k d at n old new before after below fits part =
     let from = 4096 * entry.first + at in
     part_looks_up (is_listed entries) result from n old new before after
     (λ j lt. let under = spanned_below from n j lt in listed_at entries k d (from / 4096 + j) below (within_extent entry (from / 4096 + j) (omega arith) (omega (arith, under, fits)))) part
+
+-- ---- and then the blocks of an extent are forgotten
+
+-- nothing was looked up
+pub none_stepped : (test : ℕ → Bool) (extent : Option Extent) (cache : LruCache ℕ (List ℕ)) (asked : ℕ) → LooksUpAndForgets test extent cache cache asked asked
+none_stepped test extent cache asked = (cache, none_looks_up test cache asked, inl refl)
+
+-- blocks were looked up, and then the extent was written, or that failed
+pub part_stepped : {T E : Type 0} (result : Result T E) (test : ℕ → Bool) (extent : Extent) (old mid new : LruCache ℕ (List ℕ)) (before between after : ℕ) → LooksUpSome test old mid before between → after ≡ between → OnOk result (Forgets (is_in extent) mid new) → OnErr result (new ≡ mid)
+    → LooksUpAndForgets test (Some extent) old new before after
+part_stepped (Ok x) test extent old mid new before between after some same ok err = (mid, subst (λ (n : ℕ). LooksUpSome test old mid before n) (sym same) some, inr ok)
+part_stepped (Err e) test extent old mid new before between after some same ok err = (mid, subst (λ (n : ℕ). LooksUpSome test old mid before n) (sym same) some, inl err)

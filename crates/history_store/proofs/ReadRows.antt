@@ -1,10 +1,10 @@
 -- Rows that are read at places that were taken.
 use Rattle.std.specs.Prelude.{Some, slice_get, if◌then◌else◌}
 use Rattle.std.specs.List.{AllByRecursion, AllZip}
-use Rattle.std.proofs.Common.{◌≡◌, ℕ, zero, suc, ◌<◌, ◌≤◌, Bool, true, false, List, [], ◌∷◌, ◌++◌, length, length-append, map, take, get_or, refl, sym, ap, subst, ◌∙◌, arith}
+use Rattle.std.proofs.Common.{◌≡◌, ℕ, zero, suc, ◌+◌, ◌*◌, ◌<◌, ◌≤◌, Bool, true, false, List, [], ◌∷◌, ◌++◌, length, length-append, map, take, get_or, refl, sym, ap, subst, ◌∙◌, arith}
 use Rattle.std.proofs.lemmas.List.{take_all}
 use Rattle.std.proofs.lemmas.Slice.Zip.{AllZip-long}
-use Rattle.std.proofs.lemmas.List.Sums.{sum_by-cons}
+use Rattle.std.proofs.lemmas.List.Sums.{sum_by-cons, sum_by-append}
 use Rattle.std.specs.declared.cmp.Ordering.TheVariants.{Less}
 use Rattle.rf2_values.specs.declared.key.Key.{Key}
 use Rattle.rf2_values.specs.Key.{key_of, key_cmp}
@@ -18,7 +18,7 @@ use Rattle.segment.specs.Standing.{StandsAt}
 use Rattle.segment.proofs.Posting.{says}
 use Rattle.merge.specs.declared.Taken.{Taken}
 use Rattle.merge.specs.Merged.{StandsTaken}
-use Rattle.history_store.specs.Private.Stepping.{StandsIn, IsReadAt, AreAscending, bytes_at}
+use Rattle.history_store.specs.Private.Stepping.{StandsIn, IsReadAt, AreAscending, bytes_at, cost_at}
 
 pub from_one : (rows : List StampedRow) → AllByRecursion IsStamped rows → AllByRecursion (λ s. 1 ≤ s.import) rows
 from_one [] all = tt
@@ -96,3 +96,21 @@ zip_at R (a ∷ xs) (b ∷ ys) (suc i) x all lt is = let w = zip_at R xs ys i x 
 
 pub zip_end : {X Y : Type 0} (R : X → Y → Type 0) (xs : List X) (ys : List Y) (i : ℕ) → AllZip R xs ys → length xs ≤ i → take i ys ≡ ys
 zip_end R xs ys i all past = let long = AllZip-long R xs ys all in take_all i ys (omega (arith, long))
+
+-- ---- what reading costs
+
+abbrev cost_of : Taken → ℕ
+cost_of t = t.place.bytes + 8192
+
+pub cost_push : (taken : List Taken) (t : Taken) → cost_at (taken ++ t ∷ []) ≡ cost_at taken + (t.place.bytes + 8192)
+cost_push taken t = omega (arith, sum_by-append cost_of taken (t ∷ []), sum_by-cons cost_of t [])
+
+-- the first places cost no more than all
+pub cost_take : (k : ℕ) (taken : List Taken) → cost_at (take k taken) ≤ cost_at taken
+cost_take zero taken = omega arith
+cost_take (suc k) [] = omega arith
+cost_take (suc k) (t ∷ taken) = omega (arith, cost_take k taken, sum_by-cons cost_of t (take k taken), sum_by-cons cost_of t taken)
+
+pub cost_sum : (taken : List Taken) → cost_at taken ≡ bytes_at taken + 8192 * length taken
+cost_sum [] = refl
+cost_sum (t ∷ taken) = omega (arith, cost_sum taken, sum_by-cons cost_of t taken, sum_by-cons (λ (u : Taken). u.place.bytes) t taken)

@@ -82,7 +82,7 @@ module _ (d : DirectoryValue) (lists : List (List StampedRow)) (m : MergeInProgr
       let both = two_lists lists m.i m.j m.output.a m.output.b kept.apart is.below is.a_is is.b_is in
       length-union m.output.a m.output.b both.ascending.0 both.ascending.1.0 both.apart.0.0
 
-  rest_count : length rest ≡ left_count m.output
+  pub rest_count : length rest ≡ left_count m.output
   rest_count = omega (arith, all_count, length-drop m.output.taken all_rows)
 
   of_history : (s : StampedRow) → Has (take n rest) s → Has (listed lists) s

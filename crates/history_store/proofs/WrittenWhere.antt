@@ -1,11 +1,12 @@
 -- Which bytes the calls of a store write.
-use Rattle.std.proofs.Common.{◌≡◌, inl, inr, ℕ, ◌≤◌, List, [], ◌∷◌, ◌++◌, length, drop, map, refl, sym, ap, subst, ◌∙◌, arith}
+use Rattle.std.proofs.Common.{◌≡◌, ◌⊎◌, inl, inr, ℕ, ◌≤◌, List, [], ◌∷◌, ◌++◌, length, drop, map, refl, sym, ap, subst, ◌∙◌, arith}
 use Rattle.std.proofs.lemmas.List.Elements.{All-nil, All-cons, All-head, All-tail}
-use Rattle.disk_model.specs.Disk.{Moments, IsOutside}
+use Rattle.disk_model.specs.Disk.{DiskState, Moments, IsImage, IsOutside, LeavesOnly, settled}
+use Rattle.disk_model.proofs.MomentSteps.{weaker}
 use Rattle.blocks.specs.declared.slots.Slot.{Slot}
 use Rattle.blocks.specs.declared.slots.Slot.TheVariants.{A, B}
 use Rattle.blocks.specs.Extents.{byte_range}
-use Rattle.blocks.specs.Outside.{SameOutside}
+use Rattle.blocks.specs.Outside.{SameOutside, StemsWithin}
 use Rattle.blocks.specs.Slots.{slot_range, slots_range}
 use Rattle.directory.specs.declared.entry.Entry.{Entry}
 use Rattle.directory.specs.Places.{extent_of, extents_of}
@@ -29,6 +30,25 @@ in_slots slot old new same =
       no_longer = λ n long ends. same.no_longer n long (All-cons (P n) (slot_range slot) [] (slot_ends slot n (All-head (P n) slots_range [] ends)) (All-nil (P n)));
       same = λ i outside. same.same i (All-cons (IsOutside i) (slot_range slot) [] (slot_outside slot i (All-head (IsOutside i) slots_range [] outside)) (All-nil (IsOutside i)));
     }
+
+-- and what a stop leaves
+stems_in_slots : (slot : Slot) (s : DiskState) (c : List ℕ) → StemsWithin s (slot_range slot) c → StemsWithin s slots_range c
+stems_in_slots A s c (d, image, same) = (
+  d,
+  image,
+  record { no_shorter = same.no_shorter; no_longer = omega (arith, same.no_longer); below = λ i within less. absurd (omega (arith, less)); above = λ i within behind. same.above i within (omega (arith, behind)) },
+)
+stems_in_slots B s c (d, image, same) = (
+  d,
+  image,
+  record { no_shorter = same.no_shorter; no_longer = omega (arith, same.no_longer); below = λ i within less. absurd (omega (arith, less)); above = λ i within behind. same.above i within (omega (arith, behind)) },
+)
+
+pub leaves_in_slots : (slot : Slot) (old new : Moments) → LeavesOnly old new (λ c. IsImage old.state c ⊎ StemsWithin (settled old.state.now) (slot_range slot) c) → LeavesOnly old new (λ c. IsImage old.state c ⊎ StemsWithin (settled old.state.now) slots_range c)
+leaves_in_slots slot old new run =
+    weaker old new (λ c. IsImage old.state c ⊎ StemsWithin (settled old.state.now) (slot_range slot) c) (λ c. IsImage old.state c ⊎ StemsWithin (settled old.state.now) slots_range c)
+    (λ c was. elim was [ inl same ↦ inl same | inr stems ↦ inr (stems_in_slots slot (settled old.state.now) c stems) ])
+    run
 
 -- and with a segment
 pub in_slots_and : (slot : Slot) (segment : ℕ × ℕ) (old new : List ℕ) → SameOutside (segment ∷ slot_range slot ∷ []) old new → SameOutside (slots_range ∷ segment ∷ []) old new

@@ -53,8 +53,7 @@ IsNotPublished refusals.DiskFault s =
     (s.needs_reopen ≡ false) × IsFinished s.catalog × (s.catalog.epoch < last_epoch)
 IsNotPublished _ s = ⊥
 
--- What the publication of a merge answers, and the store after it. It has as many imports;
--- on an honest disk the whole history stays.
+-- what the publication of a merge answers, and the store after it, which has as many imports
 abbrev pub IsPublishingOf : {D : Type 0} → Result (Unit {0}) Refusal → StoreValue D → StoreValue D
     → Type 0
 IsPublishingOf (Ok done) old new =

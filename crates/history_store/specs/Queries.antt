@@ -1,12 +1,16 @@
 -- What a query leaves of a store.
-use Rattle.std.specs.Prelude.{◌≡◌, ◌≢◌, ◌↔◌, ℕ, Bool, true, false, List, Result, IfErr}
+use Rattle.std.specs.Prelude.{◌≡◌, ◌≢◌, ◌⊎◌, ◌↔◌, ℕ, Bool, true, false, List, Result, IfErr}
+use Rattle.std.specs.Prelude.{Option, Some, None}
 use Rattle.std.specs.List.{list_any}
 use Rattle.disk_model.specs.Disk.{Moments}
-use Rattle.blocks.specs.Cache.{LooksUpSome, is_in}
+use Rattle.lru.specs.LruCache.{LruCache}
+use Rattle.blocks.specs.declared.extent.Extent.{Extent}
+use Rattle.blocks.specs.Cache.{LooksUpSome, Forgets, is_in}
 use Rattle.directory.specs.declared.entry.Entry.{Entry}
 use Rattle.directory.specs.Places.{extent_of}
 use Rattle.history_store.specs.declared.refusal.Refusal.{Refusal}
 use Rattle.history_store.specs.declared.refusal.Refusal.TheVariants as refusals
+use Rattle.history_store.specs.Catalog.{reserved_by}
 use Rattle.history_store.specs.StoreValue.{StoreValue, IsAcknowledged}
 use Rattle.history_store.specs.Answers.{Counts, IsReadingOf}
 
@@ -18,6 +22,25 @@ is_listed entries block = list_any (λ entry. is_in (extent_of entry) block) ent
 -- device was asked for 4,096 bytes at most for each of them that wasn't kept at that time.
 abbrev pub ReadsThroughCache : {D : Type 0} → (D → ℕ) → StoreValue D → StoreValue D → Type 0
 ReadsThroughCache bytes_read_of old new = LooksUpSome (is_listed old.catalog.entries)
+    old.cache new.cache (bytes_read_of old.disk) (bytes_read_of new.disk)
+
+-- the blocks of an extent aren't kept any longer; without an extent none is forgotten
+abbrev pub ForgetsIn : Option Extent → LruCache ℕ (List ℕ) → LruCache ℕ (List ℕ) → Type 0
+ForgetsIn None old new = new ≡ old
+ForgetsIn (Some extent) old new = Forgets (is_in extent) old new
+
+-- Blocks that pass the test were looked up, and the disk was asked for no more than these take.
+-- Then the blocks of an extent were forgotten, or none.
+abbrev pub LooksUpAndForgets : (test : ℕ → Bool) (extent : Option Extent)
+    (old new : LruCache ℕ (List ℕ)) (before after : ℕ) → Type 0
+LooksUpAndForgets test extent old new before after = (mid : LruCache ℕ (List ℕ))
+    × LooksUpSome test old mid before after × ((new ≡ mid) ⊎ ForgetsIn extent mid new)
+
+-- blocks of listed segments were looked up, and then
+-- those that the merge has reserved were forgotten, or none
+abbrev pub StepsThroughCache : {D : Type 0} → (D → ℕ) → StoreValue D → StoreValue D → Type 0
+StepsThroughCache bytes_read_of old new =
+    LooksUpAndForgets (is_listed old.catalog.entries) (reserved_by old.catalog.merge)
     old.cache new.cache (bytes_read_of old.disk) (bytes_read_of new.disk)
 
 -- Whatever is answered, history and catalog stay, and a failed device alone closes the store. A

@@ -191,7 +191,7 @@ module _ {D : Type 0} (honest : Type 0) (up : honest) (releases : Releases) (ses
   ok_told Merge x f h = absurd f
   ok_told (AskReceipt number) x f h = absurd f
   ok_told (Step rows) x f h = told_as (Step rows) x _ h.3 (told_fares (Step rows) _ _ _ refl refl refl h.2 (step_fares old.store new.store rows h.0 h.1))
-  ok_told Publish x f h = told_as Publish x _ h.3 (told_fares Publish _ _ _ refl refl refl h.2 (publish_fares old.store new.store h.0 (h.1 up)))
+  ok_told Publish x f h = told_as Publish x _ h.3 (told_fares Publish _ _ _ refl refl refl h.2 (publish_fares old.store new.store h.0 h.1))
   ok_told Abandon x f h = told_as Abandon x _ h.2 (told_fares Abandon _ _ _ refl refl refl h.1 (abandon_fares old.store new.store h.0))
   ok_told Trim x f h = told_as Trim x _ h.3 (told_fares Trim _ _ _ refl refl refl h.2 (trim_fares old.store new.store h.0 h.1))
   ok_told (Pin None) x f h = record { is = ap Ok h.1; pins = ap (λ d. d.pins) h.0; history = ap (λ d. d.store.history) h.0; catalog = ap (λ d. d.store.catalog) h.0; needs_reopen = ap (λ d. d.store.needs_reopen) h.0 }

@@ -142,7 +142,7 @@ IsAnswer honest releases session (Step rows) answer old new =
     (left : ℕ) × IsSteppingOf (Ok left) old.store new.store rows × (new.pins ≡ old.pins)
     × (answer ≡ Done (decimal left ∷ []))
 IsAnswer honest releases session Publish answer old new =
-    IsPublishingOf (Ok tt) old.store new.store × (honest → new.store.history ≡ old.store.history)
+    IsPublishingOf (Ok tt) old.store new.store × (new.store.history ≡ old.store.history)
     × (new.pins ≡ old.pins) × (answer ≡ Done [])
 IsAnswer honest releases session Abandon answer old new =
     IsAbandoningOf (Ok tt) old.store new.store × (new.pins ≡ old.pins) × (answer ≡ Done [])

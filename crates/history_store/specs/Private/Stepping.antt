@@ -1,5 +1,5 @@
 -- What the parts of a step of a merge give. Only private functions cite these words.
-use Rattle.std.specs.Prelude.{◌≡◌, ◌⊎◌, ℕ, ◌≤◌, Bool, true, false, List, map}
+use Rattle.std.specs.Prelude.{◌≡◌, ◌⊎◌, ℕ, ◌+◌, ◌≤◌, Bool, true, false, List, map}
 use Rattle.std.specs.Prelude.{Some, Result, Ok, Err, MatchResult, if◌then◌else◌}
 use Rattle.std.specs.List.{AllZip, sum_by}
 use Rattle.disk_model.specs.Disk.{DiskState, Moments, followed_by, after_write, Fails}
@@ -42,6 +42,11 @@ AreAscending taken = IsAscending place_cmp (map (λ t. t.place) taken)
 -- how many bytes the records at the places have
 abbrev pub bytes_at : List Taken → ℕ
 bytes_at taken = sum_by (λ t. t.place.bytes) taken
+
+-- the most bytes that are read for the rows at the places: those
+-- of their records, and what else stands in two blocks of each
+abbrev pub cost_at : List Taken → ℕ
+cost_at taken = sum_by (λ t. t.place.bytes + 8192) taken
 
 -- what is said of a reading of rows on an honest disk: each stands at its place
 abbrev pub AreRead : List Entry → ℕ → ℕ → List ℕ → List Taken → List StampedRow → Type 0

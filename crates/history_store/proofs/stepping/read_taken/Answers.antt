@@ -1,5 +1,5 @@
 use Rattle.std.specs.List.{AllZip}
-use Rattle.std.proofs.Common.{◌+◌, ◌++◌, [], ◌∷◌, List, take, sym, ap, subst, ◌∙◌, add-one, rules}
+use Rattle.std.proofs.Common.{◌+◌, ◌++◌, [], ◌∷◌, List, take, sym, ap, subst, ◌∙◌, add-one, rules, arith}
 use Rattle.std.proofs.lemmas.List.{take_more, take_all}
 use Rattle.history_model.specs.declared.stamped.StampedRow.{StampedRow}
 use Rattle.segment.specs.Standing.{StandsAt}
@@ -10,8 +10,8 @@ use Rattle.blocks.proofs.Looked.{some_more}
 use Rattle.disk_model.specs.Disk.{Moments}
 use Rattle.history_store.specs.Queries.{is_listed}
 use Rattle.history_store.specs.Private.Reading.{AreThere}
-use Rattle.history_store.specs.Private.Stepping.{StandsIn, IsReadAt}
-use Rattle.history_store.proofs.ReadRows.{zip_at, zip_end}
+use Rattle.history_store.specs.Private.Stepping.{StandsIn, IsReadAt, cost_at}
+use Rattle.history_store.proofs.ReadRows.{zip_at, zip_end, cost_push, cost_take}
 use Rattle.history_store.proofs.stepping.read_taken.Goals as goal
 
 pub loop-t-preserved : goal.loop-t-preserved
@@ -42,6 +42,9 @@ loop-t-preserved g c =
       honesty = (λ up. read.honesty.0 (so_far.honesty.0 up), λ down. so_far.honesty.1 (read.honesty.1 down));
       failures = read.failures ∙ so_far.failures;
       looked_up = some_more (is_listed a.entries.now) a.cache.now l.cache c.read_row.new.cache (g.D.Disk.bytes_read a.disk.now) (g.D.Disk.bytes_read l.disk) (g.D.Disk.bytes_read c.read_row.new.disk) so_far.looked_up read.looked_up;
+      bytes_read =
+          let more = take_more a.taken.now l.t-index t c.loop-t-test.true ∙ ap (λ (x : Taken). take l.t-index a.taken.now ++ x ∷ []) (sym c.t-item.is) in
+          omega (arith, so_far.bytes_read, read.bytes_read, ap cost_at more ∙ cost_push (take l.t-index a.taken.now) t);
     }
 
 pub returns-in_err-row-clause-found : goal.returns-in_err-row-clause-found
@@ -80,3 +83,22 @@ returns-in_err-row-clause-looked_up g c = some_more (is_listed c.args.entries.no
 
 pub returns-in_err-push-clause-looked_up : goal.returns-in_err-push-clause-looked_up
 returns-in_err-push-clause-looked_up g c = some_more (is_listed c.args.entries.now) c.args.cache.now c.loop-t.cache c.read_row.new.cache (g.D.Disk.bytes_read c.args.disk.now) (g.D.Disk.bytes_read c.loop-t.disk) (g.D.Disk.bytes_read c.read_row.new.disk) c.loop-t.invariant.looked_up c.in_ok-row.ensures.looked_up
+
+pub returns-in_err-row-clause-bytes_read : goal.returns-in_err-row-clause-bytes_read
+returns-in_err-row-clause-bytes_read g c =
+    let l = c.loop-t in
+    let taken = c.args.taken.now in
+    let t = c.t-item.result in
+    let more = take_more taken l.t-index t c.loop-t-test.true ∙ ap (λ (x : Taken). take l.t-index taken ++ x ∷ []) (sym c.t-item.is) in
+    omega (arith, l.invariant.bytes_read, c.in_err-row.ensures.bytes_read, ap cost_at more ∙ cost_push (take l.t-index taken) t, cost_take (l.t-index + 1) taken)
+
+pub returns-in_err-push-clause-bytes_read : goal.returns-in_err-push-clause-bytes_read
+returns-in_err-push-clause-bytes_read g c =
+    let l = c.loop-t in
+    let taken = c.args.taken.now in
+    let t = c.t-item.result in
+    let more = take_more taken l.t-index t c.loop-t-test.true ∙ ap (λ (x : Taken). take l.t-index taken ++ x ∷ []) (sym c.t-item.is) in
+    omega (arith, l.invariant.bytes_read, c.in_ok-row.ensures.bytes_read, ap cost_at more ∙ cost_push (take l.t-index taken) t, cost_take (l.t-index + 1) taken)
+
+pub returns-clause-bytes_read : goal.returns-clause-bytes_read
+returns-clause-bytes_read g c = omega (arith, c.loop-t.invariant.bytes_read, cost_take c.loop-t.t-index c.args.taken.now)

@@ -1,10 +1,10 @@
 use Rattle.std.specs.List.{AllZip}
-use Rattle.std.proofs.Common.{◌≡◌, ◌↔◌, List, take}
+use Rattle.std.proofs.Common.{◌≡◌, ◌+◌, ◌≤◌, ◌↔◌, List, take}
 use Rattle.history_model.specs.declared.stamped.StampedRow.{StampedRow}
 use Rattle.blocks.specs.Cache.{AgreesWith, LooksUpSome}
 use Rattle.history_store.specs.Queries.{is_listed}
 use Rattle.history_store.specs.Private.Reading.{AreThere}
-use Rattle.history_store.specs.Private.Stepping.{StandsIn, IsReadAt}
+use Rattle.history_store.specs.Private.Stepping.{StandsIn, IsReadAt, cost_at}
 use Rattle.history_store.proofs.stepping.read_taken.Given as goal
 
 abbrev pub invariant-loop-t : goal.invariant-loop-t
@@ -19,4 +19,5 @@ invariant-loop-t g l =
       honesty : disk.is_honest l.fn.disk ↔ disk.is_honest l.disk;
       failures : disk.failures l.disk ≡ disk.failures l.fn.disk;
       looked_up : LooksUpSome (is_listed l.entries) l.fn.cache l.cache (disk.bytes_read l.fn.disk) (disk.bytes_read l.disk);
+      bytes_read : disk.bytes_read l.disk ≤ disk.bytes_read l.fn.disk + cost_at (take l.t-index l.taken);
     }

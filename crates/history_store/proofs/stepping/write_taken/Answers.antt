@@ -1,12 +1,13 @@
-use Rattle.std.proofs.Common.{[], ◌∷◌, ◌∙◌, sym, subst}
+use Rattle.std.specs.Prelude.{OnOk}
+use Rattle.std.proofs.Common.{[], ◌∷◌, inl, ◌∙◌, refl, sym, subst, arith}
 use Rattle.std.proofs.lemmas.Result.{err_from_is_err_and}
 use Rattle.disk_model.specs.Disk.{Moments, LeavesOnly}
 use Rattle.blocks.specs.declared.extent.Extent.{Extent}
-use Rattle.blocks.specs.Cache.{AgreesWith}
+use Rattle.blocks.specs.Cache.{AgreesWith, Forgets, is_in}
 use Rattle.store_image.specs.Kept.{history_of}
 use Rattle.store_image.specs.Images.{RepresentsAs}
 use Rattle.store_image.specs.Ahead.{IsAhead}
-use Rattle.history_store.proofs.KeptBlocks.{capacity_stays}
+use Rattle.history_store.proofs.KeptBlocks.{capacity_stays, part_stepped}
 use Rattle.history_store.proofs.SteppedMerge.{not_called, on_still, agrees_still, unless_given, unless_written}
 use Rattle.history_store.proofs.stepping.write_taken.Goals as goal
 
@@ -49,3 +50,16 @@ returns-clause-agrees g c up agrees =
 
 pub returns-clause-capacity : goal.returns-clause-capacity
 returns-clause-capacity g c = c.write_part.ensures.capacity ∙ capacity_stays _ _ _ _ _ c.in_ok-bytes.ensures.looked_up
+
+pub returns-in_err-bytes-clause-looked_up : goal.returns-in_err-bytes-clause-looked_up
+returns-in_err-bytes-clause-looked_up g c = (c.read_part.new.cache, c.in_err-bytes.ensures.looked_up, inl refl)
+
+pub returns-clause-looked_up : goal.returns-clause-looked_up
+returns-clause-looked_up g c =
+    let mid = c.read_part.new.cache in
+    let new = c.write_part.new.cache in
+    part_stepped c.write_part.result _ _ _ mid new _ _ _ c.in_ok-bytes.ensures.looked_up c.write_part.ensures.bytes_read
+    (subst (λ (e : Extent). OnOk c.write_part.result (Forgets (is_in e) mid new)) c.extent.ensures c.write_part.ensures.forgets) c.write_part.ensures.keeps
+
+pub returns-clause-bytes_read : goal.returns-clause-bytes_read
+returns-clause-bytes_read g c = omega (arith, c.in_ok-bytes.ensures.bytes_read, c.write_part.ensures.bytes_read)

@@ -1,6 +1,6 @@
 use Rattle.std.specs.Prelude.{Option, Some, Ok, Err}
 use Rattle.std.specs.Option.{option_to_list}
-use Rattle.std.proofs.Common.{◌≡◌, ◌≢◌, map, refl, sym, ap, subst, ◌∙◌}
+use Rattle.std.proofs.Common.{◌≡◌, ◌≢◌, ◌+◌, ◌≤◌, map, refl, sym, ap, subst, ◌∙◌, arith}
 use Rattle.disk_model.proofs.MomentSteps.{stayed}
 use Rattle.history_store.specs.declared.refusal.Refusal.TheVariants as refusals
 use Rattle.blocks.specs.Extents.{byte_range}
@@ -10,6 +10,9 @@ use Rattle.store_image.specs.Kept.{history_of}
 use Rattle.history_store.specs.StoreValue.{IsHeld}
 use Rattle.history_store.specs.Catalog.{reserved_by}
 use Rattle.history_store.specs.MergeInProgress.{merge_of}
+use Rattle.history_store.specs.Merging.{step_cost}
+use Rattle.history_store.specs.Queries.{is_listed, LooksUpAndForgets}
+use Rattle.history_store.proofs.KeptBlocks.{none_stepped}
 use Rattle.history_store.proofs.Held.{held_stands}
 use Rattle.history_store.proofs.SteppedStore.{held_lent, held_back, merge_back, same_lists, no_fault, is_stepped, stepping_refused}
 use Rattle.history_store.proofs.StepWrites.{some_rows, none_unfinished, wrote_shown, wrote_ok, wrote_err}
@@ -115,3 +118,50 @@ returns-else-matches-clause-wrote g c =
     rw (← c.self.view_is) (λ honest still some going.
     wrote_shown (Err c.in-Err.refusal) c.args.n s.directory s.index s.merge m (g.D.Disk.moments s.disk) (g.D.Disk.moments c.step-stepped.new.disk) value
     (wrote_err c.in-Err.refusal c.args.n _ _ _ _ (c.in-Err.ensures.wrote honest some (some_rows s.directory s.merge m value going))))
+
+-- ---- what is looked up
+
+pub returns-then-self-clause-looked_up : goal.returns-then-self-clause-looked_up
+returns-then-self-clause-looked_up g c = rw (← c.self.view_is) (none_stepped _ (reserved_by (merge_of c.self.inside.merge)) _ _)
+
+pub returns-in_default-clause-looked_up : goal.returns-in_default-clause-looked_up
+returns-in_default-clause-looked_up g c = rw (← c.self.view_is) (none_stepped _ (reserved_by (merge_of c.self.inside.merge)) _ _)
+
+pub returns-in-Ok-clause-looked_up : goal.returns-in-Ok-clause-looked_up
+returns-in-Ok-clause-looked_up g c =
+    let s = c.self.inside in
+    let new = c.step-stepped.new in
+    rw (← c.self.view_is) (subst (λ (o : Option MergeInProgress). LooksUpAndForgets (is_listed s.directory.entries) (reserved_by (merge_of o)) s.cache new.cache (g.D.Disk.bytes_read s.disk) (g.D.Disk.bytes_read new.disk))
+    c.in-Some.ensures.value c.step-stepped.ensures.looked_up)
+
+pub returns-then-matches-clause-looked_up : goal.returns-then-matches-clause-looked_up
+returns-then-matches-clause-looked_up g c =
+    let s = c.self.inside in
+    let new = c.step-stepped.new in
+    rw (← c.self.view_is) (subst (λ (o : Option MergeInProgress). LooksUpAndForgets (is_listed s.directory.entries) (reserved_by (merge_of o)) s.cache new.cache (g.D.Disk.bytes_read s.disk) (g.D.Disk.bytes_read new.disk))
+    c.in-Some.ensures.value c.step-stepped.ensures.looked_up)
+
+pub returns-else-matches-clause-looked_up : goal.returns-else-matches-clause-looked_up
+returns-else-matches-clause-looked_up g c =
+    let s = c.self.inside in
+    let new = c.step-stepped.new in
+    rw (← c.self.view_is) (subst (λ (o : Option MergeInProgress). LooksUpAndForgets (is_listed s.directory.entries) (reserved_by (merge_of o)) s.cache new.cache (g.D.Disk.bytes_read s.disk) (g.D.Disk.bytes_read new.disk))
+    c.in-Some.ensures.value c.step-stepped.ensures.looked_up)
+
+pub returns-in-Ok-clause-bytes_read : goal.returns-in-Ok-clause-bytes_read
+returns-in-Ok-clause-bytes_read g c =
+    let s = c.self.inside in
+    let new = c.step-stepped.new in
+    rw (← c.self.view_is) (subst (λ (o : Option MergeInProgress). g.D.Disk.bytes_read new.disk ≤ g.D.Disk.bytes_read s.disk + step_cost c.args.n (merge_of o)) c.in-Some.ensures.value c.step-stepped.ensures.bytes_read)
+
+pub returns-then-matches-clause-bytes_read : goal.returns-then-matches-clause-bytes_read
+returns-then-matches-clause-bytes_read g c =
+    let s = c.self.inside in
+    let new = c.step-stepped.new in
+    rw (← c.self.view_is) (subst (λ (o : Option MergeInProgress). g.D.Disk.bytes_read new.disk ≤ g.D.Disk.bytes_read s.disk + step_cost c.args.n (merge_of o)) c.in-Some.ensures.value c.step-stepped.ensures.bytes_read)
+
+pub returns-else-matches-clause-bytes_read : goal.returns-else-matches-clause-bytes_read
+returns-else-matches-clause-bytes_read g c =
+    let s = c.self.inside in
+    let new = c.step-stepped.new in
+    rw (← c.self.view_is) (subst (λ (o : Option MergeInProgress). g.D.Disk.bytes_read new.disk ≤ g.D.Disk.bytes_read s.disk + step_cost c.args.n (merge_of o)) c.in-Some.ensures.value c.step-stepped.ensures.bytes_read)

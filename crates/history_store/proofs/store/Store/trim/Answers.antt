@@ -1,4 +1,6 @@
-use Rattle.std.proofs.Common.{arith}
+use Rattle.std.specs.Prelude.{nat_le}
+use Rattle.std.proofs.Common.{arith, subst}
+use Rattle.blocks.specs.Cache.{Forgets}
 use Rattle.directory.specs.Places.{taken}
 use Rattle.history_store.proofs.Held.{held_stands}
 use Rattle.history_store.proofs.EndOf.{at_least_four}
@@ -42,3 +44,8 @@ returns-in-Ok-clause-acknowledged g c =
     let held = trimmed_held _ (g.D.Disk.is_honest c.trim.new.disk) _ (g.D.Disk.moments c.trim.new.disk).state c.self.inside.cache c.forget_from.new.self c.self.inside.slot c.self.inside.directory c.self.inside.index c.self.inside.needs_reopen c.end_of-end.result c.self.invariant.0 c.trim.ensures.honesty.1
     (λ honest on. c.trim.ensures.on_disk honest c.self.inside.slot c.self.inside.directory c.self.inside.index on below) c.in-Ok.ensures.now c.forget_from.ensures in
     rw (← c.self.view_is) (λ honest still. record { open_still = still; each = held_stands _ _ _ _ _ _ _ held (c.trim.ensures.honesty.0 honest) still })
+
+pub returns-in-Ok-clause-forgets : goal.returns-in-Ok-clause-forgets
+returns-in-Ok-clause-forgets g c =
+    let end = end_is c.self.inside.directory c.self.inside.merge c.entries.result.now c.reserved.result c.end_of-end.result c.entries.ensures.entries c.reserved.ensures c.end_of-end.ensures.end in
+    rw (← c.self.view_is) (subst (λ n. Forgets (nat_le n) c.self.inside.cache c.forget_from.new.self) end c.forget_from.ensures)
