@@ -155,7 +155,7 @@ CALLS = [
     Call("term_prefix", "find", "search.rt", "pub fn find<", READ,
          "test_index", "streets_by_the_beginning_of_their_names"),
     Call("links", "Postings::push", "postings.rt", "pub fn push(", ALLOC,
-         "test_index", "posted_links_grow_and_are_cut"),
+         "test_index", "each_row_is_found_by_its_own_postings"),
     Call("links", "Merging::advance", "merging.rt", "pub fn advance(", ALLOC,
          "test_index", "merged_subjects_are_those_of_all_rows"),
     Call("links", "children", "hierarchy.rt", "pub fn children(", ALLOC,
