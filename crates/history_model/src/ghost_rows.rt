@@ -1,6 +1,7 @@
 //! Rows that only clauses see.
 
-ghost use Rattle.std.specs.Prelude.{◌≡◌, ◌++◌, ◌+◌, ◌^◌, ◌<◌, ◌∷◌, [], length, take, OnOk, OnErr};
+ghost use Rattle.std.specs.Prelude.{◌≡◌, ◌++◌, ◌+◌, ◌^◌, ◌<◌, ◌≤◌, ◌∷◌, [], length, take};
+ghost use Rattle.std.specs.Prelude.{OnOk, OnErr};
 
 use crate::shown::ShownRows;
 use crate::stamped::StampedRow;
@@ -65,6 +66,8 @@ impl GhostRows {
     pub fn push(&mut self, row: &StampedRow) -> Result<(), AllocError>
         ensures ok { OnOk result (self.new ≡ self.old ++ row.now ∷ []) }
         ensures err { OnErr result (self.new ≡ self.old) }
+        // It is refused only where their count has no room for one more.
+        ensures full { OnErr result (2 ^ 64 ≤ length self.old + 1) }
     {
         let Some(count) = self.count.checked_add(1) else {
             return Err(AllocError);

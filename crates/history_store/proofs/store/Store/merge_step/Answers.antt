@@ -1,6 +1,6 @@
 use Rattle.std.specs.Prelude.{Option, Some, Ok, Err}
 use Rattle.std.specs.Option.{option_to_list}
-use Rattle.std.proofs.Common.{◌≡◌, ◌≢◌, ◌+◌, ◌≤◌, map, refl, sym, ap, subst, ◌∙◌, arith}
+use Rattle.std.proofs.Common.{◌≡◌, ◌≢◌, ◌+◌, ◌≤◌, map, refl, sym, ap, subst, ◌∙◌}
 use Rattle.disk_model.proofs.MomentSteps.{stayed}
 use Rattle.history_store.specs.declared.refusal.Refusal.TheVariants as refusals
 use Rattle.blocks.specs.Extents.{byte_range}
