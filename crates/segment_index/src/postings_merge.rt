@@ -15,8 +15,8 @@ use links::Links;
 use std::alloc::{AllocError, Global};
 use term_prefix::Terms;
 
-/// For each row of a step so many numbers of rows are found. Only once the first steps have found all
-/// are postings merged: until then the number of a posting's row would have to be searched for.
+/// For each row of a step so many numbers of rows are found. Only once the first steps have found
+/// all are postings merged: until then the number of a posting's row would have to be searched for.
 const NUMBERS_AHEAD: usize = 8;
 
 /// How far what is posted of two segments is merged.
@@ -88,8 +88,8 @@ impl PostingsMerge {
         }
     }
 
-    /// Goes on by the numbers of rows that a step of so many rows finds, and by up to `n` postings of
-    /// each kind. After an `Err` it may be called again.
+    /// Goes on by the numbers of rows that a step of so many rows finds, and by up to `n` postings
+    /// of each kind. After an `Err` it may be called again.
     pub(crate) fn advance(
         &mut self,
         places: &Index,
