@@ -2,8 +2,10 @@
 
 ghost use Rattle.std.specs.Prelude.{◌<◌, ◌≤◌};
 
-use crate::lists::{Indexed, index_all, index_of, links_of, post_links, reader_of};
-use crate::releases::{lists_of, rows_after, three_lists};
+use crate::lists::{
+    Indexed, index_all, index_imports, index_of, index_release, links_of, post_links, reader_of,
+};
+use crate::releases::{rows_after, three_lists};
 use crate::rows::{
     FINDING_SITE, IS_A, LAST_DAY, MEMBER, OTHER, REPLACED_BY, ROOT, SAME_AS, STREET, THIRD,
     association, concept_id, day, is_same, relationship, relationship_id, sctid,
@@ -17,7 +19,7 @@ use std::process::Abort;
 use std::test::Fail;
 
 /// Of which concept or component something is asked, at a date and a pin.
-#[derive(Drop)]
+#[derive(Clone, Copy)]
 pub(crate) struct Asked {
     pub(crate) id: Sctid,
     pub(crate) time: EffectiveTime,
@@ -55,6 +57,25 @@ pub(crate) fn replacements_of<R: RowReader>(
     replacements(alloc, links, index, reader, asked.id, asked.time, asked.pin)
 }
 
+/// This concept and no other is a child of a concept, or none is.
+fn check_child(
+    rt: &impl Abort,
+    alloc: Global,
+    links: &Links,
+    index: &Index,
+    (concept, date, pin): (u64, u32, u32),
+    want: Option<u64>,
+) -> Result<(), Fail> {
+    let found = children_of(alloc, links, index, &Asked::of(concept, date, pin)?)?;
+    assert_eq!(rt;
+        found.first().copied(),
+        want,
+        "of {concept} at {date}, pin {pin}"
+    );
+    assert!(rt; found.len() <= 1);
+    Ok(())
+}
+
 #[test]
 fn a_street_is_a_child_while_a_relationship_says_so(rt: HostRuntime) -> Result<(), Fail> {
     let alloc = rt.alloc();
@@ -76,13 +97,7 @@ fn a_street_is_a_child_while_a_relationship_says_so(rt: HostRuntime) -> Result<(
         (&posted, 2, LAST_DAY, ROOT, Some(STREET)),
         (&first, 3, LAST_DAY, ROOT, None),
     ] {
-        let found = children_of(alloc, links, &index, &Asked::of(concept, date, pin)?)?;
-        assert_eq!(rt;
-            found.first().copied(),
-            want,
-            "of {concept} at {date}, pin {pin}"
-        );
-        assert!(rt; found.len() <= 1);
+        check_child(&rt, alloc, links, &index, (concept, date, pin), want)?;
     }
     Ok(())
 }
@@ -114,22 +129,16 @@ fn a_street_is_replaced_once_an_association_says_so(rt: HostRuntime) -> Result<(
         (&posted, OTHER, LAST_DAY, 3, None),
         (&none, STREET, 20_210_131, 2, None),
     ] {
-        let found = members(
-            alloc,
-            links,
-            &index,
-            &lists,
-            &Asked::of(component, date, pin)?,
-        )?;
+        let asked = Asked::of(component, date, pin)?;
+        let found = members(alloc, links, &index, &lists, &asked)?;
         assert_eq!(rt; found.first().copied(), want);
         assert!(rt; found.len() <= 1);
     }
     Ok(())
 }
 
-#[test]
-fn replacements_stand_by_refset_then_target_then_member(rt: HostRuntime) -> Result<(), Fail> {
-    let alloc = rt.alloc();
+/// Associations of the street, one that is inactive, and one of another concept.
+fn street_associations(alloc: Global) -> Result<Vec<Row>, Fail> {
     let mut release = Vec::new(alloc);
     for (member, refset, target) in [
         (1, SAME_AS, OTHER),
@@ -143,17 +152,15 @@ fn replacements_stand_by_refset_then_target_then_member(rt: HostRuntime) -> Resu
     }
     release.push(association(3, 20_210_131, false, SAME_AS, (STREET, OTHER))?)?;
     release.push(association(4, 20_210_131, true, SAME_AS, (OTHER, STREET))?)?;
-    let releases = vec![in alloc; release]?;
-    let lists = vec![in alloc; rows_after(alloc, &releases)?]?;
-    let index = index_of(alloc, &lists)?;
-    let links = links_of(alloc, &lists)?;
-    let found = members(
-        alloc,
-        &links,
-        &index,
-        &lists,
-        &Asked::of(STREET, LAST_DAY, 1)?,
-    )?;
+    Ok(release)
+}
+
+#[test]
+fn replacements_stand_by_refset_then_target_then_member(rt: HostRuntime) -> Result<(), Fail> {
+    let alloc = rt.alloc();
+    let made = index_release(alloc, street_associations(alloc)?)?;
+    let asked = Asked::of(STREET, LAST_DAY, 1)?;
+    let found = members(alloc, &made.links, &made.index, &made.lists, &asked)?;
     assert!(rt; found == vec![in alloc; 6, 2, 5, 9, 1, 7]?);
     Ok(())
 }
@@ -265,21 +272,29 @@ pub(crate) fn compare(
     Ok((below, instead))
 }
 
+/// The same, of the rows in a list for each of these ranges of imports.
+fn compare_in(
+    rt: &impl Abort,
+    alloc: Global,
+    rows: &[StampedRow],
+    ranges: &[(u32, u32)],
+) -> Result<(usize, usize), Fail> {
+    compare(rt, alloc, rows, &index_imports(alloc, rows, ranges)?)
+}
+
 #[test]
 fn made_links_in_several_lists(rt: HostRuntime) -> Result<(), Fail> {
     let alloc = rt.alloc();
     let rows = made_rows(alloc)?;
-    let one = index_all(alloc, lists_of(alloc, &rows, &[(1, 6)])?)?;
-    let some = lists_of(alloc, &rows, &[(1, 2), (7, 9), (3, 3), (4, 6)])?;
-    let some = index_all(alloc, some)?;
-    let answered = compare(&rt, alloc, &rows, &one)?;
+    let answered = compare_in(&rt, alloc, &rows, &[(1, 6)])?;
     assert!(rt;
         answered.0 > 100 && answered.1 > 100,
         "{} and {}",
         answered.0,
         answered.1
     );
-    assert!(rt; compare(&rt, alloc, &rows, &some)? == answered);
+    let some = compare_in(&rt, alloc, &rows, &[(1, 2), (7, 9), (3, 3), (4, 6)])?;
+    assert!(rt; some == answered);
     Ok(())
 }
 
@@ -299,17 +314,30 @@ fn family(alloc: Global, first: u32) -> Result<Vec<StampedRow>, Fail>
     Ok(rows)
 }
 
+/// Two relationships to the root from each of many concepts, in two lists.
+fn index_families(alloc: Global) -> Result<Indexed, Fail> {
+    let mut lists = Vec::new(alloc);
+    lists.push(family(alloc, 100)?)?;
+    lists.push(family(alloc, 4_000)?)?;
+    index_all(alloc, lists)
+}
+
+/// The concepts that a family's relationships lead from, the least first.
+fn family_ids(alloc: Global) -> Result<Vec<u64>, Fail> {
+    let mut ids = Vec::new(alloc);
+    for number in 1..=CHILDREN {
+        ids.push(concept_id(100 + number)?)?;
+    }
+    Ok(ids)
+}
+
 #[test]
 fn thousands_of_children_each_of_two_relationships(rt: HostRuntime) -> Result<(), Fail> {
     let alloc = rt.alloc();
-    let lists = vec![in alloc; family(alloc, 100)?, family(alloc, 4_000)?]?;
-    let index = index_of(alloc, &lists)?;
-    let links = links_of(alloc, &lists)?;
-    let mut wanted = Vec::new(alloc);
-    for number in 1..=CHILDREN {
-        wanted.push(concept_id(100 + number)?)?;
-    }
-    let found = children_of(alloc, &links, &index, &Asked::of(ROOT, LAST_DAY, 1)?)?;
+    let made = index_families(alloc)?;
+    let asked = Asked::of(ROOT, LAST_DAY, 1)?;
+    let found = children_of(alloc, &made.links, &made.index, &asked)?;
+    let wanted = family_ids(alloc)?;
     assert!(rt; found == wanted);
     Ok(())
 }
@@ -328,6 +356,25 @@ pub(crate) fn post_twice(alloc: Global, rows: &[StampedRow]) -> Result<Links, Fa
     Ok(links)
 }
 
+/// Two lists of links give a concept the same children and members.
+fn compare_links(
+    rt: &impl Abort,
+    alloc: Global,
+    index: &Index,
+    lists: &[Vec<StampedRow>],
+    [once, twice]: [&Links; 2],
+    concept: u64,
+) -> Result<(), Fail> {
+    let asked = Asked::of(concept, LAST_DAY, 6)?;
+    let wanted = children_of(alloc, once, index, &asked)?;
+    let found = children_of(alloc, twice, index, &asked)?;
+    assert!(rt; found == wanted);
+    let wanted = members(alloc, once, index, lists, &asked)?;
+    let found = members(alloc, twice, index, lists, &asked)?;
+    assert!(rt; found == wanted);
+    Ok(())
+}
+
 #[test]
 fn what_is_posted_twice_counts_once(rt: HostRuntime) -> Result<(), Fail> {
     let alloc = rt.alloc();
@@ -337,18 +384,13 @@ fn what_is_posted_twice_counts_once(rt: HostRuntime) -> Result<(), Fail> {
     let index = index_of(alloc, &lists)?;
     let once = links_of(alloc, &lists)?;
     for concept in CONCEPTS {
-        let asked = Asked::of(concept, LAST_DAY, 6)?;
-        let wanted = children_of(alloc, &once, &index, &asked)?;
-        assert!(rt; children_of(alloc, &twice, &index, &asked)? == wanted);
-        let wanted = members(alloc, &once, &index, &lists, &asked)?;
-        assert!(rt; members(alloc, &twice, &index, &lists, &asked)? == wanted);
+        compare_links(&rt, alloc, &index, &lists, [&once, &twice], concept)?;
     }
     Ok(())
 }
 
-#[test]
-fn links_of_as_many_lists_as_may_be(rt: HostRuntime) -> Result<(), Fail> {
-    let alloc = rt.alloc();
+/// As many lists as may be, each of one relationship to the root.
+fn many_lists(alloc: Global) -> Result<Vec<Vec<StampedRow>>, Fail> {
     let mut lists = Vec::new(alloc);
     for number in 0..250u32 {
         let source = pick_concept(number % 3);
@@ -356,6 +398,13 @@ fn links_of_as_many_lists_as_may_be(rt: HostRuntime) -> Result<(), Fail> {
         let row = relationship(id, 20_200_131, true, (source, ROOT), IS_A)?;
         lists.push(vec![in alloc; StampedRow { row, import: 1 }]?)?;
     }
+    Ok(lists)
+}
+
+#[test]
+fn links_of_as_many_lists_as_may_be(rt: HostRuntime) -> Result<(), Fail> {
+    let alloc = rt.alloc();
+    let lists = many_lists(alloc)?;
     let mut links = links_of(alloc, &lists)?;
     assert!(rt; lists.len() == 250 && links.lists() == 250);
     let index = index_of(alloc, &lists)?;
@@ -458,6 +507,23 @@ fn one_of_two_links_gives_the_child(rt: HostRuntime) -> Result<(), Fail> {
     Ok(())
 }
 
+/// How many members the lists' reader finds in the street's place, or that it finds damage.
+fn check_fit(
+    rt: &impl Abort,
+    alloc: Global,
+    links: &Links,
+    index: &Index,
+    lists: &[Vec<StampedRow>],
+    want: Result<usize, ReadFault>,
+) -> Result<(), Fail> {
+    let asked = Asked::of(STREET, LAST_DAY, 3)?;
+    let mut reader = reader_of(lists);
+    let found = replacements_of(alloc, links, index, &mut reader, &asked);
+    assert!(rt; found.map(|rows| rows.len()) == want);
+    assert_eq!(rt; reader.damages, u64::from(want.is_err()));
+    Ok(())
+}
+
 #[test]
 fn links_that_do_not_fit_are_answered_or_refused(rt: HostRuntime) -> Result<(), Fail> {
     let alloc = rt.alloc();
@@ -467,7 +533,6 @@ fn links_that_do_not_fit_are_answered_or_refused(rt: HostRuntime) -> Result<(), 
     let all = lists.as_slice();
     let behind = &all[1..];
     let shifted = links_of(alloc, behind)?;
-    let asked = Asked::of(STREET, LAST_DAY, 3)?;
     for (links, lists, want) in [
         (&posted, all, Ok(1)),
         (&posted, &all[..1], Err(ReadFault::Damaged)),
@@ -476,10 +541,7 @@ fn links_that_do_not_fit_are_answered_or_refused(rt: HostRuntime) -> Result<(), 
         (&shifted, all, Ok(0)),
         (&shifted, &[], Ok(0)),
     ] {
-        let mut reader = reader_of(lists);
-        let found = replacements_of(alloc, links, &index, &mut reader, &asked);
-        assert!(rt; found.map(|rows| rows.len()) == want);
-        assert_eq!(rt; reader.damages, u64::from(want.is_err()));
+        check_fit(&rt, alloc, links, &index, lists, want)?;
     }
     Ok(())
 }

@@ -1,8 +1,8 @@
 //! A row is read only where it is answered, and a read that fails is handed on at once.
 
 use crate::edges::{Asked, CONCEPTS, replacements_of};
-use crate::lists::{Indexed, index_all};
-use crate::releases::{example, lists_of};
+use crate::lists::{Indexed, index_imports};
+use crate::releases::example;
 use crate::rows::{LAST_DAY, ROOT, STREET, day, sctid};
 use crate::subjects::{KINDS, rows_about};
 use crate::terms::{Search, find_rows};
@@ -10,13 +10,13 @@ use crate::watched::Watched;
 use crate::{edges, subjects, terms};
 use as_of_index::ReadFault;
 use history_model::plain;
-use rf2_values::{EffectiveTime, Kind};
+use rf2_values::{EffectiveTime, Kind, Row};
 use std::alloc::Global;
 use std::process::Abort;
 use std::test::Fail;
 
 /// What is asked.
-#[derive(Drop)]
+#[derive(Clone, Copy)]
 enum Question {
     /// The concept at a date.
     Pick(u64, EffectiveTime),
@@ -113,7 +113,7 @@ fn each_read_fails(
 #[test]
 fn a_fault_of_the_reader_is_handed_on(rt: HostRuntime) -> Result<(), Fail> {
     let alloc = rt.alloc();
-    let made = index_all(alloc, lists_of(alloc, &example(alloc)?, &[(1, 3)])?)?;
+    let made = index_imports(alloc, &example(alloc)?, &[(1, 3)])?;
     let time = day(20_210_131)?;
     for (question, answered) in [
         (Question::Pick(ROOT, time), 1),
@@ -128,10 +128,10 @@ fn a_fault_of_the_reader_is_handed_on(rt: HostRuntime) -> Result<(), Fail> {
 #[test]
 fn a_description_is_read_only_where_it_is_answered(rt: HostRuntime) -> Result<(), Fail> {
     let alloc = rt.alloc();
-    let rows = terms::made_rows(alloc)?;
-    let made = index_all(alloc, lists_of(alloc, &rows, &[(1, 3), (4, 6)])?)?;
+    let made = index_imports(alloc, &terms::made_rows(alloc)?, &[(1, 3), (4, 6)])?;
+    let time = day(20_210_131)?;
     for limit in [0u32, 1, 5] {
-        let question = Question::Descriptions(day(20_210_131)?, limit);
+        let question = Question::Descriptions(time, limit);
         each_read_fails(&rt, alloc, &made, &question, u64::from(limit))?;
     }
     Ok(())
@@ -141,12 +141,27 @@ fn a_description_is_read_only_where_it_is_answered(rt: HostRuntime) -> Result<()
 fn an_association_is_read_only_where_it_is_answered(rt: HostRuntime) -> Result<(), Fail> {
     let alloc = rt.alloc();
     let rows = edges::made_rows(alloc)?;
-    let made = index_all(alloc, lists_of(alloc, &rows, &[(1, 3), (4, 6)])?)?;
+    let made = index_imports(alloc, &rows, &[(1, 3), (4, 6)])?;
     let shown = plain::rows_at(alloc, 6, &rows)?;
     let there = plain::replacements(alloc, &shown, sctid(ROOT)?, day(LAST_DAY)?)?.len() as u64;
     assert!(rt; there > 2, "{there} associations");
     let question = Question::Replacements(Asked::of(ROOT, LAST_DAY, 6)?);
     each_read_fails(&rt, alloc, &made, &question, there)
+}
+
+/// How many rows of a kind are about a component; each read of them fails in each way.
+fn fail_about(
+    rt: &impl Abort,
+    alloc: Global,
+    made: &Indexed,
+    shown: &[Row],
+    kind: Kind,
+    id: u64,
+) -> Result<u64, Fail> {
+    let asked = Asked::of(id, LAST_DAY, 6)?;
+    let there = plain::about(alloc, shown, kind, asked.id, asked.time)?.len() as u64;
+    each_read_fails(rt, alloc, made, &Question::About(kind, asked), there)?;
+    Ok(there)
 }
 
 #[test]
@@ -155,15 +170,12 @@ fn what_is_about_a_component_is_read_only_where_it_is_answered(
 ) -> Result<(), Fail> {
     let alloc = rt.alloc();
     let rows = subjects::made_rows(alloc)?;
-    let made = index_all(alloc, lists_of(alloc, &rows, &[(1, 3), (4, 6)])?)?;
+    let made = index_imports(alloc, &rows, &[(1, 3), (4, 6)])?;
     let shown = plain::rows_at(alloc, 6, &rows)?;
     let mut answered = 0u64;
     for kind in KINDS {
         for id in CONCEPTS {
-            let there = plain::about(alloc, &shown, kind, sctid(id)?, day(LAST_DAY)?)?.len() as u64;
-            let question = Question::About(kind, Asked::of(id, LAST_DAY, 6)?);
-            each_read_fails(&rt, alloc, &made, &question, there)?;
-            answered = answered.saturating_add(there);
+            answered = answered.saturating_add(fail_about(&rt, alloc, &made, &shown, kind, id)?);
         }
     }
     assert!(rt; answered > 10, "{answered} rows");

@@ -2,7 +2,7 @@
 
 ghost use Rattle.term_prefix.specs.Merged.{IsMergeOfTerms};
 
-use crate::lists::{Indexed, index_all, places_of, post_terms};
+use crate::lists::{Indexed, index_imports, places_of, post_terms};
 use crate::releases::lists_of;
 use crate::rows::{LAST_DAY, day, description, description_id};
 use crate::terms::{Search, compare, compare_search, made_rows};
@@ -75,7 +75,7 @@ fn merged(
     many: usize,
 ) -> Result<Indexed, Fail> {
     let merged = merge_terms(alloc, &lists_of(alloc, rows, &imports)?, many)?;
-    let mut whole = index_all(alloc, lists_of(alloc, rows, &[(1, 100)])?)?;
+    let mut whole = index_imports(alloc, rows, &[(1, 100)])?;
     let mut terms = Terms::new(alloc)?;
     terms.add(merged);
     whole.terms = terms;
@@ -86,7 +86,7 @@ fn merged(
 fn made_terms_are_merged_in_turns(rt: HostRuntime) -> Result<(), Fail> {
     let alloc = rt.alloc();
     let rows = made_rows(alloc)?;
-    let whole = index_all(alloc, lists_of(alloc, &rows, &[(1, 100)])?)?;
+    let whole = index_imports(alloc, &rows, &[(1, 100)])?;
     let wanted = compare(&rt, alloc, &rows, &whole)?;
     assert!(rt; wanted > 500, "{wanted} answers");
     for (imports, many) in [
@@ -115,15 +115,21 @@ const IN_BOTH: [(u32, &str); 10] = [
     (1, "ab"),
 ];
 
-#[test]
-fn terms_that_are_in_both_lists_are_merged(rt: HostRuntime) -> Result<(), Fail> {
-    let alloc = rt.alloc();
+/// A description of each of these terms.
+fn rows_in_both(alloc: Global) -> Result<Vec<StampedRow>, Fail> {
     let mut rows = Vec::new(alloc);
     for (number, (import, term)) in (100u32..).zip(IN_BOTH) {
         let id = description_id(number)?;
         let row = description(alloc, id, 20_200_131, true, term)?;
         rows.push(StampedRow { row, import })?;
     }
+    Ok(rows)
+}
+
+#[test]
+fn terms_that_are_in_both_lists_are_merged(rt: HostRuntime) -> Result<(), Fail> {
+    let alloc = rt.alloc();
+    let rows = rows_in_both(alloc)?;
     let shown = plain::rows_at(alloc, 2, &rows)?;
     let time = day(LAST_DAY)?;
     for many in [1usize, 2, 100] {

@@ -1,8 +1,10 @@
 //! Lists of rows: their places, an index of them, their postings, and a reader of their rows.
 
+use crate::releases::{lists_of, rows_after};
 use as_of_index::{Index, KeptRows, MAX_LISTS, PlaceList};
 use history_model::StampedRow;
 use links::Links;
+use rf2_values::Row;
 use segment::RowPlace;
 use std::alloc::Global;
 use std::test::Fail;
@@ -100,15 +102,40 @@ pub(crate) struct Indexed {
 }
 
 pub(crate) fn index_all(alloc: Global, lists: Vec<Vec<StampedRow>>) -> Result<Indexed, Fail> {
+    let links = links_of(alloc, &lists)?;
+    index_with(alloc, lists, links)
+}
+
+/// Lists of rows with these links, and with all else that is listed and posted of them.
+pub(crate) fn index_with(
+    alloc: Global,
+    lists: Vec<Vec<StampedRow>>,
+    links: Links,
+) -> Result<Indexed, Fail> {
     let index = index_of(alloc, &lists)?;
     let terms = terms_of(alloc, &lists)?;
-    let links = links_of(alloc, &lists)?;
     Ok(Indexed {
         lists,
         index,
         terms,
         links,
     })
+}
+
+/// What some ranges of imports brought, each range as a list, with all that is listed of it.
+pub(crate) fn index_imports(
+    alloc: Global,
+    rows: &[StampedRow],
+    ranges: &[(u32, u32)],
+) -> Result<Indexed, Fail> {
+    index_all(alloc, lists_of(alloc, rows, ranges)?)
+}
+
+/// The rows of one release as one list, with all that is listed of them.
+pub(crate) fn index_release(alloc: Global, release: Vec<Row>) -> Result<Indexed, Fail> {
+    let releases = vec![in alloc; release]?;
+    let rows = rows_after(alloc, &releases)?;
+    index_all(alloc, vec![in alloc; rows]?)
 }
 
 /// A reader of the rows.

@@ -1,6 +1,6 @@
 //! Postings of two lists of rows, merged in turns.
 
-use crate::lists::{Indexed, index_all, places_of, post_links};
+use crate::lists::{Indexed, index_with, places_of, post_links};
 use crate::releases::{lists_of, rows_of_imports};
 use crate::{edges, subjects};
 use as_of_index::{NumberTable, Numbers, PlaceList};
@@ -17,6 +17,11 @@ fn listed(alloc: Global, rows: &[StampedRow]) -> Result<PlaceList, Fail> {
         return Err(Fail::from("not in order"));
     }
     Ok(PlaceList::new(places))
+}
+
+/// The places of the rows that some of the imports brought.
+fn listed_of(alloc: Global, rows: &[StampedRow], first: u32, last: u32) -> Result<PlaceList, Fail> {
+    listed(alloc, &rows_of_imports(alloc, rows, first, last)?)
 }
 
 /// The numbers of rows of two short lists in one of both.
@@ -52,18 +57,20 @@ fn check_numbers(rt: &impl Abort, rows: &[StampedRow], numbers: &Numbers<'_>) {
 fn rows_of_two_lists_are_numbered_as_in_one(rt: HostRuntime) -> Result<(), Fail> {
     let alloc = rt.alloc();
     let rows = edges::made_rows(alloc)?;
-    let first = listed(alloc, &rows_of_imports(alloc, &rows, 1, 3)?)?;
-    let second = listed(alloc, &rows_of_imports(alloc, &rows, 4, 6)?)?;
+    let first = listed_of(alloc, &rows, 1, 3)?;
+    let second = listed_of(alloc, &rows, 4, 6)?;
     check_numbers(&rt, &rows, &numbers_of(&first, &second)?);
     Ok(())
 }
 
-#[test]
-fn a_table_that_grows_tells_the_same_numbers(rt: HostRuntime) -> Result<(), Fail> {
-    let alloc = rt.alloc();
-    let rows = edges::made_rows(alloc)?;
-    let first = listed(alloc, &rows_of_imports(alloc, &rows, 1, 3)?)?;
-    let second = listed(alloc, &rows_of_imports(alloc, &rows, 4, 6)?)?;
+/// A table tells each row's number, first of some rows and then of all.
+fn check_table(
+    rt: &impl Abort,
+    alloc: Global,
+    rows: &[StampedRow],
+    first: &PlaceList,
+    second: &PlaceList,
+) -> Result<(), Fail> {
     let first = first.places();
     let second = second.places();
     if first.len() > 1_000 || second.len() > 1_000 {
@@ -71,10 +78,19 @@ fn a_table_that_grows_tells_the_same_numbers(rt: HostRuntime) -> Result<(), Fail
     }
     let mut table = NumberTable::new(alloc);
     table.extend(first, second, 15)?;
-    check_numbers(&rt, &rows, &Numbers::with_table(first, second, &table));
+    check_numbers(rt, rows, &Numbers::with_table(first, second, &table));
     table.extend(first, second, 1_000)?;
-    check_numbers(&rt, &rows, &Numbers::with_table(first, second, &table));
+    check_numbers(rt, rows, &Numbers::with_table(first, second, &table));
     Ok(())
+}
+
+#[test]
+fn a_table_that_grows_tells_the_same_numbers(rt: HostRuntime) -> Result<(), Fail> {
+    let alloc = rt.alloc();
+    let rows = edges::made_rows(alloc)?;
+    let first = listed_of(alloc, &rows, 1, 3)?;
+    let second = listed_of(alloc, &rows, 4, 6)?;
+    check_table(&rt, alloc, &rows, &first, &second)
 }
 
 /// Merges so many postings of each kind at a time.
@@ -114,11 +130,19 @@ fn merge(
 fn index_merged(alloc: Global, rows: &[StampedRow], at_once: usize) -> Result<Indexed, Fail> {
     let earlier = rows_of_imports(alloc, rows, 1, 3)?;
     let later = rows_of_imports(alloc, rows, 4, 6)?;
-    let mut made = index_all(alloc, lists_of(alloc, rows, &[(1, 6)])?)?;
     let mut links = Links::new(alloc)?;
     links.add(merge(alloc, &earlier, &later, at_once, rows.len())?);
-    made.links = links;
-    Ok(made)
+    index_with(alloc, lists_of(alloc, rows, &[(1, 6)])?, links)
+}
+
+/// How many children and associations merged postings answer.
+fn compare_edges(
+    rt: &impl Abort,
+    alloc: Global,
+    rows: &[StampedRow],
+    at_once: usize,
+) -> Result<(usize, usize), Fail> {
+    edges::compare(rt, alloc, rows, &index_merged(alloc, rows, at_once)?)
 }
 
 #[test]
@@ -126,10 +150,20 @@ fn merged_links_and_references_are_those_of_all_rows(rt: HostRuntime) -> Result<
     let alloc = rt.alloc();
     let rows = edges::made_rows(alloc)?;
     for at_once in [1, 3, usize::MAX] {
-        let answered = edges::compare(&rt, alloc, &rows, &index_merged(alloc, &rows, at_once)?)?;
+        let answered = compare_edges(&rt, alloc, &rows, at_once)?;
         assert!(rt; answered.0 > 100 && answered.1 > 100);
     }
     Ok(())
+}
+
+/// How many rows merged postings answer as being about a component.
+fn compare_subjects(
+    rt: &impl Abort,
+    alloc: Global,
+    rows: &[StampedRow],
+    at_once: usize,
+) -> Result<usize, Fail> {
+    subjects::compare(rt, alloc, rows, &index_merged(alloc, rows, at_once)?)
 }
 
 #[test]
@@ -137,7 +171,7 @@ fn merged_subjects_are_those_of_all_rows(rt: HostRuntime) -> Result<(), Fail> {
     let alloc = rt.alloc();
     let rows = subjects::made_rows(alloc)?;
     for at_once in [1, 3, usize::MAX] {
-        let answered = subjects::compare(&rt, alloc, &rows, &index_merged(alloc, &rows, at_once)?)?;
+        let answered = compare_subjects(&rt, alloc, &rows, at_once)?;
         assert!(rt; answered > 200);
     }
     Ok(())

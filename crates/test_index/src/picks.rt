@@ -62,6 +62,33 @@ fn by_hints(
     Ok(found.map(|(segment, at)| (segment, at.key.time.value())))
 }
 
+/// What is found by hints, whatever they were told before.
+fn check_hints(
+    rt: &impl Abort,
+    index: &Index,
+    hints: &mut Hints,
+    count: usize,
+) -> Result<(), Fail> {
+    for (pin, id, date, want) in [
+        (3, STREET, 20_200_131, Some((0, 20_200_131))),
+        (3, STREET, 20_200_731, Some((2, 20_200_731))),
+        (3, STREET, 20_210_131, Some((1, 20_210_131))),
+        (3, OTHER, 20_200_131, Some((0, 20_200_131))),
+        (3, THIRD, 20_200_131, Some((2, 20_200_131))),
+        (3, ROOT, 20_200_131, Some((0, 20_200_131))),
+        (3, STREET, 20_201_231, Some((2, 20_200_731))),
+        (1, STREET, 20_210_131, Some((0, 20_200_131))),
+        (3, THIRD, 20_200_130, None),
+        (0, ROOT, 20_200_131, None),
+        (3, ROOT, 20_210_131, Some((0, 20_200_131))),
+        (0, STREET, 20_200_131, None),
+    ] {
+        let found = by_hints(index, hints, id, date, pin)?;
+        assert_eq!(rt; found, want, "{id} at {date}, pin {pin}, {count} hints");
+    }
+    Ok(())
+}
+
 #[test]
 fn hints_change_no_answer(rt: HostRuntime) -> Result<(), Fail> {
     let alloc = rt.alloc();
@@ -69,24 +96,52 @@ fn hints_change_no_answer(rt: HostRuntime) -> Result<(), Fail> {
     // As many hints as lists, and too few, and too many.
     for count in [3, 0, 1, 9] {
         let mut hints = Hints::new(alloc, count)?;
-        for (pin, id, date, want) in [
-            (3, STREET, 20_200_131, Some((0, 20_200_131))),
-            (3, STREET, 20_200_731, Some((2, 20_200_731))),
-            (3, STREET, 20_210_131, Some((1, 20_210_131))),
-            (3, OTHER, 20_200_131, Some((0, 20_200_131))),
-            (3, THIRD, 20_200_131, Some((2, 20_200_131))),
-            (3, ROOT, 20_200_131, Some((0, 20_200_131))),
-            (3, STREET, 20_201_231, Some((2, 20_200_731))),
-            (1, STREET, 20_210_131, Some((0, 20_200_131))),
-            (3, THIRD, 20_200_130, None),
-            (0, ROOT, 20_200_131, None),
-            (3, ROOT, 20_210_131, Some((0, 20_200_131))),
-            (0, STREET, 20_200_131, None),
-        ] {
-            let found = by_hints(&index, &mut hints, id, date, pin)?;
-            assert_eq!(rt; found, want, "{id} at {date}, pin {pin}, {count} hints");
-        }
+        check_hints(&rt, &index, &mut hints, count)?;
     }
+    Ok(())
+}
+
+/// The versions of the street have these times.
+fn check_versions(
+    rt: &impl Abort,
+    alloc: Global,
+    index: &Index,
+    lists: &[Vec<StampedRow>],
+    pin: u32,
+    times: &[u32],
+) -> Result<(), Fail> {
+    let mut reader = reader_of(lists);
+    let found = index.history(&mut reader, Kind::Concept, u128::from(STREET), pin)?;
+    let found: Vec<u32> = found.iter().map(|row| row.time.value()).collect(alloc)?;
+    assert_eq!(rt; found.as_slice(), times, "{pin}");
+    Ok(())
+}
+
+/// A page of so many concepts above one has these ids.
+fn check_page(
+    rt: &impl Abort,
+    index: &Index,
+    lists: &[Vec<StampedRow>],
+    (pin, after, limit): (u32, Option<u64>, u32),
+    ids: &[u64],
+) -> Result<(), Fail> {
+    let date = day(20_200_131)?;
+    let above = after.map(u128::from);
+    let found = index.page(
+        &mut reader_of(lists),
+        Kind::Concept,
+        date,
+        above,
+        limit,
+        pin,
+    )?;
+    assert!(rt;
+        found
+            .iter()
+            .map(|row| row.id)
+            .eq(ids.iter().map(|id| u128::from(*id))),
+        "after {after:?}"
+    );
     Ok(())
 }
 
@@ -95,18 +150,14 @@ fn versions_and_pages_of_three_releases(rt: HostRuntime) -> Result<(), Fail> {
     let alloc = rt.alloc();
     let lists = three_lists(alloc)?;
     let index = index_of(alloc, &lists)?;
-    let mut reader = reader_of(&lists);
     for (pin, times) in [
         (0, [].as_slice()),
         (1, [20_200_131].as_slice()),
         (2, [20_200_131, 20_210_131].as_slice()),
         (3, [20_200_131, 20_200_731, 20_210_131].as_slice()),
     ] {
-        let found = index.history(&mut reader, Kind::Concept, u128::from(STREET), pin)?;
-        let found: Vec<u32> = found.iter().map(|row| row.time.value()).collect(alloc)?;
-        assert_eq!(rt; found.as_slice(), times, "{pin}");
+        check_versions(&rt, alloc, &index, &lists, pin, times)?;
     }
-    let date = day(20_200_131)?;
     for (pin, after, limit, ids) in [
         (1, None, 2, [STREET, OTHER].as_slice()),
         (1, Some(OTHER), 2, [ROOT].as_slice()),
@@ -114,15 +165,7 @@ fn versions_and_pages_of_three_releases(rt: HostRuntime) -> Result<(), Fail> {
         (1, None, 0, [].as_slice()),
         (3, Some(STREET), 9, [OTHER, THIRD, ROOT].as_slice()),
     ] {
-        let above = after.map(u128::from);
-        let found = index.page(&mut reader, Kind::Concept, date, above, limit, pin)?;
-        assert!(rt;
-            found
-                .iter()
-                .map(|row| row.id)
-                .eq(ids.iter().map(|id| u128::from(*id))),
-            "after {after:?}"
-        );
+        check_page(&rt, &index, &lists, (pin, after, limit), ids)?;
     }
     Ok(())
 }
@@ -226,9 +269,24 @@ fn compare_picks(rt: &impl Abort, made: Pinned<'_>, kind: Kind, id: u128) -> Res
     Ok(())
 }
 
+/// How many versions a component has; the answer is that of the plain program.
+fn compare_versions(
+    rt: &impl Abort,
+    alloc: Global,
+    made: Pinned<'_>,
+    kind: Kind,
+    id: u128,
+) -> Result<usize, Fail> {
+    let mut reader = reader_of(made.lists);
+    let versions = made.index.history(&mut reader, kind, id, made.pin)?;
+    let wanted = plain::versions(alloc, made.shown, kind, id)?;
+    assert!(rt; is_same(&versions, &wanted));
+    assert_eq!(rt; reader.damages, 0);
+    Ok(versions.len())
+}
+
 /// How many versions some components have; each answer is that of the plain program.
 fn compare_components(rt: &impl Abort, alloc: Global, made: Pinned<'_>) -> Result<usize, Fail> {
-    let mut reader = reader_of(made.lists);
     let mut answered = 0usize;
     for (kind, id) in [
         (Kind::Association, MADE),
@@ -237,11 +295,8 @@ fn compare_components(rt: &impl Abort, alloc: Global, made: Pinned<'_>) -> Resul
         (Kind::Concept, u128::from(STREET)),
     ] {
         compare_picks(rt, made, kind, id)?;
-        let versions = made.index.history(&mut reader, kind, id, made.pin)?;
-        assert!(rt; is_same(&versions, &plain::versions(alloc, made.shown, kind, id)?));
-        answered = answered.saturating_add(versions.len());
+        answered = answered.saturating_add(compare_versions(rt, alloc, made, kind, id)?);
     }
-    assert_eq!(rt; reader.damages, 0);
     Ok(answered)
 }
 
@@ -331,6 +386,20 @@ fn lists_that_show_nothing_change_no_page(rt: HostRuntime) -> Result<(), Fail> {
     Ok(())
 }
 
+/// A place that is listed is not added again, nor listed twice; no place may be added.
+fn check_may_add(
+    rt: &impl Abort,
+    alloc: Global,
+    index: &Index,
+    first: RowPlace,
+) -> Result<(), Fail> {
+    let again = PlaceList::new(vec![in alloc; first]?);
+    assert!(rt; !index.may_add(&again));
+    assert!(rt; index.may_add(&PlaceList::new(Vec::new(alloc))));
+    assert!(rt; !PlaceList::may_list(&[first, first]));
+    Ok(())
+}
+
 #[test]
 fn lists_are_added(rt: HostRuntime) -> Result<(), Fail> {
     let alloc = rt.alloc();
@@ -344,10 +413,7 @@ fn lists_are_added(rt: HostRuntime) -> Result<(), Fail> {
     assert_eq!(rt; places.first().copied(), Some(first));
     assert_eq!(rt; places.get(1).map(|p| p.at), Some(first.bytes));
 
-    let again = PlaceList::new(vec![in alloc; first]?);
-    assert!(rt; !index.may_add(&again));
-    assert!(rt; index.may_add(&PlaceList::new(Vec::new(alloc))));
-    assert!(rt; !PlaceList::may_list(&[first, first]));
+    check_may_add(&rt, alloc, &index, first)?;
     assert!(rt; PlaceList::may_list(places));
     laws::places_of_lists();
     laws::lists_more();
@@ -374,6 +440,23 @@ fn count_current(index: &Index, segment: usize, places: &[RowPlace]) -> u32 {
     number
 }
 
+/// Each row of a list is found by its number, and none by a number behind.
+fn check_current(
+    rt: &impl Abort,
+    alloc: Global,
+    index: &Index,
+    segment: usize,
+    rows: &[StampedRow],
+) -> Result<(), Fail> {
+    let places = places_of(alloc, rows)?;
+    let count = count_current(index, segment, &places);
+    let last = day(LAST_DAY)?;
+    assert!(rt; count > 0 && count as usize == rows.len());
+    assert!(rt; index.current_at(segment, count, last, u32::MAX).is_none());
+    assert!(rt; index.id_at(segment, count).is_none());
+    Ok(())
+}
+
 #[test]
 fn a_current_row_is_found_by_its_number(rt: HostRuntime) -> Result<(), Fail> {
     let alloc = rt.alloc();
@@ -381,11 +464,7 @@ fn a_current_row_is_found_by_its_number(rt: HostRuntime) -> Result<(), Fail> {
     let index = index_of(alloc, &lists)?;
     let last = day(LAST_DAY)?;
     for (segment, rows) in lists.iter().enumerate() {
-        let places = places_of(alloc, rows)?;
-        let count = count_current(&index, segment, &places);
-        assert!(rt; count > 0 && count as usize == rows.len());
-        assert!(rt; index.current_at(segment, count, last, u32::MAX).is_none());
-        assert!(rt; index.id_at(segment, count).is_none());
+        check_current(&rt, alloc, &index, segment, rows)?;
     }
     assert!(rt; index.current_at(3, 0, last, u32::MAX).is_none());
     assert!(rt; index.current_at(usize::MAX, 0, last, u32::MAX).is_none());
@@ -427,32 +506,55 @@ fn put_in(index: &mut Index, i: usize, j: usize, list: PlaceList) -> Result<(), 
     Ok(())
 }
 
+/// The index of some lists with a list of members in the place of two of them.
+fn put_members(
+    rt: &impl Abort,
+    alloc: Global,
+    lists: &[Vec<StampedRow>],
+    (i, j): (usize, usize),
+    member_at: usize,
+) -> Result<Index, Fail> {
+    let mut index = index_of(alloc, lists)?;
+    let members = rows_of_imports(alloc, &made_rows(alloc)?, 1, 2)?;
+    let places = places_of(alloc, &members)?;
+    let count = places.len();
+    assert!(rt; PlaceList::may_list(&places));
+    put_in(&mut index, i, j, PlaceList::new(places))?;
+    assert_eq!(rt; index.lists(), 2);
+    assert!(rt; member_at < index.lists() && index.list(member_at).len() == count);
+    Ok(index)
+}
+
+/// In which lists the street and a member are found, and the time of the street.
+fn check_places(
+    rt: &impl Abort,
+    index: &Index,
+    (concept_at, member_at): (usize, usize),
+    left: u32,
+) -> Result<(), Fail> {
+    let date = day(20_210_731)?;
+    let (segment, at) = index
+        .place_at(Kind::Concept, u128::from(STREET), date, 3)
+        .ok_or("no concept")?;
+    assert_eq!(rt; (segment, at.key.time.value()), (concept_at, left));
+    let (segment, _) = index
+        .place_at(Kind::Association, MADE + 3, date, 3)
+        .ok_or("no member")?;
+    assert_eq!(rt; segment, member_at);
+    Ok(())
+}
+
 #[test]
 fn a_list_is_put_in_the_place_of_two(rt: HostRuntime) -> Result<(), Fail> {
     let alloc = rt.alloc();
     let lists = three_lists(alloc)?;
-    let date = day(20_210_731)?;
     for (i, j, concept_at, member_at, left) in [
         (0, 2, 1, 0, 20_210_131),
         (0, 1, 1, 0, 20_200_731),
         (1, 2, 0, 1, 20_200_131),
     ] {
-        let mut index = index_of(alloc, &lists)?;
-        let members = rows_of_imports(alloc, &made_rows(alloc)?, 1, 2)?;
-        let places = places_of(alloc, &members)?;
-        let count = places.len();
-        assert!(rt; PlaceList::may_list(&places));
-        put_in(&mut index, i, j, PlaceList::new(places))?;
-        assert_eq!(rt; index.lists(), 2);
-        assert!(rt; member_at < index.lists() && index.list(member_at).len() == count);
-        let (segment, at) = index
-            .place_at(Kind::Concept, u128::from(STREET), date, 3)
-            .ok_or("no concept")?;
-        assert_eq!(rt; (segment, at.key.time.value()), (concept_at, left));
-        let (segment, _) = index
-            .place_at(Kind::Association, MADE + 3, date, 3)
-            .ok_or("no member")?;
-        assert_eq!(rt; segment, member_at);
+        let index = put_members(&rt, alloc, &lists, (i, j), member_at)?;
+        check_places(&rt, &index, (concept_at, member_at), left)?;
     }
     Ok(())
 }

@@ -10,37 +10,37 @@ use std::alloc::Global;
 use std::test::Fail;
 
 fn first_release(alloc: Global) -> Result<Vec<Row>, Fail> {
-    Ok(vec![in alloc;
-        concept(ROOT, 20_200_131, true)?,
-        concept(STREET, 20_200_131, true)?,
-        concept(OTHER, 20_200_131, true)?,
-        description(alloc, STREET_NAME, 20_200_131, true, "Straße")?,
-        relationship(1_000_027, 20_200_131, true, (STREET, ROOT), IS_A)?,
-        relationship(2_000_029, 20_200_131, true, (STREET, ROOT), IS_A)?,
-    ]?)
+    let mut rows = Vec::new(alloc);
+    rows.push(concept(ROOT, 20_200_131, true)?)?;
+    rows.push(concept(STREET, 20_200_131, true)?)?;
+    rows.push(concept(OTHER, 20_200_131, true)?)?;
+    rows.push(description(alloc, STREET_NAME, 20_200_131, true, "Straße")?)?;
+    rows.push(relationship(1_000_027, 20_200_131, true, (STREET, ROOT), IS_A)?)?;
+    rows.push(relationship(2_000_029, 20_200_131, true, (STREET, ROOT), IS_A)?)?;
+    Ok(rows)
 }
 
 /// The street is retired and replaced, it has another name, and one of its relationships ends.
 fn second_release(alloc: Global) -> Result<Vec<Row>, Fail> {
-    Ok(vec![in alloc;
-        concept(STREET, 20_210_131, false)?,
-        description(alloc, STREET_NAME, 20_210_131, true, "Weg")?,
-        relationship(2_000_029, 20_210_131, false, (STREET, ROOT), IS_A)?,
-        association(MEMBER, 20_210_131, true, SAME_AS, (STREET, OTHER))?,
-    ]?)
+    let mut rows = Vec::new(alloc);
+    rows.push(concept(STREET, 20_210_131, false)?)?;
+    rows.push(description(alloc, STREET_NAME, 20_210_131, true, "Weg")?)?;
+    rows.push(relationship(2_000_029, 20_210_131, false, (STREET, ROOT), IS_A)?)?;
+    rows.push(association(MEMBER, 20_210_131, true, SAME_AS, (STREET, OTHER))?)?;
+    Ok(rows)
 }
 
 /// A row comes again, and one between two versions. The other
 /// relationship ends too, and one of another type leads to the root.
 fn third_release(alloc: Global) -> Result<Vec<Row>, Fail> {
     let id = relationship_id(100)?;
-    Ok(vec![in alloc;
-        concept(ROOT, 20_200_131, true)?,
-        concept(STREET, 20_200_731, false)?,
-        concept(THIRD, 20_200_131, true)?,
-        relationship(1_000_027, 20_210_131, false, (STREET, ROOT), IS_A)?,
-        relationship(id, 20_210_131, true, (OTHER, ROOT), FINDING_SITE)?,
-    ]?)
+    let mut rows = Vec::new(alloc);
+    rows.push(concept(ROOT, 20_200_131, true)?)?;
+    rows.push(concept(STREET, 20_200_731, false)?)?;
+    rows.push(concept(THIRD, 20_200_131, true)?)?;
+    rows.push(relationship(1_000_027, 20_210_131, false, (STREET, ROOT), IS_A)?)?;
+    rows.push(relationship(id, 20_210_131, true, (OTHER, ROOT), FINDING_SITE)?)?;
+    Ok(rows)
 }
 
 /// The rows after these releases, in key order.

@@ -3,8 +3,10 @@
 ghost use Rattle.std.specs.Prelude.{◌<◌};
 
 use crate::edges::{Asked, CONCEPTS, DAYS, pick_concept, pick_day, post_twice};
-use crate::lists::{Indexed, index_all, index_of, links_of, reader_of};
-use crate::releases::{example, lists_of, rows_after, three_lists};
+use crate::lists::{
+    Indexed, index_imports, index_of, index_release, index_with, links_of, reader_of,
+};
+use crate::releases::{example, rows_after, three_lists};
 use crate::rows::{
     FINDING_SITE, IS_A, LAST_DAY, MEMBER, OTHER, REPLACED_BY, ROOT, STREET, STREET_NAME, THIRD,
     association, concept, concrete, description_id, description_of, is_same, relationship,
@@ -50,13 +52,35 @@ fn rows_by<R: RowReader>(
     )
 }
 
+/// The rows of a kind that are about a component have these ids, and no other rows are read.
+fn check_about(
+    rt: &impl Abort,
+    alloc: Global,
+    made: &Indexed,
+    kind: Kind,
+    (id, date, pin): (u64, u32, u32),
+    want: &[u128],
+) -> Result<(), Fail> {
+    let asked = Asked::of(id, date, pin)?;
+    let mut reader = reader_of(&made.lists);
+    let found = rows_about(alloc, made, &mut reader, kind, &asked)?;
+    let ids: Vec<u128> = found.iter().map(|row| row.id).collect(alloc)?;
+    assert_eq!(rt;
+        ids.as_slice(),
+        want,
+        "{kind:?} of {id} at {date}, pin {pin}"
+    );
+    assert_eq!(rt; reader.reads, want.len() as u64);
+    Ok(())
+}
+
 #[test]
 fn what_is_about_a_street(rt: HostRuntime) -> Result<(), Fail> {
     let alloc = rt.alloc();
     let rows = example(alloc)?;
     let site = relationship_id(100)?;
-    let made = index_all(alloc, lists_of(alloc, &rows, &[(1, 1), (2, 2), (3, 3)])?)?;
-    let one = index_all(alloc, lists_of(alloc, &rows, &[(1, 3)])?)?;
+    let made = index_imports(alloc, &rows, &[(1, 1), (2, 2), (3, 3)])?;
+    let one = index_imports(alloc, &rows, &[(1, 3)])?;
     let both = [1_000_027, 2_000_029];
     for (kind, id, date, pin, want) in [
         (
@@ -103,17 +127,8 @@ fn what_is_about_a_street(rt: HostRuntime) -> Result<(), Fail> {
         (Kind::Concept, STREET, 20_200_131, 1, [].as_slice()),
         (Kind::Concrete, STREET, LAST_DAY, 3, [].as_slice()),
     ] {
-        let asked = Asked::of(id, date, pin)?;
         for made in [&made, &one] {
-            let mut reader = reader_of(&made.lists);
-            let found = rows_about(alloc, made, &mut reader, kind, &asked)?;
-            let ids: Vec<u128> = found.iter().map(|row| row.id).collect(alloc)?;
-            assert_eq!(rt;
-                ids.as_slice(),
-                want,
-                "{kind:?} of {id} at {date}, pin {pin}"
-            );
-            assert_eq!(rt; reader.reads, want.len() as u64);
+            check_about(&rt, alloc, made, kind, (id, date, pin), want)?;
         }
     }
     Ok(())
@@ -122,34 +137,41 @@ fn what_is_about_a_street(rt: HostRuntime) -> Result<(), Fail> {
 /// One row of each kind about the first concept, and two that are about another.
 fn kinds_release(alloc: Global) -> Result<Vec<Row>, Fail> {
     let name = description_id(100)?;
-    Ok(vec![in alloc;
-        concept(STREET, 20_200_131, true)?,
-        description_of(alloc, STREET, name, 20_200_131, true, "Straße")?,
-        description_of(alloc, OTHER, description_id(101)?, 20_200_131, true, "Weg")?,
-        relationship(
-            relationship_id(100)?,
-            20_200_131,
-            true,
-            (STREET, OTHER),
-            FINDING_SITE
-        )?,
-        relationship(
-            relationship_id(101)?,
-            20_200_131,
-            true,
-            (OTHER, STREET),
-            IS_A
-        )?,
-        concrete(alloc, relationship_id(102)?, 20_200_131, true, STREET)?,
-        association(MEMBER, 20_200_131, true, REPLACED_BY, (STREET, OTHER))?,
-    ]?)
+    let other_name = description_id(101)?;
+    let of_street = relationship_id(100)?;
+    let of_other = relationship_id(101)?;
+    let number = relationship_id(102)?;
+    let mut rows = Vec::new(alloc);
+    rows.push(concept(STREET, 20_200_131, true)?)?;
+    rows.push(description_of(alloc, STREET, name, 20_200_131, true, "Straße")?)?;
+    rows.push(description_of(alloc, OTHER, other_name, 20_200_131, true, "Weg")?)?;
+    rows.push(relationship(of_street, 20_200_131, true, (STREET, OTHER), FINDING_SITE)?)?;
+    rows.push(relationship(of_other, 20_200_131, true, (OTHER, STREET), IS_A)?)?;
+    rows.push(concrete(alloc, number, 20_200_131, true, STREET)?)?;
+    rows.push(association(MEMBER, 20_200_131, true, REPLACED_BY, (STREET, OTHER))?)?;
+    Ok(rows)
+}
+
+/// This row of a kind is about a component and no other one is, or none is.
+fn check_only(
+    rt: &impl Abort,
+    alloc: Global,
+    made: &Indexed,
+    kind: Kind,
+    id: u64,
+    want: Option<u128>,
+) -> Result<(), Fail> {
+    let asked = Asked::of(id, LAST_DAY, 1)?;
+    let found = rows_about(alloc, made, &mut reader_of(&made.lists), kind, &asked)?;
+    assert_eq!(rt; found.first().map(|row| row.id), want, "{kind:?} of {id}");
+    assert!(rt; found.len() <= 1 && found.iter().all(|row| row.kind() as u8 == kind as u8));
+    Ok(())
 }
 
 #[test]
 fn each_kind_but_a_concept_is_about_one_component(rt: HostRuntime) -> Result<(), Fail> {
     let alloc = rt.alloc();
-    let releases = vec![in alloc; kinds_release(alloc)?]?;
-    let made = index_all(alloc, vec![in alloc; rows_after(alloc, &releases)?]?)?;
+    let made = index_release(alloc, kinds_release(alloc)?)?;
     for (kind, street, other) in [
         (Kind::Concept, None, None),
         (
@@ -166,10 +188,7 @@ fn each_kind_but_a_concept_is_about_one_component(rt: HostRuntime) -> Result<(),
         (Kind::Concrete, Some(relationship_id(102)?), None),
     ] {
         for (id, want) in [(STREET, street), (OTHER, other), (THIRD, None)] {
-            let asked = Asked::of(id, LAST_DAY, 1)?;
-            let found = rows_about(alloc, &made, &mut reader_of(&made.lists), kind, &asked)?;
-            assert_eq!(rt; found.first().map(|row| row.id), want, "{kind:?} of {id}");
-            assert!(rt; found.len() <= 1 && found.iter().all(|row| row.kind() as u8 == kind as u8));
+            check_only(&rt, alloc, &made, kind, id, want)?;
         }
     }
     Ok(())
@@ -260,16 +279,24 @@ pub(crate) fn compare(
     Ok(answered)
 }
 
+/// The same, of the rows in a list for each of these ranges of imports.
+fn compare_in(
+    rt: &impl Abort,
+    alloc: Global,
+    rows: &[StampedRow],
+    ranges: &[(u32, u32)],
+) -> Result<usize, Fail> {
+    compare(rt, alloc, rows, &index_imports(alloc, rows, ranges)?)
+}
+
 #[test]
 fn made_subjects_in_several_lists(rt: HostRuntime) -> Result<(), Fail> {
     let alloc = rt.alloc();
     let rows = made_rows(alloc)?;
-    let one = index_all(alloc, lists_of(alloc, &rows, &[(1, 6)])?)?;
-    let some = lists_of(alloc, &rows, &[(1, 2), (7, 9), (3, 3), (4, 6)])?;
-    let some = index_all(alloc, some)?;
-    let answered = compare(&rt, alloc, &rows, &one)?;
+    let answered = compare_in(&rt, alloc, &rows, &[(1, 6)])?;
     assert!(rt; answered > 200, "{answered} rows");
-    assert_eq!(rt; compare(&rt, alloc, &rows, &some)?, answered);
+    let some = compare_in(&rt, alloc, &rows, &[(1, 2), (7, 9), (3, 3), (4, 6)])?;
+    assert_eq!(rt; some, answered);
     Ok(())
 }
 
@@ -279,14 +306,25 @@ fn a_subject_that_is_posted_twice_counts_once(rt: HostRuntime) -> Result<(), Fai
     let rows = made_rows(alloc)?;
     let shown = plain::rows_at(alloc, 6, &rows)?;
     let links = post_twice(alloc, &rows)?;
-    let lists = vec![in alloc; rows]?;
-    let index = index_of(alloc, &lists)?;
-    let asked = Asked::of(STREET, LAST_DAY, 6)?;
-    for kind in KINDS {
-        let found = rows_by(alloc, &links, &index, &mut reader_of(&lists), kind, &asked)?;
-        let wanted = plain::about(alloc, &shown, kind, asked.id, asked.time)?;
-        assert!(rt; is_same(&found, &wanted), "{kind:?}");
-    }
+    let made = index_with(alloc, vec![in alloc; rows]?, links)?;
+    compare_at(&rt, alloc, &made, &shown, &Asked::of(STREET, LAST_DAY, 6)?)?;
+    Ok(())
+}
+
+/// How many associations the lists' reader finds to be about the street, or that it finds damage.
+fn check_fit(
+    rt: &impl Abort,
+    alloc: Global,
+    links: &Links,
+    index: &Index,
+    lists: &[Vec<StampedRow>],
+    want: Result<usize, ReadFault>,
+) -> Result<(), Fail> {
+    let asked = Asked::of(STREET, LAST_DAY, 3)?;
+    let mut reader = reader_of(lists);
+    let found = rows_by(alloc, links, index, &mut reader, Kind::Association, &asked);
+    assert!(rt; found.map(|rows| rows.len()) == want);
+    assert_eq!(rt; reader.damages, u64::from(want.is_err()));
     Ok(())
 }
 
@@ -298,7 +336,6 @@ fn subjects_that_do_not_fit_are_answered_or_refused(rt: HostRuntime) -> Result<(
     let posted = links_of(alloc, &lists)?;
     let none = Links::new(alloc)?;
     let all = lists.as_slice();
-    let asked = Asked::of(STREET, LAST_DAY, 3)?;
     for (links, lists, want) in [
         (&posted, all, Ok(1)),
         (&posted, &all[..1], Err(ReadFault::Damaged)),
@@ -307,10 +344,7 @@ fn subjects_that_do_not_fit_are_answered_or_refused(rt: HostRuntime) -> Result<(
         (&none, all, Ok(0)),
         (&none, &[], Ok(0)),
     ] {
-        let mut reader = reader_of(lists);
-        let found = rows_by(alloc, links, &index, &mut reader, Kind::Association, &asked);
-        assert!(rt; found.map(|rows| rows.len()) == want);
-        assert_eq!(rt; reader.damages, u64::from(want.is_err()));
+        check_fit(&rt, alloc, links, &index, lists, want)?;
     }
     Ok(())
 }

@@ -2,7 +2,7 @@
 
 ghost use Rattle.std.specs.Prelude.{◌<◌};
 
-use crate::lists::{Indexed, index_all, index_of, post_terms, reader_of, terms_of};
+use crate::lists::{Indexed, index_all, index_imports, index_of, post_terms, reader_of, terms_of};
 use crate::releases::{example, lists_of, rows_after, three_lists};
 use crate::rows::{LAST_DAY, STREET_NAME, day, description, description_id, is_same};
 use as_of_index::{Index, ReadFault, RowReader};
@@ -49,6 +49,33 @@ fn version(row: &Row) -> (u32, &[u8]) {
     }
 }
 
+/// How many streets are found: none but the one that is wanted.
+fn check_street(
+    rt: &impl Abort,
+    alloc: Global,
+    terms: &Terms,
+    index: &Index,
+    lists: &[Vec<StampedRow>],
+    (pin, date, prefix): (u32, u32, &str),
+    want: Option<(u32, &[u8])>,
+) -> Result<usize, Fail> {
+    let asked = Search {
+        prefix,
+        time: day(date)?,
+        after: None,
+        limit: 10,
+        pin,
+    };
+    let found = find_rows(alloc, terms, index, &mut reader_of(lists), asked)?;
+    assert_eq!(rt;
+        found.first().map(version),
+        want,
+        "{prefix} at {date}, pin {pin}"
+    );
+    assert!(rt; found.len() <= 1 && found.iter().all(|row| row.id == STREET_NAME));
+    Ok(found.len())
+}
+
 #[test]
 fn streets_by_the_beginning_of_their_names(rt: HostRuntime) -> Result<(), Fail> {
     let alloc = rt.alloc();
@@ -75,24 +102,10 @@ fn streets_by_the_beginning_of_their_names(rt: HostRuntime) -> Result<(), Fail> 
         (&posted, 2, 20_210_131, "STRASS", None),
         (&posted, 0, LAST_DAY, "", None),
     ] {
-        let time = day(date)?;
-        let asked = Search {
-            prefix,
-            time,
-            after: None,
-            limit: 10,
-            pin,
-        };
-        let found = find_rows(alloc, terms, &index, &mut reader_of(&lists), asked)?;
-        assert_eq!(rt;
-            found.first().map(version),
-            want,
-            "{prefix} at {date}, pin {pin}"
-        );
-        assert!(rt; found.len() <= 1 && found.iter().all(|row| row.id == STREET_NAME));
+        let found = check_street(&rt, alloc, terms, &index, &lists, (pin, date, prefix), want)?;
         let shown = plain::rows_at(alloc, pin, &rows)?;
-        let plainly = plain::terms(alloc, &shown, prefix, time, 10)?;
-        assert!(rt; terms.lists() == 0 || plainly.len() == found.len());
+        let plainly = plain::terms(alloc, &shown, prefix, day(date)?, 10)?;
+        assert!(rt; terms.lists() == 0 || plainly.len() == found);
     }
     Ok(())
 }
@@ -268,16 +281,24 @@ pub(crate) fn compare(
     Ok(answered)
 }
 
+/// The same, of the rows in a list for each of these ranges of imports.
+fn compare_in(
+    rt: &impl Abort,
+    alloc: Global,
+    rows: &[StampedRow],
+    ranges: &[(u32, u32)],
+) -> Result<usize, Fail> {
+    compare(rt, alloc, rows, &index_imports(alloc, rows, ranges)?)
+}
+
 #[test]
 fn made_terms_in_several_lists(rt: HostRuntime) -> Result<(), Fail> {
     let alloc = rt.alloc();
     let rows = made_rows(alloc)?;
-    let one = index_all(alloc, lists_of(alloc, &rows, &[(1, 6)])?)?;
-    let some = lists_of(alloc, &rows, &[(1, 2), (7, 9), (3, 3), (4, 6)])?;
-    let some = index_all(alloc, some)?;
-    let answered = compare(&rt, alloc, &rows, &one)?;
+    let answered = compare_in(&rt, alloc, &rows, &[(1, 6)])?;
     assert!(rt; answered > 500, "{answered} answers");
-    assert_eq!(rt; compare(&rt, alloc, &rows, &some)?, answered);
+    let some = compare_in(&rt, alloc, &rows, &[(1, 2), (7, 9), (3, 3), (4, 6)])?;
+    assert_eq!(rt; some, answered);
     Ok(())
 }
 
@@ -313,8 +334,7 @@ fn found_in_pieces(
 fn searches_that_go_on_find_all(rt: HostRuntime) -> Result<(), Fail> {
     let alloc = rt.alloc();
     let rows = made_rows(alloc)?;
-    let some = lists_of(alloc, &rows, &[(1, 2), (3, 3), (4, 6)])?;
-    let made = index_all(alloc, some)?;
+    let made = index_imports(alloc, &rows, &[(1, 2), (3, 3), (4, 6)])?;
     let shown = plain::rows_at(alloc, 6, &rows)?;
     let time = day(20_210_131)?;
     let wanted = plain::terms(alloc, &shown, "s", time, 100)?;
@@ -329,6 +349,29 @@ fn searches_that_go_on_find_all(rt: HostRuntime) -> Result<(), Fail> {
         let full = many.checked_div(limit as usize);
         assert_eq!(rt; full, Some(searches.saturating_sub(1)), "{limit}");
     }
+    Ok(())
+}
+
+/// A search finds rows with these ids, and no other rows are read.
+fn check_ids(
+    rt: &impl Abort,
+    alloc: Global,
+    made: &Indexed,
+    (prefix, after, limit): (&str, Option<u128>, u32),
+    want: &[u128],
+) -> Result<(), Fail> {
+    let asked = Search {
+        prefix,
+        time: day(LAST_DAY)?,
+        after,
+        limit,
+        pin: 1,
+    };
+    let mut reader = reader_of(&made.lists);
+    let found = find_rows(alloc, &made.terms, &made.index, &mut reader, asked)?;
+    let ids: Vec<u128> = found.iter().map(|row| row.id).collect(alloc)?;
+    assert_eq!(rt; ids.as_slice(), want, "{prefix} after {after:?}");
+    assert_eq!(rt; reader.reads, want.len() as u64);
     Ok(())
 }
 
@@ -358,18 +401,7 @@ fn a_search_goes_on_above_an_id(rt: HostRuntime) -> Result<(), Fail> {
         ("STRASS", Some(first), 0, [].as_slice()),
         ("weg", Some(first), 2, [].as_slice()),
     ] {
-        let asked = Search {
-            prefix,
-            time: day(LAST_DAY)?,
-            after,
-            limit,
-            pin: 1,
-        };
-        let mut reader = reader_of(&made.lists);
-        let found = find_rows(alloc, &made.terms, &made.index, &mut reader, asked)?;
-        let ids: Vec<u128> = found.iter().map(|row| row.id).collect(alloc)?;
-        assert_eq!(rt; ids.as_slice(), want, "{prefix} after {after:?}");
-        assert_eq!(rt; reader.reads, want.len() as u64);
+        check_ids(&rt, alloc, &made, (prefix, after, limit), want)?;
     }
     Ok(())
 }
@@ -410,17 +442,31 @@ fn ids_found(
     Ok(found.iter().map(|row| row.id).collect(alloc)?)
 }
 
-#[test]
-fn terms_of_as_many_lists_as_may_be(rt: HostRuntime) -> Result<(), Fail> {
-    let alloc = rt.alloc();
+/// As many lists as may be, each of one description, the greatest id first.
+fn many_lists(alloc: Global) -> Result<Vec<Vec<StampedRow>>, Fail> {
     let mut lists = Vec::new(alloc);
-    let mut ids = Vec::new(alloc);
     for number in 0..250u32 {
         let id = description_id(400 - number)?;
         let row = description(alloc, id, 20_200_131, true, "Straße")?;
         lists.push(vec![in alloc; StampedRow { row, import: 1 }]?)?;
-        ids.push(id)?;
     }
+    Ok(lists)
+}
+
+/// The ids of those descriptions.
+fn many_ids(alloc: Global) -> Result<Vec<u128>, Fail> {
+    let mut ids = Vec::new(alloc);
+    for number in 0..250u32 {
+        ids.push(description_id(400 - number)?)?;
+    }
+    Ok(ids)
+}
+
+#[test]
+fn terms_of_as_many_lists_as_may_be(rt: HostRuntime) -> Result<(), Fail> {
+    let alloc = rt.alloc();
+    let mut lists = many_lists(alloc)?;
+    let mut ids = many_ids(alloc)?;
     ids.reverse();
     let mut terms = terms_of(alloc, &lists)?;
     assert_eq!(rt; terms.lists(), 250);
@@ -458,15 +504,21 @@ const ALIKE: [&str; 14] = [
     "ÿbcdefghi",
 ];
 
-#[test]
-fn terms_that_begin_alike(rt: HostRuntime) -> Result<(), Fail> {
-    let alloc = rt.alloc();
+/// A description of each of these terms.
+fn alike_rows(alloc: Global) -> Result<Vec<StampedRow>, Fail> {
     let mut rows = Vec::new(alloc);
     for (number, term) in (100u32..).zip(ALIKE) {
         let id = description_id(number)?;
         let row = description(alloc, id, 20_200_131, true, term)?;
         rows.push(StampedRow { row, import: 1 })?;
     }
+    Ok(rows)
+}
+
+#[test]
+fn terms_that_begin_alike(rt: HostRuntime) -> Result<(), Fail> {
+    let alloc = rt.alloc();
+    let rows = alike_rows(alloc)?;
     let shown = plain::rows_at(alloc, 1, &rows)?;
     let made = index_all(alloc, vec![in alloc; rows]?)?;
     let time = day(LAST_DAY)?;
@@ -497,9 +549,8 @@ fn terms_that_begin_alike(rt: HostRuntime) -> Result<(), Fail> {
     Ok(())
 }
 
-#[test]
-fn posted_terms_grow_and_are_cut(rt: HostRuntime) -> Result<(), Fail> {
-    let alloc = rt.alloc();
+/// Four descriptions, of which the second is inactive.
+fn four_rows(alloc: Global) -> Result<Vec<StampedRow>, Fail> {
     let mut rows = Vec::new(alloc);
     for (number, active, term) in [
         (100, true, "Straße"),
@@ -511,6 +562,13 @@ fn posted_terms_grow_and_are_cut(rt: HostRuntime) -> Result<(), Fail> {
         let row = description(alloc, id, 20_200_131, active, term)?;
         rows.push(StampedRow { row, import: 1 })?;
     }
+    Ok(rows)
+}
+
+#[test]
+fn posted_terms_grow_and_are_cut(rt: HostRuntime) -> Result<(), Fail> {
+    let alloc = rt.alloc();
+    let rows = four_rows(alloc)?;
     let mut postings = post_terms(alloc, &rows)?;
     let lists = vec![in alloc; rows]?;
     assert_eq!(rt; postings.len(), 3);
@@ -527,6 +585,29 @@ fn posted_terms_grow_and_are_cut(rt: HostRuntime) -> Result<(), Fail> {
         assert!(rt; ids.iter().all(|id| *id == first));
     }
     assert_eq!(rt; Postings::new(alloc).len(), 0);
+    Ok(())
+}
+
+/// How many ways the lists' reader finds, or that it finds damage.
+fn check_fit(
+    rt: &impl Abort,
+    alloc: Global,
+    terms: &Terms,
+    index: &Index,
+    lists: &[Vec<StampedRow>],
+    want: Result<usize, ReadFault>,
+) -> Result<(), Fail> {
+    let asked = Search {
+        prefix: "we",
+        time: day(LAST_DAY)?,
+        after: None,
+        limit: 10,
+        pin: 2,
+    };
+    let mut reader = reader_of(lists);
+    let found = find_rows(alloc, terms, index, &mut reader, asked);
+    assert!(rt; found.map(|rows| rows.len()) == want);
+    assert_eq!(rt; reader.damages, u64::from(want.is_err()));
     Ok(())
 }
 
@@ -549,17 +630,7 @@ fn terms_that_do_not_fit_are_answered_or_refused(rt: HostRuntime) -> Result<(), 
         (&others, lists.as_slice(), Ok(1)),
         (&others, &[], Err(ReadFault::Damaged)),
     ] {
-        let asked = Search {
-            prefix: "we",
-            time: day(LAST_DAY)?,
-            after: None,
-            limit: 10,
-            pin: 2,
-        };
-        let mut reader = reader_of(lists);
-        let found = find_rows(alloc, terms, &index, &mut reader, asked);
-        assert!(rt; found.map(|rows| rows.len()) == want);
-        assert_eq!(rt; reader.damages, u64::from(want.is_err()));
+        check_fit(&rt, alloc, terms, &index, lists, want)?;
     }
     Ok(())
 }
