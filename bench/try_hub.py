@@ -249,7 +249,7 @@ def kill_program(hub):
     os.kill(programs[0], signal.SIGKILL)
     client = Client(hub)
     client.send(b"STATUS\n")
-    same("the hub's end", hub.end("a hub whose program was killed") != 0, True)
+    same("the hub's end", hub.end("a hub whose program was killed"), 1)
     client.leave()
 
 

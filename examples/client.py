@@ -3,8 +3,9 @@
 
 client.py SOCKET
 
-The lines have no session number: `echo 'GET C 138875005 20250101' | client.py /run/sctd/sctd.sock`.
-The status is 1 where the hub ends before each line is answered. Standard library alone.
+The lines have no session number:
+`echo 'GET C 138875005 20250101' | python3 client.py /run/sctd/sctd.sock`. The status is 0 after an
+`ERR` too; it is 1 where the hub ends before each line is answered. Standard library alone.
 """
 
 import socket

@@ -65,9 +65,13 @@ class Server:
             while not reply or reply[-1].split(b" ")[0] not in LAST_LINES:
                 part = await self.process.stdout.readline()
                 if not part:
-                    raise Ended(await self.process.wait() or 1)
+                    raise Ended(await self.failed())
                 reply.append(part.rstrip(b"\n"))
             return reply
+
+    async def failed(self):
+        """The status to end with where the program ended by itself; 1 where a signal ended it."""
+        return max(await self.process.wait(), 1)
 
     async def stop(self):
         """Ends the program after the line that it answers."""
@@ -153,7 +157,7 @@ async def opened(server):
         server.process.stdin.write(b"0 STATUS\n")
         line = await server.process.stdout.readline()
     if not line.startswith(b"OK "):
-        raise Ended(await server.process.wait() or 1, line)
+        raise Ended(await server.failed(), line)
 
 
 async def serve(options):
