@@ -77,7 +77,7 @@ FIGURES = [
     Figure(PERFORMANCE, " functions in {} crates now", CRATES),
     Figure(PERFORMANCE, " tests and {} functions in", FUNCTIONS),
     Figure(RELIABILITY, "it makes {} changing calls", SCRIPT_CALLS),
-    Figure(RELIABILITY, "| A stop | {} moments, 4 images each", reckoned(SCRIPT_CALLS, "n + 1")),
+    Figure(RELIABILITY, "| A crash | {} moments, 4 images each", reckoned(SCRIPT_CALLS, "n + 1")),
     Figure(RELIABILITY, ": {} disks | before, between and after all calls of the script",
            reckoned(SCRIPT_CALLS, "(n + 1) * 4")),
     Figure(RELIABILITY, "becomes version 2 | {} moments, 4 images each", OLD_STOPS),

@@ -1,6 +1,8 @@
 -- Rows that stand at places, and which of them are current.
 use Rattle.std.proofs.Common.{◌≡◌, ℕ, zero, suc, ◌+◌, ◌<◌, ◌≤◌, List, [], ◌∷◌, ◌++◌, length, get_or, take, map, refl, sym, ap, subst, inl, inr, ◌∙◌, arith}
 use Rattle.std.specs.Prelude.{Some}
+use Rattle.std.specs.List.{sum_by}
+use Rattle.std.proofs.lemmas.List.Sums.{sum_by-cons, sum_by_push}
 use Rattle.std.specs.Cmp.{IsTotalOrder, nat_cmp_total, on_total}
 use Rattle.std.specs.declared.cmp.Ordering.{Ordering}
 use Rattle.std.specs.declared.cmp.Ordering.TheVariants.{Less}
@@ -141,3 +143,18 @@ stand_end lists (j ∷ ks) (s ∷ rows) (suc i) a le = ap (λ xs. s ∷ xs) (sta
 pub map-push : {X Y : Type 0} (f : X → Y) (xs : List X) (x : X) → map f (xs ++ x ∷ []) ≡ map f xs ++ f x ∷ []
 map-push f [] x = refl
 map-push f (y ∷ ys) x = ap (λ zs. f y ∷ zs) (map-push f ys x)
+
+-- ---- what reading the rows takes
+
+pub rows_push : (f : RowValue → ℕ) (rows : List StampedRow) (s : StampedRow) → sum_by f (map (λ (t : StampedRow). t.row) (rows ++ s ∷ [])) ≡ sum_by f (map (λ (t : StampedRow). t.row) rows) + f s.row
+rows_push f rows s = ap (sum_by f) (map-push (λ (t : StampedRow). t.row) rows s) ∙ sum_by_push f (map (λ (t : StampedRow). t.row) rows) s.row
+
+-- the first rows take no more than all
+pub first_rows : (f : RowValue → ℕ) (k : ℕ) (rows : List StampedRow) → sum_by f (map (λ (t : StampedRow). t.row) (take k rows)) ≤ sum_by f (map (λ (t : StampedRow). t.row) rows)
+first_rows f zero rows = omega arith
+first_rows f (suc k) [] = omega arith
+first_rows f (suc k) (s ∷ rows) =
+    let one = sum_by-cons f s.row (map (λ (t : StampedRow). t.row) (take k rows)) in
+    let all = sum_by-cons f s.row (map (λ (t : StampedRow). t.row) rows) in
+    let rest = first_rows f k rows in
+    omega arith

@@ -1,7 +1,8 @@
 -- The versions of a component, one after the other.
-use Rattle.std.proofs.Common.{◌≡◌, ℕ, ◌<◌, ◌≤◌, Bool, true, false, List, [], ◌∷◌, ◌++◌, length, map, refl, sym, ap, subst, ◌∙◌, arith, append-nil, append_assoc}
+use Rattle.std.proofs.Common.{◌≡◌, ℕ, ◌+◌, ◌<◌, ◌≤◌, Bool, true, false, List, [], ◌∷◌, ◌++◌, length, map, refl, sym, ap, subst, ◌∙◌, arith, append-nil, append_assoc}
 use Rattle.std.specs.Prelude.{◌&&◌, ◌||◌, ◌==◌, not, nat_lt, Option, Some, None}
-use Rattle.std.specs.List.{filter}
+use Rattle.std.specs.List.{filter, sum_by}
+use Rattle.std.proofs.lemmas.List.Sums.{sum_by-cons}
 use Rattle.std.specs.Ordering.{nat_cmp}
 use Rattle.std.specs.Cmp.{ranked, tied_itself, nat_cmp_total}
 use Rattle.std.specs.declared.cmp.Ordering.{Ordering}
@@ -175,6 +176,11 @@ module _ (kind : Kind) (id pin : ℕ) (lists : List (List StampedRow)) (are : Ar
       ∙ ap (λ m. rows ++ s.row ∷ versions_above kind id (Some m) shown) (sym t.time_is)
       ∙ ap (λ ys. rows ++ ys) (sym (versions_first kind id after shown s.row (IsAscending-rows_at pin (listed lists) (IsAscending-listed lists)) inside t.wanted (λ c h v. let early = no_earlier after x n c h v in omega arith)))
       ∙ so_far
+
+  -- what the versions from one on take
+  pub versions_cost : (f : RowValue → ℕ) (after : Option ℕ) (x : ℕ × RowPlace) (s : StampedRow) → IsNextVersion kind id after places (Some x) → StandsAt lists x.0 x.1 s → x.1.import ≤ pin → sum_by f (versions_above kind id after shown) ≡ f s.row + sum_by f (versions_above kind id (Some x.1.key.time) shown)
+  versions_cost f after x s n w le =
+      ap (sum_by f) (sym (versions_push after x [] _ s n w le refl)) ∙ sum_by-cons f s.row (versions_above kind id (Some x.1.key.time) shown)
 
   its_above : (after : Option ℕ) (x : ℕ × RowPlace) → IsNextVersion kind id after places (Some x) → is_above after x.1.key.time ≡ true
   unfolding IsNextVersion

@@ -1,13 +1,14 @@
 -- The next id of a kind, and what a page takes in turn.
 use Rattle.std.proofs.Common.{◌≡◌, ◌⊎◌, ℕ, suc, ◌+◌, ◌-◌, ◌<◌, ◌≤◌, Bool, true, false, cond, List, [], ◌∷◌, ◌++◌, length, take, map, refl, sym, ap, subst, inl, inr, ◌∙◌, arith, append-nil, append_assoc}
 use Rattle.std.specs.Prelude.{◌&&◌, ◌||◌, ◌==◌, not, nat_le, nat_lt, Option, Some, None}
-use Rattle.std.specs.List.{filter, find}
+use Rattle.std.specs.List.{filter, find, sum_by}
 use Rattle.std.specs.Ordering.{nat_cmp}
 use Rattle.std.specs.Cmp.{ranked, tied_itself, nat_cmp_total}
 use Rattle.std.specs.declared.cmp.Ordering.{Ordering}
 use Rattle.std.specs.declared.cmp.Ordering.TheVariants.{Less, Equal, Greater}
 use Rattle.std.proofs.lemmas.Bool.Decides.{nat_tests}
 use Rattle.std.proofs.lemmas.List.{length_push}
+use Rattle.std.proofs.lemmas.List.Sums.{sum_by-cons}
 use Rattle.rf2_values.specs.declared.row.Kind.{Kind}
 use Rattle.rf2_values.specs.declared.key.Key.{Key}
 use Rattle.rf2_values.specs.Row.{RowValue, kind_of}
@@ -226,6 +227,17 @@ module _ (kind : Kind) (date pin : ℕ) (lists : List (List StampedRow)) where
       ∙ append_assoc rows (b ∷ []) (page kind date (Some id) (limit - (length rows + 1)) shown)
       ∙ ap (λ ys. rows ++ ys) (sym (page_somebody last id (limit - (length rows + 1)) b next found))
       ∙ ap (λ n. rows ++ page kind date last n shown) (sym one_less) ∙ so_far
+
+  -- what a page takes, of which the next row is the first
+  pub page_cost : (f : RowValue → ℕ) (last : Option ℕ) (id limit : ℕ) (rows : List RowValue) (b c : RowValue) → length rows < limit → IsNextShown kind last date pin places (Some id) → get kind id date shown ≡ Some b → sum_by f (page kind date last (limit - length rows) shown) ≡ f b + sum_by f (page kind date (Some id) (limit - length (rows ++ c ∷ [])) shown)
+  page_cost f last id limit rows b c lt next found =
+      let longer = length_push rows c in
+      let left : limit - (length rows + 1) ≡ limit - length (rows ++ c ∷ []) = ap (λ n. limit - n) (sym longer) in
+      let one_less : limit - length rows ≡ suc (limit - (length rows + 1)) = omega arith in
+      ap (λ n. sum_by f (page kind date last n shown)) one_less
+      ∙ ap (sum_by f) (page_somebody last id (limit - (length rows + 1)) b next found)
+      ∙ sum_by-cons f b (page kind date (Some id) (limit - (length rows + 1)) shown)
+      ∙ ap (λ n. f b + sum_by f (page kind date (Some id) n shown)) left
 
   pub page_same : (last : Option ℕ) (id n : ℕ) (rows target : List RowValue) → IsNextShown kind last date pin places (Some id) → get kind id date shown ≡ None → rows ++ page kind date last n shown ≡ target → rows ++ page kind date (Some id) n shown ≡ target
   page_same last id n rows target next none so_far = ap (λ ys. rows ++ ys) (sym (page_nobody last id n next none)) ∙ so_far

@@ -41,6 +41,11 @@ pub fn read_all<R: RowReader>(
     // No more is read than these rows take, each read once.
     ensures work { IfOk result (λ found.
         R.work reader.new ≤ R.work reader.old + sum_by R.cost found.items) }
+    // Whatever it answers and whatever was read, no more is read than the rows that stand there
+    // take, each counted once.
+    ensures work_always { (rows : List StampedRow)
+        → StandAtAll (R.lists reader.old) places.now rows
+        → R.work reader.new ≤ R.work reader.old + sum_by R.cost (map (λ s. s.row) rows) }
     ensures lists { R.lists reader.new ≡ R.lists reader.old }
     ensures honesty { R.is_honest reader.old → R.is_honest reader.new }
     ensures stays { R.stays reader.old reader.new }

@@ -283,6 +283,11 @@ impl Index {
         // No more is read than the row that it answers takes, and nothing where it answers none.
         ensures work { IfOk result (λ found.
             R.work reader.new ≤ R.work reader.old + sum_by R.cost (option_to_list found)) }
+        // Whatever it answers and whatever was read, no more is read than the row takes that is
+        // there, and nothing where there is none.
+        ensures work_always { Lists self.now (R.lists reader.old)
+            → R.work reader.new ≤ R.work reader.old + sum_by R.cost (option_to_list
+            (get kind id time (rows_at pin (listed (R.lists reader.old))))) }
         ensures lists { R.lists reader.new ≡ R.lists reader.old }
         ensures honesty { R.is_honest reader.old → R.is_honest reader.new }
         ensures stays { R.stays reader.old reader.new }
@@ -293,8 +298,8 @@ impl Index {
         match self.place_at(kind, id, time, pin) {
             None => Ok(None),
             Some((segment, at)) => {
-                let found = reader.row(self.alloc, segment, at)?;
-                Ok(Some(found.row))
+                let stamped = reader.row(self.alloc, segment, at)?;
+                Ok(Some(stamped.row))
             }
         }
     }
@@ -316,6 +321,11 @@ impl Index {
         // No more is read than the rows that it answers take, each read once.
         ensures work { IfOk result (λ rows.
             R.work reader.new ≤ R.work reader.old + sum_by R.cost rows.items) }
+        // Whatever it answers and whatever was read, no more is read than these versions take, each
+        // counted once.
+        ensures work_always { Lists self.now (R.lists reader.old)
+            → R.work reader.new ≤ R.work reader.old + sum_by R.cost
+            (versions kind id (rows_at pin (listed (R.lists reader.old)))) }
         ensures lists { R.lists reader.new ≡ R.lists reader.old }
         ensures honesty { R.is_honest reader.old → R.is_honest reader.new }
         ensures stays { R.stays reader.old reader.new }
@@ -328,8 +338,8 @@ impl Index {
         while let Some((segment, at)) = next_version(self.lists.as_slice(), kind, id, after) {
             let time = time_of(&at);
             if is_shown(&at, pin) {
-                let found = reader.row(self.alloc, segment, at)?;
-                rows.push(found.row)?;
+                let version = reader.row(self.alloc, segment, at)?;
+                rows.push(version.row)?;
             }
             after = Some(time);
         }
@@ -356,6 +366,11 @@ impl Index {
         // No more is read than the rows that it answers take, each read once.
         ensures work { IfOk result (λ rows.
             R.work reader.new ≤ R.work reader.old + sum_by R.cost rows.items) }
+        // Whatever it answers and whatever was read, no more is read than the rows of this page
+        // take, each counted once.
+        ensures work_always { Lists self.now (R.lists reader.old)
+            → R.work reader.new ≤ R.work reader.old + sum_by R.cost
+            (page kind time after limit (rows_at pin (listed (R.lists reader.old)))) }
         ensures lists { R.lists reader.new ≡ R.lists reader.old }
         ensures honesty { R.is_honest reader.old → R.is_honest reader.new }
         ensures stays { R.stays reader.old reader.new }

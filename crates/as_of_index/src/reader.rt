@@ -43,6 +43,9 @@ pub trait RowReader {
         ensures undamaged { is_honest self.old → (s : StampedRow)
             → StandsAt (lists self.old) segment at s → IfErr result (λ e. e ≢ readfault.Damaged) }
         ensures work { IfOk result (λ row. work self.new ≤ work self.old + cost row.row) }
+        // Whatever it answers: where a row stands, no more is read than this row takes.
+        ensures work_always { (s : StampedRow) → StandsAt (lists self.old) segment at s
+            → work self.new ≤ work self.old + cost s.row }
         ensures lists { lists self.new ≡ lists self.old }
         ensures honesty { is_honest self.old → is_honest self.new }
         ensures stays { stays self.old self.new }

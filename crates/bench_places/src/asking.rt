@@ -9,7 +9,7 @@ use rf2_values::Kind;
 use std::alloc::Global;
 use std::io;
 use std::rt::HostRuntime;
-use term_prefix::find;
+use term_prefix::{Search, find};
 
 /// A reader that gives one row, whatever the place:
 /// what is timed is the search and a copy of a row.
@@ -136,10 +136,12 @@ pub(crate) fn searches(
             &made.index,
             reader,
             "Finding",
-            date,
-            None,
-            limit,
-            1,
+            &Search {
+                time: date,
+                pin: 1,
+                after: None,
+                limit,
+            },
         );
         if let Ok(found) = found {
             rows = rows.wrapping_add(found.len() as u64);

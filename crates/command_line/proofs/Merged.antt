@@ -1,31 +1,34 @@
 -- What lines of a merge leave of a store.
-use Rattle.std.proofs.Common.{◌≡◌, ℕ, ◌+◌, List, [], ◌∷◌, ◌++◌, length, codes, true, false, slice_set, min, Option, Some, None, Result, Ok, Err, IsOk, IsErr, refl, ap, subst, ◌∙◌, arith, inl, inr}
-use Rattle.disk_model.specs.DeviceView.{DeviceView}
-use Rattle.std.specs.Prelude.{◌⊎◌}
+use Rattle.std.proofs.Common.{◌≡◌, ℕ, ◌+◌, List, [], ◌∷◌, ◌++◌, length, codes, true, false, slice_set, min, Option, Some, None, Result, Ok, Err, IsOk, IsErr, refl, ap, sym, subst, ◌∙◌, arith, inl, inr, ◌<◌, ◌≤◌, ◌-◌}
+use Rattle.line_server.specs.DeviceView.{DeviceView}
+use Rattle.std.specs.Prelude.{◌≢◌, unwrap_or, option_map}
 use Rattle.std.specs.Fmt.{digits}
 use Rattle.std.specs.List.{AllByRecursion}
 use Rattle.std.proofs.lemmas.Bool.{false≢true}
 use Rattle.std.proofs.lemmas.Option.{slice_get_within}
-use Rattle.std.proofs.lemmas.List.{length-set, append_assoc}
+use Rattle.std.proofs.lemmas.List.{length-set}
 use Rattle.std.proofs.lemmas.List.Edits.{length-remove}
 use Rattle.import_check.specs.declared.release.Release.{Release}
 use Rattle.import_check.specs.Release.{files_of}
-use Rattle.history_store.specs.Catalog.{Catalog}
-use Rattle.history_store.specs.Merging.{IsBegun, IsStepped, IsPublished}
+use Rattle.history_store.specs.declared.refusal.Refusal.{Refusal}
+use Rattle.history_store.specs.declared.refusal.Refusal.TheVariants as store
+use Rattle.history_store.specs.Catalog.{Catalog, Merge as CatalogMerge}
+use Rattle.history_store.specs.Merging.{IsBegun, IsStepped, IsPublished, GoesOn, IsFinished}
+use Rattle.history_store.specs.MergeAnswers.{IsNotBegun, IsNotStepped, IsNotPublished, IsNotTrimmed}
 use Rattle.history_store.specs.StoreValue.{StoreValue}
-use Rattle.line_commands.specs.Commands.{Command, Merge, Step, Publish, Trim}
+use Rattle.line_commands.specs.Commands.{Command, Merge, Step, Publish, Trim, Import, Pin, Receipt}
 use Rattle.line_commands.specs.Requests.{Asks}
-use Rattle.line_commands.proofs.Readings.{one_reading}
+use Rattle.line_commands.proofs.Readings.{one_reading, asked_is_read}
 use Rattle.line_server.specs.declared.refusal.LineRefusal.{LineRefusal}
 use Rattle.line_server.specs.declared.refusal.LineRefusal.TheVariants as refusals
 use Rattle.line_server.specs.Sources.{Releases, no_releases}
 use Rattle.line_server.specs.ReplyValue.{Answer, ReplyValue, reply_value}
 use Rattle.line_server.specs.Pins.{unpinned}
-use Rattle.line_server.specs.Replies.{Server, Replies, IsAnswer, server}
+use Rattle.line_server.specs.Replies.{Server, Replies, IsAnswer, IsRefusal, IsOutOfRange, server}
 use Rattle.line_server.specs.Turns.{Turn, IsTurn, IsAskedFor, Run, imported}
 use Rattle.line_server.proofs.Imported.{run_imported}
-use Rattle.command_line.specs.Merging.{IsMergeTurn, IsMergeLine, IsHaltedBy, IsMergedTo, IsMergedAndAsked, TellsMerge, segments_of, trim_line}
-use Rattle.command_line.specs.Private.{IsAsked, IsHalted, HaveMerged, IsOneLess, IsTrimmedTo}
+use Rattle.command_line.specs.Merging.{IsMergeTurn, IsMergeLine, IsHalt, IsHaltedBy, IsMergedTo, IsMergedAndAsked, TellsMerge, segments_of, trim_line}
+use Rattle.command_line.specs.Private.{IsAsked, IsAtRest, IsMerging, HasMerged, IsStopped, IsHalted, HaveMerged, IsOneLess, IsTrimmedTo, rows_left}
 use Rattle.command_line.specs.Endings.{Report, Tells}
 use Rattle.command_line.specs.Tasks.{status_line}
 
@@ -62,6 +65,86 @@ module _ {D : Type 0} (honest : Type 0) (releases : Releases) (old new : Server 
       (answer, rw (← same.0, ← same.1) r.3)
   answered (Ok answer) ok (inr r) = let no : Ok answer ≡ Err (refusals.Unread r.0) = r.2 in cc
   answered (Err refusal) ok r = let no : false ≡ true = ok in absurd (false≢true no)
+
+  -- and one that was refused was refused as its command is
+  refused_as : (outcome : Result Answer LineRefusal) → IsErr outcome → Replies honest releases line outcome old new
+      → (refusal : LineRefusal) × (outcome ≡ Err refusal) × IsRefusal honest releases session command refusal old new
+  refused_as (Ok answer) err r = let no : false ≡ true = err in absurd (false≢true no)
+  refused_as (Err refusal) err (inl r) =
+      let same = one_reading line r.0 session r.1 command r.2 asks in
+      (refusal, refl, rw (← same.0, ← same.1) r.3)
+  refused_as (Err refusal) err (inr r) = absurd (asked_is_read line session command r.0 asks r.1)
+
+-- ---- why a line of a merge is refused
+
+not_closed : {D : Type 0} (s : StoreValue D) → s.needs_reopen ≡ true → s.needs_reopen ≡ false → ⊥
+not_closed s closed open_still = false≢true (sym open_still ∙ closed)
+
+not_begun : {D : Type 0} (e : Refusal) (s : StoreValue D) → IsNotBegun e s → s.needs_reopen ≡ false → s.catalog.merge ≡ None → 2 ≤ length s.catalog.entries → IsHalt (Err (refusals.Store e))
+not_begun store.ReopenNeeded s h open_still none two = absurd (not_closed s h open_still)
+not_begun store.MergeBusy s h open_still none two = let no : Some h.1.0 ≡ None = sym h.1.1 ∙ none in cc
+not_begun store.NothingToMerge s h open_still none two = let few = h.2 in absurd (omega (arith, few, two))
+not_begun store.Full s h open_still none two = tt
+not_begun _ s h open_still none two = absurd h
+
+not_stepped : {D : Type 0} (e : Refusal) (s : StoreValue D) (n : ℕ) → IsNotStepped e s n → s.needs_reopen ≡ false → GoesOn s.catalog → IsHalt (Err (refusals.Store e))
+not_stepped store.ReopenNeeded s n h open_still on = absurd (not_closed s h open_still)
+not_stepped store.NoMerge s n h open_still on = let no : Some on.0 ≡ None = sym on.1 ∙ h.1 in cc
+not_stepped store.OutOfMemory s n h open_still on = tt
+not_stepped store.DiskFault s n h open_still on = tt
+not_stepped store.Damaged s n h open_still on = tt
+not_stepped _ s n h open_still on = absurd h
+
+abbrev left_in : Option CatalogMerge → ℕ
+left_in merge = unwrap_or (option_map (λ m. m.left) merge) 0
+
+not_published : {D : Type 0} (e : Refusal) (s : StoreValue D) → IsNotPublished e s → s.needs_reopen ≡ false → IsFinished s.catalog → IsHalt (Err (refusals.Store e))
+not_published store.ReopenNeeded s h open_still done = absurd (not_closed s h open_still)
+not_published store.NoMerge s h open_still done = let no : Some done.0 ≡ None = sym done.1 ∙ h.1 in cc
+not_published store.MergeUnfinished s h open_still done =
+    let one : left_in s.catalog.merge ≡ h.1.0.left = ap left_in h.1.1 in
+    let two : left_in s.catalog.merge ≡ done.0.left = ap left_in done.1 in
+    let some = h.1.2 in
+    let none = done.2 in
+    absurd (omega (arith, one, two, some, none))
+not_published store.CountSpent s h open_still done = tt
+not_published store.DiskFault s h open_still done = tt
+not_published _ s h open_still done = absurd h
+
+not_trimmed : {D : Type 0} (e : Refusal) (s : StoreValue D) → IsNotTrimmed e s → s.needs_reopen ≡ false → IsHalt (Err (refusals.Store e))
+not_trimmed store.ReopenNeeded s h open_still = absurd (not_closed s h open_still)
+not_trimmed store.DiskFault s h open_still = tt
+not_trimmed _ s h open_still = absurd h
+
+-- a command that names no import isn't out of their range
+in_range : {D : Type 0} (session : ℕ) (command : Command) (old : Server D) → ((number : Option ℕ) → command ≢ Pin number) → ((number : ℕ) → command ≢ Receipt number) → IsOutOfRange session command old → ⊥
+in_range session command old no_pin no_receipt (n, inl r) = no_pin (Some n) r.0
+in_range session command old no_pin no_receipt (n, inr r) = no_receipt n r.0
+
+module _ {D : Type 0} (honest : Type 0) (releases : Releases) (old new : Server D) where
+  merge_halts : (refusal : LineRefusal) → IsRefusal honest releases 0 Merge refusal old new → IsAtRest old → 2 ≤ segments_of old → IsHalt (Err refusal)
+  merge_halts (refusals.Unread reason) r rest two = absurd r
+  merge_halts refusals.PinRange r rest two = absurd (in_range 0 Merge old (λ n e. cc) (λ n e. cc) r.0)
+  merge_halts refusals.NoFolder r rest two = let no : Merge ≡ Import r.0 = r.1 in cc
+  merge_halts (refusals.Store e) r rest two = not_begun e old.store r.0.0 rest.0 rest.1 two
+
+  step_halts : (n : ℕ) (refusal : LineRefusal) → IsRefusal honest releases 0 (Step n) refusal old new → IsMerging old → IsHalt (Err refusal)
+  step_halts n (refusals.Unread reason) r on = absurd r
+  step_halts n refusals.PinRange r on = absurd (in_range 0 (Step n) old (λ m e. cc) (λ m e. cc) r.0)
+  step_halts n refusals.NoFolder r on = let no : Step n ≡ Import r.0 = r.1 in cc
+  step_halts n (refusals.Store e) r on = not_stepped e old.store n r.0.0 on.0 on.1
+
+  publish_halts : (refusal : LineRefusal) → IsRefusal honest releases 0 Publish refusal old new → HasMerged old → IsHalt (Err refusal)
+  publish_halts (refusals.Unread reason) r done = absurd r
+  publish_halts refusals.PinRange r done = absurd (in_range 0 Publish old (λ n e. cc) (λ n e. cc) r.0)
+  publish_halts refusals.NoFolder r done = let no : Publish ≡ Import r.0 = r.1 in cc
+  publish_halts (refusals.Store e) r done = not_published e old.store r.0.0 done.0 done.1
+
+  trim_halts : (refusal : LineRefusal) → IsRefusal honest releases 0 Trim refusal old new → IsAtRest old → IsHalt (Err refusal)
+  trim_halts (refusals.Unread reason) r rest = absurd r
+  trim_halts refusals.PinRange r rest = absurd (in_range 0 Trim old (λ n e. cc) (λ n e. cc) r.0)
+  trim_halts refusals.NoFolder r rest = let no : Trim ≡ Import r.0 = r.1 in cc
+  trim_halts (refusals.Store e) r rest = not_trimmed e old.store r.0.0 rest.0
 
 -- ---- how many segments stand then
 
@@ -105,6 +188,57 @@ module _ {D : Type 0} (view : DeviceView D) where
       let a = answered (view.is_honest old.store.disk) t.releases old new turn.line 0 Trim (rw is trim_asks) turn.outcome ok t.goes.replies in
       ap (λ (s : Catalog). length s.entries) a.1.1.0
 
+  -- ---- whether a merge goes on then
+
+  begun_goes : (old new : Server D) (turn : Turn) → turn.line ≡ codes "0 MERGE" → IsOk turn.outcome → Goes old turn new → IsMerging new
+  begun_goes old new turn is ok t =
+      let a = answered (view.is_honest old.store.disk) t.releases old new turn.line 0 Merge (rw is merge_asks) turn.outcome ok t.goes.replies in
+      (a.1.1.1.open_still, (_, ap (λ (c : Catalog). c.merge) a.1.1.0.next_is))
+
+  step_goes : (old new : Server D) (turn : Turn) → turn.line ≡ codes "0 STEP 100000" → IsOk turn.outcome → Goes old turn new → IsMerging new × (rows_left new ≡ rows_left old - 100000)
+  step_goes old new turn is ok t =
+      let a = answered (view.is_honest old.store.disk) t.releases old new turn.line 0 (Step 100000) (rw is step_asks) turn.outcome ok t.goes.replies in
+      let now : left_in new.store.catalog.merge ≡ a.1.0 = ap (λ (c : Catalog). left_in c.merge) a.1.1.0.next_is in
+      let before : left_in old.store.catalog.merge ≡ a.1.1.0.merge.left = ap left_in a.1.1.0.goes_on in
+      ((a.1.1.1.open_still, (_, ap (λ (c : Catalog). c.merge) a.1.1.0.next_is)), now ∙ a.1.1.0.left_is ∙ ap (λ n. n - 100000) (sym before))
+
+  pub all_taken : (s : Server D) → IsMerging s → rows_left s ≡ 0 → HasMerged s
+  all_taken s on zero =
+      let now : left_in s.store.catalog.merge ≡ on.1.0.left = ap left_in on.1.1 in
+      (on.0, (on.1.0, on.1.1, sym now ∙ zero))
+
+  published_rests : (old new : Server D) (turn : Turn) → turn.line ≡ codes "0 PUBLISH" → IsOk turn.outcome → Goes old turn new → IsAtRest new
+  published_rests old new turn is ok t =
+      let a = answered (view.is_honest old.store.disk) t.releases old new turn.line 0 Publish (rw is publish_asks) turn.outcome ok t.goes.replies in
+      (a.1.0.3, ap (λ (c : Catalog). c.merge) a.1.0.0.next_is)
+
+  trimmed_rests : (old new : Server D) (turn : Turn) → turn.line ≡ trim_line → IsOk turn.outcome → Goes old turn new → IsAtRest old → new.store.catalog.merge ≡ None
+  trimmed_rests old new turn is ok t rest =
+      let a = answered (view.is_honest old.store.disk) t.releases old new turn.line 0 Trim (rw is trim_asks) turn.outcome ok t.goes.replies in
+      ap (λ (c : Catalog). c.merge) a.1.1.0 ∙ rest.1
+
+  -- ---- why a line is refused that was due
+
+  pub merge_stops : (most : ℕ) (old new : Server D) (turn : Turn) → turn.line ≡ codes "0 MERGE" → IsErr turn.outcome → IsAtRest old → most < segments_of old → Goes old turn new → 1 ≤ most → IsHalt turn.outcome
+  merge_stops most old new turn is err rest more t one =
+      let r = refused_as (view.is_honest old.store.disk) t.releases old new turn.line 0 Merge (rw is merge_asks) turn.outcome err t.goes.replies in
+      subst IsHalt (sym r.1) (merge_halts (view.is_honest old.store.disk) t.releases old new r.0 r.2 rest (omega (arith, more, one)))
+
+  pub step_stops : (old new : Server D) (turn : Turn) → turn.line ≡ codes "0 STEP 100000" → IsErr turn.outcome → IsMerging old → Goes old turn new → IsHalt turn.outcome
+  step_stops old new turn is err on t =
+      let r = refused_as (view.is_honest old.store.disk) t.releases old new turn.line 0 (Step 100000) (rw is step_asks) turn.outcome err t.goes.replies in
+      subst IsHalt (sym r.1) (step_halts (view.is_honest old.store.disk) t.releases old new 100000 r.0 r.2 on)
+
+  publish_stops : (old new : Server D) (turn : Turn) → turn.line ≡ codes "0 PUBLISH" → IsErr turn.outcome → HasMerged old → Goes old turn new → IsHalt turn.outcome
+  publish_stops old new turn is err done t =
+      let r = refused_as (view.is_honest old.store.disk) t.releases old new turn.line 0 Publish (rw is publish_asks) turn.outcome err t.goes.replies in
+      subst IsHalt (sym r.1) (publish_halts (view.is_honest old.store.disk) t.releases old new r.0 r.2 done)
+
+  trim_stops : (old new : Server D) (turn : Turn) → turn.line ≡ trim_line → IsErr turn.outcome → IsAtRest old → Goes old turn new → IsHalt turn.outcome
+  trim_stops old new turn is err rest t =
+      let r = refused_as (view.is_honest old.store.disk) t.releases old new turn.line 0 Trim (rw is trim_asks) turn.outcome err t.goes.replies in
+      subst IsHalt (sym r.1) (trim_halts (view.is_honest old.store.disk) t.releases old new r.0 r.2 rest)
+
   -- ---- lines one after the other
 
   run_both : (old mid new : Server D) (turns more : List Turn) → Runs old turns mid → Runs mid more new → Runs old (turns ++ more) new
@@ -128,21 +262,39 @@ module _ {D : Type 0} (view : DeviceView D) where
   }
 
   -- a line was refused, after lines of merges
-  pub halted_first : (old new : Server D) (reply : ReplyValue) (turn : Turn) → (IsMergeLine turn.line ⊎ (turn.line ≡ trim_line)) → IsErr turn.outcome → reply ≡ reply_value turn.outcome → Goes old turn new
-      → IsHalted view reply old new
-  halted_first old new reply turn is err says t = (turn, says, record { turns = []; merges = tt; run = one_run old new turn t; line = is; refused = err })
+  pub stopped_first : (most : ℕ) (old new : Server D) (reply : ReplyValue) (turn : Turn) → IsMergeLine turn.line → most < segments_of old → IsErr turn.outcome → reply ≡ reply_value turn.outcome → Goes old turn new → (1 ≤ most → IsHalt turn.outcome)
+      → IsStopped view most reply old new
+  stopped_first most old new reply turn is more err says t cause = (turn, says, record { before = old; have = have_none old; is_merge = is; more = more; goes = t; refused = err; cause = cause })
 
-  pub halted_after : (old mid new : Server D) (reply : ReplyValue) → HaveMerged view old mid → IsHalted view reply mid new
-      → IsHalted view reply old new
-  halted_after old mid new reply a h = (
+  pub stopped_after : (most : ℕ) (old mid new : Server D) (reply : ReplyValue) → HaveMerged view old mid → IsStopped view most reply mid new
+      → IsStopped view most reply old new
+  stopped_after most old mid new reply a h = (
     h.0,
     h.1,
     record {
-      turns = a.turns ++ h.2.turns;
-      merges = all_append IsMergeTurn a.turns h.2.turns a.merges h.2.merges;
-      run = rw (append_assoc a.turns h.2.turns (h.0 ∷ [])) (run_both old mid new a.turns (h.2.turns ++ h.0 ∷ []) a.run h.2.run);
-      line = h.2.line;
+      before = h.2.before;
+      have = have_both old mid h.2.before a h.2.have;
+      is_merge = h.2.is_merge;
+      more = h.2.more;
+      goes = h.2.goes;
       refused = h.2.refused;
+      cause = h.2.cause;
+    },
+  )
+
+  pub halted_so : (most : ℕ) (old new : Server D) (reply : ReplyValue) → IsStopped view most reply old new → IsHalted view most reply old new
+  halted_so most old new reply h = (
+    h.0,
+    h.1,
+    record {
+      turns = h.2.have.turns;
+      merges = h.2.have.merges;
+      before = h.2.before;
+      run = h.2.have.run;
+      due = inl (h.2.is_merge, h.2.more);
+      goes = h.2.goes;
+      refused = h.2.refused;
+      cause = h.2.cause;
     },
   )
 
@@ -162,8 +314,9 @@ module _ {D : Type 0} (view : DeviceView D) where
       let all = (run_imported view no_releases old new turns run).history lie in
       rw (none_taken old new turns run) at all
 
-  pub halted_keeps : (old new : Server D) (last : Turn) → IsHaltedBy view last old new → view.is_honest old.store.disk → new.store.history ≡ old.store.history
-  halted_keeps old new last h lie = run_keeps old new (h.turns ++ last ∷ []) h.run lie
+  pub halted_keeps : (most : ℕ) (old new : Server D) (last : Turn) → IsHaltedBy view most last old new → view.is_honest old.store.disk → new.store.history ≡ old.store.history
+  halted_keeps most old new last h lie =
+      run_keeps old new (h.turns ++ last ∷ []) (run_both old h.before new h.turns (last ∷ []) h.run (one_run h.before new last h.goes)) lie
 
   pub merged_keeps : (most : ℕ) (old new : Server D) (last : Turn) → IsMergedAndAsked view most last old new → view.is_honest old.store.disk
       → new.store.history ≡ old.store.history
@@ -175,25 +328,32 @@ module _ {D : Type 0} (view : DeviceView D) where
 
   pub rows_more : (old mid new : Server D) (turn : Turn) → HaveMerged view old mid → segments_of mid ≡ segments_of old
       → turn.line ≡ codes "0 STEP 100000" → IsOk turn.outcome → Goes mid turn new
-      → HaveMerged view old new × (segments_of new ≡ segments_of old)
+      → HaveMerged view old new × (segments_of new ≡ segments_of old) × IsMerging new × (rows_left new ≡ rows_left mid - 100000)
   rows_more old mid new turn have same is ok t =
-      (have_both old mid new have (have_one mid new turn (inr (inl is)) ok t), step_keeps mid new turn is ok t ∙ same)
+      let now = step_goes mid new turn is ok t in
+      (have_both old mid new have (have_one mid new turn (inr (inl is)) ok t), step_keeps mid new turn is ok t ∙ same, now.0, now.1)
 
-  pub one_less : (old a b new : Server D) (begin : Turn) (result : Result (Unit {0}) ReplyValue) → begin.line ≡ codes "0 MERGE" → IsOk begin.outcome → Goes old begin a
-      → HaveMerged view a b → segments_of b ≡ segments_of a → IsAsked view (codes "0 PUBLISH") result b new
+  -- a merge has begun
+  pub begun_one : (old a : Server D) (begin : Turn) → begin.line ≡ codes "0 MERGE" → IsOk begin.outcome → Goes old begin a
+      → HaveMerged view old a × (segments_of a ≡ segments_of old) × IsMerging a
+  begun_one old a begin is ok t = (have_one old a begin (inl is) ok t, merge_keeps old a begin is ok t, begun_goes old a begin is ok t)
+
+  pub one_less : (old a b new : Server D) (result : Result (Unit {0}) ReplyValue) → HaveMerged view old a → segments_of a ≡ segments_of old
+      → HaveMerged view a b → segments_of b ≡ segments_of a → HasMerged b → IsAsked view (codes "0 PUBLISH") result b new
       → IsOneLess view result old new
-  one_less old a b new begin (Ok done) is ok t rows same last = (
-    have_both old b new (have_both old a b (have_one old a begin (inl is) ok t) rows) (have_one b new last.0 (inr (inr last.1)) last.3 last.2),
-    publish_lowers b new last.0 last.1 last.3 last.2 ∙ same ∙ merge_keeps old a begin is ok t,
+  one_less old a b new (Ok done) have as_old rows same all last = (
+    have_both old b new (have_both old a b have rows) (have_one b new last.0 (inr (inr last.1)) last.3 last.2),
+    publish_lowers b new last.0 last.1 last.3 last.2 ∙ same ∙ as_old,
+    published_rests b new last.0 last.1 last.3 last.2,
   )
-  one_less old a b new begin (Err reply) is ok t rows same last =
-      halted_after old b new reply (have_both old a b (have_one old a begin (inl is) ok t) rows)
-      (halted_first b new reply last.0 (inl (inr (inr last.1))) last.3.0 last.3.1 last.2)
+  one_less old a b new (Err reply) have as_old rows same all last = λ most more.
+      stopped_after most old b new reply (have_both old a b have rows)
+      (stopped_first most b new reply last.0 (inr (inr last.1)) (omega (arith, more, same, as_old)) last.3.0 last.3.1 last.2 (λ one. publish_stops b new last.0 last.1 last.3.0 all last.2))
 
   pub trimmed_to : (most : ℕ) (old mid new : Server D) (result : Result (Unit {0}) ReplyValue) → HaveMerged view old mid
-      → segments_of mid ≡ min (segments_of old) most → IsAsked view trim_line result mid new
+      → segments_of mid ≡ min (segments_of old) most → IsAtRest mid → IsAsked view trim_line result mid new
       → IsTrimmedTo view most result old new
-  trimmed_to most old mid new (Ok done) have few last = record {
+  trimmed_to most old mid new (Ok done) have few rest last = record {
     turns = have.turns;
     merges = have.merges;
     trim = last.0;
@@ -201,9 +361,22 @@ module _ {D : Type 0} (view : DeviceView D) where
     trimmed = last.3;
     run = run_both old mid new have.turns (last.0 ∷ []) have.run (one_run mid new last.0 last.2);
     number = trim_keeps mid new last.0 last.1 last.3 last.2 ∙ few;
+    none_left = trimmed_rests mid new last.0 last.1 last.3 last.2 rest;
   }
-  trimmed_to most old mid new (Err reply) have few last =
-      halted_after old mid new reply have (halted_first mid new reply last.0 (inr last.1) last.3.0 last.3.1 last.2)
+  trimmed_to most old mid new (Err reply) have few rest last = (
+    last.0,
+    last.3.1,
+    record {
+      turns = have.turns;
+      merges = have.merges;
+      before = mid;
+      run = have.run;
+      due = inr (last.1, few, rest.1);
+      goes = last.2;
+      refused = last.3.0;
+      cause = λ one. trim_stops mid new last.0 last.1 last.3.0 rest last.2;
+    },
+  )
 
   -- ---- the whole
 
@@ -217,9 +390,9 @@ module _ {D : Type 0} (view : DeviceView D) where
       record { last = last; pins = pins; after = after; goes = inl goes; told = told; left_so = so; history = merged_keeps most (server unpinned store) (server pins after) last goes }
 
   pub told_refusal : (most : ℕ) (old : Server D) (pins : List (Option ℕ)) (after store : StoreValue D) (last : Turn) (left : D) (r : Report)
-      → old ≡ server unpinned store → IsHaltedBy view last old (server pins after)
+      → old ≡ server unpinned store → IsHaltedBy view most last old (server pins after)
       → Tells r last.outcome → left ≡ after.disk → TellsMerge view most left r store
   told_refusal most old pins after store last left r from halted told so =
-      let goes : IsHaltedBy view last (server unpinned store) (server pins after) =
-      subst (λ (d : Server D). IsHaltedBy view last d (server pins after)) from halted in
-      record { last = last; pins = pins; after = after; goes = inr goes; told = told; left_so = so; history = halted_keeps (server unpinned store) (server pins after) last goes }
+      let goes : IsHaltedBy view most last (server unpinned store) (server pins after) =
+      subst (λ (d : Server D). IsHaltedBy view most last d (server pins after)) from halted in
+      record { last = last; pins = pins; after = after; goes = inr goes; told = told; left_so = so; history = halted_keeps most (server unpinned store) (server pins after) last goes }

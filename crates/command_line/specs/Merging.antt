@@ -1,10 +1,14 @@
 -- What merging the segments of a store does.
-use Rattle.std.specs.Prelude.{◌≡◌, ◌⊎◌, ℕ, List, [], ◌∷◌, ◌++◌, length, min, codes, Option, IsOk}
-use Rattle.std.specs.Prelude.{IsErr}
+use Rattle.std.specs.Prelude.{◌≡◌, ◌⊎◌, ℕ, ◌<◌, ◌≤◌, List, [], ◌∷◌, ◌++◌, length, min, codes}
+use Rattle.std.specs.Prelude.{Option, None, Result, Err, IsOk, IsErr}
 use Rattle.line_server.specs.Sources.{no_releases}
-use Rattle.disk_model.specs.DeviceView.{DeviceView}
+use Rattle.line_server.specs.DeviceView.{DeviceView}
 use Rattle.std.specs.List.{AllByRecursion}
+use Rattle.history_store.specs.declared.refusal.Refusal.TheVariants as store
 use Rattle.history_store.specs.StoreValue.{StoreValue}
+use Rattle.line_server.specs.declared.refusal.LineRefusal.{LineRefusal}
+use Rattle.line_server.specs.declared.refusal.LineRefusal.TheVariants as refusals
+use Rattle.line_server.specs.ReplyValue.{Answer}
 use Rattle.line_server.specs.Pins.{unpinned}
 use Rattle.line_server.specs.Replies.{Server, server}
 use Rattle.line_server.specs.Turns.{Turn, IsTurn, Run}
@@ -28,8 +32,12 @@ IsMergeTurn turn = IsMergeLine turn.line × IsOk turn.outcome
 abbrev pub segments_of : {D : Type 0} → Server D → ℕ
 segments_of server = length server.store.catalog.entries
 
+-- no merge goes on
+abbrev pub HasNoMerge : {D : Type 0} → Server D → Type 0
+HasNoMerge server = server.store.catalog.merge ≡ None
+
 -- Lines of merges were answered OK, and then the one that trims. From more than so many
--- segments that many are left, and from fewer as many as there were.
+-- segments that many are left, and from fewer as many as there were. No merge is left begun.
 pub record IsMergedTo {D : Type 0} (view : DeviceView D) (most : ℕ) (old new : Server D)
     : Type 0 where
   pub turns : List Turn
@@ -39,15 +47,38 @@ pub record IsMergedTo {D : Type 0} (view : DeviceView D) (most : ℕ) (old new :
   pub trimmed : IsOk trim.outcome
   pub run : Run no_releases view old (turns ++ trim ∷ []) new
   pub number : segments_of new ≡ min (segments_of old) most
+  pub none_left : HasNoMerge new
 
--- lines of merges were answered OK, and then one of these lines was refused
-pub record IsHaltedBy {D : Type 0} (view : DeviceView D) (last : Turn) (old new : Server D)
-    : Type 0 where
+-- What ends the merging of segments: memory, the device, its bytes or its room, or the count of
+-- publications. Lines that are asked in their order are refused for no other reason.
+abbrev pub IsHalt : Result Answer LineRefusal → Type 0
+IsHalt (Err (refusals.Store store.OutOfMemory)) = Unit {0}
+IsHalt (Err (refusals.Store store.DiskFault)) = Unit {0}
+IsHalt (Err (refusals.Store store.Full)) = Unit {0}
+IsHalt (Err (refusals.Store store.Damaged)) = Unit {0}
+IsHalt (Err (refusals.Store store.CountSpent)) = Unit {0}
+IsHalt _ = ⊥
+
+-- a line of a merge is asked while there are more than so many segments, and the
+-- one that trims where that many are left, or as many as there were, and no merge goes on
+abbrev pub IsDue : {D : Type 0} → ℕ → Turn → Server D → Server D → Type 0
+IsDue most turn first now =
+    (IsMergeLine turn.line × (most < segments_of now))
+    ⊎ ((turn.line ≡ trim_line) × (segments_of now ≡ min (segments_of first) most)
+    × HasNoMerge now)
+
+-- Lines of merges were answered OK, and then one of these lines was
+-- refused, which was due, for a reason that lies outside of them.
+pub record IsHaltedBy {D : Type 0} (view : DeviceView D) (most : ℕ) (last : Turn)
+    (old new : Server D) : Type 0 where
   pub turns : List Turn
   pub merges : AllByRecursion IsMergeTurn turns
-  pub run : Run no_releases view old (turns ++ last ∷ []) new
-  pub line : IsMergeLine last.line ⊎ (last.line ≡ trim_line)
+  pub before : Server D
+  pub run : Run no_releases view old turns before
+  pub due : IsDue most last old before
+  pub goes : IsTurn no_releases view before last new
   pub refused : IsErr last.outcome
+  pub cause : 1 ≤ most → IsHalt last.outcome
 
 -- the segments were merged, and then the status was asked for
 abbrev pub IsMergedAndAsked : {D : Type 0} → DeviceView D → ℕ → Turn → Server D → Server D
@@ -63,7 +94,7 @@ pub record TellsMerge {D : Type 0} (view : DeviceView D) (most : ℕ) (left : D)
   pub pins : List (Option ℕ)
   pub after : StoreValue D
   pub goes : IsMergedAndAsked view most last (server unpinned store) (server pins after)
-      ⊎ IsHaltedBy view last (server unpinned store) (server pins after)
+      ⊎ IsHaltedBy view most last (server unpinned store) (server pins after)
   pub told : Tells report last.outcome
   pub left_so : left ≡ after.disk
   -- what stands in the store stays the same

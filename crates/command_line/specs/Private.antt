@@ -1,10 +1,11 @@
 -- Words that private functions and proofs need, of this crate or of one above it.
 -- No public clause cites them.
-use Rattle.std.specs.Prelude.{◌≡◌, ℕ, ◌+◌, List, Result, Ok, Err, IsOk, IsErr, [], ◌∷◌}
+use Rattle.std.specs.Prelude.{◌≡◌, ℕ, ◌+◌, ◌<◌, ◌≤◌, List, Result, Ok, Err, IsOk, IsErr, [], ◌∷◌}
 use Rattle.line_server.specs.Sources.{no_releases}
-use Rattle.disk_model.specs.DeviceView.{DeviceView}
-use Rattle.std.specs.Prelude.{codes, decimal, false}
+use Rattle.line_server.specs.DeviceView.{DeviceView}
+use Rattle.std.specs.Prelude.{codes, decimal, false, unwrap_or, option_map}
 use Rattle.std.specs.List.{AllByRecursion}
+use Rattle.history_store.specs.Merging.{GoesOn, IsFinished}
 use Rattle.clap.specs.Walk.{Rule, rule_of}
 use Rattle.clap.specs.Simple.{App, app_of}
 use Rattle.clap.specs.declared.builder.command.Command.TheViews.{out-Command}
@@ -14,8 +15,9 @@ use Rattle.line_server.specs.declared.serving.ServeFault.{ServeFault}
 use Rattle.line_server.specs.declared.serving.ServeFault.TheVariants as faults
 use Rattle.line_server.specs.ReplyValue.{ReplyValue, reply_value, line}
 use Rattle.line_server.specs.Replies.{Server}
-use Rattle.line_server.specs.Turns.{Turn, HasTurn, Run}
-use Rattle.command_line.specs.Merging.{IsMergeTurn, IsHaltedBy, IsMergedTo, segments_of}
+use Rattle.line_server.specs.Turns.{Turn, HasTurn, IsTurn, Run}
+use Rattle.command_line.specs.Merging.{IsMergeLine, IsMergeTurn, IsHalt, IsHaltedBy, IsMergedTo}
+use Rattle.command_line.specs.Merging.{HasNoMerge, segments_of}
 
 -- the line was answered OK, or its reply, which is a refusal, comes back
 abbrev pub IsAsked : {D : Type 0} → DeviceView D → List ℕ → Result (Unit {0}) ReplyValue
@@ -25,11 +27,21 @@ IsAsked view line (Ok done) old new =
 IsAsked view line (Err reply) old new = HasTurn no_releases view line old new
     (λ turn. IsErr turn.outcome × (reply ≡ reply_value turn.outcome))
 
--- a line was refused, whose reply this is
-abbrev pub IsHalted : {D : Type 0} → DeviceView D → ReplyValue → Server D → Server D → Type 0
-IsHalted view reply old new =
-    (last : Turn) × (reply ≡ reply_value last.outcome)
-    × IsHaltedBy view last old new
+-- no call has failed, and no merge goes on
+abbrev pub IsAtRest : {D : Type 0} → Server D → Type 0
+IsAtRest server = (server.store.needs_reopen ≡ false) × HasNoMerge server
+
+-- how many rows are left to the merge that goes on
+abbrev pub rows_left : {D : Type 0} → Server D → ℕ
+rows_left server = unwrap_or (option_map (λ merge. merge.left) server.store.catalog.merge) 0
+
+-- no call has failed, and a merge goes on
+abbrev pub IsMerging : {D : Type 0} → Server D → Type 0
+IsMerging server = (server.store.needs_reopen ≡ false) × GoesOn server.store.catalog
+
+-- no call has failed, and a merge goes on of which no row is left
+abbrev pub HasMerged : {D : Type 0} → Server D → Type 0
+HasMerged server = (server.store.needs_reopen ≡ false) × IsFinished server.store.catalog
 
 -- lines of merges were answered OK
 pub record HaveMerged {D : Type 0} (view : DeviceView D) (old new : Server D) : Type 0 where
@@ -37,21 +49,43 @@ pub record HaveMerged {D : Type 0} (view : DeviceView D) (old new : Server D) : 
   pub merges : AllByRecursion IsMergeTurn turns
   pub run : Run no_releases view old turns new
 
+-- lines of merges were answered OK, and then one was refused that was due
+pub record IsStoppedBy {D : Type 0} (view : DeviceView D) (most : ℕ) (last : Turn)
+    (old new : Server D) : Type 0 where
+  pub before : Server D
+  pub have : HaveMerged view old before
+  pub is_merge : IsMergeLine last.line
+  pub more : most < segments_of before
+  pub goes : IsTurn no_releases view before last new
+  pub refused : IsErr last.outcome
+  pub cause : 1 ≤ most → IsHalt last.outcome
+
+-- a line of a merge was refused, whose reply this is
+abbrev pub IsStopped : {D : Type 0} → DeviceView D → ℕ → ReplyValue → Server D → Server D → Type 0
+IsStopped view most reply old new =
+    (last : Turn) × (reply ≡ reply_value last.outcome) × IsStoppedBy view most last old new
+
+-- a line was refused, whose reply this is
+abbrev pub IsHalted : {D : Type 0} → DeviceView D → ℕ → ReplyValue → Server D → Server D → Type 0
+IsHalted view most reply old new =
+    (last : Turn) × (reply ≡ reply_value last.outcome)
+    × IsHaltedBy view most last old new
+
 -- all rows of the merge were taken, and there are as many segments as before
 abbrev pub MergesRows : {D : Type 0} → DeviceView D → Result (Unit {0}) ReplyValue
     → Server D → Server D → Type 0
 MergesRows view (Ok done) old new =
-    HaveMerged view old new × (segments_of new ≡ segments_of old)
+    HaveMerged view old new × (segments_of new ≡ segments_of old) × HasMerged new
 MergesRows view (Err reply) old new =
-    IsHalted view reply old new
+    (most : ℕ) → most < segments_of old → IsStopped view most reply old new
 
 -- two segments were merged into one
 abbrev pub IsOneLess : {D : Type 0} → DeviceView D → Result (Unit {0}) ReplyValue
     → Server D → Server D → Type 0
 IsOneLess view (Ok done) old new =
-    HaveMerged view old new × (segments_of new + 1 ≡ segments_of old)
+    HaveMerged view old new × (segments_of new + 1 ≡ segments_of old) × IsAtRest new
 IsOneLess view (Err reply) old new =
-    IsHalted view reply old new
+    (most : ℕ) → most < segments_of old → IsStopped view most reply old new
 
 -- segments were merged until so many were left, and the disk was trimmed
 abbrev pub IsTrimmedTo : {D : Type 0} → DeviceView D → ℕ → Result (Unit {0}) ReplyValue
@@ -59,7 +93,7 @@ abbrev pub IsTrimmedTo : {D : Type 0} → DeviceView D → ℕ → Result (Unit 
 IsTrimmedTo view most (Ok done) old new =
     IsMergedTo view most old new
 IsTrimmedTo view most (Err reply) old new =
-    IsHalted view reply old new
+    IsHalted view most reply old new
 
 -- the number and the name of a fault of serving, by which the program ends
 abbrev pub fault_number : ServeFault → ℕ

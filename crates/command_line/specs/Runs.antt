@@ -2,9 +2,9 @@
 use Rattle.std.specs.Prelude.{◌≡◌, ◌≢◌, ◌⊎◌, ◌≤◌, ℕ, List, [], Option, Some, None, Result, Ok, Err}
 use Rattle.std.specs.Prelude.{⊤}
 use Rattle.std.specs.Io.KnownBytes.{Keeps}
-use Rattle.disk_model.specs.DeviceView.{DeviceView, device_view}
+use Rattle.line_server.specs.DeviceView.{DeviceView, device_view}
 use Rattle.disk_model.specs.Change.{made}
-use Rattle.disk_model.specs.MemDisk.{memory_moments, failure_count}
+use Rattle.disk_model.specs.MemDisk.{memory_moments, failure_count, bytes_read_of}
 use Rattle.disk_model.specs.declared.memory.MemDisk.{MemDisk}
 use Rattle.samples.specs.Sample.{sample_files}
 use Rattle.clap.specs.Values.{kind_of}
@@ -27,11 +27,13 @@ use Rattle.command_line.specs.Merging.{IsMergedOnDisk}
 use Rattle.command_line.specs.Tasks.{IsMade, IsImport, IsStatus, IsServing, IsServingNew}
 
 -- What the words can name, as clauses see it: which device stands under a name, or is made there,
--- and whether it can't be had or doesn't stay; and the releases of each folder, if they are honest.
+-- and whether it can't be had; whether the name stays; and the releases of each folder, if they are
+-- honest.
 pub record SystemView (D : Type 0) : Type 1 where
   pub stands : List ℕ → D → Type 0
   pub withholds : List ℕ → Type 0
   pub makes : List ℕ → D → Type 0
+  pub denies : List ℕ → Type 0
   pub keeps : List ℕ → Type 0
   pub loses : List ℕ → Type 0
   pub is_honest : Type 0
@@ -52,6 +54,17 @@ IsDoneAt {D} had done missing left =
     ((device : D) × (after : D) × had device × done device after × (left ≡ Some after))
     ⊎ (missing × (left ≡ None))
 
+-- A store was made on what stands under a name or was made there, once it was seen that the name
+-- stays. What was had under a name that isn't seen to stay was left as it was, and that was told;
+-- and so it was if nothing can be had there.
+abbrev pub IsMadeAt : {D : Type 0} → SystemView D → List ℕ → Option D → Report → Type 0
+IsMadeAt {D} system name left report =
+    ((device : D) × (after : D) × system.makes name device × system.keeps name
+    × IsMade system.device device after report × (left ≡ Some after))
+    ⊎ ((device : D) × system.makes name device × system.loses name × IsMissing report
+    × (left ≡ Some device))
+    ⊎ (system.denies name × IsMissing report × (left ≡ None))
+
 -- the lines of the script were served, as lines that come in
 -- are, from a new store in memory and the sample releases
 pub record IsDemonstrated (script : List ℕ) (report : Report) : Type 0 where
@@ -60,18 +73,16 @@ pub record IsDemonstrated (script : List ℕ) (report : Report) : Type 0 where
   pub left : MemDisk
   pub rest : Option (List ℕ)
   pub serving : IsServingNew (source_view ⊤ sample_files)
-      (device_view (λ _. Unit {0}) memory_moments failure_count) disk left report.ended
-      (streams (Some script) rest report.old report.new)
+      (device_view (λ _. Unit {0}) memory_moments failure_count bytes_read_of)
+      disk left report.ended (streams (Some script) rest report.old report.new)
 
 -- how each task is done, and how its device is left: a store is made on what was made under its
--- name and keeps it, and all else is done on what was under its name; only a server reads, and the
--- demonstration has no device
+-- name, and all else is done on what was under its name; only a server reads, and the demonstration
+-- has no device
 abbrev pub Does : {D : Type 0} → SystemView D → List ℕ → Task → Option D
     → Result Ending ServeFault → Streams → Type 0
 Does system script (tasks.Init store) left ended streams =
-    IsDoneAt (λ device. system.makes store.now device × system.keeps store.now)
-    (λ device after. IsMade system.device device after (report ended streams.old streams.new))
-    (IsMissing (report ended streams.old streams.new) × system.loses store.now) left
+    IsMadeAt system store.now left (report ended streams.old streams.new)
     × (streams.rest ≡ streams.input)
 Does system script (tasks.Import store releases name quiet) left ended streams =
     IsDoneAt (system.stands store.now)

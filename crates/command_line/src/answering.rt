@@ -3,7 +3,7 @@
 ghost use Rattle.command_line.specs.Tasks.{IsLineTold};
 ghost use Rattle.command_line.specs.Endings.{report};
 ghost use Rattle.line_server.specs.Sources.{source_view};
-ghost use Rattle.disk_model.specs.DeviceView.{device_view};
+ghost use Rattle.line_server.specs.DeviceView.{device_view};
 
 use crate::endings::{Ending, tell};
 use crate::telling::Told;
@@ -23,7 +23,8 @@ pub(crate) fn answer_line<D: Disk + Drop, S: Source, O: Write>(
     told: &mut Told,
 ) -> Result<Ending, ServeFault>
     ensures { IsLineTold (source_view (S.is_honest source.old) (S.releases source.old))
-        (device_view D.is_honest D.moments D.failures) line.now store.old store.new.disk
+        (device_view D.is_honest D.moments D.failures D.bytes_read)
+        line.now store.old store.new.disk
         (report result (O.contents output.old) (O.contents output.new)) }
 {
     let mut pins = Pins::new();

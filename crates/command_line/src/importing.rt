@@ -3,7 +3,7 @@
 ghost use Rattle.std.specs.Prelude.{◌≡◌, IfOk, string_bytes};
 ghost use Rattle.command_line.specs.Endings.{report};
 ghost use Rattle.line_server.specs.Sources.{source_view};
-ghost use Rattle.disk_model.specs.DeviceView.{device_view};
+ghost use Rattle.line_server.specs.DeviceView.{device_view};
 ghost use Rattle.command_line.specs.Tasks.{Imports, IsImport, import_line};
 
 use crate::answering::answer_line;
@@ -32,7 +32,7 @@ fn import_into<D: Disk + Drop, S: Source, O: Write>(
     told: &mut Told,
 ) -> Result<Ending, ServeFault>
     ensures { Imports (source_view (S.is_honest source.old) (S.releases source.old))
-        (device_view D.is_honest D.moments D.failures) name.now store.new.disk
+        (device_view D.is_honest D.moments D.failures D.bytes_read) name.now store.new.disk
         (report result (O.contents output.old) (O.contents output.new)) store.old }
 {
     let Ok(line) = line_of_import(alloc, name) else {
@@ -51,7 +51,7 @@ pub(crate) fn import<D: Disk + Drop, S: Source, O: Write>(
     told: &mut Told,
 ) -> (Result<Ending, ServeFault>, D)
     ensures { IsImport (source_view (S.is_honest source.old) (S.releases source.old))
-        (device_view D.is_honest D.moments D.failures) name.now device result.1
+        (device_view D.is_honest D.moments D.failures D.bytes_read) name.now device result.1
         (report result.0 (O.contents output.old) (O.contents output.new)) }
 {
     match Store::open(alloc, device) {

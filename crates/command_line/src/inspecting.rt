@@ -2,7 +2,7 @@
 
 ghost use Rattle.std.specs.Prelude.{◌≡◌, ⊤, None};
 ghost use Rattle.command_line.specs.Endings.{report};
-ghost use Rattle.disk_model.specs.DeviceView.{device_view};
+ghost use Rattle.line_server.specs.DeviceView.{device_view};
 ghost use Rattle.command_line.specs.Tasks.{IsStatus};
 
 use crate::answering::answer_line;
@@ -44,7 +44,7 @@ pub(crate) fn status<D: Disk + Drop, O: Write>(
     output: &mut O,
     told: &mut Told,
 ) -> (Result<Ending, ServeFault>, D, Option<Figures>)
-    ensures { IsStatus (device_view D.is_honest D.moments D.failures) device result.1
+    ensures { IsStatus (device_view D.is_honest D.moments D.failures D.bytes_read) device result.1
         (report result.0 (O.contents output.old) (O.contents output.new)) }
 {
     match Store::open(alloc, device) {

@@ -2,7 +2,7 @@
 
 ghost use Rattle.command_line.specs.Tasks.{IsMade};
 ghost use Rattle.command_line.specs.Endings.{report};
-ghost use Rattle.disk_model.specs.DeviceView.{device_view};
+ghost use Rattle.line_server.specs.DeviceView.{device_view};
 
 use crate::endings::{Ending, refuse, tell_done};
 use crate::telling::Told;
@@ -19,7 +19,7 @@ pub(crate) fn init<D: Disk + Drop, O: Write>(
     output: &mut O,
     told: &mut Told,
 ) -> (Result<Ending, ServeFault>, D)
-    ensures { IsMade (device_view D.is_honest D.moments D.failures) device result.1
+    ensures { IsMade (device_view D.is_honest D.moments D.failures D.bytes_read) device result.1
         (report result.0 (O.contents output.old) (O.contents output.new)) }
 {
     match Store::create(alloc, device) {

@@ -1,11 +1,12 @@
 //! The segments of a store are merged.
 
-ghost use Rattle.line_server.specs.Pins.{AreWithin};
+ghost use Rattle.line_server.specs.Pins.{AreWithin, unpinned};
 ghost use Rattle.command_line.specs.Endings.{report};
-ghost use Rattle.disk_model.specs.DeviceView.{device_view};
+ghost use Rattle.line_server.specs.DeviceView.{device_view};
 ghost use Rattle.line_server.specs.Replies.{server};
 ghost use Rattle.command_line.specs.Merging.{IsMergedOnDisk, TellsMerge};
-ghost use Rattle.command_line.specs.Private.{IsAsked, IsOneLess, IsTrimmedTo, MergesRows};
+ghost use Rattle.command_line.specs.Private.{IsAsked, IsAtRest, IsMerging, IsOneLess, IsTrimmedTo};
+ghost use Rattle.command_line.specs.Private.{MergesRows};
 
 use crate::endings::{Ending, is_refusal, refuse, tell};
 use crate::inspecting::{NoReleases, STATUS};
@@ -19,6 +20,8 @@ use std::io::Write;
 const MERGE: &[u8] = b"0 MERGE";
 /// The most rows that one line may ask for.
 const STEP: &[u8] = b"0 STEP 100000";
+/// How many rows that are.
+const STEP_ROWS: u64 = 100_000;
 
 const PUBLISH: &[u8] = b"0 PUBLISH";
 
@@ -33,7 +36,8 @@ fn ask<D: Disk>(
 ) -> Result<(), Reply>
     requires within { AreWithin store.old.history.imports pins.old }
     ensures within { AreWithin store.new.history.imports pins.new }
-    ensures asked { IsAsked (device_view D.is_honest D.moments D.failures) line.now result
+    ensures asked { IsAsked
+        (device_view D.is_honest D.moments D.failures D.bytes_read) line.now result
         (server pins.old store.old) (server pins.new store.new) }
 {
     let reply = answer(alloc, line, pins, &mut NoReleases, store);
@@ -47,14 +51,13 @@ fn ask<D: Disk>(
 /// Takes all rows of the merge that goes on.
 fn take_rows<D: Disk>(alloc: Global, pins: &mut Pins, store: &mut Store<D>) -> Result<(), Reply>
     requires within { AreWithin store.old.history.imports pins.old }
+    requires merging { IsMerging (server pins.old store.old) }
     ensures within { AreWithin store.new.history.imports pins.new }
-    ensures taken { MergesRows (device_view D.is_honest D.moments D.failures) result
+    ensures taken { MergesRows (device_view D.is_honest D.moments D.failures D.bytes_read) result
         (server pins.old store.old) (server pins.new store.new) }
 {
-    for _ in 0..u64::MAX {
-        if store.merge_left().unwrap_or(0) == 0 {
-            break;
-        }
+    let left = store.merge_left().unwrap_or(0);
+    for _ in 0..left.div_ceil(STEP_ROWS) {
         ask(alloc, STEP, pins, store)?;
     }
     Ok(())
@@ -63,8 +66,9 @@ fn take_rows<D: Disk>(alloc: Global, pins: &mut Pins, store: &mut Store<D>) -> R
 /// Merges the two segments of fewest rows.
 fn merge_two<D: Disk>(alloc: Global, pins: &mut Pins, store: &mut Store<D>) -> Result<(), Reply>
     requires within { AreWithin store.old.history.imports pins.old }
+    requires at_rest { IsAtRest (server pins.old store.old) }
     ensures within { AreWithin store.new.history.imports pins.new }
-    ensures merged { IsOneLess (device_view D.is_honest D.moments D.failures) result
+    ensures merged { IsOneLess (device_view D.is_honest D.moments D.failures D.bytes_read) result
         (server pins.old store.old) (server pins.new store.new) }
 {
     ask(alloc, MERGE, pins, store)?;
@@ -82,8 +86,10 @@ fn merge_to<D: Disk, E: Write>(
     faults: &mut E,
 ) -> Result<(), Reply>
     requires within { AreWithin store.old.history.imports pins.old }
+    requires at_rest { IsAtRest (server pins.old store.old) }
     ensures within { AreWithin store.new.history.imports pins.new }
-    ensures merged { IsTrimmedTo (device_view D.is_honest D.moments D.failures) most result
+    ensures merged { IsTrimmedTo
+        (device_view D.is_honest D.moments D.failures D.bytes_read) most result
         (server pins.old store.old) (server pins.new store.new) }
 {
     for _ in 0..store.segments().saturating_sub(most) {
@@ -103,7 +109,9 @@ fn merge_all<D: Disk, O: Write, E: Write>(
     told: &mut Told,
     faults: &mut E,
 ) -> Result<Ending, ServeFault>
-    ensures { TellsMerge (device_view D.is_honest D.moments D.failures) most store.new.disk
+    requires at_rest { IsAtRest (server unpinned store.old) }
+    ensures { TellsMerge
+        (device_view D.is_honest D.moments D.failures D.bytes_read) most store.new.disk
         (report result (O.contents output.old) (O.contents output.new)) store.old }
 {
     let mut pins = Pins::new();
@@ -124,7 +132,8 @@ pub(crate) fn merge<D: Disk + Drop, O: Write, E: Write>(
     told: &mut Told,
     faults: &mut E,
 ) -> (Result<Ending, ServeFault>, D)
-    ensures { IsMergedOnDisk (device_view D.is_honest D.moments D.failures) most device result.1
+    ensures { IsMergedOnDisk
+        (device_view D.is_honest D.moments D.failures D.bytes_read) most device result.1
         (report result.0 (O.contents output.old) (O.contents output.new)) }
 {
     match Store::open(alloc, device) {

@@ -4,11 +4,11 @@ ghost use Rattle.std.specs.Prelude.{◌≡◌, ◌≤◌, ◌⊎◌, IfOk, IfErr
 ghost use Rattle.command_line.specs.Endings.{report};
 ghost use Rattle.line_server.specs.Streams.{streams};
 ghost use Rattle.line_server.specs.Sources.{source_view};
-ghost use Rattle.disk_model.specs.DeviceView.{device_view};
-ghost use Rattle.command_line.specs.Tasks.{IsMade, IsImport, IsStatus, IsServing};
+ghost use Rattle.line_server.specs.DeviceView.{device_view};
+ghost use Rattle.command_line.specs.Tasks.{IsImport, IsStatus, IsServing};
 ghost use Rattle.command_line.specs.Merging.{IsMergedOnDisk};
-ghost use Rattle.command_line.specs.Runs.{IsDoneAt, IsMissing, IsDemonstrated, Does, IsRun};
-ghost use Rattle.command_line.specs.Runs.{IsNoTask, IsExplained};
+ghost use Rattle.command_line.specs.Runs.{IsDoneAt, IsMadeAt, IsMissing, IsDemonstrated, Does};
+ghost use Rattle.command_line.specs.Runs.{IsRun, IsNoTask, IsExplained};
 
 use crate::demonstration::{SCRIPT, Samples};
 use crate::endings::{Ending, fail, finish, refuse};
@@ -21,7 +21,7 @@ use crate::serving::{serve_device, serve_new};
 use crate::system::System;
 use crate::telling::{Scene, Told, tell_figures, tell_why};
 use crate::words::{Refused, Task, task_of};
-use disk_model::{DiskFault, MemDisk};
+use disk_model::MemDisk;
 use history_store::Refusal;
 use line_server::ServeFault;
 use std::alloc::Global;
@@ -45,11 +45,13 @@ pub fn run<P: System, I: Read, O: Write, E: Write>(
       stands = P.stands system.now;
       withholds = P.withholds system.now;
       makes = P.makes system.now;
+      denies = P.denies system.now;
       keeps = P.keeps system.now;
       loses = P.loses system.now;
       is_honest = P.is_honest system.now;
       releases = P.releases system.now;
-      device = device_view P.Device.is_honest P.Device.moments P.Device.failures;
+      device = device_view P.Device.is_honest P.Device.moments P.Device.failures
+          P.Device.bytes_read;
     }) SCRIPT.now (map string_bytes words.now) result.1 result.0
         (streams (I.remaining input.old) (I.remaining input.new)
         (O.contents output.old) (O.contents output.new))
@@ -82,11 +84,13 @@ fn perform<P: System, I: Read, O: Write, E: Write>(
       stands = P.stands system.now;
       withholds = P.withholds system.now;
       makes = P.makes system.now;
+      denies = P.denies system.now;
       keeps = P.keeps system.now;
       loses = P.loses system.now;
       is_honest = P.is_honest system.now;
       releases = P.releases system.now;
-      device = device_view P.Device.is_honest P.Device.moments P.Device.failures;
+      device = device_view P.Device.is_honest P.Device.moments P.Device.failures
+          P.Device.bytes_read;
     }) SCRIPT.now task.now result.1 result.0
         (streams (I.remaining input.old) (I.remaining input.new)
         (O.contents output.old) (O.contents output.new)) }
@@ -112,24 +116,8 @@ fn perform<P: System, I: Read, O: Write, E: Write>(
     }
 }
 
-/// What stands under a name, or a new one where nothing does. Its name is seen to stay
-/// before anything is written, so that a store that was made is found after a stop.
-fn new_device<P: System, E: Write>(
-    system: &P,
-    alloc: Global,
-    path: &str,
-    faults: &mut E,
-) -> Result<P::Device, DiskFault>
-    ensures had { IfOk result (P.makes system.now path.now) }
-    ensures kept { IfOk result (λ _. P.keeps system.now path.now) }
-    ensures missing { IfErr result (λ _. P.loses system.now path.now) }
-{
-    let device = system.device_or_new(path, faults)?;
-    system.settle(alloc, path, faults)?;
-    Ok(device)
-}
-
-/// Makes a store under a name.
+/// Makes a store under a name. The name is seen to stay before anything is written, so that a store
+/// that was made is found after a stop.
 fn init_at<P: System, O: Write, E: Write>(
     system: &P,
     alloc: Global,
@@ -137,26 +125,34 @@ fn init_at<P: System, O: Write, E: Write>(
     output: &mut O,
     faults: &mut E,
 ) -> Ended<P::Device>
-    ensures { IsDoneAt
-        (λ device. P.makes system.now path.now device × P.keeps system.now path.now)
-        (λ device after. IsMade (device_view P.Device.is_honest P.Device.moments P.Device.failures)
-        device after (report result.0 (O.contents output.old) (O.contents output.new)))
-        (IsMissing (report result.0 (O.contents output.old) (O.contents output.new))
-        × P.loses system.now path.now) result.1 }
+    ensures { IsMadeAt (record {
+      stands = P.stands system.now;
+      withholds = P.withholds system.now;
+      makes = P.makes system.now;
+      denies = P.denies system.now;
+      keeps = P.keeps system.now;
+      loses = P.loses system.now;
+      is_honest = P.is_honest system.now;
+      releases = P.releases system.now;
+      device = device_view P.Device.is_honest P.Device.moments P.Device.failures
+          P.Device.bytes_read;
+    }) path.now result.1 (report result.0 (O.contents output.old) (O.contents output.new)) }
 {
     let mut told = Told::new();
-    match new_device(system, alloc, path, faults) {
-        Ok(device) => {
-            let (ended, left) = init(alloc, device, output, &mut told);
-            let scene = Scene {
-                store: path,
-                said: system.said(&left),
-            };
-            tell_why(told, &scene, faults);
-            (ended, Some(left))
-        }
-        Err(_) => (refuse(alloc, output, Refusal::DiskFault, &mut told), None),
+    let Ok(device) = system.device_or_new(path, faults) else {
+        return (refuse(alloc, output, Refusal::DiskFault, &mut told), None);
+    };
+    if system.settle(alloc, path, faults).is_err() {
+        let ended = refuse(alloc, output, Refusal::DiskFault, &mut told);
+        return (ended, Some(device));
     }
+    let (ended, left) = init(alloc, device, output, &mut told);
+    let scene = Scene {
+        store: path,
+        said: system.said(&left),
+    };
+    tell_why(told, &scene, faults);
+    (ended, Some(left))
 }
 
 /// Imports a release into the store under a name.
@@ -173,7 +169,7 @@ fn import_at<P: System, O: Write, E: Write>(
     ensures { IsDoneAt (P.stands system.now path.now)
         (λ device after. IsImport
         (source_view (P.is_honest system.now) (P.releases system.now dir.now))
-        (device_view P.Device.is_honest P.Device.moments P.Device.failures)
+        (device_view P.Device.is_honest P.Device.moments P.Device.failures P.Device.bytes_read)
         name.now device after (report result.0 (O.contents output.old) (O.contents output.new)))
         (IsMissing (report result.0 (O.contents output.old) (O.contents output.new))
         × P.withholds system.now path.now) result.1 }
@@ -209,7 +205,7 @@ fn serve_at<P: System, I: Read, O: Write, E: Write>(
     ensures { IsDoneAt (P.stands system.now path.now)
         (λ device after. IsServing
         (source_view (P.is_honest system.now) (P.releases system.now dir.now))
-        (device_view P.Device.is_honest P.Device.moments P.Device.failures)
+        (device_view P.Device.is_honest P.Device.moments P.Device.failures P.Device.bytes_read)
         device after result.0 (streams (I.remaining input.old) (I.remaining input.new)
         (O.contents output.old) (O.contents output.new)))
         (IsMissing (report result.0 (O.contents output.old) (O.contents output.new))
@@ -243,7 +239,8 @@ fn status_at<P: System, O: Write, E: Write>(
 ) -> Ended<P::Device>
     ensures { IsDoneAt (P.stands system.now path.now)
         (λ device after. IsStatus
-        (device_view P.Device.is_honest P.Device.moments P.Device.failures) device after
+        (device_view P.Device.is_honest P.Device.moments P.Device.failures P.Device.bytes_read)
+        device after
         (report result.0 (O.contents output.old) (O.contents output.new)))
         (IsMissing (report result.0 (O.contents output.old) (O.contents output.new))
         × P.withholds system.now path.now) result.1 }
@@ -277,7 +274,8 @@ fn merge_at<P: System, O: Write, E: Write>(
 ) -> Ended<P::Device>
     ensures { IsDoneAt (P.stands system.now path.now)
         (λ device after. IsMergedOnDisk
-        (device_view P.Device.is_honest P.Device.moments P.Device.failures) most device after
+        (device_view P.Device.is_honest P.Device.moments P.Device.failures P.Device.bytes_read)
+        most device after
         (report result.0 (O.contents output.old) (O.contents output.new)))
         (IsMissing (report result.0 (O.contents output.old) (O.contents output.new))
         × P.withholds system.now path.now) result.1 }

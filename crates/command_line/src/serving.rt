@@ -3,7 +3,7 @@
 ghost use Rattle.std.specs.Prelude.{Ok};
 ghost use Rattle.line_server.specs.Streams.{streams};
 ghost use Rattle.line_server.specs.Sources.{source_view};
-ghost use Rattle.disk_model.specs.DeviceView.{device_view};
+ghost use Rattle.line_server.specs.DeviceView.{device_view};
 ghost use Rattle.command_line.specs.Tasks.{Serves, IsServing, IsServingNew};
 
 use crate::endings::{Ending, refuse};
@@ -26,7 +26,8 @@ fn serve_all<D: Disk + Drop, S: Source, I: Read, O: Write>(
     output: &mut O,
 ) -> Result<Ending, ServeFault>
     ensures { Serves (source_view (S.is_honest source.old) (S.releases source.old))
-        (device_view D.is_honest D.moments D.failures) (Ok store.old) store.new.disk result
+        (device_view D.is_honest D.moments D.failures D.bytes_read)
+        (Ok store.old) store.new.disk result
         (streams (I.remaining input.old) (I.remaining input.new)
         (O.contents output.old) (O.contents output.new)) }
 {
@@ -46,7 +47,7 @@ pub(crate) fn serve_device<D: Disk + Drop, S: Source, I: Read, O: Write>(
     told: &mut Told,
 ) -> (Result<Ending, ServeFault>, D)
     ensures { IsServing (source_view (S.is_honest source.old) (S.releases source.old))
-        (device_view D.is_honest D.moments D.failures) device result.1 result.0
+        (device_view D.is_honest D.moments D.failures D.bytes_read) device result.1 result.0
         (streams (I.remaining input.old) (I.remaining input.new)
         (O.contents output.old) (O.contents output.new)) }
 {
@@ -70,7 +71,7 @@ pub(crate) fn serve_new<D: Disk + Drop, S: Source, I: Read, O: Write>(
     told: &mut Told,
 ) -> (Result<Ending, ServeFault>, D)
     ensures { IsServingNew (source_view (S.is_honest source.old) (S.releases source.old))
-        (device_view D.is_honest D.moments D.failures) device result.1 result.0
+        (device_view D.is_honest D.moments D.failures D.bytes_read) device result.1 result.0
         (streams (I.remaining input.old) (I.remaining input.new)
         (O.contents output.old) (O.contents output.new)) }
 {

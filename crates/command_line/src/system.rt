@@ -18,13 +18,15 @@ pub trait System {
     type Device: Disk + Drop;
     /// This stands under the name, and is had from there.
     ghost stands: { Self → List ℕ → Self.Device → Type 0 };
-    /// Nothing stands under the name, or it can't be had.
+    /// There is no file of this name, or it can't be opened.
     ghost withholds: { Self → List ℕ → Type 0 };
     /// This stands under the name, or was made there since nothing did.
     ghost makes: { Self → List ℕ → Self.Device → Type 0 };
-    /// What stands under the name is found there after a stop.
+    /// There is no file of this name that can be opened, and none can be created.
+    ghost denies: { Self → List ℕ → Type 0 };
+    /// The name of the file is still in its folder after a crash.
     ghost keeps: { Self → List ℕ → Type 0 };
-    /// It can't be had or made under the name, or the name isn't seen to stay.
+    /// The folder can't be synced, so the name may be lost in a crash.
     ghost loses: { Self → List ℕ → Type 0 };
     /// The folders have the releases that they are said to have, and they stay.
     ghost is_honest: { Self → Type 0 };
@@ -40,7 +42,7 @@ pub trait System {
     /// Where it can't be had or made, `faults` is told why.
     fn device_or_new<E: Write>(&self, path: &str, faults: &mut E) -> Result<Self::Device, DiskFault>
         ensures had { IfOk result (makes self.now path.now) }
-        ensures missing { IfErr result (λ _. loses self.now path.now) };
+        ensures denied { IfErr result (λ _. denies self.now path.now) };
 
     /// Sees that what was made under a name keeps it. Where that fails, `faults` is told why.
     fn settle<E: Write>(&self, alloc: Global, path: &str, faults: &mut E) -> Result<(), DiskFault>
@@ -77,6 +79,8 @@ impl<R: Files<File = File> + AllocGlobal + Clone + Drop> System for R {
     ghost withholds = { λ _ _. Unit {0} };
 
     ghost makes = { λ _ _ _. Unit {0} };
+
+    ghost denies = { λ _ _. Unit {0} };
 
     ghost keeps = { λ _ _. Unit {0} };
 

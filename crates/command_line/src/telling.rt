@@ -66,7 +66,7 @@ pub(crate) fn meaning(code: usize) -> &'static str {
         5 => "the store has no room for it",
         6 => "there are too many segments; merge, and import again",
         7 => "the file is no store",
-        8 => "the store is damaged; take your copy",
+        8 => "the store is damaged; restore your copy",
         13 => "the last import number was given",
         20 => "a line is over 65,535 bytes",
         21 => "it isn't UTF-8",
@@ -160,7 +160,7 @@ fn write_why<E: Write>(told: Told, scene: &Scene<'_>, faults: &mut E) -> io::Res
     if let Some(damage) = told.damage {
         return writeln!(
             faults,
-            "sctd: {store}: the store is damaged: {damage}; take your copy"
+            "sctd: {store}: the store is damaged: {damage}; restore your copy"
         );
     }
     let why = meaning(told.code);

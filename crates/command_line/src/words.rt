@@ -134,7 +134,7 @@ fn quiet<'a>(alloc: Global) -> Arg<'a>
 {
     Arg::new(alloc, "quiet")
         .long("quiet")
-        .help("Tells of warnings and refusals alone on standard error")
+        .help("Prints only warnings and refusals on standard error")
         .action(ArgAction::SetTrue)
 }
 
@@ -216,7 +216,7 @@ fn merge<'a>(alloc: Global) -> Result<Command<'a>, AllocError>
 fn demo<'a>(alloc: Global) -> Command<'a>
     ensures { IsCommand demo_command result }
 {
-    let about = "Answers a short script on a store in memory, from three made releases";
+    let about = "Answers a short script on a store in memory, with three small sample releases";
     new_command(alloc, "demo", about, helps::DEMO)
 }
 

@@ -1,5 +1,5 @@
--- How often the calls of a file's disk have failed, what was said of the
--- last that did, and how many bytes its reads were asked for.
+-- How often the calls of a file's disk have failed, what was said of the last that
+-- did, how many bytes its reads were asked for, and how many other calls there were.
 use Rattle.std.specs.Prelude.{ℕ, Option}
 use Rattle.std.specs.declared.io.Error.{Error}
 use Rattle.disk_model.specs.declared.file.FileDisk.{FileDisk}
@@ -13,3 +13,7 @@ fault_of d = d.last
 -- how many bytes the reads of a file's disk were asked for
 abbrev pub bytes_read_of : FileDisk → ℕ
 bytes_read_of d = d.bytes_read
+
+-- how many calls but reads a file's disk was asked for
+abbrev pub other_calls_of : FileDisk → ℕ
+other_calls_of d = d.other_calls

@@ -1,7 +1,6 @@
 pub mod Change
 pub mod Choice
 pub mod Contents
-pub mod DeviceView
 pub mod Disk
 pub mod Entry
 pub mod Faults

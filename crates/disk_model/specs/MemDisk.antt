@@ -57,3 +57,7 @@ failure_count d = d.failures
 -- how many bytes its reads were asked for
 abbrev pub bytes_read_of : MemDisk → ℕ
 bytes_read_of d = d.bytes_read
+
+-- how many calls but reads it was asked for
+abbrev pub other_calls_of : MemDisk → ℕ
+other_calls_of d = d.other_calls

@@ -39,13 +39,14 @@ pub const MAX_END: u64 = 17_179_869_184;
 /// may leave is as before or as if the call had been made, and a read gives one of these images.
 /// `failures` goes up with each call that fails; at 2^64 - 1 it stays.
 ///
-/// **Reads.** `bytes_read` goes up with each read by the bytes that were asked for, on every device
-/// and whatever the read answers. Nothing else changes it.
+/// **Reads and other calls.** `bytes_read` goes up with each read by the bytes that were asked for,
+/// and `other_calls` by one with each call of another kind, on every device and whatever is
+/// answered. Nothing else changes them.
 ///
 /// **Honesty.** An honest device keeps to all of this, and no call ends that. The clauses on bytes
 /// and moments have it as their premise, since no program can see whether a device lies; of one
 /// that isn't honest only what stands without that premise is known: calls end, name no more bytes
-/// than the buffer has, and count their failures and the bytes that their reads were asked for.
+/// than the buffer has, and are counted with their failures and the bytes that reads asked for.
 pub trait Disk {
     /// What a read gives and what a stop may leave, now and at each moment before.
     ghost moments: { Self → Moments };
@@ -56,6 +57,10 @@ pub trait Disk {
     /// How many bytes its reads were asked for, whatever they answered.
     /// It has 64 bits; at its last value it stays.
     ghost bytes_read: { Self → ℕ };
+
+    /// How many calls but reads were made, whatever they answered.
+    /// It has 64 bits; at its last value it stays.
+    ghost other_calls: { Self → ℕ };
 
     /// The device keeps to what its calls promise of bytes and stops.
     /// Of one that doesn't nothing else is known.
@@ -68,7 +73,8 @@ pub trait Disk {
         ensures moments { is_honest self.old → moments self.new ≡ moments self.old }
         ensures honesty { is_honest self.old ↔ is_honest self.new }
         ensures failures { CountsEach result (failures self.old) (failures self.new) }
-        ensures bytes_read { bytes_read self.new ≡ bytes_read self.old };
+        ensures bytes_read { bytes_read self.new ≡ bytes_read self.old }
+        ensures other_calls { other_calls self.new ≡ raised_by (other_calls self.old) 1 };
 
     /// Fills the front of `into` with the bytes from the place `at` on, as far as they go, and
     /// answers how many. Past the end there are none. After an error `into` may hold any bytes.
@@ -82,7 +88,8 @@ pub trait Disk {
         ensures honesty { is_honest self.old ↔ is_honest self.new }
         ensures failures { CountsEach result (failures self.old) (failures self.new) }
         ensures bytes_read { bytes_read self.new
-            ≡ raised_by (bytes_read self.old) (length into.old) };
+            ≡ raised_by (bytes_read self.old) (length into.old) }
+        ensures other_calls { other_calls self.new ≡ other_calls self.old };
 
     /// Writes over what is there from the place `at` on, and past the end, with zeros between the
     /// end and `at`. Until a sync, a stop may leave any bytes in the range. A write of no bytes
@@ -95,7 +102,8 @@ pub trait Disk {
             (after_write (moments self.old).state at bytes.now) (moments self.new)) }
         ensures honesty { is_honest self.old ↔ is_honest self.new }
         ensures failures { CountsEach result (failures self.old) (failures self.new) }
-        ensures bytes_read { bytes_read self.new ≡ bytes_read self.old };
+        ensures bytes_read { bytes_read self.new ≡ bytes_read self.old }
+        ensures other_calls { other_calls self.new ≡ raised_by (other_calls self.old) 1 };
 
     /// Cuts the device to a length in bytes, where it is longer. Until
     /// a sync, a stop may leave what was cut off, or a part of it.
@@ -106,7 +114,8 @@ pub trait Disk {
             (after_cut (moments self.old).state len) (moments self.new)) }
         ensures honesty { is_honest self.old ↔ is_honest self.new }
         ensures failures { CountsEach result (failures self.old) (failures self.new) }
-        ensures bytes_read { bytes_read self.new ≡ bytes_read self.old };
+        ensures bytes_read { bytes_read self.new ≡ bytes_read self.old }
+        ensures other_calls { other_calls self.new ≡ raised_by (other_calls self.old) 1 };
 
     /// Waits until all that was written is on the device:
     /// after it, a stop leaves what a read gives.
@@ -116,7 +125,8 @@ pub trait Disk {
         ensures failed { is_honest self.old → OnErr result (moments self.new ≡ moments self.old) }
         ensures honesty { is_honest self.old ↔ is_honest self.new }
         ensures failures { CountsEach result (failures self.old) (failures self.new) }
-        ensures bytes_read { bytes_read self.new ≡ bytes_read self.old };
+        ensures bytes_read { bytes_read self.new ≡ bytes_read self.old }
+        ensures other_calls { other_calls self.new ≡ raised_by (other_calls self.old) 1 };
 
     /// What a read gives is one of the images.
     ghost now_is_image: { (disk : Self) → is_honest disk

@@ -22,15 +22,18 @@ pub struct FileDisk {
     failures: u64,
     last: Option<io::Error>,
     bytes_read: u64,
+    other_calls: u64,
 }
 
 impl FileDisk {
-    ghost use Rattle.disk_model.specs.FileDisk.{failures_of, fault_of, bytes_read_of};
+    ghost use Rattle.disk_model.specs.FileDisk.{failures_of, fault_of};
+    ghost use Rattle.disk_model.specs.FileDisk.{bytes_read_of, other_calls_of};
 
     /// A file that exists, for reading and writing.
     pub fn open<R: Files<File = File>>(rt: &R, path: &str) -> Result<FileDisk, OpenFault>
         ensures failures { IfOk result (λ disk. failures_of disk ≡ 0) }
         ensures bytes_read { IfOk result (λ disk. bytes_read_of disk ≡ 0) }
+        ensures other_calls { IfOk result (λ disk. other_calls_of disk ≡ 0) }
     {
         let file = OpenOptions::new().read(true).write(true).open(rt, path);
         FileDisk::of(file)
@@ -40,6 +43,7 @@ impl FileDisk {
     pub fn open_or_make<R: Files<File = File>>(rt: &R, path: &str) -> Result<FileDisk, OpenFault>
         ensures failures { IfOk result (λ disk. failures_of disk ≡ 0) }
         ensures bytes_read { IfOk result (λ disk. bytes_read_of disk ≡ 0) }
+        ensures other_calls { IfOk result (λ disk. other_calls_of disk ≡ 0) }
     {
         let file = OpenOptions::new()
             .read(true)
@@ -54,6 +58,7 @@ impl FileDisk {
     fn of(opened: io::Result<File>) -> Result<FileDisk, OpenFault>
         ensures failures { IfOk result (λ disk. failures_of disk ≡ 0) }
         ensures bytes_read { IfOk result (λ disk. bytes_read_of disk ≡ 0) }
+        ensures other_calls { IfOk result (λ disk. other_calls_of disk ≡ 0) }
     {
         let file = opened?;
         if !file.metadata()?.is_file() {
@@ -66,6 +71,7 @@ impl FileDisk {
             failures: 0,
             last: None,
             bytes_read: 0,
+            other_calls: 0,
         })
     }
 
@@ -129,7 +135,7 @@ fn answer<T: Drop>(
 }
 
 impl Disk for FileDisk {
-    ghost use Rattle.disk_model.specs.FileDisk.{failures_of, bytes_read_of};
+    ghost use Rattle.disk_model.specs.FileDisk.{failures_of, bytes_read_of, other_calls_of};
 
     ghost moments = { λ _. made [] };
 
@@ -137,11 +143,14 @@ impl Disk for FileDisk {
 
     ghost bytes_read = { bytes_read_of };
 
+    ghost other_calls = { other_calls_of };
+
     ghost is_honest = { λ _. ⊥ };
 
     ghost now_is_image = { λ _ lie. absurd lie };
 
     fn len(&mut self) -> Result<u64, DiskFault> {
+        self.other_calls = self.other_calls.saturating_add(1);
         let metadata = answer(self.file.metadata(), &mut self.failures, &mut self.last)?;
         Ok(metadata.len())
     }
@@ -156,6 +165,7 @@ impl Disk for FileDisk {
     }
 
     fn write_at(&mut self, at: u64, bytes: &[u8]) -> Result<(), DiskFault> {
+        self.other_calls = self.other_calls.saturating_add(1);
         answer(
             self.file.write_all_at(bytes, at),
             &mut self.failures,
@@ -164,6 +174,7 @@ impl Disk for FileDisk {
     }
 
     fn cut(&mut self, len: u64) -> Result<(), DiskFault> {
+        self.other_calls = self.other_calls.saturating_add(1);
         let metadata = answer(self.file.metadata(), &mut self.failures, &mut self.last)?;
         if len < metadata.len() {
             answer(self.file.set_len(len), &mut self.failures, &mut self.last)?;
@@ -172,6 +183,7 @@ impl Disk for FileDisk {
     }
 
     fn sync(&mut self) -> Result<(), DiskFault> {
+        self.other_calls = self.other_calls.saturating_add(1);
         answer(self.file.sync_all(), &mut self.failures, &mut self.last)
     }
 }

@@ -35,6 +35,7 @@ pub struct MemDisk {
     faults: Faults,
     failures: u64,
     bytes_read: u64,
+    other_calls: u64,
     ghost read_is_replayed: { shown contents ≡
         (replayed (made contents.first.items) (changes_in calls)).state.now },
 }
@@ -42,7 +43,8 @@ pub struct MemDisk {
 impl MemDisk {
     ghost use Rattle.disk_model.specs.MemDisk.{memory_moments, first_bytes, record_of, faults_of};
     ghost use Rattle.disk_model.specs.MemDisk.{changes_of, state_after};
-    ghost use Rattle.disk_model.specs.MemDisk.{failure_count, bytes_read_of, SameRecord};
+    ghost use Rattle.disk_model.specs.MemDisk.{failure_count, bytes_read_of, other_calls_of};
+    ghost use Rattle.disk_model.specs.MemDisk.{SameRecord};
     ghost use Rattle.disk_model.specs.MemDisk.{HasRoomFor, KeepsRoom, UsesRoom};
     ghost use Rattle.disk_model.specs.Faults.{no_faults, written_as, cut_as, synced_as};
 
@@ -53,6 +55,7 @@ impl MemDisk {
         ensures faults { faults_of result ≡ no_faults }
         ensures failures { failure_count result ≡ 0 }
         ensures bytes_read { bytes_read_of result ≡ 0 }
+        ensures other_calls { other_calls_of result ≡ 0 }
     {
         MemDisk::from_bytes(alloc, Vec::new(alloc))
     }
@@ -64,6 +67,7 @@ impl MemDisk {
         ensures faults { faults_of result ≡ no_faults }
         ensures failures { failure_count result ≡ 0 }
         ensures bytes_read { bytes_read_of result ≡ 0 }
+        ensures other_calls { other_calls_of result ≡ 0 }
     {
         MemDisk {
             alloc,
@@ -72,6 +76,7 @@ impl MemDisk {
             faults: Faults::none(),
             failures: 0,
             bytes_read: 0,
+            other_calls: 0,
         }
     }
 
@@ -82,6 +87,7 @@ impl MemDisk {
         ensures kept { SameRecord self.old self.new }
         ensures failures { failure_count self.new ≡ failure_count self.old }
         ensures bytes_read { bytes_read_of self.new ≡ bytes_read_of self.old }
+        ensures other_calls { other_calls_of self.new ≡ other_calls_of self.old }
         ensures room { KeepsRoom self.old self.new }
     {
         self.faults.fuse = Some(calls);
@@ -97,6 +103,7 @@ impl MemDisk {
         ensures kept { SameRecord self.old self.new }
         ensures failures { failure_count self.new ≡ failure_count self.old }
         ensures bytes_read { bytes_read_of self.new ≡ bytes_read_of self.old }
+        ensures other_calls { other_calls_of self.new ≡ other_calls_of self.old }
         ensures room { KeepsRoom self.old self.new }
     {
         self.faults.change_break = Some((calls, part));
@@ -109,6 +116,7 @@ impl MemDisk {
         ensures kept { SameRecord self.old self.new }
         ensures failures { failure_count self.new ≡ failure_count self.old }
         ensures bytes_read { bytes_read_of self.new ≡ bytes_read_of self.old }
+        ensures other_calls { other_calls_of self.new ≡ other_calls_of self.old }
         ensures room { KeepsRoom self.old self.new }
     {
         self.faults.read_break = Some(calls);
@@ -123,6 +131,7 @@ impl MemDisk {
         ensures kept { SameRecord self.old self.new }
         ensures failures { failure_count self.new ≡ failure_count self.old }
         ensures bytes_read { bytes_read_of self.new ≡ bytes_read_of self.old }
+        ensures other_calls { other_calls_of self.new ≡ other_calls_of self.old }
         ensures faults { faults_of self.new ≡ faults_of self.old }
         // Whatever it answers, what needed no memory before needs none after.
         ensures keeps { KeepsRoom self.old self.new }
@@ -144,6 +153,13 @@ impl MemDisk {
         ensures { result ≡ bytes_read_of self.now }
     {
         self.bytes_read
+    }
+
+    /// How many calls but reads were made since it was made, those that failed too.
+    pub fn other_calls(&self) -> u64
+        ensures { result ≡ other_calls_of self.now }
+    {
+        self.other_calls
     }
 
     /// What a read gives.
@@ -190,6 +206,7 @@ impl MemDisk {
         ensures first { first_bytes self.new ≡ first_bytes self.old }
         ensures failures { failure_count self.new ≡ failure_count self.old }
         ensures bytes_read { bytes_read_of self.new ≡ bytes_read_of self.old }
+        ensures other_calls { other_calls_of self.new ≡ other_calls_of self.old }
         ensures faults { faults_of self.new ≡ faults_of self.old }
         ensures succeeds { HasRoomFor self.old (at + length bytes.now) 1 (length bytes.now)
             → IsOk result }
@@ -214,6 +231,7 @@ impl MemDisk {
         ensures first { first_bytes self.new ≡ first_bytes self.old }
         ensures failures { failure_count self.new ≡ failure_count self.old }
         ensures bytes_read { bytes_read_of self.new ≡ bytes_read_of self.old }
+        ensures other_calls { other_calls_of self.new ≡ other_calls_of self.old }
         ensures faults { faults_of self.new ≡ faults_of self.old }
         ensures succeeds { HasRoomFor self.old 0 1 0 → IsOk result }
         ensures room { UsesRoom self.old self.new 1 0 }
@@ -234,6 +252,7 @@ impl MemDisk {
         ensures first { first_bytes self.new ≡ first_bytes self.old }
         ensures failures { failure_count self.new ≡ failure_count self.old }
         ensures bytes_read { bytes_read_of self.new ≡ bytes_read_of self.old }
+        ensures other_calls { other_calls_of self.new ≡ other_calls_of self.old }
         ensures faults { faults_of self.new ≡ faults_of self.old }
         ensures succeeds { HasRoomFor self.old 0 1 0 → IsOk result }
         ensures room { UsesRoom self.old self.new 1 0 }
@@ -252,6 +271,7 @@ impl MemDisk {
         ensures room { KeepsRoom self.old self.new }
         ensures failures { CountsEach result (failure_count self.old) (failure_count self.new) }
         ensures bytes_read { bytes_read_of self.new ≡ bytes_read_of self.old }
+        ensures other_calls { other_calls_of self.new ≡ other_calls_of self.old }
     {
         match (noted, fate) {
             (Ok(()), Fate::Passes) => Ok(()),
@@ -267,6 +287,7 @@ impl MemDisk {
         ensures room { KeepsRoom self.old self.new }
         ensures failures { CountsEach result (failure_count self.old) (failure_count self.new) }
         ensures bytes_read { bytes_read_of self.new ≡ bytes_read_of self.old }
+        ensures other_calls { other_calls_of self.new ≡ other_calls_of self.old }
     {
         self.failures = raised(self.failures);
         Err(DiskFault)
@@ -275,7 +296,7 @@ impl MemDisk {
 
 impl Disk for MemDisk {
     ghost use Rattle.disk_model.specs.MemDisk.{memory_moments, first_bytes, record_of, faults_of};
-    ghost use Rattle.disk_model.specs.MemDisk.{failure_count, bytes_read_of};
+    ghost use Rattle.disk_model.specs.MemDisk.{failure_count, bytes_read_of, other_calls_of};
     ghost use Rattle.disk_model.specs.MemDisk.{SameRecord, HasRoomFor, KeepsRoom, UsesRoom};
     ghost use Rattle.disk_model.specs.Change.{Write, Cut, Sync};
     ghost use Rattle.disk_model.specs.Faults.{fate_of, after_change_call, passes_read};
@@ -287,6 +308,8 @@ impl Disk for MemDisk {
 
     ghost bytes_read = { bytes_read_of };
 
+    ghost other_calls = { other_calls_of };
+
     ghost is_honest = { λ _. Unit {0} };
 
     ghost now_is_image = { λ d _. memory_image d.contents.first.items (changes_in d.calls) };
@@ -297,10 +320,12 @@ impl Disk for MemDisk {
         ensures kept { SameRecord self.old self.new }
         ensures failures { CountsEach result (failure_count self.old) (failure_count self.new) }
         ensures bytes_read { bytes_read_of self.new ≡ bytes_read_of self.old }
+        ensures other_calls { other_calls_of self.new ≡ raised_by (other_calls_of self.old) 1 }
         ensures passes { IsOk result ↔ IsTrue (passes_read (faults_of self.old)) }
         ensures faults { faults_of self.new ≡ after_read_call (faults_of self.old) }
         ensures room { KeepsRoom self.old self.new }
     {
+        self.other_calls = self.other_calls.saturating_add(1);
         if !self.faults.of_read() {
             return self.fail();
         }
@@ -318,6 +343,7 @@ impl Disk for MemDisk {
         ensures failures { CountsEach result (failure_count self.old) (failure_count self.new) }
         ensures bytes_read { bytes_read_of self.new
             ≡ raised_by (bytes_read_of self.old) (length into.old) }
+        ensures other_calls { other_calls_of self.new ≡ other_calls_of self.old }
         ensures passes { IsOk result ↔ IsTrue (passes_read (faults_of self.old)) }
         ensures faults { faults_of self.new ≡ after_read_call (faults_of self.old) }
         ensures room { KeepsRoom self.old self.new }
@@ -341,6 +367,7 @@ impl Disk for MemDisk {
             (after_write (memory_moments self.old).state at bytes.now) (memory_moments self.new)) }
         ensures failures { CountsEach result (failure_count self.old) (failure_count self.new) }
         ensures bytes_read { bytes_read_of self.new ≡ bytes_read_of self.old }
+        ensures other_calls { other_calls_of self.new ≡ raised_by (other_calls_of self.old) 1 }
         ensures passes { IsOk result → fate_of (faults_of self.old) ≡ Passes }
         ensures faults { faults_of self.new ≡ after_change_call (faults_of self.old) }
         ensures succeeds { HasRoomFor self.old (at + length bytes.now) 1 (length bytes.now)
@@ -359,6 +386,7 @@ impl Disk for MemDisk {
             ≡ record_of self.old ++ written_as (fate_of (faults_of self.old)) at bytes.now ∷ []) }
         ensures room { UsesRoom self.old self.new 1 (length bytes.now) }
     {
+        self.other_calls = self.other_calls.saturating_add(1);
         let fate = self.faults.of_change();
         let noted = self.note_write(at, bytes, fate);
         self.answer(noted, fate)
@@ -372,6 +400,7 @@ impl Disk for MemDisk {
             (after_cut (memory_moments self.old).state len) (memory_moments self.new)) }
         ensures failures { CountsEach result (failure_count self.old) (failure_count self.new) }
         ensures bytes_read { bytes_read_of self.new ≡ bytes_read_of self.old }
+        ensures other_calls { other_calls_of self.new ≡ raised_by (other_calls_of self.old) 1 }
         ensures passes { IsOk result → fate_of (faults_of self.old) ≡ Passes }
         ensures faults { faults_of self.new ≡ after_change_call (faults_of self.old) }
         ensures succeeds { HasRoomFor self.old 0 1 0
@@ -387,6 +416,7 @@ impl Disk for MemDisk {
             ≡ record_of self.old ++ cut_as (fate_of (faults_of self.old)) len ∷ []) }
         ensures room { UsesRoom self.old self.new 1 0 }
     {
+        self.other_calls = self.other_calls.saturating_add(1);
         let fate = self.faults.of_change();
         let noted = self.note_cut(len, fate);
         self.answer(noted, fate)
@@ -398,6 +428,7 @@ impl Disk for MemDisk {
         ensures failed { OnErr result (memory_moments self.new ≡ memory_moments self.old) }
         ensures failures { CountsEach result (failure_count self.old) (failure_count self.new) }
         ensures bytes_read { bytes_read_of self.new ≡ bytes_read_of self.old }
+        ensures other_calls { other_calls_of self.new ≡ raised_by (other_calls_of self.old) 1 }
         ensures passes { IsOk result → fate_of (faults_of self.old) ≡ Passes }
         ensures faults { faults_of self.new ≡ after_change_call (faults_of self.old) }
         ensures succeeds { HasRoomFor self.old 0 1 0
@@ -410,6 +441,7 @@ impl Disk for MemDisk {
             ≡ record_of self.old ++ synced_as (fate_of (faults_of self.old)) }
         ensures room { UsesRoom self.old self.new 1 0 }
     {
+        self.other_calls = self.other_calls.saturating_add(1);
         let fate = self.faults.of_change();
         let noted = self.note_sync(fate);
         self.answer(noted, fate)

@@ -27,5 +27,8 @@ pub mod SteppedStore
 pub mod StepWrites
 mod ImportCounts
 mod KeptBlocks
+mod ImportReads
+mod ImportWrites
+mod OtherCalls
 pub mod LatestTimes
 mod BroughtRows

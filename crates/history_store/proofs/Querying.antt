@@ -2,6 +2,7 @@
 use Rattle.std.proofs.Common.{◌≡◌, ◌≢◌, ◌↔◌, ℕ, ◌+◌, ◌≤◌, List, false, true, Result, Ok, Err, IfOk, IfErr, MatchResult, refl, sym, ap, subst, ◌∙◌}
 use Rattle.std.proofs.lemmas.Bool.{false≢true}
 use Rattle.fault_counts.specs.Counting.{Counts as CountsBy, CountsDiskFault}
+use Rattle.history_model.specs.declared.stamped.StampedRow.{StampedRow}
 use Rattle.disk_model.specs.Disk.{Moments}
 use Rattle.lru.specs.LruCache.{LruCache}
 use Rattle.blocks.specs.Cache.{LooksUpSome}
@@ -40,6 +41,14 @@ pub answered_bytes : {T D : Type 0} (bytes_read : D → ℕ) (cost : T → ℕ) 
 answered_bytes bytes_read cost before lent left disk read result is lent_is same h =
     answered_so (λ x. bytes_read disk ≤ bytes_read lent + cost x) (λ x. bytes_read left ≤ bytes_read before + cost x) read result is
     (λ x le. subst (λ d. bytes_read d ≤ bytes_read before + cost x) (sym same) (subst (λ d. bytes_read disk ≤ bytes_read d + cost x) lent_is le)) h
+
+-- whatever is answered, no more bytes are read than for these rows
+pub always_bytes : {D : Type 0} (bytes_read : D → ℕ) (cost : List (List StampedRow) → ℕ) (lists shown : List (List StampedRow)) (before lent left disk : D) → lists ≡ shown → lent ≡ before → left ≡ disk
+    → bytes_read disk ≤ bytes_read lent + cost lists → bytes_read left ≤ bytes_read before + cost shown
+always_bytes bytes_read cost lists shown before lent left disk shown_is lent_is same le =
+    subst (λ d. bytes_read d ≤ bytes_read before + cost shown) (sym same)
+    (subst (λ d. bytes_read disk ≤ bytes_read d + cost shown) lent_is
+    (subst (λ l. bytes_read disk ≤ bytes_read lent + cost l) shown_is le))
 
 undamaged_answer : {T : Type 0} (read : Result T ReadFault) → IfErr read (λ e. e ≢ readfault.Damaged) → IfErr (answer_of read) (λ e. e ≢ refusals.Damaged)
 undamaged_answer (Ok x) other = tt
@@ -102,3 +111,7 @@ through_cache bytes_read entries listed lent_cache old cache new lent before dis
     (subst (λ d. LooksUpSome (is_listed listed) old cache (bytes_read d) (bytes_read disk)) lent_is
     (subst (λ c. LooksUpSome (is_listed listed) c cache (bytes_read lent) (bytes_read disk)) was
     (subst (λ e. LooksUpSome (is_listed e) lent_cache cache (bytes_read lent) (bytes_read disk)) is looked_up))))
+
+-- no call but reads was made
+pub calls_stay : {D : Type 0} (other_calls : D → ℕ) (lent before disk left : D) → lent ≡ before → left ≡ disk → other_calls disk ≡ other_calls lent → other_calls left ≡ other_calls before
+calls_stay other_calls lent before disk left lent_is same stays = ap other_calls same ∙ stays ∙ ap other_calls lent_is

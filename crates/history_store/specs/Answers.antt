@@ -2,7 +2,8 @@
 use Rattle.std.specs.Prelude.{◌≡◌, ◌≢◌, ◌⊎◌, ℕ, ◌+◌, ◌<◌, ◌≤◌, true, false, List, [], ◌∷◌, ◌++◌}
 use Rattle.std.specs.Prelude.{length, None, Result, Ok, Err}
 use Rattle.fault_counts.specs.Counting.{HasRisen}
-use Rattle.disk_model.specs.Disk.{Moments}
+use Rattle.disk_model.specs.Disk.{DiskState, Moments}
+use Rattle.blocks.specs.Slots.{slots_range}
 use Rattle.rf2_values.specs.Row.{RowValue}
 use Rattle.rf2_values.specs.declared.key.Key.{Key}
 use Rattle.history_model.specs.declared.stamped.StampedRow.{StampedRow}
@@ -25,6 +26,7 @@ use Rattle.history_store.specs.declared.refusal.Refusal.TheVariants as refusals
 use Rattle.history_store.specs.Catalog.{Catalog, IsCatalogAfter, HasNoEntry, HasNoPlace}
 use Rattle.history_store.specs.StoreValue.{StoreValue, last_import, last_epoch}
 use Rattle.history_store.specs.Prepared.{IsNotSpent}
+use Rattle.history_store.specs.Written.{added_ranges, StemsWithinAll}
 use Rattle.history_store.specs.Refusals.{of_loading}
 
 -- a store, or why there is none, and then its device
@@ -203,6 +205,12 @@ pub record RepresentsWith (h : History) (release : Release) (c : List ℕ) : Typ
 -- from before in its version, or the one after it in version 2
 abbrev pub IsBeforeOrAfter : Layout → History → Release → List ℕ → Type 0
 IsBeforeOrAfter layout h release c = RepresentsAs layout h c ⊎ RepresentsWith h release c
+
+-- The bytes are what a stop may have left before an import, but for the slots and the segment of
+-- the new rows, which goes to the first place that has room for it; and the release would be taken.
+abbrev pub StemsWithinNew : History → Catalog → Release → DiskState → List ℕ → Type 0
+StemsWithinNew h catalog release s c = (taken : WouldBeTaken h catalog release)
+    × StemsWithinAll s (slots_range ∷ added_ranges catalog taken.next) c
 
 -- why a call that only reads is refused
 abbrev pub IsReadRefusal : {D : Type 0} → Refusal → StoreValue D → Type 0

@@ -1,8 +1,10 @@
 -- How many calls that may change the disk an import makes.
-use Rattle.std.specs.Prelude.{◌≡◌, ℕ, zero, suc, ◌+◌, ◌≤◌, Result, MatchResult}
+use Rattle.std.specs.Prelude.{◌≡◌, ◌≢◌, ℕ, zero, suc, ◌+◌, ◌≤◌, Result, Ok, Err, MatchResult}
 use Rattle.disk_model.specs.Disk.{Moments}
 use Rattle.blocks.specs.Calls.{call_count}
 use Rattle.history_model.specs.declared.receipt.Receipt.{Receipt}
+use Rattle.history_store.specs.declared.refusal.Refusal.{Refusal}
+use Rattle.history_store.specs.declared.refusal.Refusal.TheVariants as refusals
 
 -- how many changing calls an import makes: the six of a publication, and where a row is new a
 -- segment's write and sync before them
@@ -15,3 +17,10 @@ abbrev pub MakesImportCalls : {E : Type 0} → Result Receipt E → Moments → 
 MakesImportCalls result old new = MatchResult result
     (λ receipt. call_count new ≡ call_count old + import_calls receipt.new)
     (λ _. call_count new ≤ call_count old + 8)
+
+-- On every disk an import makes no more calls than these, beside reads, and a
+-- refused one none of them, unless the device failed.
+abbrev pub MakesNoOtherCalls : Result Receipt Refusal → (before after : ℕ) → Type 0
+MakesNoOtherCalls (Ok receipt) before after = after ≤ before + import_calls receipt.new
+MakesNoOtherCalls (Err e) before after =
+    (after ≤ before + 8) × (e ≢ refusals.DiskFault → after ≡ before)

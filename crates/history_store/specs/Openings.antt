@@ -5,6 +5,10 @@ use Rattle.blocks.specs.Calls.{MakesCalls}
 use Rattle.blocks.specs.Outside.{StemsWithin}
 use Rattle.blocks.specs.Slots.{slots_range}
 use Rattle.store_image.specs.Answers.{IsNewStore}
+use Rattle.store_image.specs.Asked.{StopsAt}
+use Rattle.store_image.specs.declared.fault.LoadFault.{LoadFault}
+use Rattle.history_store.specs.declared.refusal.Refusal.{Refusal}
+use Rattle.history_store.specs.Refusals.{of_loading}
 use Rattle.history_store.specs.StoreValue.{IsAcknowledged, no_blocks}
 use Rattle.history_store.specs.Answers.{StoreOr, IsNew, IsReady, IsMakingOf, IsMakingCause}
 use Rattle.history_store.specs.Answers.{IsOpeningOf, IsOpeningCause, HandsBack, SyncsOnce}
@@ -61,3 +65,8 @@ pub record IsOpening {D : Type 0} (result : StoreOr D) (is_honest : D → Type 0
   pub cache : IfOk result (λ s. s.cache ≡ no_blocks)
   pub honesty : is_honest device ↔ is_honest (device_of result)
   pub failures : CountsOpening result (failures_of device) (failures_of (device_of result))
+
+-- an opening that was refused asked for no more than up to the fault of the bytes
+abbrev pub StopsIn : Refusal → (bytes_before bytes calls_before calls : ℕ) → Type 0
+StopsIn refusal bytes_before bytes calls_before calls = (fault : LoadFault)
+    × (refusal ≡ of_loading fault) × StopsAt fault bytes_before bytes calls_before calls

@@ -1,16 +1,19 @@
 -- What a query leaves of a store.
 use Rattle.std.specs.Prelude.{◌≡◌, ◌≢◌, ◌⊎◌, ◌↔◌, ℕ, Bool, true, false, List, Result, IfErr}
-use Rattle.std.specs.Prelude.{Option, Some, None}
+use Rattle.std.specs.Prelude.{◌+◌, ◌≤◌, OnOk, OnErr, Option, Some, None}
 use Rattle.std.specs.List.{list_any}
 use Rattle.disk_model.specs.Disk.{Moments}
 use Rattle.lru.specs.LruCache.{LruCache}
 use Rattle.blocks.specs.declared.extent.Extent.{Extent}
 use Rattle.blocks.specs.Cache.{LooksUpSome, Forgets, is_in}
+use Rattle.blocks.specs.declared.slots.Slot.{Slot}
+use Rattle.blocks.specs.Slots.{slot_extent}
 use Rattle.directory.specs.declared.entry.Entry.{Entry}
 use Rattle.directory.specs.Places.{extent_of}
 use Rattle.history_store.specs.declared.refusal.Refusal.{Refusal}
 use Rattle.history_store.specs.declared.refusal.Refusal.TheVariants as refusals
 use Rattle.history_store.specs.Catalog.{reserved_by}
+use Rattle.history_store.specs.Written.{added_entries}
 use Rattle.history_store.specs.StoreValue.{StoreValue, IsAcknowledged}
 use Rattle.history_store.specs.Answers.{Counts, IsReadingOf}
 
@@ -42,6 +45,26 @@ abbrev pub StepsThroughCache : {D : Type 0} → (D → ℕ) → StoreValue D →
 StepsThroughCache bytes_read_of old new =
     LooksUpAndForgets (is_listed old.catalog.entries) (reserved_by old.catalog.merge)
     old.cache new.cache (bytes_read_of old.disk) (bytes_read_of new.disk)
+
+-- the blocks of these segments aren't kept any longer, and after that those of a slot aren't either
+abbrev pub ForgetsWritten : List Entry → LruCache ℕ (List ℕ) → LruCache ℕ (List ℕ) → Type 0
+ForgetsWritten entries old new = (slot : Slot) × (mid : LruCache ℕ (List ℕ))
+    × Forgets (is_listed entries) old mid × Forgets (is_in (slot_extent slot)) mid new
+
+-- What an import reads and forgets. Blocks of listed segments are looked up in the cache, which
+-- makes this of it. A publication looks at one byte besides, the gate of a slot, and nothing else
+-- is read. After Ok the blocks that were written are forgotten; after an error none is.
+pub record ImportsThroughCache {T D : Type 0} (result : Result T Refusal) (bytes_read_of : D → ℕ)
+    (old new : StoreValue D) : Type 0 where
+  pub looked_up : LruCache ℕ (List ℕ)
+  pub asked : ℕ
+  pub reads : LooksUpSome (is_listed old.catalog.entries)
+      old.cache looked_up (bytes_read_of old.disk) asked
+  pub gate : bytes_read_of new.disk ≤ asked + 1
+  pub no_gate : IfErr result (λ e. e ≢ refusals.DiskFault → bytes_read_of new.disk ≤ asked)
+  pub forgets : OnOk result
+      (ForgetsWritten (added_entries old.catalog new.catalog) looked_up new.cache)
+  pub keeps : OnErr result (new.cache ≡ looked_up)
 
 -- Whatever is answered, history and catalog stay, and a failed device alone closes the store. A
 -- store that has to be opened again leaves everything as it is. On an honest disk nothing is

@@ -1,8 +1,9 @@
 -- Which bytes of the disk the calls of a store write.
-use Rattle.std.specs.Prelude.{◌≡◌, ℕ, ◌+◌, ◌-◌, min, List, ◌++◌, length, map, drop, Some, slice_get}
-use Rattle.std.specs.Prelude.{Result, MatchResult}
+use Rattle.std.specs.Prelude.{◌≡◌, ℕ, ◌+◌, ◌-◌, min, List, [], ◌∷◌, ◌++◌, length, map, drop}
+use Rattle.std.specs.Prelude.{Some, slice_get, Result, MatchResult}
 use Rattle.std.specs.Option.{option_to_list}
 use Rattle.disk_model.specs.Disk.{DiskState, Moments, followed_by, after_write, Fails}
+use Rattle.disk_model.specs.Disk.{IsImage, SameBut}
 use Rattle.blocks.specs.Extents.{byte_range, start_of}
 use Rattle.history_model.specs.declared.stamped.StampedRow.{StampedRow}
 use Rattle.history_model.specs.InOrder.{Has, IsAscending}
@@ -15,9 +16,18 @@ use Rattle.store_image.specs.Kept.{IsSegmentOf}
 use Rattle.store_image.specs.Ahead.{BeginsWith}
 use Rattle.history_store.specs.Catalog.{Merge, Catalog, reserved_by}
 
--- the bytes of the segments that a catalog lists behind those of another
+-- the segments that a catalog lists behind those of another, and their bytes
+abbrev pub added_entries : Catalog → Catalog → List Entry
+added_entries old new = drop (length old.entries) new.entries
+
 abbrev pub added_ranges : Catalog → Catalog → List (ℕ × ℕ)
-added_ranges old new = map byte_range (extents_of (drop (length old.entries) new.entries))
+added_ranges old new = map byte_range (extents_of (added_entries old new))
+
+-- the bytes are what a stop may have left before, but for these ranges
+abbrev pub StemsWithinAll : DiskState → List (ℕ × ℕ) → List ℕ → Type 0
+StemsWithinAll s [] c = IsImage s c
+StemsWithinAll s (range ∷ ranges) c =
+    (d : List ℕ) × StemsWithinAll s ranges d × SameBut range.0 range.1 d c
 
 -- the bytes that the merge that goes on has reserved
 abbrev pub reserved_ranges : Catalog → List (ℕ × ℕ)

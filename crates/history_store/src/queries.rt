@@ -12,7 +12,7 @@ use disk_model::Disk;
 use history_model::ImportReceipt;
 use links::{about, children, replacements};
 use rf2_rows::{EffectiveTime, Kind, Row, Sctid};
-use term_prefix::find;
+use term_prefix::{Search, find};
 
 impl<D: Disk> Store<D> {
     ghost use Rattle.std.specs.List.{sum_by};
@@ -63,12 +63,19 @@ impl<D: Disk> Store<D> {
         ensures found { D.is_honest self.old.disk
             → IfOk result (λ row. row ≡ get kind id time (rows_at pin self.old.history.rows)) }
         ensures query { IsQuery result D.is_honest D.moments D.failures self.old self.new }
+        // On every disk, and whatever it answers, no call but reads is made.
+        ensures other_calls { D.other_calls self.new.disk ≡ D.other_calls self.old.disk }
         // On every disk, and whatever it answers, what is kept is not read again.
         ensures looked_up { ReadsThroughCache D.bytes_read self.old self.new }
         // Whatever is on the disk, no more is read than the row that is answered takes,
         // and nothing where none is answered.
         ensures bytes_read { IfOk result (λ row. D.bytes_read self.new.disk
             ≤ D.bytes_read self.old.disk + sum_by row_cost (option_to_list row)) }
+        // Whatever it answers, no more is read than the row takes that is to be found, and nothing
+        // where there is none.
+        ensures bytes_read_always { D.bytes_read self.new.disk ≤ D.bytes_read self.old.disk
+            + sum_by row_cost (option_to_list
+            (get kind id time (rows_at pin self.old.history.rows))) }
     {
         if self.needs_reopen {
             return Err(Refusal::ReopenNeeded);
@@ -90,11 +97,17 @@ impl<D: Disk> Store<D> {
             → IfOk result (λ rows. rows.items ≡ versions kind id
             (rows_at pin self.old.history.rows)) }
         ensures query { IsQuery result D.is_honest D.moments D.failures self.old self.new }
+        // On every disk, and whatever it answers, no call but reads is made.
+        ensures other_calls { D.other_calls self.new.disk ≡ D.other_calls self.old.disk }
         // On every disk, and whatever it answers, what is kept is not read again.
         ensures looked_up { ReadsThroughCache D.bytes_read self.old self.new }
         // Whatever is on the disk, no more is read than the rows that are answered take.
         ensures bytes_read { IfOk result (λ rows. D.bytes_read self.new.disk
             ≤ D.bytes_read self.old.disk + sum_by row_cost rows.items) }
+        // Whatever it answers, no more is read than the rows take that are to be found, each
+        // counted once.
+        ensures bytes_read_always { D.bytes_read self.new.disk ≤ D.bytes_read self.old.disk
+            + sum_by row_cost (versions kind id (rows_at pin self.old.history.rows)) }
     {
         if self.needs_reopen {
             return Err(Refusal::ReopenNeeded);
@@ -124,11 +137,18 @@ impl<D: Disk> Store<D> {
             → IfOk result (λ rows. rows.items ≡ page kind time after limit
             (rows_at pin self.old.history.rows)) }
         ensures query { IsQuery result D.is_honest D.moments D.failures self.old self.new }
+        // On every disk, and whatever it answers, no call but reads is made.
+        ensures other_calls { D.other_calls self.new.disk ≡ D.other_calls self.old.disk }
         // On every disk, and whatever it answers, what is kept is not read again.
         ensures looked_up { ReadsThroughCache D.bytes_read self.old self.new }
         // Whatever is on the disk, no more is read than the rows that are answered take.
         ensures bytes_read { IfOk result (λ rows. D.bytes_read self.new.disk
             ≤ D.bytes_read self.old.disk + sum_by row_cost rows.items) }
+        // Whatever it answers, no more is read than the rows take that are to be found, each
+        // counted once.
+        ensures bytes_read_always { D.bytes_read self.new.disk ≤ D.bytes_read self.old.disk
+            + sum_by row_cost
+            (page kind time after limit (rows_at pin self.old.history.rows)) }
     {
         if self.needs_reopen {
             return Err(Refusal::ReopenNeeded);
@@ -147,7 +167,7 @@ impl<D: Disk> Store<D> {
     }
 
     /// The active rows of a kind that are about a component, ascending by id: the descriptions of a
-    /// concept, the relationships of a source, what an association refers to.
+    /// concept, the relationships whose source it is, the associations that refer to it.
     pub fn about(
         &mut self,
         kind: Kind,
@@ -160,11 +180,18 @@ impl<D: Disk> Store<D> {
             → IfOk result (λ rows. rows.items ≡ about kind id time
             (rows_at pin self.old.history.rows)) }
         ensures query { IsQuery result D.is_honest D.moments D.failures self.old self.new }
+        // On every disk, and whatever it answers, no call but reads is made.
+        ensures other_calls { D.other_calls self.new.disk ≡ D.other_calls self.old.disk }
         // On every disk, and whatever it answers, what is kept is not read again.
         ensures looked_up { ReadsThroughCache D.bytes_read self.old self.new }
         // Whatever is on the disk, no more is read than the rows that are answered take.
         ensures bytes_read { IfOk result (λ rows. D.bytes_read self.new.disk
             ≤ D.bytes_read self.old.disk + sum_by row_cost rows.items) }
+        // Whatever it answers, no more is read than the rows take that are to be found, each
+        // counted once.
+        ensures bytes_read_always { D.bytes_read self.new.disk ≤ D.bytes_read self.old.disk
+            + sum_by row_cost
+            (about kind id time (rows_at pin self.old.history.rows)) }
     {
         if self.needs_reopen {
             return Err(Refusal::ReopenNeeded);
@@ -203,11 +230,18 @@ impl<D: Disk> Store<D> {
             → IfOk result (λ rows. rows.items ≡ search_terms prefix.now time after limit
             (rows_at pin self.old.history.rows)) }
         ensures query { IsQuery result D.is_honest D.moments D.failures self.old self.new }
+        // On every disk, and whatever it answers, no call but reads is made.
+        ensures other_calls { D.other_calls self.new.disk ≡ D.other_calls self.old.disk }
         // On every disk, and whatever it answers, what is kept is not read again.
         ensures looked_up { ReadsThroughCache D.bytes_read self.old self.new }
         // Whatever is on the disk, no more is read than the rows that are answered take.
         ensures bytes_read { IfOk result (λ rows. D.bytes_read self.new.disk
             ≤ D.bytes_read self.old.disk + sum_by row_cost rows.items) }
+        // Whatever it answers, no more is read than the rows take that are to be found, each
+        // counted once.
+        ensures bytes_read_always { D.bytes_read self.new.disk ≤ D.bytes_read self.old.disk
+            + sum_by row_cost
+            (search_terms prefix.now time after limit (rows_at pin self.old.history.rows)) }
     {
         if self.needs_reopen {
             return Err(Refusal::ReopenNeeded);
@@ -224,10 +258,12 @@ impl<D: Disk> Store<D> {
             self.index.places(),
             &mut reader,
             prefix,
-            time,
-            after,
-            limit,
-            pin,
+            &Search {
+                time,
+                pin,
+                after,
+                limit,
+            },
         );
         self.answered(read)
     }
@@ -246,11 +282,18 @@ impl<D: Disk> Store<D> {
             → IfOk result (λ rows. rows.items ≡ terms prefix.now time limit
             (rows_at pin self.old.history.rows)) }
         ensures query { IsQuery result D.is_honest D.moments D.failures self.old self.new }
+        // On every disk, and whatever it answers, no call but reads is made.
+        ensures other_calls { D.other_calls self.new.disk ≡ D.other_calls self.old.disk }
         // On every disk, and whatever it answers, what is kept is not read again.
         ensures looked_up { ReadsThroughCache D.bytes_read self.old self.new }
         // Whatever is on the disk, no more is read than the rows that are answered take.
         ensures bytes_read { IfOk result (λ rows. D.bytes_read self.new.disk
             ≤ D.bytes_read self.old.disk + sum_by row_cost rows.items) }
+        // Whatever it answers, no more is read than the rows take that are to be found, each
+        // counted once.
+        ensures bytes_read_always { D.bytes_read self.new.disk ≤ D.bytes_read self.old.disk
+            + sum_by row_cost
+            (terms prefix.now time limit (rows_at pin self.old.history.rows)) }
     {
         self.search(prefix, time, None, limit, pin)
     }
@@ -297,11 +340,18 @@ impl<D: Disk> Store<D> {
             → IfOk result (λ rows. rows.items ≡ replacements id time
             (rows_at pin self.old.history.rows)) }
         ensures query { IsQuery result D.is_honest D.moments D.failures self.old self.new }
+        // On every disk, and whatever it answers, no call but reads is made.
+        ensures other_calls { D.other_calls self.new.disk ≡ D.other_calls self.old.disk }
         // On every disk, and whatever it answers, what is kept is not read again.
         ensures looked_up { ReadsThroughCache D.bytes_read self.old self.new }
         // Whatever is on the disk, no more is read than the rows that are answered take.
         ensures bytes_read { IfOk result (λ rows. D.bytes_read self.new.disk
             ≤ D.bytes_read self.old.disk + sum_by row_cost rows.items) }
+        // Whatever it answers, no more is read than the rows take that are to be found, each
+        // counted once.
+        ensures bytes_read_always { D.bytes_read self.new.disk ≤ D.bytes_read self.old.disk
+            + sum_by row_cost
+            (replacements id time (rows_at pin self.old.history.rows)) }
     {
         if self.needs_reopen {
             return Err(Refusal::ReopenNeeded);

@@ -1,7 +1,7 @@
 //! An empty store, and what a store keeps in memory beside its directory.
 
-ghost use Rattle.std.specs.Prelude.{◌≡◌, ◌≢◌, ◌↔◌, ◌≤◌, [], length, map, vec_items, IfOk, IfErr};
-ghost use Rattle.std.specs.Prelude.{OnOk};
+ghost use Rattle.std.specs.Prelude.{◌≡◌, ◌≢◌, ◌↔◌, ◌+◌, ◌≤◌, [], length, map, vec_items, IfOk};
+ghost use Rattle.std.specs.Prelude.{IfErr, OnOk};
 ghost use Rattle.lru.specs.LruCache.{lru_cache};
 ghost use Rattle.disk_model.specs.Disk.{LeavesOnly};
 ghost use Rattle.blocks.specs.Calls.{MakesCalls};
@@ -91,6 +91,10 @@ pub(crate) fn start<D: Disk>(alloc: Global, disk: &mut D) -> Result<Started, Ref
         → MakesCalls result 9 (D.moments disk.old) (D.moments disk.new) }
     ensures honesty { D.is_honest disk.old ↔ D.is_honest disk.new }
     ensures failures { Counts result (D.failures disk.old) (D.failures disk.new) }
+    ensures bytes_read { D.bytes_read disk.new ≡ D.bytes_read disk.old }
+    ensures other_calls { D.other_calls disk.new ≤ D.other_calls disk.old + 11 }
+    ensures looked { IfErr result (λ e. e ≢ refusals.DiskFault
+        → D.other_calls disk.new ≤ D.other_calls disk.old + 2) }
 {
     check_empty(disk)?;
     let index = StoreIndex::new(alloc)?;

@@ -1,8 +1,9 @@
 //! The store: its calls.
 
-ghost use Rattle.std.specs.Prelude.{◌≡◌, ◌⊎◌, ◌↔◌, ◌+◌, ◌≤◌, ◌∷◌, length};
-ghost use Rattle.std.specs.Prelude.{IfOk, IfErr, OnOk, true, false};
-ghost use Rattle.disk_model.specs.Disk.{EachImage, LeavesOnly};
+ghost use Rattle.std.specs.Prelude.{◌≡◌, ◌≢◌, ◌⊎◌, ◌↔◌, ◌+◌, ◌≤◌, ◌∷◌, [], List, length};
+ghost use Rattle.std.specs.List.{sum_by};
+ghost use Rattle.std.specs.Prelude.{IfOk, IfErr, OnOk, OnErr, true, false};
+ghost use Rattle.disk_model.specs.Disk.{IsImage, EachImage, LeavesOnly, raised_by};
 
 use crate::counting::{blocks_in_use, row_count};
 use crate::known::find_new_rows;
@@ -67,6 +68,10 @@ impl<D: Disk> Store<D> {
     ghost use Rattle.history_model.specs.Brought.{IsLatestDay};
     ghost use Rattle.directory.specs.declared.layout.Layout.TheVariants as layouts;
     ghost use Rattle.directory.specs.Listings.{number_of};
+    ghost use Rattle.rf2_values.specs.Row.{RowValue};
+    ghost use Rattle.import_check.specs.Known.{already_known};
+    ghost use Rattle.import_check.specs.Release.{IsReleaseOf};
+    ghost use Rattle.history_store.specs.Reading.{row_cost};
     ghost use Rattle.import_check.specs.NewRows.{IsAcceptedAs, IsRead};
     ghost use Rattle.import_check.specs.NewRows.{IsApart};
     ghost use Rattle.store_image.specs.Images.{Represents, RepresentsAs};
@@ -76,23 +81,33 @@ impl<D: Disk> Store<D> {
     ghost use Rattle.history_store.specs.Prepared.{IsNotSpent};
     ghost use Rattle.history_store.specs.Private.Prepared.{IsPreparedFor};
     ghost use Rattle.blocks.specs.Calls.{MakesCalls};
-    ghost use Rattle.blocks.specs.Outside.{SameOutside};
+    ghost use Rattle.blocks.specs.Outside.{SameOutside, StemsWithin};
+    ghost use Rattle.blocks.specs.Extents.{byte_range};
+    ghost use Rattle.directory.specs.Places.{extent_of};
     ghost use Rattle.blocks.specs.Slots.{slots_range, slots_read};
     ghost use Rattle.store_image.specs.Kept.{bytes_listed};
-    ghost use Rattle.history_store.specs.Written.{added_ranges};
-    ghost use Rattle.history_store.specs.Calls.{MakesImportCalls};
-    ghost use Rattle.history_store.specs.Answers.{Counts};
+    ghost use Rattle.history_store.specs.Written.{added_entries, added_ranges, StemsWithinAll};
+    ghost use Rattle.history_store.specs.Calls.{MakesImportCalls, MakesNoOtherCalls};
+    ghost use Rattle.history_store.specs.Answers.{Counts, device_of};
     ghost use Rattle.history_store.specs.Private.Answers.{IsStep, IsNotFresh};
-    ghost use Rattle.history_store.specs.Openings.{IsMaking, IsOpening};
+    ghost use Rattle.history_store.specs.Openings.{IsMaking, IsOpening, StopsIn};
     ghost use Rattle.history_store.specs.Answers.{IsStill, IsRefused};
     ghost use Rattle.history_store.specs.Answers.{IsCounted, IsImportOf, IsImportOnAnyDisk};
-    ghost use Rattle.history_store.specs.Answers.{IsBeforeOrAfter, KeepsMoments};
-    ghost use Rattle.history_store.specs.Queries.{ReadsThroughCache};
+    ghost use Rattle.history_store.specs.Answers.{IsBeforeOrAfter, KeepsMoments, StemsWithinNew};
+    ghost use Rattle.history_store.specs.Queries.{ReadsThroughCache, ForgetsWritten};
+    ghost use Rattle.history_store.specs.Queries.{ImportsThroughCache};
+    ghost use Rattle.history_store.specs.declared.refusal.Refusal.TheVariants as refusals;
 
     /// Makes a store on an empty disk. The length of the disk is looked
     /// at first, then all memory is taken, then the disk is written.
     pub fn create(alloc: Global, disk: D) -> Result<Store<D>, (Refusal, D)>
         ensures made { IsMaking result D.is_honest D.moments D.failures disk }
+        // On every disk, and whatever it answers, nothing is read. The length is asked for twice,
+        // and nine calls are made; refused for any other reason than the device, none of the nine.
+        ensures bytes_read { D.bytes_read (device_of result) ≡ D.bytes_read disk }
+        ensures other_calls { D.other_calls (device_of result) ≤ D.other_calls disk + 11 }
+        ensures looked { IfErr result (λ e. e.0 ≢ refusals.DiskFault
+            → D.other_calls e.1 ≤ D.other_calls disk + 2) }
     {
         let mut disk = disk;
         match start(alloc, &mut disk) {
@@ -124,6 +139,17 @@ impl<D: Disk> Store<D> {
         // On every disk it reads the slots, and each byte of the listed segments once.
         ensures bytes_read { IfOk result (λ s. D.bytes_read s.disk
             ≤ D.bytes_read disk + slots_read + bytes_listed s.catalog.entries) }
+        // Beside its reads it makes one sync, and asks for the length once for the slots and once
+        // for each segment.
+        ensures other_calls { IfOk result (λ s. D.other_calls s.disk
+            ≤ D.other_calls disk + 2 + length s.catalog.entries) }
+        // Before it reads it makes one call, whatever it answers: a sync that failed isn't tried
+        // again.
+        ensures synced_once { (D.other_calls (device_of result) ≤ D.other_calls disk + 1)
+            ⊎ (raised_by (D.bytes_read disk) 1 ≤ D.bytes_read (device_of result)) }
+        // After an error it has asked for no more than up to the fault, on every disk.
+        ensures stops { IfErr result (λ e. StopsIn e.0 (D.bytes_read disk) (D.bytes_read e.1)
+            (D.other_calls disk) (D.other_calls e.1)) }
     {
         let mut disk = disk;
         let mut posting = Posting::new(alloc);
@@ -164,10 +190,16 @@ impl<D: Disk> Store<D> {
         ensures still { IfOk result (λ fresh. IsStill self.old self.new) }
         ensures closed { IfErr result (λ e. IsRefused e self.old self.new) }
         ensures looked_up { ReadsThroughCache D.bytes_read self.old self.new }
+        ensures bytes_read { (rows : List RowValue) → IsReleaseOf release rows
+            → D.bytes_read self.new.disk ≤ D.bytes_read self.old.disk
+            + sum_by row_cost (already_known (full self.old.history) rows) }
+        ensures bytes_unread { (IsRead release → ⊥)
+            → D.bytes_read self.new.disk ≤ D.bytes_read self.old.disk }
         ensures moments { D.is_honest self.old.disk
             → D.moments self.new.disk ≡ D.moments self.old.disk }
         ensures honesty { D.is_honest self.old.disk ↔ D.is_honest self.new.disk }
         ensures failures { Counts result (D.failures self.old.disk) (D.failures self.new.disk) }
+        ensures other_calls { D.other_calls self.new.disk ≡ D.other_calls self.old.disk }
     {
         let pin = self.directory.imports();
         let mut reader = DiskRows::new(
@@ -222,7 +254,16 @@ impl<D: Disk> Store<D> {
             → MakesCalls result 6 (D.moments self.old.disk) (D.moments self.new.disk) }
         ensures honesty { D.is_honest self.old.disk ↔ D.is_honest self.new.disk }
         ensures capacity { self.new.cache.cap ≡ self.old.cache.cap }
+        ensures inside { D.is_honest self.old.disk
+            → LeavesOnly (D.moments self.old.disk) (D.moments self.new.disk)
+            (StemsWithin (D.moments self.old.disk).state slots_range) }
+        ensures fault { IfErr result (λ e. e ≡ refusals.DiskFault) }
+        ensures forgets { OnOk result (ForgetsWritten
+            (added_entries self.old.catalog self.new.catalog) self.old.cache self.new.cache) }
+        ensures keeps { OnErr result (self.new.cache ≡ self.old.cache) }
+        ensures bytes_read { D.bytes_read self.new.disk ≤ D.bytes_read self.old.disk + 1 }
         ensures failures { Counts result (D.failures self.old.disk) (D.failures self.new.disk) }
+        ensures other_calls { D.other_calls self.new.disk ≤ D.other_calls self.old.disk + 6 }
     {
         match publish_directory(&mut self.disk, self.slot, &next) {
             Ok(slot) => {
@@ -260,7 +301,17 @@ impl<D: Disk> Store<D> {
             → MakesCalls result 8 (D.moments self.old.disk) (D.moments self.new.disk) }
         ensures honesty { D.is_honest self.old.disk ↔ D.is_honest self.new.disk }
         ensures capacity { self.new.cache.cap ≡ self.old.cache.cap }
+        ensures inside { D.is_honest self.old.disk
+            → LeavesOnly (D.moments self.old.disk) (D.moments self.new.disk)
+            (StemsWithinAll (D.moments self.old.disk).state
+            (slots_range ∷ byte_range (extent_of prepared.entry) ∷ [])) }
+        ensures fault { IfErr result (λ e. e ≡ refusals.DiskFault) }
+        ensures forgets { OnOk result (ForgetsWritten
+            (added_entries self.old.catalog self.new.catalog) self.old.cache self.new.cache) }
+        ensures keeps { OnErr result (self.new.cache ≡ self.old.cache) }
+        ensures bytes_read { D.bytes_read self.new.disk ≤ D.bytes_read self.old.disk + 1 }
         ensures failures { Counts result (D.failures self.old.disk) (D.failures self.new.disk) }
+        ensures other_calls { D.other_calls self.new.disk ≤ D.other_calls self.old.disk + 8 }
     {
         let Prepared {
             directory,
@@ -307,13 +358,34 @@ impl<D: Disk> Store<D> {
         ensures elsewhere { D.is_honest self.old.disk → OnOk result
             (SameOutside (slots_range ∷ added_ranges self.old.catalog self.new.catalog)
             (D.moments self.old.disk).state.now (D.moments self.new.disk).state.now) }
+        // Whatever it answers, a stop leaves what it might have left before,
+        // or that but for the slots and the place of the new segment.
+        ensures inside { D.is_honest self.old.disk
+            → LeavesOnly (D.moments self.old.disk) (D.moments self.new.disk)
+            (λ c. IsImage (D.moments self.old.disk).state c
+            ⊎ StemsWithinNew self.old.history self.old.catalog release
+            (D.moments self.old.disk).state c) }
         // A store that has to be opened again leaves everything as it is.
         ensures closed { self.old.needs_reopen ≡ true → self.new ≡ self.old }
         // Eight calls that may change the disk where a row is new,
         // and else six; where it is refused, no more.
         ensures calls { D.is_honest self.old.disk → MakesImportCalls result
             (D.moments self.old.disk) (D.moments self.new.disk) }
+        // On every disk it makes no other call than reads and these; and none
+        // of these where it is refused for any other reason than the device.
+        ensures other_calls { MakesNoOtherCalls result
+            (D.other_calls self.old.disk) (D.other_calls self.new.disk) }
         ensures honesty { D.is_honest self.old.disk ↔ D.is_honest self.new.disk }
+        // On every disk, and whatever it answers, it reads blocks of listed segments alone, through
+        // the blocks in memory, and the gate of a slot. It forgets what it wrote, and nothing else.
+        ensures looked_up { ImportsThroughCache result D.bytes_read self.old self.new }
+        // It reads each row of the store whose key the release has once at most, no other row,
+        // and the gate. Where a file is no release file, nothing is read.
+        ensures bytes_read { (rows : List RowValue) → IsReleaseOf release rows
+            → D.bytes_read self.new.disk ≤ D.bytes_read self.old.disk + 1
+            + sum_by row_cost (already_known (full self.old.history) rows) }
+        ensures bytes_unread { (IsRead release → ⊥)
+            → D.bytes_read self.new.disk ≤ D.bytes_read self.old.disk }
         // There is room for as many blocks in memory as before.
         ensures capacity { self.new.cache.cap ≡ self.old.cache.cap }
         ensures failures { Counts result (D.failures self.old.disk) (D.failures self.new.disk) }

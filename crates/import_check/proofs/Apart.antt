@@ -16,9 +16,9 @@ use Rattle.history_model.proofs.Keys.{rows_total}
 use Rattle.import_check.specs.declared.release.PlacedLine.{PlacedLine}
 use Rattle.import_check.specs.declared.sweep.Sweep.{Sweep}
 use Rattle.import_check.specs.Known.{IsUnknown}
-use Rattle.import_check.specs.Private.Sweep.{rank_cmp, IsRising, standing_row, standing_of, IsOwn, IsOutcome}
+use Rattle.import_check.specs.Private.Sweep.{rank_cmp, IsRising, IsOwn, IsOutcome}
 use Rattle.import_check.specs.NewRows.{IsApart}
-use Rattle.import_check.proofs.Sweeping.{rank_split, ascending-push, last_pushed}
+use Rattle.import_check.proofs.Sweeping.{rank_split, ascending-push}
 
 pub own_none : (known : List RowValue) (rest : List PlacedLine) (s : Sweep) → s.fresh.items ≡ [] → IsOwn known rest s
 own_none known rest s none = record {
@@ -26,19 +26,18 @@ own_none known rest s none = record {
   below = λ row h line there. absurd (subst (λ rows. Has rows row) none h);
 }
 
-pub own_same : (known : List RowValue) (line : PlacedLine) (rest : List PlacedLine) (old new : Sweep) → new.known_row ≡ old.known_row → new.fresh.items ≡ old.fresh.items → IsOwn known (line ∷ rest) old → IsOwn known rest new
-own_same known line rest old new row rows own =
-    let standing : standing_of new ≡ standing_of old = (λ i. standing_row (row i) (rows i)) in
+pub own_same : (known : List RowValue) (line : PlacedLine) (rest : List PlacedLine) (old new : Sweep) → new.key ≡ old.key → new.fresh.items ≡ old.fresh.items → IsOwn known (line ∷ rest) old → IsOwn known rest new
+own_same known line rest old new key rows own =
     record {
       apart = subst (λ l. IsApart known l) (sym rows) own.apart;
-      below = λ r h l there. elim (own.below r (subst (λ x. Has x r) rows h) l (inr there)) [ inl less ↦ inl less | inr tie ↦ inr (tie.0, standing ∙ tie.1) ];
+      below = λ r h l there. elim (own.below r (subst (λ x. Has x r) rows h) l (inr there)) [ inl less ↦ inl less | inr tie ↦ inr (tie.0, key ∙ tie.1) ];
     }
 
-module _ (known : List RowValue) (line : PlacedLine) (rest : List PlacedLine) (old new : Sweep) (rising : IsRising rank_cmp (line ∷ rest)) (own : IsOwn known (line ∷ rest) old) (other : IsSomeAnd (standing_of old) (λ row. key_of row ≡ key_of line.row) → ⊥) where
+module _ (known : List RowValue) (line : PlacedLine) (rest : List PlacedLine) (old new : Sweep) (rising : IsRising rank_cmp (line ∷ rest)) (own : IsOwn known (line ∷ rest) old) (other : IsSomeAnd old.key (λ last. last ≡ key_of line.row) → ⊥) where
   below_line : (row : RowValue) → Has old.fresh.items row → row_cmp row line.row ≡ Less
   below_line row h = elim (own.below row h line (inl refl)) [
     | inl less ↦ less
-    | inr tie ↦ absurd (other (subst (λ o. IsSomeAnd o (λ r. key_of r ≡ key_of line.row)) (sym tie.1) tie.0))
+    | inr tie ↦ absurd (other (subst (λ o. IsSomeAnd o (λ last. last ≡ key_of line.row)) (sym tie.1) tie.0))
   ]
 
   from_line : (l : PlacedLine) → Has rest l → (row_cmp line.row l.row ≡ Less) ⊎ (key_of line.row ≡ key_of l.row)
@@ -56,9 +55,8 @@ module _ (known : List RowValue) (line : PlacedLine) (rest : List PlacedLine) (o
     below = λ r h l there. inl (below_later r (subst (λ x. Has x r) rows h) l there);
   }
 
-  pub own_new : new.known_row ≡ None → new.fresh.items ≡ old.fresh.items ++ line.row ∷ [] → IsUnknown known (key_of line.row) → IsOwn known rest new
-  own_new none rows unknown =
-      let standing : standing_of new ≡ Some line.row = (λ i. standing_row (none i) (rows i)) ∙ last_pushed old.fresh.items line.row in
+  pub own_new : new.key ≡ Some (key_of line.row) → new.fresh.items ≡ old.fresh.items ++ line.row ∷ [] → IsUnknown known (key_of line.row) → IsOwn known rest new
+  own_new at rows unknown =
       record {
         apart = subst (λ l. IsApart known l) (sym rows) (record {
           ascending = ascending-push row_cmp old.fresh.items line.row own.apart.ascending below_line;
@@ -72,7 +70,7 @@ module _ (known : List RowValue) (line : PlacedLine) (rest : List PlacedLine) (o
           | inr t ↦ elim t [
             | inl e ↦ elim (from_line l there) [
               | inl less ↦ inl (subst (λ (v : RowValue). row_cmp v l.row ≡ Less) e less)
-              | inr tie ↦ inr (subst (λ (v : RowValue). key_of v ≡ key_of l.row) e tie, standing ∙ ap Some e)
+              | inr tie ↦ inr (subst (λ (v : RowValue). key_of v ≡ key_of l.row) e tie, at ∙ ap (λ (v : RowValue). Some (key_of v)) e)
             ]
             | inr n ↦ absurd n
           ]

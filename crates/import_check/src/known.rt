@@ -1,9 +1,11 @@
 //! What is known before a release.
 
-ghost use Rattle.std.specs.Prelude.{◌≡◌, ◌≢◌, ℕ, List, IfOk, IfErr, MatchResult, None, map};
+ghost use Rattle.std.specs.Prelude.{◌≡◌, ◌≢◌, ◌+◌, ◌≤◌, ℕ, List, IfOk, IfErr, MatchResult, None};
+ghost use Rattle.std.specs.Prelude.{map};
 ghost use Rattle.fault_counts.specs.declared.fault.ReadFault.TheVariants as readfault;
 ghost use Rattle.rf2_values.specs.Row.{RowValue};
-ghost use Rattle.history_model.specs.InOrder.{IsAscending};
+ghost use Rattle.rf2_values.specs.Key.{key_of};
+ghost use Rattle.history_model.specs.InOrder.{Has, IsAscending};
 ghost use Rattle.history_model.specs.History.{IsConsistent, row_cmp, stamped_cmp};
 ghost use Rattle.history_model.proofs.Filtered.{IsAscending-map};
 ghost use Rattle.history_model.proofs.Snapshots.{IsConsistent-from_ascending};
@@ -27,6 +29,12 @@ pub trait Known {
     /// How often it answered `Damaged`.
     ghost damages: { Self → ℕ };
 
+    /// How much it has read, in a measure of its own.
+    ghost work: { Self → ℕ };
+
+    /// The most that reading a row takes, in this measure.
+    ghost cost: { RowValue → ℕ };
+
     /// What it gives is what is known.
     ghost is_honest: { Self → Type 0 };
 
@@ -44,6 +52,12 @@ pub trait Known {
         // A key for which it gives no row is that of no row that is known.
         ensures absent { is_sound self.old
             → IfOk result (λ found. found ≡ None → IsUnknown (rows self.old) key.now) }
+        // Whatever it answers: no more is read than a known row with the
+        // key takes, and nothing where no row that is known has the key.
+        ensures work { is_sound self.old → (row : RowValue) → Has (rows self.old) row
+            → key_of row ≡ key.now → work self.new ≤ work self.old + cost row }
+        ensures work_unknown { is_sound self.old → IsUnknown (rows self.old) key.now
+            → work self.new ≤ work self.old }
         ensures rows { rows self.new ≡ rows self.old }
         ensures honesty { is_honest self.old → is_honest self.new }
         ensures soundness { is_sound self.old → is_sound self.new }
@@ -89,6 +103,10 @@ impl Known for KnownRows<'_> {
     ghost disk_faults = { λ _. 0 };
 
     ghost damages = { λ _. 0 };
+
+    ghost work = { λ _. 0 };
+
+    ghost cost = { λ _. 0 };
 
     ghost is_honest = { λ known. IsAscending stamped_cmp known.rows.now };
 

@@ -2,7 +2,10 @@
 
 ghost use Rattle.std.specs.Prelude.{◌≡◌, ◌+◌, ◌≤◌, ◌<◌, ◌⊎◌, ◌++◌, ◌↔◌, [], ◌∷◌, List, length};
 ghost use Rattle.std.specs.Prelude.{IsTrue, Some, IsSomeAnd, OnOk, IfOk, IfErr, MatchResult};
-ghost use Rattle.std.specs.Prelude.{option_copied};
+ghost use Rattle.std.specs.Prelude.{option_copied, None};
+ghost use Rattle.std.specs.List.{sum_by};
+ghost use Rattle.import_check.specs.Known.{already_known};
+ghost use Rattle.import_check.specs.Private.Sweep.{IsInStep, AsksOnce};
 ghost use Rattle.history_model.specs.InOrder.{IsAscending};
 ghost use Rattle.rf2_values.specs.Row.{RowValue};
 ghost use Rattle.rf2_values.specs.Key.{key_of};
@@ -36,6 +39,8 @@ pub(crate) struct Contradiction {
 /// last line stands the row that is known, or else the last of the new rows.
 #[derive(Drop)]
 pub(crate) struct Sweep {
+    /// The key of the last line, for which what is known was asked.
+    pub(crate) key: Option<Key>,
     known_row: Option<Row>,
     pub(crate) fresh: Vec<Row>,
     pub(crate) first: Option<Contradiction>,
@@ -79,8 +84,10 @@ impl Sweep {
         ensures swept { (known : List RowValue) (lines : List PlacedLine)
             → IsSwept known lines [] result }
         ensures empty { result.fresh.items ≡ [] }
+        ensures in_step { IsInStep result }
     {
         Sweep {
+            key: None,
             known_row: None,
             fresh: Vec::new(alloc),
             first: None,
@@ -99,10 +106,10 @@ impl Sweep {
 
     /// Whether the last line had this key.
     fn is_at(&self, key: Key) -> bool
-        ensures { IsTrue result ↔ IsSomeAnd (standing_of self.now) (λ row. key_of row ≡ key) }
+        ensures { IsTrue result ↔ IsSomeAnd self.now.key (λ last. last ≡ key) }
     {
-        match self.standing() {
-            Some(row) => row.key() == key,
+        match self.key {
+            Some(last) => last == key,
             None => false,
         }
     }
@@ -133,9 +140,10 @@ impl Sweep {
     }
 
     /// Turns to another key, of which this row is known.
-    fn turn_to(&mut self, known_row: Option<Row>)
-        ensures { self.new ≡ record self.old { known_row = known_row } }
+    fn turn_to(&mut self, key: Key, known_row: Option<Row>)
+        ensures { self.new ≡ record self.old { key = Some key; known_row = known_row } }
     {
+        self.key = Some(key);
         self.known_row = known_row;
     }
 
@@ -146,8 +154,13 @@ impl Sweep {
         line: PlacedLine,
         known: &mut K,
     ) -> Result<(), ImportFault>
-        ensures swept { K.is_honest known.old
+        ensures swept { K.is_honest known.old → IsInStep self.old
             → OnOk result (TakesLine (K.rows known.old) line self.old self.new) }
+        ensures in_step { K.is_honest known.old → IsInStep self.old
+            → OnOk result (IsInStep self.new) }
+        ensures key { OnOk result (self.new.key ≡ Some (key_of line.row)) }
+        ensures asks_once { K.is_sound known.old → AsksOnce K.cost (K.rows known.old) self.old.key
+            line (K.work known.old) (K.work known.new) }
         ensures apart { K.is_sound known.old
             → OnOk result (KeepsApart (K.rows known.old) line self.old self.new) }
         ensures soundness { K.is_sound known.old → K.is_sound known.new }
@@ -168,12 +181,12 @@ impl Sweep {
         }
         match known.row(alloc, &key)? {
             Some(row) => {
-                self.turn_to(Some(row));
+                self.turn_to(key, Some(row));
                 self.judge(&line);
                 Ok(())
             }
             None => {
-                self.turn_to(None);
+                self.turn_to(key, None);
                 self.fresh.push(line.row)?;
                 Ok(())
             }
@@ -186,6 +199,7 @@ impl Sweep {
         ensures { IsOutcome self count result }
     {
         let Sweep {
+            key: _,
             known_row: _,
             fresh,
             first,
@@ -214,6 +228,9 @@ fn take_all<K: Known>(
     ensures apart { K.is_sound known.old → IsRising rank_cmp lines.items
         → IfOk result (λ sweep. IsApart (K.rows known.old) sweep.fresh.items) }
     ensures few { IfOk result (λ sweep. length sweep.fresh.items ≤ length lines.items) }
+    ensures work { K.is_sound known.old → IsRising rank_cmp lines.items → K.work known.new
+        ≤ K.work known.old
+        + sum_by K.cost (already_known (K.rows known.old) (rows_of lines.items)) }
     ensures cut_short { IfErr result (IsCutShort (K.is_honest known.old)) }
     ensures rows { K.rows known.new ≡ K.rows known.old }
     ensures honesty { K.is_honest known.old → K.is_honest known.new }
@@ -245,6 +262,9 @@ pub(crate) fn unite<K: Known>(
         → IfOk result (λ fresh. IsApart (K.rows known.old) fresh.rows.items) }
     ensures refused { IfErr result
         (IsRefusalOf (K.is_honest known.old) (K.rows known.old) lines.items) }
+    ensures work { K.is_sound known.old → K.work known.new
+        ≤ K.work known.old
+        + sum_by K.cost (already_known (K.rows known.old) (rows_of lines.items)) }
     ensures rows { K.rows known.new ≡ K.rows known.old }
     ensures honesty { K.is_honest known.old → K.is_honest known.new }
     ensures soundness { K.is_sound known.old → K.is_sound known.new }

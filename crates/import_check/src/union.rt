@@ -1,7 +1,11 @@
 //! The rows of a release united with those that are known.
 
-ghost use Rattle.std.specs.Prelude.{◌≡◌, IfOk, IfErr};
+ghost use Rattle.std.specs.Prelude.{◌≡◌, ◌+◌, ◌≤◌, List, IfOk, IfErr};
+ghost use Rattle.std.specs.List.{sum_by};
+ghost use Rattle.rf2_values.specs.Row.{RowValue};
 ghost use Rattle.fault_counts.specs.Counting.{Counts};
+ghost use Rattle.import_check.specs.Known.{already_known};
+ghost use Rattle.import_check.specs.Release.{IsReleaseOf};
 ghost use Rattle.import_check.specs.NewRows.{IsApart, IsRead, IsAcceptedAs, IsRefusal};
 ghost use Rattle.import_check.specs.NewRows.{CountsAnyDiskFault, CountsAnyDamage};
 
@@ -37,6 +41,12 @@ pub fn new_rows<K: Known>(
     // is the first that is at fault, or else the first that contradicts.
     ensures refused { IfErr result
         (IsRefusal (K.is_honest known.old) (K.rows known.old) release) }
+    // Whatever it answers, each known row whose key the release has is read once at most, and no
+    // other. Where a file is no release file, nothing is asked.
+    ensures work { K.is_sound known.old → (rows : List RowValue) → IsReleaseOf release rows
+        → K.work known.new
+        ≤ K.work known.old + sum_by K.cost (already_known (K.rows known.old) rows) }
+    ensures work_unread { (IsRead release → ⊥) → K.work known.new ≤ K.work known.old }
 
     // What is known stays as it is.
     ensures rows { K.rows known.new ≡ K.rows known.old }

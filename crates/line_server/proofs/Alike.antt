@@ -1,6 +1,6 @@
 -- Lines that are too long are answered alike.
 use Rattle.std.proofs.Common.{◌≡◌, ℕ, ◌<◌, List, [], ◌∷◌, length, Option, Some, None, IfSome, Result, subst, arith, inl, inr}
-use Rattle.disk_model.specs.DeviceView.{DeviceView}
+use Rattle.line_server.specs.DeviceView.{DeviceView}
 use Rattle.std.specs.List.{AllByRecursion}
 use Rattle.import_check.specs.declared.release.Release.{Release}
 use Rattle.line_commands.specs.declared.unread.Unread.{Unread}

@@ -1,6 +1,6 @@
 -- What an opening answers, as a life of a store tells of it.
 use Rattle.std.proofs.Common.{◌≡◌, ◌↔◌, ℕ, List, Result, Ok, Err, refl}
-use Rattle.disk_model.specs.DeviceView.{DeviceView}
+use Rattle.line_server.specs.DeviceView.{DeviceView}
 use Rattle.std.specs.Prelude.{IfOk}
 use Rattle.disk_model.specs.Disk.{IsImage, EachImage, LeavesOnly}
 use Rattle.history_store.specs.declared.refusal.Refusal.{Refusal}

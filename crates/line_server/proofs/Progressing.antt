@@ -1,6 +1,6 @@
 -- How far serving has come.
 use Rattle.std.proofs.lemmas.Bool.{false≢true}
-use Rattle.disk_model.specs.DeviceView.{DeviceView}
+use Rattle.line_server.specs.DeviceView.{DeviceView}
 use Rattle.std.proofs.Common.{◌≡◌, ℕ, Bool, ◌==◌, false, eqb, cond, ◌*◌, ◌<◌, ◌≤◌, ◌+◌, ◌-◌, ◌^◌, List, [], ◌∷◌, ◌++◌, length, length-append, append-nil, append_assoc, take, drop, get_or, take-append-drop, min, All, Option, Some, None, IfSome, refl, sym, ap, subst, ◌∙◌, arith, Result, Ok, Err}
 use Rattle.std.specs.Io.KnownBytes.{Appends, Consumes, IsAtEnd}
 use Rattle.std.proofs.KnownBytes.{Appends-nil, Appends-trans, Consumes-nil, Consumes-trans}

@@ -1,7 +1,7 @@
 -- What taking a piece of the input does.
 use Rattle.std.specs.Prelude.{◌≡◌, ◌⊎◌, ◌==◌, ◌^◌, ◌-◌, false, ℕ, List, [], ◌∷◌, ◌++◌, length, min}
 use Rattle.std.specs.Prelude.{All, Option, Result, Ok, Err, IfOk, OnOk}
-use Rattle.disk_model.specs.DeviceView.{DeviceView}
+use Rattle.line_server.specs.DeviceView.{DeviceView}
 use Rattle.std.specs.Io.KnownBytes.{Appends}
 use Rattle.rf2_rows.specs.File.{lines_in}
 use Rattle.line_server.specs.Sources.{SourceView}

@@ -1,7 +1,7 @@
 -- What holds of every run of lines, on an honest disk.
 use Rattle.std.specs.Prelude.{◌≡◌, ◌⊎◌, ℕ, ◌++◌, false, ◌+◌, ◌≤◌, List, [], ◌∷◌, length, Option}
 use Rattle.std.specs.Prelude.{Some, Result, Ok, Err, MatchResult, slice_index_or, None}
-use Rattle.disk_model.specs.DeviceView.{DeviceView}
+use Rattle.line_server.specs.DeviceView.{DeviceView}
 use Rattle.std.specs.List.{AllByRecursion}
 use Rattle.std.specs.Option.{option_or}
 use Rattle.disk_model.specs.Disk.{EachImage, LeavesOnly}

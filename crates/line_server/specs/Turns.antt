@@ -1,7 +1,7 @@
 -- Lines that are answered one after the other.
 use Rattle.std.specs.Prelude.{◌≡◌, ℕ, ◌≤◌, List, [], ◌∷◌, length, map, take, Option, Some, None}
-use Rattle.std.specs.Prelude.{IfSome, Result, Ok, Err, OnOk}
-use Rattle.disk_model.specs.DeviceView.{DeviceView}
+use Rattle.std.specs.Prelude.{IfSome, Result, Ok, Err, OnOk, sum_by, ◌+◌}
+use Rattle.line_server.specs.DeviceView.{DeviceView}
 use Rattle.std.specs.List.{flat_map, AllByRecursion}
 use Rattle.std.specs.Option.{option_or}
 use Rattle.import_check.specs.declared.release.Release.{Release}
@@ -10,12 +10,15 @@ use Rattle.history_store.specs.declared.refusal.Refusal.TheVariants as store
 use Rattle.history_store.specs.StoreValue.{StoreValue}
 use Rattle.history_store.specs.Answers.{CountsRefusal}
 use Rattle.history_store.specs.Merging.{trimmed_len}
-use Rattle.line_commands.specs.Commands.{Command, Import, Step, Publish, Trim}
+use Rattle.history_store.specs.Queries.{ReadsThroughCache, StepsThroughCache}
+use Rattle.history_store.specs.Reading.{row_cost}
+use Rattle.line_commands.specs.Commands.{Command, Import, Step, Publish, Trim, Get, History, Terms}
+use Rattle.line_commands.specs.Commands.{Search, Replaced, About, Page}
 use Rattle.line_commands.specs.Requests.{Asks}
 use Rattle.line_server.specs.declared.refusal.LineRefusal.{LineRefusal}
 use Rattle.line_server.specs.declared.refusal.LineRefusal.TheVariants as refusals
 use Rattle.line_server.specs.Sources.{Releases, SourceView}
-use Rattle.line_server.specs.ReplyValue.{Answer, ReplyValue, reply_value, bytes_of}
+use Rattle.line_server.specs.ReplyValue.{Answer, Rows, ReplyValue, reply_value, bytes_of}
 use Rattle.line_server.specs.Replies.{Server, Replies}
 use Rattle.line_server.specs.Imports.{Imports}
 
@@ -50,25 +53,50 @@ IfRefused (Ok answer) so = Unit {0}
 IfRefused (Err (refusals.Store store.DiskFault)) so = Unit {0}
 IfRefused (Err refusal) so = so
 
--- What a command leaves of an honest disk. IMPORT, STEP and PUBLISH may change what a stop leaves,
--- but not where they are refused for another reason than the device. After TRIM a read gives what
--- it gave before, up to the last block that is listed or reserved, and nothing behind that. Every
--- other command leaves what a stop may leave as it was.
+-- An answer of rows took no more reading than these rows.
+abbrev pub ReadsFor : Result Answer LineRefusal → ℕ → ℕ → Type 0
+ReadsFor (Ok (Rows rows)) old new = new ≤ old + sum_by row_cost rows
+ReadsFor _ old new = Unit {0}
+
+-- A query for rows leaves what a stop may leave of an honest disk as it was. On every disk it reads
+-- blocks of listed segments alone, and none that is kept in memory.
+abbrev pub LeavesQueried : {D : Type 0} → DeviceView D → Result Answer LineRefusal → StoreValue D
+    → StoreValue D → Type 0
+LeavesQueried view outcome old new =
+    (view.is_honest old.disk → view.moments new.disk ≡ view.moments old.disk)
+    × ReadsThroughCache view.bytes_read old new
+    × ReadsFor outcome (view.bytes_read old.disk) (view.bytes_read new.disk)
+
+-- What a command leaves of the disk. On an honest one IMPORT, STEP and PUBLISH may change what a
+-- stop leaves, but not where they are refused for another reason than the device. After TRIM a read
+-- gives what it gave before, up to the last block that is listed or reserved, and nothing behind
+-- that. STEP reads as a query does, but for blocks that it has written; PUBLISH reads one byte at
+-- most, and TRIM none. Every other command that asks for no rows leaves the device as it was.
 abbrev pub LeavesDisk : {D : Type 0} → DeviceView D → Command → Result Answer LineRefusal
     → StoreValue D → StoreValue D → Type 0
 LeavesDisk view (Import name) outcome old new =
     view.is_honest old.disk → IfRefused outcome (view.moments new.disk ≡ view.moments old.disk)
 LeavesDisk view (Step rows) outcome old new =
-    view.is_honest old.disk → IfRefused outcome (view.moments new.disk ≡ view.moments old.disk)
+    (view.is_honest old.disk → IfRefused outcome (view.moments new.disk ≡ view.moments old.disk))
+    × StepsThroughCache view.bytes_read old new
 LeavesDisk view Publish outcome old new =
-    view.is_honest old.disk → IfRefused outcome (view.moments new.disk ≡ view.moments old.disk)
+    (view.is_honest old.disk → IfRefused outcome (view.moments new.disk ≡ view.moments old.disk))
+    × (view.bytes_read new.disk ≤ view.bytes_read old.disk + 1)
 LeavesDisk view Trim outcome old new =
-    view.is_honest old.disk
+    (view.is_honest old.disk
     → OnOk outcome ((view.moments new.disk).state.now ≡ take (trimmed_len old.catalog)
     (view.moments old.disk).state.now)
-    × IfRefused outcome (view.moments new.disk ≡ view.moments old.disk)
-LeavesDisk view command outcome old new =
-    view.is_honest old.disk → view.moments new.disk ≡ view.moments old.disk
+    × IfRefused outcome (view.moments new.disk ≡ view.moments old.disk))
+    × (view.bytes_read new.disk ≡ view.bytes_read old.disk)
+LeavesDisk view (Get kind id date) outcome old new = LeavesQueried view outcome old new
+LeavesDisk view (History kind id) outcome old new = LeavesQueried view outcome old new
+LeavesDisk view (Terms prefix date limit) outcome old new = LeavesQueried view outcome old new
+LeavesDisk view (Search prefix date after limit) outcome old new =
+    LeavesQueried view outcome old new
+LeavesDisk view (Replaced id date) outcome old new = LeavesQueried view outcome old new
+LeavesDisk view (About kind id date) outcome old new = LeavesQueried view outcome old new
+LeavesDisk view (Page kind date after limit) outcome old new = LeavesQueried view outcome old new
+LeavesDisk view command outcome old new = new.disk ≡ old.disk
 
 -- One line was answered: as if the source had certain releases, and where it is honest, as its own
 -- releases say.

@@ -1,7 +1,7 @@
 //! The commands of a merge, and trimming: what the store says, as a reply.
 
 ghost use Rattle.line_commands.specs.Commands.{Merge, Step, Publish, Abandon, Trim};
-ghost use Rattle.disk_model.specs.DeviceView.{device_view};
+ghost use Rattle.line_server.specs.DeviceView.{device_view};
 ghost use Rattle.line_server.specs.Private.{IsCarriedOut};
 
 use crate::refusal::LineRefusal;
@@ -16,7 +16,8 @@ pub(crate) fn begin_merge<D: Disk>(
     alloc: Global,
     store: &mut Store<D>,
 ) -> Result<Reply, LineRefusal>
-    ensures { IsCarriedOut result (device_view D.is_honest D.moments D.failures) Merge store.old
+    ensures { IsCarriedOut result
+        (device_view D.is_honest D.moments D.failures D.bytes_read) Merge store.old
         store.new }
 {
     let left = store.merge_begin()?;
@@ -29,7 +30,8 @@ pub(crate) fn step_merge<D: Disk>(
     rows: u32,
     store: &mut Store<D>,
 ) -> Result<Reply, LineRefusal>
-    ensures { IsCarriedOut result (device_view D.is_honest D.moments D.failures) (Step rows)
+    ensures { IsCarriedOut result
+        (device_view D.is_honest D.moments D.failures D.bytes_read) (Step rows)
         store.old store.new }
 {
     let left = store.merge_step(rows)?;
@@ -41,7 +43,8 @@ pub(crate) fn publish_merge<D: Disk>(
     alloc: Global,
     store: &mut Store<D>,
 ) -> Result<Reply, LineRefusal>
-    ensures { IsCarriedOut result (device_view D.is_honest D.moments D.failures) Publish store.old
+    ensures { IsCarriedOut result
+        (device_view D.is_honest D.moments D.failures D.bytes_read) Publish store.old
         store.new }
 {
     store.merge_publish()?;
@@ -53,7 +56,8 @@ pub(crate) fn abandon_merge<D: Disk>(
     alloc: Global,
     store: &mut Store<D>,
 ) -> Result<Reply, LineRefusal>
-    ensures { IsCarriedOut result (device_view D.is_honest D.moments D.failures) Abandon store.old
+    ensures { IsCarriedOut result
+        (device_view D.is_honest D.moments D.failures D.bytes_read) Abandon store.old
         store.new }
 {
     store.merge_abandon()?;
@@ -62,7 +66,8 @@ pub(crate) fn abandon_merge<D: Disk>(
 
 /// Cuts off what nothing uses at the end of the disk.
 pub(crate) fn trim_store<D: Disk>(alloc: Global, store: &mut Store<D>) -> Result<Reply, LineRefusal>
-    ensures { IsCarriedOut result (device_view D.is_honest D.moments D.failures) Trim store.old
+    ensures { IsCarriedOut result
+        (device_view D.is_honest D.moments D.failures D.bytes_read) Trim store.old
         store.new }
 {
     let _bytes = store.trim()?;

@@ -1,7 +1,7 @@
 //! Queries: what the store finds, as a reply.
 
 ghost use Rattle.std.specs.Prelude.{◌≤◌};
-ghost use Rattle.disk_model.specs.DeviceView.{device_view};
+ghost use Rattle.line_server.specs.DeviceView.{device_view};
 ghost use Rattle.line_commands.specs.Commands.{Get, History, Children, Terms, Search, Replaced};
 ghost use Rattle.line_commands.specs.Commands.{About, Page, Receipt};
 ghost use Rattle.line_server.specs.Private.{IsQueried};
@@ -24,7 +24,8 @@ pub(crate) fn answer_get<D: Disk>(
     store: &mut Store<D>,
 ) -> Result<Reply, LineRefusal>
     requires { pin ≤ store.old.history.imports }
-    ensures { IsQueried result (device_view D.is_honest D.moments D.failures) (Get kind id time) pin
+    ensures { IsQueried result
+        (device_view D.is_honest D.moments D.failures D.bytes_read) (Get kind id time) pin
         store.old store.new }
 {
     let found = store.get(kind, id, time, pin)?;
@@ -40,7 +41,8 @@ pub(crate) fn answer_history<D: Disk>(
     store: &mut Store<D>,
 ) -> Result<Reply, LineRefusal>
     requires { pin ≤ store.old.history.imports }
-    ensures { IsQueried result (device_view D.is_honest D.moments D.failures) (History kind id) pin
+    ensures { IsQueried result
+        (device_view D.is_honest D.moments D.failures D.bytes_read) (History kind id) pin
         store.old store.new }
 {
     let found = store.history(kind, id, pin)?;
@@ -56,7 +58,7 @@ pub(crate) fn answer_children<D: Disk>(
     store: &mut Store<D>,
 ) -> Result<Reply, LineRefusal>
     requires { pin ≤ store.old.history.imports }
-    ensures { IsQueried result (device_view D.is_honest D.moments D.failures)
+    ensures { IsQueried result (device_view D.is_honest D.moments D.failures D.bytes_read)
         (Children concept time) pin store.old store.new }
 {
     let found = store.children(concept, time, pin)?;
@@ -73,7 +75,7 @@ pub(crate) fn answer_terms<D: Disk>(
     store: &mut Store<D>,
 ) -> Result<Reply, LineRefusal>
     requires { pin ≤ store.old.history.imports }
-    ensures { IsQueried result (device_view D.is_honest D.moments D.failures)
+    ensures { IsQueried result (device_view D.is_honest D.moments D.failures D.bytes_read)
         (Terms prefix.now time limit) pin store.old store.new }
 {
     let found = store.terms(prefix, time, limit, pin)?;
@@ -91,7 +93,7 @@ pub(crate) fn answer_search<D: Disk>(
     store: &mut Store<D>,
 ) -> Result<Reply, LineRefusal>
     requires { pin ≤ store.old.history.imports }
-    ensures { IsQueried result (device_view D.is_honest D.moments D.failures)
+    ensures { IsQueried result (device_view D.is_honest D.moments D.failures D.bytes_read)
         (Search prefix.now time after limit) pin store.old store.new }
 {
     let found = store.search(prefix, time, after, limit, pin)?;
@@ -107,7 +109,8 @@ pub(crate) fn answer_replaced<D: Disk>(
     store: &mut Store<D>,
 ) -> Result<Reply, LineRefusal>
     requires { pin ≤ store.old.history.imports }
-    ensures { IsQueried result (device_view D.is_honest D.moments D.failures) (Replaced id time) pin
+    ensures { IsQueried result
+        (device_view D.is_honest D.moments D.failures D.bytes_read) (Replaced id time) pin
         store.old store.new }
 {
     let found = store.replacements(id, time, pin)?;
@@ -124,7 +127,8 @@ pub(crate) fn answer_about<D: Disk>(
     store: &mut Store<D>,
 ) -> Result<Reply, LineRefusal>
     requires { pin ≤ store.old.history.imports }
-    ensures { IsQueried result (device_view D.is_honest D.moments D.failures) (About kind id time)
+    ensures { IsQueried result
+        (device_view D.is_honest D.moments D.failures D.bytes_read) (About kind id time)
         pin store.old store.new }
 {
     let found = store.about(kind, id, time, pin)?;
@@ -142,7 +146,7 @@ pub(crate) fn answer_page<D: Disk>(
     store: &mut Store<D>,
 ) -> Result<Reply, LineRefusal>
     requires { pin ≤ store.old.history.imports }
-    ensures { IsQueried result (device_view D.is_honest D.moments D.failures)
+    ensures { IsQueried result (device_view D.is_honest D.moments D.failures D.bytes_read)
         (Page kind time after limit) pin store.old store.new }
 {
     let found = store.page(kind, time, after, limit, pin)?;
@@ -158,7 +162,8 @@ pub(crate) fn answer_receipt<D: Disk>(
 ) -> Result<Reply, LineRefusal>
     requires first { 1 ≤ number }
     requires within { pin ≤ store.now.history.imports }
-    ensures { IsQueried result (device_view D.is_honest D.moments D.failures) (Receipt number) pin
+    ensures { IsQueried result
+        (device_view D.is_honest D.moments D.failures D.bytes_read) (Receipt number) pin
         store.now store.now }
 {
     if number > pin {

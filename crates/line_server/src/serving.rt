@@ -2,7 +2,7 @@
 
 ghost use Rattle.std.specs.Prelude.{◌≡◌, IsErrOf};
 ghost use Rattle.line_server.specs.Sources.{source_view};
-ghost use Rattle.disk_model.specs.DeviceView.{device_view};
+ghost use Rattle.line_server.specs.DeviceView.{device_view};
 ghost use Rattle.line_server.specs.declared.serving.ServeFault.TheVariants.{OutOfMemory};
 ghost use Rattle.line_server.specs.Serving.{IsServed};
 ghost use Rattle.line_server.specs.Streams.{streams, with_reads};
@@ -35,10 +35,10 @@ pub enum ServeFault {
     Reads,
 }
 
-/// Answers the lines of the input in order, each before its reply is written, and answers their
-/// number. It makes at most `max_reads` reads, of up to 4,096 bytes each, and keeps up to 4,098
-/// bytes of a line that is coming in. What a read gave is fed (`feed`) before the next read, and
-/// none is made once one gave the end of the input or failed.
+/// Answers the lines of the input in order, writes the reply to each before it answers the next,
+/// and returns how many were answered. It makes at most `max_reads` reads, of up to 4,096 bytes
+/// each, and keeps up to 4,098 bytes of a line that is coming in. What a read gave is fed (`feed`)
+/// before the next read, and none is made once one gave the end of the input or failed.
 pub fn serve<R: PieceReader, W: Write, S: Source, D: Disk>(
     alloc: Global,
     reader: &mut R,
@@ -49,7 +49,7 @@ pub fn serve<R: PieceReader, W: Write, S: Source, D: Disk>(
 ) -> Result<u64, ServeFault>
     ensures served { IsServed result max_reads
         (source_view (S.is_honest source.old) (S.releases source.old))
-        (device_view D.is_honest D.moments D.failures)
+        (device_view D.is_honest D.moments D.failures D.bytes_read)
         (with_reads (streams (R.remaining reader.old) (R.remaining reader.new)
         (W.contents writer.old) (W.contents writer.new)) (R.reads reader.old) (R.reads reader.new))
         store.old store.new }

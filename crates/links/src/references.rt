@@ -132,6 +132,13 @@ pub fn replacements<R: RowReader>(
     // No more is read than the rows that it answers take, each read once.
     ensures work { IfOk result (λ rows.
         R.work reader.new ≤ R.work reader.old + sum_by R.cost rows.items) }
+    // Whatever it answers and whatever was read, no more is read than these associations take, each
+    // counted once.
+    ensures work_always { Lists index.now (R.lists reader.old)
+        → PostsReferences (R.lists reader.old) links.now
+        → R.work reader.new ≤ R.work reader.old + sum_by R.cost (replacements_among
+        (reference_keys (R.lists reader.old) links.now) component time
+        (rows_at pin (listed (R.lists reader.old)))) }
     ensures lists { R.lists reader.new ≡ R.lists reader.old }
     ensures honesty { R.is_honest reader.old → R.is_honest reader.new }
     ensures stays { R.stays reader.old reader.new }

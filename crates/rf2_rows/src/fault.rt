@@ -43,8 +43,8 @@ pub enum LineFault {
     /// In the column `id` of a reference set file.
     #[error("the member id isn't a UUID of 36 bytes")]
     MemberId,
-    /// In the columns `languageCode` and `term`; also a text with
-    /// an LF, which only a line handed over by itself can hold.
+    /// In the columns `languageCode`, `term` and `value`; also a text
+    /// with an LF, which only a line handed over by itself can hold.
     #[error("the text is empty")]
     EmptyText,
 }

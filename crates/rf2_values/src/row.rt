@@ -24,7 +24,7 @@ pub enum Kind {
     Relationship,
     /// A member of an association reference set.
     Association,
-    /// A relationship whose destination is a value: a number or a text.
+    /// A relationship whose destination is a value: a number, a text or a boolean.
     Concrete,
 }
 
@@ -83,7 +83,7 @@ pub struct Association {
 pub struct Concrete {
     /// The column `sourceId`.
     pub source: Sctid,
-    /// The column `value`, kept as it stands: `#` and a number, or a text in quotes.
+    /// The column `value`, kept as it stands: `#` and a number, a text in quotes, or a boolean.
     pub value: Text,
     /// The column `relationshipGroup`: 0 where the relationship stands alone.
     pub group: u32,

@@ -112,7 +112,7 @@ one_content : (file : List ℕ) (current other : Current) (content bytes : List 
 one_content file current other content bytes is are =
     sym is.1 ∙ ap (λ (s : Slot). content_of s file) (one_slot file current.slot other.slot current.epoch other.epoch is.0 are.0).0 ∙ are.1
 
-one_directory : (file : List ℕ) (d e : DirectoryValue) → HasDirectory d file → HasDirectory e file → d ≡ e
+pub one_directory : (file : List ℕ) (d e : DirectoryValue) → HasDirectory d file → HasDirectory e file → d ≡ e
 one_directory file d e x y =
     one_listing y.content d e (subst (λ (b : List ℕ). Lists b d) (one_content file x.current y.current x.content y.content x.slot y.slot) x.lists_it) y.lists_it
 

@@ -1,6 +1,6 @@
 //! Making an empty store.
 
-ghost use Rattle.std.specs.Prelude.{◌≡◌, ◌⊎◌, ◌↔◌, ◌≤◌, [], length, IfOk, IfErr, OnOk};
+ghost use Rattle.std.specs.Prelude.{◌≡◌, ◌⊎◌, ◌↔◌, ◌+◌, ◌≤◌, [], length, IfOk, IfErr, OnOk};
 ghost use Rattle.disk_model.specs.Disk.{EachImage, LeavesOnly};
 ghost use Rattle.blocks.specs.Calls.{MakesCalls};
 ghost use Rattle.blocks.specs.Outside.{StemsWithin};
@@ -11,7 +11,7 @@ ghost use Rattle.store_image.specs.declared.fault.MakeFault.TheVariants as fault
 ghost use Rattle.store_image.specs.Images.{Represents};
 ghost use Rattle.store_image.specs.OnDisk.{IsOnDisk};
 ghost use Rattle.store_image.specs.Answers.{empty_listing, IsLookedAt, IsMade, IsNewStore};
-ghost use Rattle.store_image.specs.Answers.{CountsMaking, StaysIfRefused};
+ghost use Rattle.store_image.specs.Answers.{CountsMaking, StaysIfRefused, LooksIfRefused};
 
 use crate::content::content_of;
 use crate::fault::MakeFault;
@@ -36,6 +36,8 @@ pub fn check_empty<D: Disk>(disk: &mut D) -> Result<(), MakeFault>
     ensures moments { D.is_honest disk.old → D.moments disk.new ≡ D.moments disk.old }
     ensures honesty { D.is_honest disk.old ↔ D.is_honest disk.new }
     ensures failures { CountsMaking result (D.failures disk.old) (D.failures disk.new) }
+    ensures bytes_read { D.bytes_read disk.new ≡ D.bytes_read disk.old }
+    ensures other_calls { D.other_calls disk.new ≤ D.other_calls disk.old + 1 }
 {
     if disk.len()? > 0 {
         return Err(MakeFault::NotEmpty);
@@ -70,6 +72,10 @@ pub fn make<D: Disk>(alloc: Global, disk: &mut D) -> Result<Made, MakeFault>
         → MakesCalls result 9 (D.moments disk.old) (D.moments disk.new) }
     ensures honesty { D.is_honest disk.old ↔ D.is_honest disk.new }
     ensures failures { CountsMaking result (D.failures disk.old) (D.failures disk.new) }
+    ensures bytes_read { D.bytes_read disk.new ≡ D.bytes_read disk.old }
+    ensures other_calls { D.other_calls disk.new ≤ D.other_calls disk.old + 10 }
+    // A refusal on any disk: the length was looked at, and nothing else was asked for.
+    ensures looked { LooksIfRefused result (D.other_calls disk.old) (D.other_calls disk.new) }
 {
     check_empty(disk)?;
     let directory = Directory::new(alloc)?;

@@ -1,15 +1,17 @@
 //! Reading what a disk represents.
 
-ghost use Rattle.std.specs.Prelude.{◌≡◌, ◌↔◌, ◌+◌, ◌≤◌, ◌++◌, [], List, map, vec_items, IfOk};
-ghost use Rattle.std.specs.Prelude.{MatchResult};
-ghost use Rattle.disk_model.specs.Disk.{IsImage, LeavesOnly};
+ghost use Rattle.std.specs.Prelude.{◌≡◌, ◌⊎◌, ◌↔◌, ◌+◌, ◌≤◌, ◌++◌, [], List, length, map};
+ghost use Rattle.std.specs.Prelude.{vec_items, IfOk, IfErr, MatchResult};
+ghost use Rattle.disk_model.specs.Disk.{IsImage, LeavesOnly, raised_by};
 ghost use Rattle.blocks.specs.Slots.{slots_read};
 ghost use Rattle.history_model.specs.declared.stamped.StampedRow.{StampedRow};
 ghost use Rattle.segment.specs.declared.place.RowPlace.{RowPlace};
 ghost use Rattle.segment.specs.Standing.{places_of, with_places};
+ghost use Rattle.store_image.specs.declared.fault.LoadFault.TheVariants as faults;
 ghost use Rattle.store_image.specs.Kept.{bytes_listed, IsKept};
 ghost use Rattle.store_image.specs.OnDisk.{HasStore, IsOnDisk};
 ghost use Rattle.store_image.specs.Answers.{IsNotOpened, IsSynced, CountsLoading};
+ghost use Rattle.store_image.specs.Asked.{StopsAt, AsksWithin};
 
 use crate::fault::{Damage, LoadFault};
 use crate::kinds::all_have_kinds;
@@ -73,6 +75,23 @@ pub fn load<D: Disk, S: RowSink>(
     // On every disk it reads the slots, and each byte of the listed segments once.
     ensures bytes_read { IfOk result (λ l. D.bytes_read disk.new
         ≤ D.bytes_read disk.old + slots_read + bytes_listed l.directory.entries) }
+    // Beside its reads it makes one sync, and asks for the length once for the slots and once for
+    // each segment.
+    ensures other_calls { IfOk result (λ l. D.other_calls disk.new
+        ≤ D.other_calls disk.old + 2 + length l.directory.entries) }
+    // Before it reads it makes one call: a sync that failed isn't tried again.
+    ensures synced_once { (D.other_calls disk.new ≤ D.other_calls disk.old + 1)
+        ⊎ (raised_by (D.bytes_read disk.old) 1 ≤ D.bytes_read disk.new) }
+    // After an error it has asked for no more than up to the fault.
+    ensures stops { IfErr result
+        (λ e. StopsAt e (D.bytes_read disk.old) (D.bytes_read disk.new)
+        (D.other_calls disk.old) (D.other_calls disk.new)) }
+    // Where no gate is open, it made the sync and nothing else.
+    ensures no_store { IfErr result
+        (λ e. e ≡ faults.NotAStore → D.other_calls disk.new ≤ D.other_calls disk.old + 1) }
+    // Whatever it answers, it reads the slots and what a directory lists, and nothing else.
+    ensures asked { D.is_honest disk.old → AsksWithin (D.moments disk.old).state.now
+        (D.bytes_read disk.old) (D.bytes_read disk.new) }
 {
     disk.sync()?;
     let mut content = [0; 4096];

@@ -3,6 +3,7 @@
 ghost use Rattle.std.specs.Prelude.{◌≡◌, ◌↔◌, ℕ, ◌+◌, ◌≤◌, [], ◌∷◌, ◌++◌, List, length, map};
 ghost use Rattle.std.specs.Prelude.{vec_items, IsTrue, IfOk, IfErr, OnOk, MatchResult};
 ghost use Rattle.std.specs.List.{AllByRecursion};
+ghost use Rattle.disk_model.specs.Disk.{raised_by};
 ghost use Rattle.blocks.specs.Extents.{bytes_of};
 ghost use Rattle.directory.specs.Listings.{IsEntry};
 ghost use Rattle.directory.specs.Places.{extent_of};
@@ -18,7 +19,7 @@ ghost use Rattle.store_image.specs.Kept.{IsSegmentOf, bytes_listed, pieces_of};
 ghost use Rattle.store_image.specs.Reading.{AreNumbered, IsAt};
 ghost use Rattle.store_image.specs.Private.Reading.{CountsFault, Sees, AreReadTo, BeginsWith};
 ghost use Rattle.store_image.specs.Private.Reading.{IsNotNext, IsNotReadAt, AreRead};
-ghost use Rattle.store_image.specs.Private.Damage.{AreNotRead};
+ghost use Rattle.store_image.specs.Private.Damage.{AreNotRead, StopsIn};
 ghost use Rattle.store_image.specs.Answers.{CountsLoading};
 
 use crate::apart::{are_apart, is_below};
@@ -88,6 +89,13 @@ pub(crate) fn read_segments<D: Disk, S: RowSink>(
     ensures failures { CountsLoading result (D.failures disk.old) (D.failures disk.new) }
     // Whatever it answers, its reads are asked for no more bytes than the segments have.
     ensures bytes_read { D.bytes_read disk.new ≤ D.bytes_read disk.old + bytes_listed entries.now }
+    ensures goes_on { raised_by (D.bytes_read disk.old) 0 ≤ D.bytes_read disk.new }
+    // Beside its reads it asks for the length alone, once for each segment.
+    ensures other_calls { D.other_calls disk.new ≤ D.other_calls disk.old + length entries.now }
+    // Of the segments behind a damaged one it asks for nothing.
+    ensures stops { IfErr result
+        (λ e. StopsIn e entries.now (D.bytes_read disk.old) (D.bytes_read disk.new)
+        (D.other_calls disk.old) (D.other_calls disk.new)) }
 {
     let mut window = Window::new(alloc)?;
     let mut places = Vec::with_capacity(alloc, entries.len())?;
@@ -130,6 +138,8 @@ fn read_segment<D: Disk, S: RowSink>(
     ensures honesty { D.is_honest disk.old ↔ D.is_honest disk.new }
     ensures failures { CountsFault result (D.failures disk.old) (D.failures disk.new) }
     ensures bytes_read { D.bytes_read disk.new ≤ D.bytes_read disk.old + entry.bytes }
+    ensures goes_on { raised_by (D.bytes_read disk.old) 0 ≤ D.bytes_read disk.new }
+    ensures other_calls { D.other_calls disk.new ≤ D.other_calls disk.old + 1 }
 {
     check_room(disk, entry)?;
     window.begin(entry.extent());
@@ -147,6 +157,7 @@ fn check_room<D: Disk>(disk: &mut D, entry: Entry) -> Result<(), RowsFault>
     ensures honesty { D.is_honest disk.old ↔ D.is_honest disk.new }
     ensures failures { CountsFault result (D.failures disk.old) (D.failures disk.new) }
     ensures bytes_read { D.bytes_read disk.new ≡ D.bytes_read disk.old }
+    ensures other_calls { D.other_calls disk.new ≤ D.other_calls disk.old + 1 }
 {
     let end = BLOCK * u64::from(entry.first) + u64::from(entry.bytes);
     if end > disk.len()? {
@@ -184,6 +195,8 @@ fn read_rows<D: Disk, S: RowSink>(
     ensures honesty { D.is_honest disk.old ↔ D.is_honest disk.new }
     ensures failures { CountsFault result (D.failures disk.old) (D.failures disk.new) }
     ensures bytes_read { D.bytes_read disk.new ≤ D.bytes_read disk.old + entry.bytes }
+    ensures goes_on { raised_by (D.bytes_read disk.old) 0 ≤ D.bytes_read disk.new }
+    ensures other_calls { D.other_calls disk.new ≡ D.other_calls disk.old }
 {
     let mut rows = Rows {
         places: Vec::with_capacity(alloc, entry.rows as usize)?,
@@ -237,6 +250,8 @@ fn read_row<D: Disk, S: RowSink>(
     ensures failures { CountsFault result (D.failures disk.old) (D.failures disk.new) }
     ensures bytes_read { D.bytes_read disk.new + window.old.asked
         ≤ D.bytes_read disk.old + window.new.asked }
+    ensures goes_on { raised_by (D.bytes_read disk.old) 0 ≤ D.bytes_read disk.new }
+    ensures other_calls { D.other_calls disk.new ≡ D.other_calls disk.old }
 {
     let (row, next) = window.row_at(alloc, disk, at)?;
     if row.import > imports {

@@ -30,6 +30,7 @@ pub(crate) struct Window {
 }
 
 impl Window {
+    ghost use Rattle.disk_model.specs.Disk.{raised_by};
     ghost use Rattle.fault_counts.specs.Counting.{CountsEach};
     ghost use Rattle.blocks.specs.Extents.{bytes_of};
     ghost use Rattle.segment.specs.Records.{record_of, IsStamped};
@@ -94,6 +95,8 @@ impl Window {
         // Whatever it answers, its reads are asked for no more bytes than `asked` grows by.
         ensures bytes_read { D.bytes_read disk.new + self.old.asked
             ≤ D.bytes_read disk.old + self.new.asked }
+        ensures goes_on { raised_by (D.bytes_read disk.old) 0 ≤ D.bytes_read disk.new }
+        ensures other_calls { D.other_calls disk.new ≡ D.other_calls disk.old }
     {
         let start = self.len as usize;
         let count = (WINDOW - self.len).min(self.extent.bytes - self.asked);
@@ -151,6 +154,8 @@ impl Window {
         // Whatever it answers, its reads are asked for no more bytes than `asked` grows by.
         ensures bytes_read { D.bytes_read disk.new + self.old.asked
             ≤ D.bytes_read disk.old + self.new.asked }
+        ensures goes_on { raised_by (D.bytes_read disk.old) 0 ≤ D.bytes_read disk.new }
+        ensures other_calls { D.other_calls disk.new ≡ D.other_calls disk.old }
     {
         match self.row_in(alloc, at) {
             Ok((row, next)) => Ok((row, next)),

@@ -16,7 +16,7 @@ use as_of_index::PerList;
 pub use merging::Merging;
 pub use postings::Postings;
 pub use sealed::Sealed;
-pub use search::find;
+pub use search::{Search, find};
 
 /// The terms of several lists of rows, in the order of these lists.
 pub type Terms = PerList<Sealed>;

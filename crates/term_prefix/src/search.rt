@@ -28,6 +28,16 @@ use rf2_values::{EffectiveTime, Row};
 use segment::RowPlace;
 use std::alloc::{AllocError, Global};
 
+/// What a search asks for beside the text: active descriptions at this date, of the imports up to
+/// the pin, with an id above `after` if that is given, the first so many by id.
+#[derive(Clone, Copy)]
+pub struct Search {
+    pub time: EffectiveTime,
+    pub pin: u32,
+    pub after: Option<u128>,
+    pub limit: u32,
+}
+
 /// What is to be done with the row of a term.
 #[derive(Clone, Copy)]
 pub(crate) enum Candidate {
@@ -113,30 +123,22 @@ fn is_above(after: Option<u128>, id: u128) -> bool
 
 /// Whether to keep the row with this number. Whether it is current is asked last, since that costs
 /// a search of the index.
-fn judge(
-    kept: &[Chosen],
-    segment: usize,
-    number: u32,
-    index: &Index,
-    time: EffectiveTime,
-    after: Option<u128>,
-    limit: u32,
-    pin: u32,
-) -> Candidate
+fn judge(kept: &[Chosen], segment: usize, number: u32, index: &Index, search: &Search) -> Candidate
     ensures { (lists : List (List StampedRow)) → Lists index.now lists
         → IsAscending chosen_cmp kept.now
-        → SaysCandidate lists time after limit pin kept.now segment number result }
+        → SaysCandidate lists search.now.time search.now.after search.now.limit search.now.pin
+        kept.now segment number result }
 {
     let Some(id) = index.id_at(segment, number) else {
         return Candidate::Old;
     };
-    if !is_above(after, id) {
+    if !is_above(search.after, id) {
         return Candidate::Low;
     }
-    if is_taken(kept, limit, id) {
+    if is_taken(kept, search.limit, id) {
         return Candidate::High;
     }
-    match index.current_at(segment, number, time, pin) {
+    match index.current_at(segment, number, search.time, search.pin) {
         Some(at) => Candidate::Wanted(at),
         None => Candidate::Old,
     }
@@ -160,17 +162,17 @@ fn keep_row(
     segment: usize,
     number: u32,
     index: &Index,
-    time: EffectiveTime,
-    after: Option<u128>,
-    limit: u32,
-    pin: u32,
+    search: &Search,
 ) -> Result<(), AllocError>
     ensures { OnOk result ((lists : List (List StampedRow)) → Lists index.now lists
         → IsOfDescription lists segment number
-        → (seen : List Chosen) → AreKept lists time after limit pin seen kept.old.items
-        → AreBounds lists after limit kept.old.items segment bounds.old
-        → AreKept lists time after limit pin (seen ++ chosen_at lists segment number) kept.new.items
-        × AreBounds lists after limit kept.new.items segment bounds.new) }
+        → (seen : List Chosen)
+        → AreKept lists search.now.time search.now.after search.now.limit search.now.pin
+        seen kept.old.items
+        → AreBounds lists search.now.after search.now.limit kept.old.items segment bounds.old
+        → AreKept lists search.now.time search.now.after search.now.limit search.now.pin
+        (seen ++ chosen_at lists segment number) kept.new.items
+        × AreBounds lists search.now.after search.now.limit kept.new.items segment bounds.new) }
 {
     // Its contract says that the places ascend.
     let _listed = index.lists();
@@ -180,8 +182,8 @@ fn keep_row(
     if is_behind(bounds.end, number) {
         return Ok(());
     }
-    match judge(kept, segment, number, index, time, after, limit, pin) {
-        Candidate::Wanted(at) => keep(kept, limit, segment, at),
+    match judge(kept, segment, number, index, search) {
+        Candidate::Wanted(at) => keep(kept, search.limit, segment, at),
         Candidate::Low => {
             bounds.first = number.saturating_add(1);
             Ok(())
@@ -201,15 +203,14 @@ fn keep_current(
     terms: &[Term],
     segment: usize,
     index: &Index,
-    time: EffectiveTime,
-    after: Option<u128>,
-    limit: u32,
-    pin: u32,
+    search: &Search,
 ) -> Result<(), AllocError>
     ensures { OnOk result ((lists : List (List StampedRow)) → Lists index.now lists
         → AreOfDescriptions lists segment terms.now
-        → (seen : List Chosen) → AreKept lists time after limit pin seen kept.old.items
-        → AreKept lists time after limit pin
+        → (seen : List Chosen)
+        → AreKept lists search.now.time search.now.after search.now.limit search.now.pin
+        seen kept.old.items
+        → AreKept lists search.now.time search.now.after search.now.limit search.now.pin
         (seen ++ flat_map (λ t. chosen_at lists segment t.row) terms.now) kept.new.items) }
 {
     let mut bounds = Bounds {
@@ -217,17 +218,7 @@ fn keep_current(
         end: None,
     };
     for term in terms {
-        keep_row(
-            kept,
-            &mut bounds,
-            segment,
-            term.row,
-            index,
-            time,
-            after,
-            limit,
-            pin,
-        )?;
+        keep_row(kept, &mut bounds, segment, term.row, index, search)?;
     }
     Ok(())
 }
@@ -257,31 +248,21 @@ fn keep_candidates(
     terms: &[Term],
     segment: usize,
     index: &Index,
-    time: EffectiveTime,
-    after: Option<u128>,
-    limit: u32,
-    pin: u32,
+    search: &Search,
 ) -> Result<(), AllocError>
     ensures { OnOk result ((lists : List (List StampedRow)) → Lists index.now lists
         → AreOfDescriptions lists segment terms.now
-        → (seen : List Chosen) → AreKept lists time after limit pin seen kept.old.items
-        → AreKept lists time after limit pin
+        → (seen : List Chosen)
+        → AreKept lists search.now.time search.now.after search.now.limit search.now.pin
+        seen kept.old.items
+        → AreKept lists search.now.time search.now.after search.now.limit search.now.pin
         (seen ++ flat_map (λ t. chosen_at lists segment t.row) terms.now) kept.new.items) }
 {
-    if !are_few(terms.len(), limit) {
-        return keep_current(kept, terms, segment, index, time, after, limit, pin);
+    if !are_few(terms.len(), search.limit) {
+        return keep_current(kept, terms, segment, index, search);
     }
     let sorted = by_row(alloc, terms)?;
-    keep_current(
-        kept,
-        sorted.as_slice(),
-        segment,
-        index,
-        time,
-        after,
-        limit,
-        pin,
-    )
+    keep_current(kept, sorted.as_slice(), segment, index, search)
 }
 
 /// The first places by id, above `after`, of the current terms that begin with the prefix.
@@ -290,22 +271,18 @@ fn keep_all(
     lists: &[Sealed],
     index: &Index,
     prefix: &[u8],
-    time: EffectiveTime,
-    after: Option<u128>,
-    limit: u32,
-    pin: u32,
+    search: &Search,
 ) -> Result<Vec<Chosen>, AllocError>
     ensures { IfOk result (λ kept. (rows : List (List StampedRow)) → Lists index.now rows
         → PostsTerms rows lists.now
-        → AreKept rows time after limit pin (begun rows prefix.now (numbered 0 lists.now))
+        → AreKept rows search.now.time search.now.after search.now.limit search.now.pin
+        (begun rows prefix.now (numbered 0 lists.now))
         kept.items) }
 {
     let mut kept = Vec::new(alloc);
     for (segment, list) in lists.iter().enumerate() {
         let those = list.candidates(prefix);
-        keep_candidates(
-            alloc, &mut kept, those, segment, index, time, after, limit, pin,
-        )?;
+        keep_candidates(alloc, &mut kept, those, segment, index, search)?;
     }
     Ok(kept)
 }
@@ -321,21 +298,27 @@ pub fn find<R: RowReader>(
     index: &Index,
     reader: &mut R,
     prefix: &str,
-    time: EffectiveTime,
-    after: Option<u128>,
-    limit: u32,
-    pin: u32,
+    search: &Search,
 ) -> Result<Vec<Row>, ReadFault>
     ensures found { R.is_honest reader.old → Lists index.now (R.lists reader.old)
         → PostsTerms (R.lists reader.old) terms.now
         → IfOk result (λ rows. rows.items
-        ≡ terms_among (term_keys (R.lists reader.old) terms.now) prefix.now time after limit
-        (rows_at pin (listed (R.lists reader.old)))) }
+        ≡ terms_among (term_keys (R.lists reader.old) terms.now) prefix.now
+        search.now.time search.now.after search.now.limit
+        (rows_at search.now.pin (listed (R.lists reader.old)))) }
     ensures undamaged { R.is_honest reader.old → Lists index.now (R.lists reader.old)
         → PostsTerms (R.lists reader.old) terms.now → IfErr result (λ e. e ≢ readfault.Damaged) }
     // No more is read than the rows that it answers take, each read once.
     ensures work { IfOk result (λ rows.
         R.work reader.new ≤ R.work reader.old + sum_by R.cost rows.items) }
+    // Whatever it answers and whatever was read, no more is read than the rows that are to be found
+    // take, each counted once.
+    ensures work_always { Lists index.now (R.lists reader.old)
+        → PostsTerms (R.lists reader.old) terms.now
+        → R.work reader.new ≤ R.work reader.old + sum_by R.cost
+        (terms_among (term_keys (R.lists reader.old) terms.now) prefix.now
+        search.now.time search.now.after search.now.limit
+        (rows_at search.now.pin (listed (R.lists reader.old)))) }
     ensures lists { R.lists reader.new ≡ R.lists reader.old }
     ensures honesty { R.is_honest reader.old → R.is_honest reader.new }
     ensures stays { R.stays reader.old reader.new }
@@ -346,15 +329,6 @@ pub fn find<R: RowReader>(
     // Its contract says that no key is listed twice.
     let _listed = index.lists();
     let folded = default_case_fold_str(alloc, prefix)?;
-    let kept = keep_all(
-        alloc,
-        terms.as_slice(),
-        index,
-        folded.as_bytes(),
-        time,
-        after,
-        limit,
-        pin,
-    )?;
+    let kept = keep_all(alloc, terms.as_slice(), index, folded.as_bytes(), search)?;
     read_all(alloc, reader, kept.as_slice())
 }

@@ -237,3 +237,20 @@ fn reads_count_the_bytes_that_they_were_asked_for(rt: HostRuntime) -> Result<(),
     assert_eq!(rt; disk.bytes_read(), 4_106);
     Ok(())
 }
+
+#[test]
+fn other_calls_are_counted_whatever_they_answer(rt: HostRuntime) -> Result<(), Fail> {
+    let mut disk = MemDisk::from_bytes(rt.alloc(), vec![in rt.alloc(); 1, 2]?);
+    assert_eq!(rt; disk.read_at(0, &mut [0u8; 10])?, 2);
+    assert_eq!(rt; disk.other_calls(), 0);
+    assert_eq!(rt; disk.len()?, 2);
+    disk.write_at(0, &[7; 5])?;
+    assert_eq!(rt; disk.cut(4), Ok(()));
+    disk.sync()?;
+    assert_eq!(rt; disk.other_calls(), 4);
+    disk.set_fuse(0);
+    assert_eq!(rt; disk.sync(), Err(DiskFault));
+    assert_eq!(rt; disk.cut(1), Err(DiskFault));
+    assert_eq!(rt; disk.other_calls(), 6);
+    Ok(())
+}

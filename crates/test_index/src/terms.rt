@@ -38,7 +38,13 @@ pub(crate) fn find_rows<R: RowReader>(
         limit,
         pin,
     } = asked;
-    find(alloc, terms, index, reader, prefix, time, after, limit, pin)
+    let asked = term_prefix::Search {
+        time,
+        pin,
+        after,
+        limit,
+    };
+    find(alloc, terms, index, reader, prefix, &asked)
 }
 
 /// The time of a description, and its term.

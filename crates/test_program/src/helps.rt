@@ -13,7 +13,7 @@ Commands:
   serve   Answers the lines of standard input on standard output
   status  Opens a store, which checks it, and tells its imports, rows and segments
   merge   Merges the smallest segments until at most N stand, and gives back what is behind them
-  demo    Answers a short script on a store in memory, from three made releases
+  demo    Answers a short script on a store in memory, with three small sample releases
   help    Print this message or the help of the given subcommand(s)
 
 Options:
@@ -52,7 +52,7 @@ Arguments:
 Options:
       --store <FILE>    The file that holds the store
       --releases <DIR>  The folder that holds the release's folder, if NAME isn't its path
-      --quiet           Tells of warnings and refusals alone on standard error
+      --quiet           Prints only warnings and refusals on standard error
   -h, --help            Print help
 
 Examples:
@@ -143,7 +143,7 @@ Example:
 The guide tells more: docs/GUIDE.md, \"Merges\"
 ";
 
-const DEMO: &str = "Answers a short script on a store in memory, from three made releases
+const DEMO: &str = "Answers a short script on a store in memory, with three small sample releases
 
 Usage: sctd demo
 

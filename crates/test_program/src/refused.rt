@@ -59,27 +59,27 @@ fn refusals_and_their_status(rt: HostRuntime) -> Result<(), Fail> {
             1,
             "ERR 8 Damaged\n",
             "sctd: statuses-open-gate: the store is damaged: the slots (the file ends within them, \
-            or both have one epoch); take your copy\n",
+            or both have one epoch); restore your copy\n",
         ),
         (
             "sctd serve --store statuses-open-gate --releases none",
             1,
             "ERR 8 Damaged\n",
             "sctd: statuses-open-gate: the store is damaged: the slots (the file ends within them, \
-            or both have one epoch); take your copy\n",
+            or both have one epoch); restore your copy\n",
         ),
         (
             "sctd merge --store statuses-no-directory",
             1,
             "ERR 8 Damaged\n",
-            "sctd: statuses-no-directory: the store is damaged: the directory; take your copy\n",
+            "sctd: statuses-no-directory: the store is damaged: the directory; restore your copy\n",
         ),
         (
             "sctd status --store statuses-open-gate",
             1,
             "ERR 8 Damaged\n",
             "sctd: statuses-open-gate: the store is damaged: the slots (the file ends within them, \
-            or both have one epoch); take your copy\n",
+            or both have one epoch); restore your copy\n",
         ),
     ];
     for (line, status, want, why) in &cases {

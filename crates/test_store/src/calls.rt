@@ -14,13 +14,13 @@
 //!   `lists`, which is 1 where the newer content block is as the words behind it say.
 
 use crate::contents::lists;
-use history_store::Refusal;
+use history_store::{Receipt, Refusal};
 use import_check::Release;
 use rf2_rows::Kind;
 use std::alloc::{AllocError, Global};
 use std::process::Abort;
 use std::test::Fail;
-use test_support::{Example, one_file, root_years, sample_named};
+use test_support::{Example, one_file, root_years};
 
 /// A release of a description whose term has so many bytes.
 fn long_term(alloc: Global, bytes: u32) -> Result<Release, AllocError> {
@@ -32,8 +32,13 @@ fn long_term(alloc: Global, bytes: u32) -> Result<Release, AllocError> {
 /// How many versions of the root concept all imports show.
 fn count_versions(store: &mut Example) -> Result<u64, Refusal> {
     let pin = store.imports();
-    let rows = store.history(Kind::Concept, 138_875_005, pin)?;
-    Ok(rows.iter().filter(|byte| **byte == b'\n').count() as u64)
+    let mut count = 0u64;
+    for byte in &store.history(Kind::Concept, 138_875_005, pin)? {
+        if *byte == b'\n' {
+            count = count.saturating_add(1);
+        }
+    }
+    Ok(count)
 }
 
 /// The number that a word spells.
@@ -45,9 +50,20 @@ pub fn number(word: Option<&str>) -> Result<u32, Fail> {
     }
 }
 
-/// What a store answers to a release: how many rows are new.
-fn import_release(store: &mut Example, release: &Release) -> Result<u64, Refusal> {
-    Ok(store.import(release)?.new)
+/// How many rows of a release are new.
+pub fn count_new(answer: Result<Receipt, Refusal>) -> Result<u64, Refusal> {
+    match answer {
+        Ok(receipt) => Ok(receipt.new),
+        Err(refusal) => Err(refusal),
+    }
+}
+
+/// One number or two.
+fn numbers_of(words: &str) -> Result<(u32, Option<u32>), Fail> {
+    match words.split_once(' ') {
+        Some((first, second)) => Ok((number(Some(first))?, Some(number(Some(second))?))),
+        None => Ok((number(Some(words))?, None)),
+    }
 }
 
 /// Makes a call with numbers behind its name.
@@ -55,45 +71,50 @@ fn make_with(
     alloc: Global,
     store: &mut Example,
     name: &str,
-    numbers: &str,
+    numbers: (u32, Option<u32>),
 ) -> Result<Result<u64, Refusal>, Fail> {
-    let mut words = numbers.split(' ');
-    let first = number(words.next())?;
-    let answer = match name {
-        "years" => {
-            let count = number(words.next())?;
-            import_release(store, &root_years(alloc, first, count)?)
+    match (name, numbers) {
+        ("years", (first, Some(count))) => {
+            Ok(count_new(store.take(root_years(alloc, first, count)?)))
         }
-        "term" => import_release(store, &long_term(alloc, first)?),
-        "step" => store.merge_step(first),
-        _ => return Err(Fail::new(name)),
-    };
-    match words.next() {
-        None => Ok(answer),
-        Some(word) => Err(Fail::new(word)),
+        ("term", (bytes, None)) => Ok(count_new(store.take(long_term(alloc, bytes)?))),
+        ("step", (rows, None)) => Ok(store.merge_step(rows)),
+        _ => Err(Fail::new(name)),
+    }
+}
+
+/// 0 for a call that has nothing to say.
+fn zero(answer: Result<(), Refusal>) -> Result<u64, Refusal> {
+    match answer {
+        Ok(()) => Ok(0),
+        Err(refusal) => Err(refusal),
     }
 }
 
 /// Makes a call of the store.
 fn make(alloc: Global, store: &mut Example, call: &str) -> Result<Result<u64, Refusal>, Fail> {
     if let Some((name, numbers)) = call.split_once(' ') {
-        return make_with(alloc, store, name, numbers);
+        return make_with(alloc, store, name, numbers_of(numbers)?);
     }
     match call {
-        "r1" | "r2" | "r3" => Ok(import_release(store, &sample_named(alloc, call)?)),
+        "r1" | "r2" | "r3" => Ok(count_new(store.import_sample(call))),
         "versions" => Ok(count_versions(store)),
         "begin" => Ok(store.merge_begin()),
-        "publish" => Ok(store.merge_publish().map(|()| 0)),
-        "abandon" => Ok(store.merge_abandon().map(|()| 0)),
+        "publish" => Ok(zero(store.merge_publish())),
+        "abandon" => Ok(zero(store.merge_abandon())),
         "trim" => Ok(store.trim()),
         _ => Err(Fail::new(call)),
     }
 }
 
+/// An answer: a number, that there is none, or a refusal.
+type Answer = Result<Option<u64>, Refusal>;
+
 /// An answer as it stands in a text.
-fn spell(alloc: Global, answer: Result<u64, Refusal>) -> Result<String, AllocError> {
+fn spell(alloc: Global, answer: Answer) -> Result<String, AllocError> {
     match answer {
-        Ok(count) => format!(in alloc; "{count}"),
+        Ok(Some(count)) => format!(in alloc; "{count}"),
+        Ok(None) => String::from_str(alloc, "none"),
         Err(refusal) => {
             let code = refusal.code();
             format!(in alloc; "no {code}")
@@ -102,49 +123,71 @@ fn spell(alloc: Global, answer: Result<u64, Refusal>) -> Result<String, AllocErr
 }
 
 /// What a store shows, where that is asked.
-fn show(alloc: Global, store: &Example, call: &str) -> Result<Option<String>, AllocError> {
-    let count = match call {
-        "imports" => Some(u64::from(store.imports())),
-        "rows" => Some(store.row_count()),
-        "segments" => Some(u64::from(store.segments())),
-        "blocks" => Some(store.blocks_in_use()),
-        "left" => store.merge_left(),
-        "closed" => Some(u64::from(store.needs_reopen())),
-        _ => return Ok(None),
-    };
-    match count {
-        Some(count) => Ok(Some(format!(in alloc; "{count}")?)),
-        None => Ok(Some(String::from_str(alloc, "none")?)),
+fn show(store: &Example, call: &str) -> Option<Option<u64>> {
+    match call {
+        "imports" => Some(Some(u64::from(store.imports()))),
+        "rows" => Some(Some(store.row_count())),
+        "segments" => Some(Some(u64::from(store.segments()))),
+        "blocks" => Some(Some(store.blocks_in_use())),
+        "left" => Some(store.merge_left()),
+        "closed" => Some(Some(u64::from(store.needs_reopen()))),
+        _ => None,
     }
+}
+
+/// What a store shows, or what it answers to a call.
+fn ask(alloc: Global, store: &mut Example, call: &str) -> Result<Answer, Fail> {
+    if let Some(shown) = show(store, call) {
+        return Ok(Ok(shown));
+    }
+    match make(alloc, store, call)? {
+        Ok(count) => Ok(Ok(Some(count))),
+        Err(refusal) => Ok(Err(refusal)),
+    }
+}
+
+/// Whether a store is closed and opened again for a call.
+fn reopens(call: &str) -> bool {
+    call == "open" || call == "length" || call.starts_with("lists ")
 }
 
 /// What is asked of a disk: 0 for `open`, which asks nothing.
-fn ask_disk(alloc: Global, bytes: &[u8], call: &str) -> Result<String, Fail> {
-    let count = match call.split_once(' ') {
-        Some((_, words)) => u64::from(lists(alloc, bytes, words)?),
-        None if call == "length" => bytes.len() as u64,
-        None => 0,
-    };
-    Ok(format!(in alloc; "{count}")?)
+fn ask_disk(alloc: Global, bytes: &[u8], call: &str) -> Result<u64, Fail> {
+    match call.split_once(' ') {
+        Some((_, words)) => Ok(u64::from(lists(alloc, bytes, words)?)),
+        None if call == "length" => Ok(bytes.len() as u64),
+        None => Ok(0),
+    }
 }
 
 /// A store closed and opened again, and what was asked of its disk.
-fn reopen(alloc: Global, store: Example, call: &str) -> Result<(Example, String), Fail> {
+fn reopen(alloc: Global, store: Example, call: &str) -> Result<(Example, u64), Fail> {
     let disk = store.close();
-    let answer = ask_disk(alloc, disk.bytes(), call)?;
-    Ok((Example::opened(alloc, disk)?, answer))
+    let count = ask_disk(alloc, disk.bytes(), call)?;
+    Ok((Example::opened(alloc, disk)?, count))
 }
 
 /// The store after one call, and the answer.
-fn take_turn(alloc: Global, mut store: Example, call: &str) -> Result<(Example, String), Fail> {
-    if call == "open" || call == "length" || call.starts_with("lists ") {
-        return reopen(alloc, store, call);
+fn take_turn(alloc: Global, mut store: Example, call: &str) -> Result<(Example, Answer), Fail> {
+    if reopens(call) {
+        let (store, count) = reopen(alloc, store, call)?;
+        return Ok((store, Ok(Some(count))));
     }
-    let answer = match show(alloc, &store, call)? {
-        Some(answer) => answer,
-        None => spell(alloc, make(alloc, &mut store, call)?)?,
-    };
+    let answer = ask(alloc, &mut store, call)?;
     Ok((store, answer))
+}
+
+/// A call is answered so.
+fn check_answer(
+    rt: &impl Abort,
+    alloc: Global,
+    answer: Answer,
+    call: &str,
+    want: &str,
+) -> Result<(), AllocError> {
+    let got = spell(alloc, answer)?;
+    assert_eq!(rt; got.as_str(), want, "{call}");
+    Ok(())
 }
 
 /// The store after calls one after the other. Each answers what stands beside it.
@@ -156,8 +199,8 @@ pub fn play(
 ) -> Result<Example, Fail> {
     for part in calls.split(';') {
         let (call, want) = part.split_once(':').ok_or("a call and its answer")?;
-        let (next, got) = take_turn(alloc, store, call.trim())?;
-        assert_eq!(rt; got.as_str(), want.trim(), "{call}");
+        let (next, answer) = take_turn(alloc, store, call.trim())?;
+        check_answer(rt, alloc, answer, call, want.trim())?;
         store = next;
     }
     Ok(store)

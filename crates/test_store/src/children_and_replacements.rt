@@ -1,12 +1,19 @@
 //! Children of concepts, and what components were replaced by.
 
+use crate::answers::{import_lines, is_lines};
+use history_store::Refusal;
 use rf2_rows::Kind;
 use std::test::Fail;
-use test_support::{Example, lines, one_file};
+use test_support::Example;
 
 const ROOT: u64 = 138_875_005;
 
 const STREET: u64 = 1_000_004;
+
+/// Whether these are the root's children.
+fn has_children(store: &mut Example, date: u32, pin: u32, want: &[u64]) -> Result<bool, Refusal> {
+    Ok(store.children(ROOT, date, pin)?.as_slice() == want)
+}
 
 #[test]
 fn a_child_is_named_once(rt: HostRuntime) -> Result<(), Fail> {
@@ -20,8 +27,10 @@ fn a_child_is_named_once(rt: HostRuntime) -> Result<(), Fail> {
         (20_210_131, 2, &[STREET]),
     ];
     for (date, pin, want) in &cases {
-        let got = store.children(ROOT, *date, *pin)?;
-        assert!(rt; got.as_slice() == *want, "at {date}, pin {pin}");
+        assert!(rt;
+            has_children(&mut store, *date, *pin, *want)?,
+            "at {date}, pin {pin}"
+        );
     }
     Ok(())
 }
@@ -29,18 +38,17 @@ fn a_child_is_named_once(rt: HostRuntime) -> Result<(), Fail> {
 #[test]
 fn a_child_is_one_while_a_link_says_it(rt: HostRuntime) -> Result<(), Fail> {
     let mut store = Example::after(rt.alloc(), &["r1"])?;
-    let one: [u64; 1] = [STREET];
-    assert!(rt; store.children(ROOT, 20_200_131, 1)?.as_slice() == one.as_slice());
+    assert!(rt; has_children(&mut store, 20_200_131, 1, &[STREET])?);
     store.import_sample("r2")?;
-    assert!(rt; store.children(ROOT, 20_210_131, 2)?.as_slice() == one.as_slice());
-    let further = one_file(
+    assert!(rt; has_children(&mut store, 20_210_131, 2, &[STREET])?);
+    import_lines(
         rt.alloc(),
+        &mut store,
         Kind::Relationship,
         &["1000027|20210131|0|CORE|1000004|138875005|0|116680003|INF|MOD"],
     )?;
-    store.import(&further)?;
-    assert!(rt; store.children(ROOT, 20_210_131, 3)?.is_empty());
-    assert!(rt; store.children(ROOT, 20_210_131, 2)?.as_slice() == one.as_slice());
+    assert!(rt; has_children(&mut store, 20_210_131, 3, &[])?);
+    assert!(rt; has_children(&mut store, 20_210_131, 2, &[STREET])?);
     Ok(())
 }
 
@@ -55,8 +63,8 @@ fn a_replacement_holds_from_its_day_on(rt: HostRuntime) -> Result<(), Fail> {
         (20_210_131, 1, &[]),
     ];
     for (date, pin, want) in &cases {
-        let got = store.replacements(STREET, *date, *pin)?;
-        assert!(rt; got == lines(rt.alloc(), *want)?, "at {date}, pin {pin}");
+        let got = store.replacements(STREET, *date, *pin);
+        assert!(rt; is_lines(rt.alloc(), got, *want)?, "at {date}, pin {pin}");
     }
     Ok(())
 }

@@ -1,8 +1,9 @@
 //! Components: at a date and a pin, their versions, and pages of them.
 
+use crate::answers::{is_empty, is_line, is_lines};
 use rf2_rows::Kind;
 use std::test::Fail;
-use test_support::{Example, line, lines};
+use test_support::Example;
 
 const ROOT: u128 = 138_875_005;
 
@@ -11,17 +12,11 @@ const STREET: u128 = 1_000_004;
 #[test]
 fn nothing_is_found_in_an_empty_store(rt: HostRuntime) -> Result<(), Fail> {
     let mut store = Example::new(rt.alloc())?;
-    assert!(rt;
-        store
-            .line_at(Kind::Concept, ROOT, 20_230_131, 0)?
-            .is_empty()
-    );
-    assert!(rt; store.history(Kind::Concept, ROOT, 0)?.is_empty());
-    assert!(rt;
-        store
-            .page(Kind::Concept, 20_230_131, None, 10, 0)?
-            .is_empty()
-    );
+    let line = store.line_at(Kind::Concept, ROOT, 20_230_131, 0);
+    assert!(rt; is_empty(line)?);
+    assert!(rt; is_empty(store.history(Kind::Concept, ROOT, 0))?);
+    let page = store.page(Kind::Concept, 20_230_131, None, 10, 0);
+    assert!(rt; is_empty(page)?);
     Ok(())
 }
 
@@ -33,7 +28,7 @@ fn the_latest_time_is_that_of_any_row(rt: HostRuntime) -> Result<(), Fail> {
     let cases = [("r1", 20_200_131), ("r2", 20_210_131), ("r3", 20_210_131)];
     for (name, latest) in &cases {
         store.import_sample(*name)?;
-        assert_eq!(rt; store.latest_time(), Some(*latest), "{name}");
+        assert!(rt; store.latest_time() == Some(*latest), "{name}");
     }
     Ok(())
 }
@@ -52,10 +47,9 @@ fn a_pin_shows_the_imports_up_to_it(rt: HostRuntime) -> Result<(), Fail> {
         (0, ROOT, 20_200_831, ""),
     ];
     for (pin, id, date, want) in &cases {
-        let got = store.line_at(Kind::Concept, *id, *date, *pin)?;
-        let want = line(rt.alloc(), *want)?;
+        let got = store.line_at(Kind::Concept, *id, *date, *pin);
         assert!(rt;
-            got.as_slice() == want.as_bytes(),
+            is_line(rt.alloc(), got, *want)?,
             "{id} at {date}, pin {pin}"
         );
     }
@@ -85,8 +79,8 @@ fn versions_ascend_by_time(rt: HostRuntime) -> Result<(), Fail> {
         ),
     ];
     for (pin, want) in &cases {
-        let got = store.history(Kind::Concept, STREET, *pin)?;
-        assert!(rt; got == lines(rt.alloc(), *want)?, "pin {pin}");
+        let got = store.history(Kind::Concept, STREET, *pin);
+        assert!(rt; is_lines(rt.alloc(), got, *want)?, "pin {pin}");
     }
     Ok(())
 }
@@ -108,8 +102,8 @@ fn pages_follow_one_another(rt: HostRuntime) -> Result<(), Fail> {
         (None, 0, &[]),
     ];
     for (above, limit, want) in &cases {
-        let got = store.page(Kind::Concept, 20_200_131, *above, *limit, 1)?;
-        assert!(rt; got == lines(rt.alloc(), *want)?, "above {above:?}");
+        let got = store.page(Kind::Concept, 20_200_131, *above, *limit, 1);
+        assert!(rt; is_lines(rt.alloc(), got, *want)?, "above {above:?}");
     }
     Ok(())
 }

@@ -20,15 +20,21 @@ fn put_entry(block: &mut Vec<u8>, entry: &str) -> Result<(), Fail> {
     Ok(())
 }
 
-/// A content block: the epoch, the mark, the number of imports, the number
-/// of entries and eight zeros; the entries; and zeros up to its end.
-fn content(alloc: Global, epoch: u64, imports: u32, entries: &str) -> Result<Vec<u8>, Fail> {
-    let count = entries.split(',').count().min(250) as u32;
-    let mut block = epoch.to_be_bytes().to_vec(alloc)?;
+/// Adds the epoch, the mark, the number of imports, the number of entries and eight zeros.
+fn put_front(block: &mut Vec<u8>, epoch: u64, imports: u32, count: u32) -> Result<(), Fail> {
+    block.extend_from_slice(&epoch.to_be_bytes())?;
     block.extend_from_slice(b"SCTHIST2")?;
     block.extend_from_slice(&imports.to_be_bytes())?;
     block.extend_from_slice(&count.to_be_bytes())?;
     block.extend_from_slice(&[0; 8])?;
+    Ok(())
+}
+
+/// A content block: the front, the entries, and zeros up to its end.
+fn content(alloc: Global, epoch: u64, imports: u32, entries: &str) -> Result<Vec<u8>, Fail> {
+    let count = entries.split(',').count().min(250) as u32;
+    let mut block = Vec::new(alloc);
+    put_front(&mut block, epoch, imports, count)?;
     for entry in entries.split(',') {
         put_entry(&mut block, entry.trim())?;
     }

@@ -46,10 +46,20 @@ fn a_merge_byte_for_byte(rt: HostRuntime) -> Result<(), Fail> {
     Ok(())
 }
 
-/// What the store answers to questions of each sort as
-/// its first imports show it, one answer after the other.
-fn answers(alloc: Global, store: &mut Example, pin: u32) -> Result<Vec<u8>, Refusal> {
-    let mut all = Vec::new(alloc);
+/// Adds the rows of a kind at a date, and those that are about a concept.
+fn put_kind_at(
+    all: &mut Vec<u8>,
+    store: &mut Example,
+    kind: Kind,
+    date: u32,
+    pin: u32,
+) -> Result<(), Refusal> {
+    all.extend_from_slice(&store.page(kind, date, None, 10, pin)?)?;
+    all.extend_from_slice(&store.about(kind, 1_000_004, date, pin)?)?;
+    Ok(())
+}
+
+fn put_kinds(all: &mut Vec<u8>, store: &mut Example, pin: u32) -> Result<(), Refusal> {
     for kind in [
         Kind::Concept,
         Kind::Description,
@@ -57,69 +67,114 @@ fn answers(alloc: Global, store: &mut Example, pin: u32) -> Result<Vec<u8>, Refu
         Kind::Association,
     ] {
         for date in [20_200_131, 20_200_831, 20_210_131] {
-            all.extend_from_slice(&store.page(kind, date, None, 10, pin)?)?;
-            all.extend_from_slice(&store.about(kind, 1_000_004, date, pin)?)?;
+            put_kind_at(all, store, kind, date, pin)?;
         }
     }
+    Ok(())
+}
+
+/// Adds the rows of concepts at a date, and their versions.
+fn put_concepts(all: &mut Vec<u8>, store: &mut Example, pin: u32) -> Result<(), Refusal> {
     for id in [138_875_005, 1_000_004, 2_000_001] {
         all.extend_from_slice(&store.line_at(Kind::Concept, id, 20_200_831, pin)?)?;
         all.extend_from_slice(&store.history(Kind::Concept, id, pin)?)?;
     }
-    for date in [20_200_131, 20_210_131] {
-        all.extend_from_slice(&store.terms("STRASS", date, 10, pin)?)?;
-        all.extend_from_slice(&store.search("we", date, Some(1_000_014), 10, pin)?)?;
-        all.extend_from_slice(&store.replacements(1_000_004, date, pin)?)?;
-        for child in store.children(138_875_005, date, pin)? {
-            all.extend_from_slice(&child.to_be_bytes())?;
-        }
+    Ok(())
+}
+
+/// Adds what terms, associations and relationships find at a date.
+fn put_found_at(
+    all: &mut Vec<u8>,
+    store: &mut Example,
+    date: u32,
+    pin: u32,
+) -> Result<(), Refusal> {
+    all.extend_from_slice(&store.terms("STRASS", date, 10, pin)?)?;
+    all.extend_from_slice(&store.search("we", date, Some(1_000_014), 10, pin)?)?;
+    all.extend_from_slice(&store.replacements(1_000_004, date, pin)?)?;
+    for child in store.children(138_875_005, date, pin)? {
+        all.extend_from_slice(&child.to_be_bytes())?;
     }
+    Ok(())
+}
+
+/// Adds what the imports brought.
+fn put_receipts(all: &mut Vec<u8>, store: &Example, pin: u32) -> Result<(), Refusal> {
     for number in 1..=pin {
         let receipt = store.receipt(number)?;
         all.extend_from_slice(&receipt.new.to_be_bytes())?;
-        let latest = receipt.latest.map_or(0, |time| time.value());
+        let latest = match receipt.latest {
+            Some(time) => time.value(),
+            None => 0,
+        };
         all.extend_from_slice(&latest.to_be_bytes())?;
     }
+    Ok(())
+}
+
+/// What the store answers to questions of each sort as
+/// its first imports show it, one answer after the other.
+fn answers(alloc: Global, store: &mut Example, pin: u32) -> Result<Vec<u8>, Refusal> {
+    let mut all = Vec::new(alloc);
+    put_kinds(&mut all, store, pin)?;
+    put_concepts(&mut all, store, pin)?;
+    put_found_at(&mut all, store, 20_200_131, pin)?;
+    put_found_at(&mut all, store, 20_210_131, pin)?;
+    put_receipts(&mut all, store, pin)?;
     Ok(all)
 }
 
-/// The first imports of a store are shown as ever.
+/// The imports of a store, from none on, are shown as ever.
 fn assert_same(
     rt: &impl Abort,
     alloc: Global,
     store: &mut Example,
-    shown: &[(u32, Vec<u8>)],
+    shown: &[Vec<u8>],
 ) -> Result<(), Fail> {
-    let left = store.merge_left();
-    for (pin, want) in shown {
-        let got = answers(alloc, store, *pin)?;
-        assert!(rt;
-            got.as_slice() == want.as_slice(),
-            "pin {pin}, {left:?} left"
-        );
+    for (pin, want) in (0u32..).zip(shown) {
+        let got = answers(alloc, store, pin)?;
+        assert!(rt; got.as_slice() == want.as_slice(), "pin {pin}");
     }
     Ok(())
+}
+
+/// Takes ten rows of a merge one by one. Between two steps the first imports are shown as ever.
+fn step_by_step(
+    rt: &impl Abort,
+    alloc: Global,
+    store: &mut Example,
+    shown: &[Vec<u8>],
+) -> Result<(), Fail> {
+    assert_eq!(rt; store.merge_begin()?, 10);
+    for _ in 0..10 {
+        store.merge_step(1)?;
+        assert_same(rt, alloc, store, shown)?;
+    }
+    Ok(())
+}
+
+/// What the first two imports of a store show, and what it shows before them.
+fn first_answers(alloc: Global, store: &mut Example) -> Result<Vec<Vec<u8>>, Fail> {
+    let mut shown = Vec::new(alloc);
+    for pin in 0..3 {
+        shown.push(answers(alloc, store, pin)?)?;
+    }
+    Ok(shown)
 }
 
 #[test]
 fn questions_between_steps_are_answered_as_before(rt: HostRuntime) -> Result<(), Fail> {
     let mut store = play_new(&rt, rt.alloc(), "r1: 6; r2: 4")?;
-    let mut shown = Vec::new(rt.alloc());
-    for pin in 0..3 {
-        shown.push((pin, answers(rt.alloc(), &mut store, pin)?))?;
-    }
-    assert_eq!(rt; store.merge_begin()?, 10);
-    for _ in 0..10 {
-        store.merge_step(1)?;
-        assert_same(&rt, rt.alloc(), &mut store, shown.as_slice())?;
-    }
+    let mut shown = first_answers(rt.alloc(), &mut store)?;
+    step_by_step(&rt, rt.alloc(), &mut store, &shown)?;
     let mut store = play(&rt, rt.alloc(), store, "r3: 2; publish: 0")?;
-    shown.push((3, answers(rt.alloc(), &mut store, 3)?))?;
-    assert_same(&rt, rt.alloc(), &mut store, shown.as_slice())?;
+    shown.push(answers(rt.alloc(), &mut store, 3)?)?;
+    assert_same(&rt, rt.alloc(), &mut store, &shown)?;
     let mut store = Example::opened(rt.alloc(), store.close())?;
-    assert_same(&rt, rt.alloc(), &mut store, shown.as_slice())?;
+    assert_same(&rt, rt.alloc(), &mut store, &shown)?;
     // Each import shows something else.
     for pair in shown.windows(2) {
-        assert!(rt; pair[0].1 != pair[1].1);
+        assert!(rt; pair[0] != pair[1]);
     }
     Ok(())
 }

@@ -1,9 +1,9 @@
 //! Which two segments a merge takes, and in which order their rows are taken.
 
+use crate::answers::is_lines;
 use crate::calls::{passes, play_new};
 use rf2_rows::Kind;
 use std::test::Fail;
-use test_support::lines;
 
 /// Those of fewest rows, and of those with as many the ones listed first.
 /// The segments lie one after the other from block 4 on.
@@ -58,16 +58,13 @@ fn five_segments_become_one(rt: HostRuntime) -> Result<(), Fail> {
 fn a_step_takes_rows_in_key_order(rt: HostRuntime) -> Result<(), Fail> {
     let calls = "years 2005 2: 2; years 2001 2: 2; begin: 4; step 1: 3; step 3: 0; publish: 0";
     let mut store = play_new(&rt, rt.alloc(), calls)?;
-    let want = lines(
-        rt.alloc(),
-        &[
-            "138875005|20010131|1|CORE|PRIM",
-            "138875005|20020131|1|CORE|PRIM",
-            "138875005|20050131|1|CORE|PRIM",
-            "138875005|20060131|1|CORE|PRIM",
-        ],
-    )?;
-    let versions = store.history(Kind::Concept, 138_875_005, 2)?;
-    assert!(rt; versions == want);
+    let want: [&str; 4] = [
+        "138875005|20010131|1|CORE|PRIM",
+        "138875005|20020131|1|CORE|PRIM",
+        "138875005|20050131|1|CORE|PRIM",
+        "138875005|20060131|1|CORE|PRIM",
+    ];
+    let versions = store.history(Kind::Concept, 138_875_005, 2);
+    assert!(rt; is_lines(rt.alloc(), versions, &want)?);
     Ok(())
 }

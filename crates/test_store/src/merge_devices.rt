@@ -1,12 +1,13 @@
 //! Stops inside a merge, its calls on the device, and what the cache spares it.
 
+use crate::answers::is_line;
 use crate::calls::{MERGED, TAKEN, play_new};
+use crate::repeated_lookups::root_of;
 use disk_model::{Choice, MemDisk};
-use rf2_rows::Kind;
 use std::alloc::Global;
 use std::process::Abort;
 use std::test::Fail;
-use test_support::{Example, holds, image_before_end, line};
+use test_support::{Example, holds, image_before_end};
 
 /// What is read of bytes that a stop may leave.
 const CHOICES: [Choice; 4] = [
@@ -16,20 +17,20 @@ const CHOICES: [Choice; 4] = [
     Choice::Filled(165),
 ];
 
-/// The store after a stop with so many changing calls of the disk still to come. It has the rows
-/// of three imports, as each pin shows them, and no merge.
-fn reopen_stopped(
-    rt: &impl Abort,
+/// How many segments a store lists after a stop with so many changing calls of the disk still to
+/// come; none unless it has the rows of three imports, as each pin shows them, and no merge.
+fn segments_left(
     alloc: Global,
     disk: &MemDisk,
     left: u64,
     choice: Choice,
-) -> Result<Example, Fail> {
+) -> Result<Option<u32>, Fail> {
     let image = image_before_end(disk, left, choice)?;
     let mut store = Example::of_bytes(alloc, image.as_slice())?;
-    assert!(rt; holds(alloc, &mut store, 3)?, "{left} calls before the end");
-    assert_eq!(rt; store.merge_left(), None, "{left} calls before the end");
-    Ok(store)
+    if holds(alloc, &mut store, 3)? && store.merge_left().is_none() {
+        return Ok(Some(store.segments()));
+    }
+    Ok(None)
 }
 
 #[test]
@@ -44,9 +45,9 @@ fn a_publication_that_stops_loses_nothing(rt: HostRuntime) -> Result<(), Fail> {
     ];
     for left in 0..8u64 {
         for (choice, unpublished) in &cases {
-            let store = reopen_stopped(&rt, rt.alloc(), &disk, left, *choice)?;
-            let segments = if left < *unpublished { 2 } else { 3 };
-            assert_eq!(rt; store.segments(), segments, "{left} calls before the end");
+            let want = if left < *unpublished { 2 } else { 3 };
+            let segments = segments_left(rt.alloc(), &disk, left, *choice)?;
+            assert!(rt; segments == Some(want), "{left} calls before the end");
         }
     }
     Ok(())
@@ -57,8 +58,8 @@ fn a_step_that_stops_loses_nothing(rt: HostRuntime) -> Result<(), Fail> {
     let disk = play_new(&rt, rt.alloc(), TAKEN)?.close();
     for left in 0..2 {
         for choice in &CHOICES {
-            let store = reopen_stopped(&rt, rt.alloc(), &disk, left, *choice)?;
-            assert_eq!(rt; store.segments(), 3, "{left} calls before the end");
+            let segments = segments_left(rt.alloc(), &disk, left, *choice)?;
+            assert!(rt; segments == Some(3), "{left} calls before the end");
         }
     }
     Ok(())
@@ -85,6 +86,11 @@ const CALLS: [(&str, u64); 16] = [
     ("begin: no 9", 0),
 ];
 
+/// How often the device was changed after such calls on a new store.
+fn changes_after(rt: &impl Abort, alloc: Global, calls: &str) -> Result<u64, Fail> {
+    Ok(play_new(rt, alloc, calls)?.close().changes())
+}
+
 #[test]
 fn each_call_changes_the_device_so_often(rt: HostRuntime) -> Result<(), Fail> {
     let mut want = Example::new(rt.alloc())?.close().changes();
@@ -95,30 +101,34 @@ fn each_call_changes_the_device_so_often(rt: HostRuntime) -> Result<(), Fail> {
             calls.push(';')?;
         }
         calls.push_str(*call)?;
-        let disk = play_new(&rt, rt.alloc(), calls.as_str())?.close();
+        let got = changes_after(&rt, rt.alloc(), calls.as_str())?;
         want = want.saturating_add(*changes);
-        assert_eq!(rt; disk.changes(), want, "{calls}");
+        assert!(rt; got == want, "{calls}");
     }
     Ok(())
+}
+
+/// Asks for the root's row on these bytes, where the device makes so many calls, and once more
+/// when none is left; none unless it is opened and answers the first time.
+fn ask_again(alloc: Global, bytes: &[u8], calls: u64) -> Result<Option<Vec<u8>>, Fail> {
+    let mut disk = MemDisk::from_bytes(alloc, bytes.to_vec(alloc)?);
+    disk.set_fuse(calls);
+    let Ok(mut store) = Example::opened(alloc, disk) else {
+        return Ok(None);
+    };
+    if root_of(&mut store).is_err() {
+        return Ok(None);
+    }
+    Ok(Some(root_of(&mut store)?))
 }
 
 #[test]
 fn a_row_that_was_read_is_kept(rt: HostRuntime) -> Result<(), Fail> {
     let disk = play_new(&rt, rt.alloc(), MERGED)?.close();
-    let want = line(rt.alloc(), "138875005|20200131|1|CORE|PRIM")?;
     for calls in 0..1_000 {
-        let mut disk = MemDisk::from_bytes(rt.alloc(), disk.bytes().to_vec(rt.alloc())?);
-        disk.set_fuse(calls);
-        let Ok(mut store) = Example::opened(rt.alloc(), disk) else {
-            continue;
-        };
-        if store
-            .line_at(Kind::Concept, 138_875_005, 20_200_131, 3)
-            .is_ok()
-        {
-            // The device has no call left.
-            let again = store.line_at(Kind::Concept, 138_875_005, 20_200_131, 3)?;
-            assert!(rt; again.as_slice() == want.as_bytes(), "after {calls} calls");
+        if let Some(again) = ask_again(rt.alloc(), disk.bytes(), calls)? {
+            let row = "138875005|20200131|1|CORE|PRIM";
+            assert!(rt; is_line(rt.alloc(), Ok(again), row)?, "after {calls} calls");
             return Ok(());
         }
     }

@@ -1,11 +1,13 @@
 //! Which releases are refused, with which fault, and where; and that nothing of them stays.
 
-use history_store::{Damage, Refusal};
+use crate::answers::import_lines;
+use crate::calls::count_new;
+use history_store::{Damage, Receipt, Refusal};
 use import_check::Release;
 use rf2_rows::{Kind, LineFault, column_names};
 use std::alloc::Global;
 use std::test::Fail;
-use test_support::{Example, of_bytes, one_file, sample_named};
+use test_support::{Example, of_bytes, root_release, sample_named};
 
 /// The refusal of a file's line.
 fn at(line: usize, fault: LineFault) -> Refusal {
@@ -77,60 +79,58 @@ fn faulty_lines_are_named(rt: HostRuntime) -> Result<(), Fail> {
     ];
     let mut store = Example::new(rt.alloc())?;
     for (kind, lines, want) in &cases {
-        let release = one_file(rt.alloc(), *kind, *lines)?;
-        assert_eq!(rt; store.import(&release), Err(*want));
+        let answer = import_lines(rt.alloc(), &mut store, *kind, *lines);
+        assert!(rt; answer == Err(*want));
         assert_eq!(rt; store.imports(), 0);
         assert_eq!(rt; store.row_count(), 0);
     }
     // The calendar isn't consulted.
-    let release = one_file(rt.alloc(), Kind::Concept, &["1000004|20230230|1|CORE|PRIM"])?;
-    assert_eq!(rt; store.import(&release)?.new, 1);
+    let row = "1000004|20230230|1|CORE|PRIM";
+    let receipt = import_lines(rt.alloc(), &mut store, Kind::Concept, &[row])?;
+    assert_eq!(rt; receipt.new, 1);
     Ok(())
 }
+
+/// The refusal of a release whose first line says otherwise than a known row.
+const CONTRADICTION: Refusal = Refusal::Contradiction { file: 1, line: 2 };
 
 #[test]
 fn a_row_that_says_otherwise_is_refused(rt: HostRuntime) -> Result<(), Fail> {
     let mut store = Example::new(rt.alloc())?;
-    let first = one_file(
-        rt.alloc(),
-        Kind::Concept,
-        &["138875005|20200131|1|CORE|PRIM"],
-    )?;
-    store.import(&first)?;
-    let other = one_file(
-        rt.alloc(),
-        Kind::Concept,
-        &["138875005|20200131|1|2000001|PRIM"],
-    )?;
-    let want = Refusal::Contradiction { file: 1, line: 2 };
-    assert_eq!(rt; store.import(&other), Err(want));
-    assert_eq!(rt; want.code(), 32);
+    store.take(root_release(rt.alloc())?)?;
+    let row = "138875005|20200131|1|2000001|PRIM";
+    let answer = import_lines(rt.alloc(), &mut store, Kind::Concept, &[row]);
+    assert!(rt; answer == Err(CONTRADICTION));
+    assert_eq!(rt; CONTRADICTION.code(), 32);
     assert_eq!(rt; store.imports(), 1);
     assert_eq!(rt; store.row_count(), 1);
-    // A relationship that is repeated with another group.
-    let mut store = Example::new(rt.alloc())?;
-    store.import_sample("r1")?;
-    let other = one_file(
-        rt.alloc(),
-        Kind::Relationship,
-        &["1000027|20200131|1|CORE|1000004|138875005|1|116680003|INF|MOD"],
-    )?;
-    assert_eq!(rt; store.import(&other), Err(want));
     Ok(())
 }
 
-/// The first sample's concept file, cut to a length and with other bytes after it.
-fn cut_concepts(alloc: Global, less: usize, more: &[u8]) -> Result<Option<Release>, Refusal> {
-    let release = sample_named(alloc, "r1")?;
-    let Some(file) = release.files.first() else {
-        return Ok(None);
-    };
-    if less > file.bytes.len() {
-        return Ok(None);
+#[test]
+fn a_relationship_in_another_group_is_refused(rt: HostRuntime) -> Result<(), Fail> {
+    let mut store = Example::after(rt.alloc(), &["r1"])?;
+    let row = "1000027|20200131|1|CORE|1000004|138875005|1|116680003|INF|MOD";
+    let answer = import_lines(rt.alloc(), &mut store, Kind::Relationship, &[row]);
+    assert!(rt; answer == Err(CONTRADICTION));
+    Ok(())
+}
+
+/// The first sample's concept file alone, with so many bytes less at its end.
+fn cut_concepts(alloc: Global, less: usize) -> Result<Release, Refusal> {
+    let mut release = sample_named(alloc, "r1")?;
+    release.files.truncate(1);
+    for file in &mut release.files {
+        let left = file.bytes.len().saturating_sub(less);
+        file.bytes.truncate(left);
     }
-    let mut bytes = file.bytes[..file.bytes.len() - less].to_vec(alloc)?;
-    bytes.extend_from_slice(more)?;
-    Ok(Some(of_bytes(alloc, Kind::Concept, &bytes)?))
+    Ok(release)
+}
+
+/// How many rows of such a release are new to a store, or why it is refused.
+fn import_cut(alloc: Global, less: usize) -> Result<u64, Refusal> {
+    let mut store = Example::new(alloc)?;
+    count_new(store.take(cut_concepts(alloc, less)?))
 }
 
 #[test]
@@ -143,12 +143,22 @@ fn files_that_are_cut_short(rt: HostRuntime) -> Result<(), Fail> {
         (1, Err(at(4, LineFault::Reference))),
     ];
     for (less, want) in &cases {
-        let mut store = Example::new(rt.alloc())?;
-        let release = cut_concepts(rt.alloc(), *less, b"")?.ok_or("a sample")?;
-        let got = store.import(&release).map(|receipt| receipt.new);
-        assert_eq!(rt; got, *want, "{less} bytes less");
+        assert!(rt; import_cut(rt.alloc(), *less) == *want, "{less} bytes less");
     }
     Ok(())
+}
+
+/// What a store answers to a concept file of the column names between two texts.
+fn import_names(
+    alloc: Global,
+    store: &mut Example,
+    front: &str,
+    end: &str,
+) -> Result<Receipt, Refusal> {
+    let mut text = front.as_bytes().to_vec(alloc)?;
+    text.extend_from_slice(column_names(Kind::Concept))?;
+    text.extend_from_slice(end.as_bytes())?;
+    store.take(of_bytes(alloc, Kind::Concept, text.as_slice())?)
 }
 
 #[test]
@@ -156,16 +166,12 @@ fn files_of_the_column_names_alone(rt: HostRuntime) -> Result<(), Fail> {
     let mut store = Example::new(rt.alloc())?;
     let cases: [(&str, &str); 4] = [("", "\r\n"), ("", "\n"), ("", ""), ("\u{feff}", "\r\n")];
     for (front, end) in &cases {
-        let mut text = front.as_bytes().to_vec(rt.alloc())?;
-        text.extend_from_slice(column_names(Kind::Concept))?;
-        text.extend_from_slice(end.as_bytes())?;
-        let release = of_bytes(rt.alloc(), Kind::Concept, text.as_slice())?;
-        let receipt = store.import(&release)?;
+        let receipt = import_names(rt.alloc(), &mut store, *front, *end)?;
         assert_eq!(rt; (receipt.new, receipt.repeated), (0, 0));
     }
     assert_eq!(rt; store.imports(), 4);
-    let nothing = of_bytes(rt.alloc(), Kind::Concept, b"")?;
-    assert_eq!(rt; store.import(&nothing), Err(at(1, LineFault::Header)));
+    let nothing = store.take(of_bytes(rt.alloc(), Kind::Concept, b"")?);
+    assert!(rt; nothing == Err(at(1, LineFault::Header)));
     Ok(())
 }
 

@@ -16,7 +16,8 @@ fn ask_once(alloc: Global, bytes: &[u8], calls: u64) -> Result<Example, Refusal>
     Ok(store)
 }
 
-fn root_of(store: &mut Example) -> Result<Vec<u8>, Refusal> {
+/// The root's row as the third import shows it.
+pub fn root_of(store: &mut Example) -> Result<Vec<u8>, Refusal> {
     store.line_at(Kind::Concept, 138_875_005, 20_200_131, 3)
 }
 

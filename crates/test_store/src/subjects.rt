@@ -1,8 +1,10 @@
 //! What is about a component, and what an import brought.
 
+use crate::answers::is_lines;
 use rf2_rows::Kind;
+use std::process::Abort;
 use std::test::Fail;
-use test_support::{Example, lines, one_file};
+use test_support::{Example, one_file};
 
 const ROOT: u64 = 138_875_005;
 
@@ -46,10 +48,35 @@ fn a_component_has_rows_about_it(rt: HostRuntime) -> Result<(), Fail> {
         (Kind::Concept, STREET, 20_200_131, 3, &[]),
     ];
     for (kind, id, date, pin, want) in &cases {
-        let got = store.about(*kind, *id, *date, *pin)?;
+        let got = store.about(*kind, *id, *date, *pin);
         assert!(rt;
-            got == lines(rt.alloc(), *want)?,
+            is_lines(rt.alloc(), got, *want)?,
             "{kind:?} about {id} at {date}, pin {pin}"
+        );
+    }
+    Ok(())
+}
+
+/// Samples, how many of their rows are new, and the latest time of those.
+const BROUGHT: [(&str, u64, Option<u32>); 4] = [
+    ("r1", 6, Some(20_200_131)),
+    ("r2", 4, Some(20_210_131)),
+    ("r3", 2, Some(20_200_731)),
+    // Nothing of it is new.
+    ("r1", 0, None),
+];
+
+/// Each of so many imports has its receipt.
+fn check_receipts(rt: &impl Abort, store: &Example, imports: u32) -> Result<(), Fail> {
+    for (number, (_, new, latest)) in (1..=imports).zip(&BROUGHT) {
+        let told = store.receipt(number)?;
+        let day = match told.latest {
+            Some(time) => Some(time.value()),
+            None => None,
+        };
+        assert!(rt;
+            told.new == *new && day == *latest,
+            "import {number} of {imports}"
         );
     }
     Ok(())
@@ -58,25 +85,10 @@ fn a_component_has_rows_about_it(rt: HostRuntime) -> Result<(), Fail> {
 #[test]
 fn an_import_has_its_receipt_ever_after(rt: HostRuntime) -> Result<(), Fail> {
     let mut store = Example::new(rt.alloc())?;
-    let cases = [
-        ("r1", 6, Some(20_200_131)),
-        ("r2", 4, Some(20_210_131)),
-        ("r3", 2, Some(20_200_731)),
-        // Nothing of it is new.
-        ("r1", 0, None),
-    ];
-    let numbers = [1u32, 2, 3, 4];
-    for (imported, (name, new, _)) in numbers.iter().zip(&cases) {
+    for (imports, (name, new, _)) in (1u32..).zip(&BROUGHT) {
         let receipt = store.import_sample(*name)?;
-        assert_eq!(rt; receipt.new, *new, "{name}");
-        for (number, (_, new, latest)) in numbers.iter().zip(&cases) {
-            if *number <= *imported {
-                let told = store.receipt(*number)?;
-                assert_eq!(rt; told.new, *new, "import {number} of {imported}");
-                let day = told.latest.map(|time| time.value());
-                assert_eq!(rt; day, *latest, "import {number} of {imported}");
-            }
-        }
+        assert!(rt; receipt.new == *new, "{name}");
+        check_receipts(&rt, &store, imports)?;
     }
     Ok(())
 }

@@ -1,8 +1,9 @@
 //! Descriptions by the beginning of their terms.
 
+use crate::answers::{import_lines, is_lines};
 use rf2_rows::Kind;
 use std::test::Fail;
-use test_support::{Example, lines, one_file};
+use test_support::Example;
 
 const STREET: &str = "1000015|20200131|1|CORE|1000004|de|SYN|Straße|ECI";
 
@@ -23,9 +24,9 @@ fn terms_are_found_whatever_their_case(rt: HostRuntime) -> Result<(), Fail> {
         (2, "we", 20_210_131, &[WAY]),
     ];
     for (pin, prefix, date, want) in &cases {
-        let got = store.terms(*prefix, *date, 10, *pin)?;
+        let got = store.terms(*prefix, *date, 10, *pin);
         assert!(rt;
-            got == lines(rt.alloc(), *want)?,
+            is_lines(rt.alloc(), got, *want)?,
             "{prefix} at {date}, pin {pin}"
         );
     }
@@ -42,8 +43,8 @@ fn a_term_is_found_after_one_release(rt: HostRuntime) -> Result<(), Fail> {
         ("straß", 0, &[]),
     ];
     for (prefix, limit, want) in &cases {
-        let got = store.terms(*prefix, 20_200_131, *limit, 1)?;
-        assert!(rt; got == lines(rt.alloc(), *want)?, "{prefix}, {limit}");
+        let got = store.terms(*prefix, 20_200_131, *limit, 1);
+        assert!(rt; is_lines(rt.alloc(), got, *want)?, "{prefix}, {limit}");
     }
     Ok(())
 }
@@ -53,7 +54,7 @@ const OTHER_STREET: &str = "2000017|20200131|1|CORE|1000004|de|SYN|Straßen|ECI"
 #[test]
 fn a_search_goes_on_above_an_id(rt: HostRuntime) -> Result<(), Fail> {
     let mut store = Example::after(rt.alloc(), &["r1"])?;
-    store.import(&one_file(rt.alloc(), Kind::Description, &[OTHER_STREET])?)?;
+    import_lines(rt.alloc(), &mut store, Kind::Description, &[OTHER_STREET])?;
     let cases: [(Option<u128>, u32, u32, &[&str]); 8] = [
         (None, 10, 2, &[STREET, OTHER_STREET]),
         (None, 1, 2, &[STREET]),
@@ -66,9 +67,9 @@ fn a_search_goes_on_above_an_id(rt: HostRuntime) -> Result<(), Fail> {
         (Some(1_000_015), 10, 1, &[]),
     ];
     for (after, limit, pin, want) in &cases {
-        let got = store.search("STRASS", 20_200_131, *after, *limit, *pin)?;
+        let got = store.search("STRASS", 20_200_131, *after, *limit, *pin);
         assert!(rt;
-            got == lines(rt.alloc(), *want)?,
+            is_lines(rt.alloc(), got, *want)?,
             "above {after:?}, {limit}, pin {pin}"
         );
     }

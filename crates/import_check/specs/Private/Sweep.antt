@@ -1,12 +1,15 @@
 -- What a pass over lines in key order has found so far.
 -- No clause of a public function cites these words.
-use Rattle.std.specs.Prelude.{◌≡◌, ◌≢◌, ℕ, ◌-◌, ◌≤◌, ◌<◌, ◌⊎◌, false, List, [], ◌∷◌, ◌++◌, length}
+use Rattle.std.specs.Prelude.{◌≡◌, ◌≢◌, ℕ, ◌+◌, ◌-◌, ◌≤◌, ◌<◌, ◌⊎◌, false, List, [], ◌∷◌, ◌++◌}
+use Rattle.std.specs.Prelude.{length}
 use Rattle.std.specs.Prelude.{slice_get}
-use Rattle.std.specs.Prelude.{Option, Some, None, MatchOption, IfSome, Result, Err, IsOkAnd, ⊤}
+use Rattle.std.specs.Prelude.{Option, Some, None, MatchOption, IfSome, IsSomeAnd}
+use Rattle.std.specs.Prelude.{Result, Err, IsOkAnd, ⊤}
 use Rattle.std.specs.List.{AllByRecursion}
 use Rattle.std.specs.Ordering.{nat_cmp, ordering_then, is_gt}
 use Rattle.std.specs.declared.cmp.Ordering.{Ordering}
 use Rattle.std.specs.declared.cmp.Ordering.TheVariants.{Less}
+use Rattle.rf2_values.specs.declared.key.Key.{Key}
 use Rattle.rf2_values.specs.Row.{RowValue}
 use Rattle.rf2_values.specs.Key.{key_of}
 use Rattle.history_model.specs.InOrder.{Has, IsAscending}
@@ -117,6 +120,24 @@ standing_of s = standing_row s.known_row s.fresh.items
 abbrev pub IsSwept : List RowValue → List PlacedLine → List PlacedLine → Sweep → Type 0
 IsSwept known lines done s = Swept known lines done done s.known_row s.fresh.items s.first
 
+-- the row that stands has the key of the last line
+abbrev pub IsInStep : Sweep → Type 0
+IsInStep s = MatchOption s.key (standing_of s ≡ None)
+    (λ key. IsSomeAnd (standing_of s) (λ row. key_of row ≡ key))
+
+-- What taking a line reads: nothing where the last line had its key or no row that is known has
+-- it, and else no more than a known row with this key takes.
+pub record AsksOnce (cost : RowValue → ℕ) (known : List RowValue) (last : Option Key)
+    (line : PlacedLine) (old new : ℕ) : Type 0 where
+  pub again : last ≡ Some (key_of line.row) → new ≤ old
+  pub unknown : IsUnknown known (key_of line.row) → new ≤ old
+  pub one : (row : RowValue) → Has known row → key_of row ≡ key_of line.row → new ≤ old + cost row
+
+-- a line to come that has the key of one that is taken has the key of the last line
+abbrev pub IsAhead : List PlacedLine → Option Key → List PlacedLine → Type 0
+IsAhead done last rest = (line later : PlacedLine) → Has done line → Has rest later
+    → key_of line.row ≡ key_of later.row → last ≡ Some (key_of later.row)
+
 -- one line more is taken
 abbrev pub TakesLine : List RowValue → PlacedLine → Sweep → Sweep → Type 0
 TakesLine known line old new =
@@ -157,7 +178,7 @@ pub record IsOwn (known : List RowValue) (rest : List PlacedLine) (s : Sweep) : 
   pub apart : IsApart known s.fresh.items
   pub below : (row : RowValue) → Has s.fresh.items row → (line : PlacedLine) → Has rest line
       → (row_cmp row line.row ≡ Less)
-      ⊎ ((key_of row ≡ key_of line.row) × (standing_of s ≡ Some row))
+      ⊎ ((key_of row ≡ key_of line.row) × (s.key ≡ Some (key_of row)))
 
 -- the new rows still ascend, are unknown and are below the lines to come after one line more is
 -- taken

@@ -1,11 +1,12 @@
 -- Words beside those of `Damage` that no public clause cites.
-use Rattle.std.specs.Prelude.{ℕ, List}
+use Rattle.std.specs.Prelude.{ℕ, ◌+◌, ◌≤◌, List, length, take}
 use Rattle.directory.specs.declared.entry.Entry.{Entry}
 use Rattle.store_image.specs.declared.fault.Damage.TheVariants as damages
 use Rattle.store_image.specs.declared.fault.LoadFault.{LoadFault}
 use Rattle.store_image.specs.declared.fault.LoadFault.TheVariants as loading
 use Rattle.store_image.specs.declared.fault.RowsFault.{RowsFault}
 use Rattle.store_image.specs.declared.fault.RowsFault.TheVariants as faults
+use Rattle.store_image.specs.Kept.{bytes_listed}
 use Rattle.store_image.specs.Damage.{IsFirstBroken, ShareKey}
 
 -- why a segment isn't read, as why a store isn't
@@ -22,3 +23,17 @@ AreNotRead (loading.Damaged (damages.Segment number)) imports entries file =
     IsFirstBroken number imports entries file
 AreNotRead (loading.Damaged damages.SharedKey) imports entries file = ShareKey imports entries file
 AreNotRead _ imports entries file = ⊥
+
+-- where a segment is damaged, no byte of one behind it was
+-- asked for, and the length once for each up to it
+abbrev pub StopsIn : LoadFault → List Entry → (bytes_before bytes calls_before calls : ℕ) → Type 0
+StopsIn loading.OutOfMemory entries bytes_before bytes calls_before calls = Unit {0}
+StopsIn loading.DiskFault entries bytes_before bytes calls_before calls = Unit {0}
+StopsIn loading.NotAStore entries bytes_before bytes calls_before calls = ⊥
+StopsIn (loading.Damaged damages.Slots) entries bytes_before bytes calls_before calls = ⊥
+StopsIn (loading.Damaged damages.Directory) entries bytes_before bytes calls_before calls = ⊥
+StopsIn (loading.Damaged (damages.Segment number)) entries bytes_before bytes calls_before calls =
+    (number ≤ length entries) × (bytes ≤ bytes_before + bytes_listed (take number entries))
+    × (calls ≤ calls_before + number)
+StopsIn (loading.Damaged damages.SharedKey) entries bytes_before bytes calls_before calls = Unit {0}
+StopsIn (loading.Damaged damages.Kind) entries bytes_before bytes calls_before calls = ⊥

@@ -1,8 +1,9 @@
-use Rattle.std.proofs.Common.{◌++◌, [], ◌∷◌, sym, ap, subst, ◌∙◌, take, map, rules, arith}
+use Rattle.std.specs.List.{sum_by}
+use Rattle.std.proofs.Common.{◌+◌, ◌++◌, [], ◌∷◌, sym, ap, subst, ◌∙◌, take, map, rules, arith}
 use Rattle.std.proofs.lemmas.List.Sums.{sum_by_push}
 use Rattle.history_model.specs.declared.stamped.StampedRow.{StampedRow}
 use Rattle.segment.specs.Standing.{StandsAt}
-use Rattle.as_of_index.proofs.Current.{stand_at, stand_end, map-push}
+use Rattle.as_of_index.proofs.Current.{stand_at, stand_end, map-push, rows_push, first_rows}
 use Rattle.as_of_index.proofs.chosen.read_all.Goals as goal
 
 pub loop-k-preserved : goal.loop-k-preserved
@@ -13,6 +14,14 @@ loop-k-preserved g c =
     record {
       honesty = λ h. found.ensures.honesty (so_far.honesty h);
       work = (let least = so_far.work in let more = found.ensures.work in rw (c.in_ok-push.ensures.items, sum_by_push g.R.RowReader.cost c.loop-k.rows.items found.found.row) (omega arith));
+      work_always = λ rows stand.
+          let f = g.R.RowReader.cost in
+          let w = stand_at (g.R.RowReader.lists a.reader.now) a.places.now rows c.loop-k.k-index c.k-item.result stand c.loop-k-test.true c.k-item.is in
+          let stands = subst (λ ls. StandsAt ls c.k-item.result.segment c.k-item.result.at w.0) (sym so_far.lists) w.1 in
+          let least = so_far.work_always rows stand in
+          let more = found.ensures.work_always w.0 stands in
+          let sum = ap (λ xs. sum_by f (map (λ (s : StampedRow). s.row) xs)) w.2 ∙ rows_push f (take c.loop-k.k-index rows) w.0 in
+          omega arith;
       lists = found.ensures.lists ∙ so_far.lists;
       stays = g.met.R.RowReader.stays_on a.reader.now _ _ so_far.stays found.ensures.stays;
       disk_faults = found.ensures.disk_faults ∙ so_far.disk_faults;
@@ -38,3 +47,33 @@ returns-in_err-found-clause-undamaged g c = λ honest rows stand.
 pub returns-clause-found : goal.returns-clause-found
 returns-clause-found g c = λ honest rows stand.
     c.loop-k.invariant.rows honest rows stand ∙ ap (λ xs. map (λ (s : StampedRow). s.row) xs) (stand_end (g.R.RowReader.lists c.args.reader.now) c.args.places.now rows c.loop-k.k-index stand c.loop-k-test.false)
+
+pub returns-in_err-found-clause-work_always : goal.returns-in_err-found-clause-work_always
+returns-in_err-found-clause-work_always g c = λ rows stand.
+    let f = g.R.RowReader.cost in
+    let k = c.loop-k.k-index in
+    let w = stand_at (g.R.RowReader.lists c.args.reader.now) c.args.places.now rows k c.k-item.result stand c.loop-k-test.true c.k-item.is in
+    let stands = subst (λ ls. StandsAt ls c.k-item.result.segment c.k-item.result.at w.0) (sym c.loop-k.invariant.lists) w.1 in
+    let least = c.loop-k.invariant.work_always rows stand in
+    let more = c.in_err-found.ensures.work_always w.0 stands in
+    let sum = ap (λ xs. sum_by f (map (λ (s : StampedRow). s.row) xs)) w.2 ∙ rows_push f (take k rows) w.0 in
+    let all = first_rows f (k + 1) rows in
+    omega arith
+
+pub returns-in_err-push-clause-work_always : goal.returns-in_err-push-clause-work_always
+returns-in_err-push-clause-work_always g c = λ rows stand.
+    let f = g.R.RowReader.cost in
+    let k = c.loop-k.k-index in
+    let w = stand_at (g.R.RowReader.lists c.args.reader.now) c.args.places.now rows k c.k-item.result stand c.loop-k-test.true c.k-item.is in
+    let stands = subst (λ ls. StandsAt ls c.k-item.result.segment c.k-item.result.at w.0) (sym c.loop-k.invariant.lists) w.1 in
+    let least = c.loop-k.invariant.work_always rows stand in
+    let more = c.in_ok-found.ensures.work_always w.0 stands in
+    let sum = ap (λ xs. sum_by f (map (λ (s : StampedRow). s.row) xs)) w.2 ∙ rows_push f (take k rows) w.0 in
+    let all = first_rows f (k + 1) rows in
+    omega arith
+
+pub returns-clause-work_always : goal.returns-clause-work_always
+returns-clause-work_always g c = λ rows stand.
+    let least = c.loop-k.invariant.work_always rows stand in
+    let all = first_rows g.R.RowReader.cost c.loop-k.k-index rows in
+    omega arith

@@ -11,6 +11,7 @@ invariant-loop-k g l =
       honesty : r.is_honest l.fn.reader → r.is_honest l.reader;
       lists : r.lists l.reader ≡ r.lists l.fn.reader;
       work : r.work l.reader ≤ r.work l.fn.reader + sum_by r.cost l.rows.items;
+      work_always : (rows : List StampedRow) → StandAtAll (r.lists l.fn.reader) l.places rows → r.work l.reader ≤ r.work l.fn.reader + sum_by r.cost (map (λ (s : StampedRow). s.row) (take l.k-index rows));
       stays : r.stays l.fn.reader l.reader;
       disk_faults : r.disk_faults l.reader ≡ r.disk_faults l.fn.reader;
       damages : r.damages l.reader ≡ r.damages l.fn.reader;

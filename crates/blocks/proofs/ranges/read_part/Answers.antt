@@ -1,8 +1,8 @@
-use Rattle.std.proofs.Common.{◌≡◌, suc, ◌+◌, ◌*◌, ◌≤◌, ◌++◌, take, drop, ◌/◌, ◌%◌, List, ℕ, length, refl, sym, ap, subst, ◌∙◌, arith}
+use Rattle.std.proofs.Common.{◌≡◌, ◌+◌, ◌*◌, ◌≤◌, ◌++◌, take, drop, ◌/◌, ◌%◌, List, ℕ, length, refl, sym, ap, subst, ◌∙◌, arith}
 use Rattle.std.proofs.lemmas.Result.{err_from_is_err_and}
 use Rattle.disk_model.specs.Disk.{Moments}
 use Rattle.blocks.specs.Cache.{count_of, AgreesWith}
-use Rattle.blocks.proofs.Looked.{IsLookUp, read_up, failed_up, none_looked_up, looked_up_next, ended, all_looked_up, part_asks}
+use Rattle.blocks.proofs.Looked.{read_up, failed_up, none_looked_up, looked_up_next, ended, all_looked_up, part_asks}
 use Rattle.blocks.proofs.PartsKept.{next_kept, used_keeps, keeps_on, count_in}
 use Rattle.blocks.proofs.PartsRead.{IsReadSoFar, none_read, all_read, more_read, short_read}
 use Rattle.blocks.proofs.ranges.read_part.Goals as goal
@@ -57,6 +57,7 @@ loop-done-init g c = (
   refl,
   λ part. (refl, λ q. refl),
   none_looked_up c.args.from (length c.args.into.now) c.args.cache.now (g.D.Disk.bytes_read c.args.disk.now),
+  refl,
 )
 
 pub loop-done-preserved : goal.loop-done-preserved
@@ -91,6 +92,7 @@ loop-done-preserved g c =
           (read_up (at / 4096) c.in_ok-count.count c.read.new.into c.loop-done.cache c.read.new.self (g.D.Disk.bytes_read c.loop-done.disk) (g.D.Disk.bytes_read c.read.new.disk)
           (λ kept is. (c.in_ok-count.ensures.used kept is, ap g.D.Disk.bytes_read (c.in_ok-count.ensures.kept kept is).2)) c.in_ok-count.ensures.keeps c.in_ok-count.ensures.bytes_read)
           c.min-taken.result (omega (arith, inv.0, c.min-taken.ensures)),
+      c.in_ok-count.ensures.other_calls ∙ inv.9,
     )
 
 pub returns-in_err-count-clause-looked_up : goal.returns-in_err-count-clause-looked_up

@@ -1,26 +1,27 @@
 use Rattle.std.proofs.Common.{arith}
-use Rattle.disk_model.specs.DeviceView.{device_view}
+use Rattle.line_server.specs.DeviceView.{device_view}
 use Rattle.std.proofs.lemmas.Result.{err_from_is_err_and}
-use Rattle.command_line.proofs.Merged.{have_none, have_both, halted_after, trimmed_to}
+use Rattle.command_line.proofs.Merged.{have_none, have_both, stopped_after, halted_so, trimmed_to}
 use Rattle.command_line.proofs.merging.merge_to.Goals as goal
 
 pub loop-init : goal.loop-init
-loop-init g c = (have_none (device_view g.D.Disk.is_honest g.D.Disk.moments g.D.Disk.failures) _, omega arith, c.requires.within)
+loop-init g c = (have_none (device_view g.D.Disk.is_honest g.D.Disk.moments g.D.Disk.failures g.D.Disk.bytes_read) _, omega arith, c.requires.within, c.requires.at_rest)
 
 pub returns-in_err-merge_two-clause-merged : goal.returns-in_err-merge_two-clause-merged
 returns-in_err-merge_two-clause-merged g c =
     let i = c.loop.invariant in
     let m = c.in_err-merge_two.ensures.merged in
     let p = err_from_is_err_and c.from_residual.result c.from_residual.ensures.1 in
-    rw (p.1, p.2) (halted_after (device_view g.D.Disk.is_honest g.D.Disk.moments g.D.Disk.failures) _ _ _ _ i.0 m)
+    let number = i.1 in
+    rw (p.1, p.2) (halted_so (device_view g.D.Disk.is_honest g.D.Disk.moments g.D.Disk.failures g.D.Disk.bytes_read) c.args.most _ _ _ (stopped_after (device_view g.D.Disk.is_honest g.D.Disk.moments g.D.Disk.failures g.D.Disk.bytes_read) c.args.most _ _ _ _ i.0 (m c.args.most (omega (arith, number, c.loop-test.true, c.saturating_sub-end.ensures, c.segments.ensures)))))
 
 pub loop-preserved : goal.loop-preserved
 loop-preserved g c =
     let i = c.loop.invariant in
     let m = c.in_ok-merge_two.ensures.merged in
-    (have_both (device_view g.D.Disk.is_honest g.D.Disk.moments g.D.Disk.failures) _ _ _ i.0 m.0, omega (arith, i.1, m.1), c.merge_two.ensures.within)
+    (have_both (device_view g.D.Disk.is_honest g.D.Disk.moments g.D.Disk.failures g.D.Disk.bytes_read) _ _ _ i.0 m.0, omega (arith, i.1, m.1), c.merge_two.ensures.within, m.2)
 
 pub returns-clause-merged : goal.returns-clause-merged
 returns-clause-merged g c =
     let i = c.loop.invariant in
-    trimmed_to (device_view g.D.Disk.is_honest g.D.Disk.moments g.D.Disk.failures) c.args.most _ _ _ c.ask.result i.0 (omega (arith, i.1, c.loop-test.false, c.loop.auto.counter-end, c.saturating_sub-end.ensures, c.segments.ensures)) c.ask.ensures.asked
+    trimmed_to (device_view g.D.Disk.is_honest g.D.Disk.moments g.D.Disk.failures g.D.Disk.bytes_read) c.args.most _ _ _ c.ask.result i.0 (omega (arith, i.1, c.loop-test.false, c.loop.auto.counter-end, c.saturating_sub-end.ensures, c.segments.ensures)) i.3 c.ask.ensures.asked

@@ -1,14 +1,15 @@
 use Rattle.std.proofs.Common.{◌≡◌, ◌+◌}
-use Rattle.disk_model.specs.DeviceView.{device_view}
+use Rattle.line_server.specs.DeviceView.{device_view}
 use Rattle.line_server.specs.Pins.{AreWithin}
 use Rattle.line_server.specs.Replies.{server}
 use Rattle.command_line.specs.Merging.{segments_of}
-use Rattle.command_line.specs.Private.{HaveMerged}
+use Rattle.command_line.specs.Private.{HaveMerged, IsAtRest}
 use Rattle.command_line.proofs.merging.merge_to.Given as goal
 
 -- each merge so far made one segment of two
 abbrev pub invariant-loop : goal.invariant-loop
 invariant-loop g l =
-    HaveMerged (device_view g.D.Disk.is_honest g.D.Disk.moments g.D.Disk.failures) (server l.fn.pins l.fn.store) (server l.pins l.store)
+    HaveMerged (device_view g.D.Disk.is_honest g.D.Disk.moments g.D.Disk.failures g.D.Disk.bytes_read) (server l.fn.pins l.fn.store) (server l.pins l.store)
     × (segments_of (server l.pins l.store) + l.counter ≡ segments_of (server l.fn.pins l.fn.store))
     × AreWithin l.store.history.imports l.pins
+    × IsAtRest (server l.pins l.store)

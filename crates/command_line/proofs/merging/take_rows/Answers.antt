@@ -1,23 +1,43 @@
-use Rattle.std.proofs.Common.{refl, inl, inr}
-use Rattle.disk_model.specs.DeviceView.{device_view}
+use Rattle.std.proofs.Common.{◌≡◌, ◌≤◌, ◌-◌, ◌*◌, arith, refl, inl, inr}
+use Rattle.std.specs.Int.{div_ceil}
+use Rattle.std.proofs.lemmas.Grind.{div_ceil_times}
+use Rattle.line_server.specs.DeviceView.{device_view}
 use Rattle.std.proofs.lemmas.Result.{err_from_is_err_and}
-use Rattle.command_line.proofs.Merged.{have_none, halted_first, halted_after, rows_more}
+use Rattle.line_server.specs.Replies.{server}
+use Rattle.command_line.specs.Private.{rows_left}
+use Rattle.command_line.proofs.Merged.{have_none, stopped_first, stopped_after, step_stops, rows_more, all_taken}
 use Rattle.command_line.proofs.merging.take_rows.Goals as goal
 
 pub loop-init : goal.loop-init
-loop-init g c = (have_none (device_view g.D.Disk.is_honest g.D.Disk.moments g.D.Disk.failures) _, refl, c.requires.within)
+loop-init g c = (have_none (device_view g.D.Disk.is_honest g.D.Disk.moments g.D.Disk.failures g.D.Disk.bytes_read) _, refl, c.requires.within, c.requires.merging, omega arith)
 
 pub returns-in_err-ask-clause-taken : goal.returns-in_err-ask-clause-taken
 returns-in_err-ask-clause-taken g c =
     let i = c.loop.invariant in
+    let same = i.1 in
     let a = c.in_err-ask.ensures.asked in
     let p = err_from_is_err_and c.from_residual.result c.from_residual.ensures.1 in
-    rw (p.1, p.2) (halted_after (device_view g.D.Disk.is_honest g.D.Disk.moments g.D.Disk.failures) _ _ _ _ i.0
-    (halted_first (device_view g.D.Disk.is_honest g.D.Disk.moments g.D.Disk.failures) _ _ _ a.0 (inl (inr (inl a.1))) a.3.0 a.3.1 a.2))
+    rw (p.1, p.2) (λ most more. stopped_after (device_view g.D.Disk.is_honest g.D.Disk.moments g.D.Disk.failures g.D.Disk.bytes_read) most _ _ _ _ i.0
+    (stopped_first (device_view g.D.Disk.is_honest g.D.Disk.moments g.D.Disk.failures g.D.Disk.bytes_read) most _ _ _ a.0 (inr (inl a.1)) (omega (arith, more, same)) a.3.0 a.3.1 a.2 (λ one. step_stops (device_view g.D.Disk.is_honest g.D.Disk.moments g.D.Disk.failures g.D.Disk.bytes_read) _ _ a.0 a.1 a.3.0 i.3 a.2)))
 
 pub loop-preserved : goal.loop-preserved
 loop-preserved g c =
     let i = c.loop.invariant in
     let a = c.in_ok-ask.ensures.asked in
-    let more = rows_more (device_view g.D.Disk.is_honest g.D.Disk.moments g.D.Disk.failures) _ _ _ a.0 i.0 i.1 a.1 a.3 a.2 in
-    (more.0, more.1, c.ask.ensures.within)
+    let more = rows_more (device_view g.D.Disk.is_honest g.D.Disk.moments g.D.Disk.failures g.D.Disk.bytes_read) _ _ _ a.0 i.0 i.1 a.1 a.3 a.2 in
+    let before = i.4 in
+    let now = more.3 in
+    (more.0, more.1, c.ask.ensures.within, more.2, omega (arith, before, now))
+
+pub returns-clause-taken : goal.returns-clause-taken
+returns-clause-taken g c =
+    let i = c.loop.invariant in
+    let state = server c.loop.pins c.loop.store in
+    let first = server c.args.pins.now c.args.store.now in
+    let left : c.unwrap_or-left.result ≡ rows_left first = rw (← c.merge_left.ensures) c.unwrap_or-left.ensures in
+    let enough : c.unwrap_or-left.result ≤ div_ceil c.unwrap_or-left.result 100000 * 100000 = (div_ceil_times c.unwrap_or-left.result 100000 (omega arith)).0 in
+    let taken : rows_left state ≡ rows_left first - c.loop.counter * 100000 = i.4 in
+    let end : c.div_ceil-end.result ≡ div_ceil c.unwrap_or-left.result 100000 = c.div_ceil-end.ensures in
+    let past = c.loop-test.false in
+    let more : div_ceil c.unwrap_or-left.result 100000 * 100000 ≤ c.loop.counter * 100000 = omega (arith, end, past) in
+    (i.0, i.1, all_taken (device_view g.D.Disk.is_honest g.D.Disk.moments g.D.Disk.failures g.D.Disk.bytes_read) state i.3 (omega (arith, taken, left, enough, more)))

@@ -1,14 +1,16 @@
-use Rattle.std.proofs.Common.{◌≡◌}
-use Rattle.disk_model.specs.DeviceView.{device_view}
+use Rattle.std.proofs.Common.{◌≡◌, ◌-◌, ◌*◌}
+use Rattle.line_server.specs.DeviceView.{device_view}
 use Rattle.line_server.specs.Pins.{AreWithin}
 use Rattle.line_server.specs.Replies.{server}
 use Rattle.command_line.specs.Merging.{segments_of}
-use Rattle.command_line.specs.Private.{HaveMerged}
+use Rattle.command_line.specs.Private.{HaveMerged, IsMerging, rows_left}
 use Rattle.command_line.proofs.merging.take_rows.Given as goal
 
--- lines of the merge were answered, of as many segments
+-- lines of the merge were answered, of as many segments, and each took its rows
 abbrev pub invariant-loop : goal.invariant-loop
 invariant-loop g l =
-    HaveMerged (device_view g.D.Disk.is_honest g.D.Disk.moments g.D.Disk.failures) (server l.fn.pins l.fn.store) (server l.pins l.store)
+    HaveMerged (device_view g.D.Disk.is_honest g.D.Disk.moments g.D.Disk.failures g.D.Disk.bytes_read) (server l.fn.pins l.fn.store) (server l.pins l.store)
     × (segments_of (server l.pins l.store) ≡ segments_of (server l.fn.pins l.fn.store))
     × AreWithin l.store.history.imports l.pins
+    × IsMerging (server l.pins l.store)
+    × (rows_left (server l.pins l.store) ≡ rows_left (server l.fn.pins l.fn.store) - l.counter * 100000)

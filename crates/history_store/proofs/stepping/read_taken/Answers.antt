@@ -41,6 +41,7 @@ loop-t-preserved g c =
       moments = λ up. read.moments (so_far.honesty.0 up) ∙ so_far.moments up;
       honesty = (λ up. read.honesty.0 (so_far.honesty.0 up), λ down. so_far.honesty.1 (read.honesty.1 down));
       failures = read.failures ∙ so_far.failures;
+      other_calls = read.other_calls ∙ so_far.other_calls;
       looked_up = some_more (is_listed a.entries.now) a.cache.now l.cache c.read_row.new.cache (g.D.Disk.bytes_read a.disk.now) (g.D.Disk.bytes_read l.disk) (g.D.Disk.bytes_read c.read_row.new.disk) so_far.looked_up read.looked_up;
       bytes_read =
           let more = take_more a.taken.now l.t-index t c.loop-t-test.true ∙ ap (λ (x : Taken). take l.t-index a.taken.now ++ x ∷ []) (sym c.t-item.is) in

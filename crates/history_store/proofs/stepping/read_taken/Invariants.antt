@@ -19,5 +19,6 @@ invariant-loop-t g l =
       honesty : disk.is_honest l.fn.disk ↔ disk.is_honest l.disk;
       failures : disk.failures l.disk ≡ disk.failures l.fn.disk;
       looked_up : LooksUpSome (is_listed l.entries) l.fn.cache l.cache (disk.bytes_read l.fn.disk) (disk.bytes_read l.disk);
+      other_calls : disk.other_calls l.disk ≡ disk.other_calls l.fn.disk;
       bytes_read : disk.bytes_read l.disk ≤ disk.bytes_read l.fn.disk + cost_at (take l.t-index l.taken);
     }

@@ -29,6 +29,8 @@ rows-init g c = record {
   honesty = (λ h. h, λ h. h);
   failures = refl;
   bytes_read = omega arith;
+  goes_on = omega arith;
+  other_calls = refl;
 }
 
 pub returns-in_err-at-clause-exact : goal.returns-in_err-at-clause-exact
@@ -73,6 +75,8 @@ rows-preserved g c =
       honesty = (λ h. read.honesty.0 (inv.honesty.0 h), λ h. inv.honesty.1 (read.honesty.1 h));
       failures = read.failures ∙ inv.failures;
       bytes_read = omega (arith, inv.bytes_read, read.bytes_read);
+      goes_on = omega (arith, inv.goes_on, read.goes_on);
+      other_calls = read.other_calls ∙ inv.other_calls;
     }
 
 pub returns-then-at-entry-clause-exact : goal.returns-then-at-entry-clause-exact

@@ -2,6 +2,7 @@ use Rattle.std.proofs.Common.{◌≡◌, ◌↔◌, ◌+◌, ◌≤◌, List, []
 use Rattle.blocks.specs.Extents.{bytes_of}
 use Rattle.directory.specs.Places.{extent_of}
 use Rattle.history_model.specs.declared.stamped.StampedRow.{StampedRow}
+use Rattle.disk_model.specs.Disk.{raised_by}
 use Rattle.segment.specs.declared.place.RowPlace.{RowPlace}
 use Rattle.segment.specs.Standing.{with_places}
 use Rattle.store_image.specs.Private.Reading.{Sees, AreReadTo, BeginsWith}
@@ -25,4 +26,6 @@ invariant-rows g l =
       honesty : g.D.Disk.is_honest l.fn.disk ↔ g.D.Disk.is_honest l.disk;
       failures : g.D.Disk.failures l.disk ≡ g.D.Disk.failures l.fn.disk;
       bytes_read : g.D.Disk.bytes_read l.disk ≤ g.D.Disk.bytes_read l.fn.disk + l.window.asked;
+      goes_on : raised_by (g.D.Disk.bytes_read l.fn.disk) 0 ≤ g.D.Disk.bytes_read l.disk;
+      other_calls : g.D.Disk.other_calls l.disk ≡ g.D.Disk.other_calls l.fn.disk;
     }

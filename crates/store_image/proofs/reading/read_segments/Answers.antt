@@ -17,6 +17,7 @@ use Rattle.store_image.specs.Damage.{AreThere}
 use Rattle.store_image.specs.Private.Keys.{keys_of, EachKeyOnce}
 use Rattle.store_image.proofs.Segments.{bytes_more, bytes_up_to, bytes_within, map-push, more_segments, more_numbered, more_held, more_segments_taken}
 use Rattle.store_image.proofs.Damaged.{not_read_at, number_of}
+use Rattle.store_image.proofs.Asked.{stops_in}
 use Rattle.store_image.proofs.KeyLists.{ascending_keys, lists_from_once, once_from_lists}
 use Rattle.store_image.proofs.reading.read_segments.Goals as goal
 
@@ -78,6 +79,8 @@ loop-entry-preserved g c =
       honesty = (λ h. read.honesty.0 (inv.honesty.0 h), λ h. inv.honesty.1 (read.honesty.1 h));
       failures = read.failures ∙ inv.failures;
       bytes_read = omega (arith, inv.bytes_read, read.bytes_read, bytes_more entries i none lt);
+      goes_on = omega (arith, inv.goes_on, read.goes_on);
+      other_calls = omega (arith, inv.other_calls, read.other_calls);
     }
 
 pub are_apart-requires : goal.are_apart-requires
@@ -159,3 +162,18 @@ returns-then-not-branch-clause-bytes_read g c =
 pub returns-clause-bytes_read : goal.returns-clause-bytes_read
 returns-clause-bytes_read g c =
     omega (arith, c.loop-entry.invariant.bytes_read, bytes_within c.args.entries.now c.loop-entry.entry-index)
+
+-- ---- where it stops
+
+pub returns-in-Err-clause-stops : goal.returns-in-Err-clause-stops
+unfolding none
+returns-in-Err-clause-stops g c =
+    let inv = c.loop-entry.invariant in
+    let entries = c.args.entries.now in
+    let i = c.loop-entry.entry-index in
+    let lt = c.loop-entry-test.true in
+    let count = number_of (map vec_items c.loop-entry.places.items) c.loop-entry.shown.items (take i entries) inv.places inv.segments in
+    let long = length-map c.loop-entry.places.items (vec_items {X = RowPlace} {Z = Global}) in
+    let front = length-take i entries in
+    let places = c.len-number.ensures in
+    rw (c.in_segment.ensures) (stops_in c.in-Err.fault _ entries i none _ (g.D.Disk.bytes_read c.loop-entry.disk) _ _ _ lt (omega (arith, count, long, front, lt, places)) inv.bytes_read c.in-Err.ensures.bytes_read (omega (arith, inv.other_calls, c.in-Err.ensures.other_calls)))

@@ -2,6 +2,7 @@ use Rattle.std.specs.Prelude.{vec_items, map}
 use Rattle.std.specs.List.{AllByRecursion}
 use Rattle.std.proofs.Common.{◌≡◌, ◌↔◌, ◌+◌, ◌≤◌, ◌++◌, List, [], take}
 use Rattle.history_model.specs.declared.stamped.StampedRow.{StampedRow}
+use Rattle.disk_model.specs.Disk.{raised_by}
 use Rattle.segment.specs.declared.place.RowPlace.{RowPlace}
 use Rattle.segment.specs.Standing.{places_of, with_places}
 use Rattle.store_image.specs.Pieces.{HoldsAll}
@@ -24,4 +25,6 @@ invariant-loop-entry g l =
       honesty : g.D.Disk.is_honest l.fn.disk ↔ g.D.Disk.is_honest l.disk;
       failures : g.D.Disk.failures l.disk ≡ g.D.Disk.failures l.fn.disk;
       bytes_read : g.D.Disk.bytes_read l.disk ≤ g.D.Disk.bytes_read l.fn.disk + bytes_listed done;
+      goes_on : raised_by (g.D.Disk.bytes_read l.fn.disk) 0 ≤ g.D.Disk.bytes_read l.disk;
+      other_calls : g.D.Disk.other_calls l.disk ≤ g.D.Disk.other_calls l.fn.disk + l.entry-index;
     }

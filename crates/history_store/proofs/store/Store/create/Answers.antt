@@ -11,22 +11,20 @@ invariant_of-result g c = (
   record { merging = tt; written = λ up still. tt },
 )
 
-pub returns-in-Ok : goal.returns-in-Ok
-returns-in-Ok g c =
+pub returns-in-Ok-clause-made : goal.returns-in-Ok-clause-made
+returns-in-Ok-clause-made g c =
     let held = held_first _ _ _ _ _ _ c.in-Ok.ensures.empty.0 c.in-Ok.ensures.empty.1 c.in-Ok.ensures.empty.2 (λ honest. c.in-Ok.ensures.on_disk (c.start.ensures.honesty.1 honest)) in
     record {
-      made = record {
-        exact = λ honest. (c.in-Ok.ensures.made honest, record { history = new_history _ _ c.in-Ok.ensures.empty.0 c.in-Ok.ensures.empty.1; catalog = ap (λ (l : DirectoryValue). catalog_of l None) c.in-Ok.ensures.empty.0; open_still = refl });
-        new = record { history = new_history _ _ c.in-Ok.ensures.empty.0 c.in-Ok.ensures.empty.1; catalog = ap (λ (l : DirectoryValue). catalog_of l None) c.in-Ok.ensures.empty.0; open_still = refl };
-        causes = tt;
-        refused = λ honest. tt;
-        untouched = c.start.ensures.untouched;
-        inside = c.start.ensures.inside;
-        calls = c.in-Ok.ensures.calls;
-        bytes = c.in-Ok.ensures.bytes;
-        acknowledged = λ honest. record { open_still = refl; each = held_stands _ _ _ _ _ _ _ held (c.start.ensures.honesty.0 honest) refl };
-        cache = c.in-Ok.ensures.empty.2;
-        honesty = c.start.ensures.honesty;
-        failures = c.in-Ok.ensures.failures;
-      };
+      exact = λ honest. (c.in-Ok.ensures.made honest, record { history = new_history _ _ c.in-Ok.ensures.empty.0 c.in-Ok.ensures.empty.1; catalog = ap (λ (l : DirectoryValue). catalog_of l None) c.in-Ok.ensures.empty.0; open_still = refl });
+      new = record { history = new_history _ _ c.in-Ok.ensures.empty.0 c.in-Ok.ensures.empty.1; catalog = ap (λ (l : DirectoryValue). catalog_of l None) c.in-Ok.ensures.empty.0; open_still = refl };
+      causes = tt;
+      refused = λ honest. tt;
+      untouched = c.start.ensures.untouched;
+      inside = c.start.ensures.inside;
+      calls = c.in-Ok.ensures.calls;
+      bytes = c.in-Ok.ensures.bytes;
+      acknowledged = λ honest. record { open_still = refl; each = held_stands _ _ _ _ _ _ _ held (c.start.ensures.honesty.0 honest) refl };
+      cache = c.in-Ok.ensures.empty.2;
+      honesty = c.start.ensures.honesty;
+      failures = c.in-Ok.ensures.failures;
     }

@@ -1,4 +1,7 @@
-use Rattle.std.proofs.Common.{◌≡◌, false, sym, subst}
+use Rattle.std.proofs.Common.{◌≡◌, ◌+◌, ◌≤◌, false, ap, sym, subst, arith}
+use Rattle.std.specs.List.{sum_by}
+use Rattle.import_check.specs.Known.{already_known}
+use Rattle.history_store.specs.Reading.{row_cost}
 use Rattle.import_check.specs.NewRows.{IsAcceptedAs, IsRefusal}
 use Rattle.import_check.specs.NewRows.{IsApart}
 use Rattle.history_store.specs.StoreValue.{StoreValue}
@@ -38,3 +41,29 @@ returns-after-matches-clause-refused g c =
       subst (λ l. IsRefusal (g.D.Disk.is_honest c.self.inside.disk) (rows_of l) c.args.release c.in-Err.fault) c.new-reader.ensures.shown
           (refused_less _ _ _ _ c.in-Err.fault (λ up. ((reader_honest g.D.Disk.is_honest g.D.Disk.moments _ _ _ _ _ _ _ _ _ _ c.self.invariant.0 c.new-reader.ensures.disk c.new-reader.ensures.cache c.new-reader.ensures.entries c.new-reader.ensures.shown up still (g.met.D.Disk.now_is_image c.self.inside.disk up)), (lent_sound _ _ _ _ _ _ _ c.self.invariant.0 c.places.result.now c.new-reader.result.shown.now c.imports-pin.result c.places.ensures c.new-reader.ensures.shown c.imports-pin.ensures).0, (lent_sound _ _ _ _ _ _ _ c.self.invariant.0 c.places.result.now c.new-reader.result.shown.now c.imports-pin.result c.places.ensures c.new-reader.ensures.shown c.imports-pin.ensures).1)) c.in-Err.ensures.refused),
     )
+
+pub returns-in-Ok-clause-bytes_read : goal.returns-in-Ok-clause-bytes_read
+returns-in-Ok-clause-bytes_read g c = rw (← c.self.view_is) (λ rows are.
+    let least = c.in-Ok.ensures.work (lent_sound _ _ _ _ _ _ _ c.self.invariant.0 c.places.result.now c.new-reader.result.shown.now c.imports-pin.result c.places.ensures c.new-reader.ensures.shown c.imports-pin.ensures).0 (lent_sound _ _ _ _ _ _ _ c.self.invariant.0 c.places.result.now c.new-reader.result.shown.now c.imports-pin.result c.places.ensures c.new-reader.ensures.shown c.imports-pin.ensures).1 rows are in
+    let from = ap g.D.Disk.bytes_read c.new-reader.ensures.disk in
+    let sum = ap (λ l. sum_by row_cost (already_known (rows_of l) rows)) c.new-reader.ensures.shown in
+    omega (arith, least, from, sum))
+
+pub returns-in-Ok-clause-bytes_unread : goal.returns-in-Ok-clause-bytes_unread
+returns-in-Ok-clause-bytes_unread g c = rw (← c.self.view_is) (λ unread.
+    let least = c.in-Ok.ensures.work_unread unread in
+    let from = ap g.D.Disk.bytes_read c.new-reader.ensures.disk in
+    omega (arith, least, from))
+
+pub returns-after-matches-clause-bytes_read : goal.returns-after-matches-clause-bytes_read
+returns-after-matches-clause-bytes_read g c = rw (← c.self.view_is) (λ rows are.
+    let least = c.in-Err.ensures.work (lent_sound _ _ _ _ _ _ _ c.self.invariant.0 c.places.result.now c.new-reader.result.shown.now c.imports-pin.result c.places.ensures c.new-reader.ensures.shown c.imports-pin.ensures).0 (lent_sound _ _ _ _ _ _ _ c.self.invariant.0 c.places.result.now c.new-reader.result.shown.now c.imports-pin.result c.places.ensures c.new-reader.ensures.shown c.imports-pin.ensures).1 rows are in
+    let from = ap g.D.Disk.bytes_read c.new-reader.ensures.disk in
+    let sum = ap (λ l. sum_by row_cost (already_known (rows_of l) rows)) c.new-reader.ensures.shown in
+    grind (arith, least, from, sum))
+
+pub returns-after-matches-clause-bytes_unread : goal.returns-after-matches-clause-bytes_unread
+returns-after-matches-clause-bytes_unread g c = rw (← c.self.view_is) (λ unread.
+    let least = c.in-Err.ensures.work_unread unread in
+    let from = ap g.D.Disk.bytes_read c.new-reader.ensures.disk in
+    grind (arith, least, from))

@@ -1,3 +1,4 @@
+use Rattle.std.specs.List.{sum_by}
 use Rattle.std.proofs.Common.{map, sym, ap, ◌∙◌}
 use Rattle.history_model.specs.History.{rows_at}
 use Rattle.history_model.specs.Lists.{listed}
@@ -5,8 +6,9 @@ use Rattle.history_model.specs.Queries.{versions}
 use Rattle.segment.specs.Standing.{places_of}
 use Rattle.blocks.proofs.Looked.{none_looks_up}
 use Rattle.history_store.specs.Queries.{is_listed}
+use Rattle.history_store.specs.Reading.{row_cost}
 use Rattle.history_store.proofs.Lent.{reader_honest, held_left}
-use Rattle.history_store.proofs.Querying.{answered_so, answered_query, answered_bytes, closed_query, through_cache}
+use Rattle.history_store.proofs.Querying.{answered_so, answered_query, answered_bytes, closed_query, through_cache, calls_stay, always_bytes}
 use Rattle.history_store.proofs.store.Store.history.Goals as goal
 
 pub invariant_of-self : goal.invariant_of-self
@@ -44,3 +46,10 @@ returns-clause-looked_up g c = rw (← c.self.view_is) (
 
 pub returns-then-self-clause-looked_up : goal.returns-then-self-clause-looked_up
 returns-then-self-clause-looked_up g c = rw (← c.self.view_is) (none_looks_up (is_listed c.self.inside.directory.entries) c.self.inside.cache (g.D.Disk.bytes_read c.self.inside.disk))
+
+pub returns-clause-other_calls : goal.returns-clause-other_calls
+returns-clause-other_calls g c = rw (← c.self.view_is) (calls_stay g.D.Disk.other_calls _ _ c.history-read.new.reader.disk.now _ c.new-reader.ensures.disk c.answered.ensures.disk c.history-read.ensures.stays.6)
+
+pub returns-clause-bytes_read_always : goal.returns-clause-bytes_read_always
+returns-clause-bytes_read_always g c = rw (← c.self.view_is) (
+    always_bytes g.D.Disk.bytes_read (λ l. sum_by row_cost (versions c.args.kind c.args.id (rows_at c.args.pin (listed l)))) _ _ c.self.inside.disk c.new-reader.result.disk.now c.answered.new.self.disk c.history-read.new.reader.disk.now c.new-reader.ensures.shown c.new-reader.ensures.disk c.answered.ensures.disk (c.history-read.ensures.work_always (c.places.ensures ∙ ap (map places_of) (sym c.new-reader.ensures.shown))))

@@ -6,7 +6,8 @@ use Rattle.segment.specs.Records.{segment_of}
 use Rattle.history_store.specs.StoreValue.{StoreValue}
 use Rattle.history_store.specs.Private.Prepared.{IsPreparedFor}
 use Rattle.history_store.proofs.GoingOn.{merge_added}
-use Rattle.history_store.proofs.WrittenWhere.{one_added}
+use Rattle.history_store.proofs.WrittenWhere.{one_added, leaves_but_segment}
+use Rattle.history_store.proofs.ImportReads.{segment_forgotten}
 use Rattle.history_store.proofs.Held.{held_added, held_stands, leaves_added, is_added, lists_count, with_more}
 use Rattle.history_store.proofs.NewSegment.{below_places}
 use Rattle.history_store.proofs.store.Store.publish_with_segment.Goals as goal
@@ -72,3 +73,15 @@ pub returns-in-Ok-clause-elsewhere : goal.returns-in-Ok-clause-elsewhere
 returns-in-Ok-clause-elsewhere g c =
     let for = subst (λ (s : StoreValue g.row.D.Denot). IsPreparedFor s c.args.prepared) (sym c.self.view_is) c.requires.prepared in
     rw (← c.self.view_is) (λ honest. one_added (other c.self.inside.slot) c.args.prepared.entry c.self.inside.directory.entries c.args.prepared.directory.entries _ _ (ap (λ (l : DirectoryValue). l.entries) for.prepared.directory_is) (c.in-Ok.ensures.elsewhere honest))
+
+pub returns-in-Ok-clause-forgets : goal.returns-in-Ok-clause-forgets
+returns-in-Ok-clause-forgets g c =
+    let for = subst (λ (s : StoreValue g.row.D.Denot). IsPreparedFor s c.args.prepared) (sym c.self.view_is) c.requires.prepared in
+    rw (← c.self.view_is) (segment_forgotten c.args.prepared.entry c.self.inside.directory.entries c.args.prepared.directory.entries c.in-Ok.slot _ c.forget.new.self _ (ap (λ (l : DirectoryValue). l.entries) for.prepared.directory_is)
+    (subst (λ x. Forgets (is_in x) c.self.inside.cache c.forget.new.self) c.extent.ensures c.forget.ensures) (subst (λ x. Forgets (is_in x) c.forget.new.self c.forget-in-Ok.new.self) c.extent-in-Ok.ensures c.forget-in-Ok.ensures))
+
+pub returns-in-Ok-clause-inside : goal.returns-in-Ok-clause-inside
+returns-in-Ok-clause-inside g c = rw (← c.self.view_is) (λ honest. leaves_but_segment (other c.self.inside.slot) _ _ _ (c.in-Ok.ensures.inside honest))
+
+pub returns-in-Err-clause-inside : goal.returns-in-Err-clause-inside
+returns-in-Err-clause-inside g c = rw (← c.self.view_is) (λ honest. leaves_but_segment (other c.self.inside.slot) _ _ _ (c.in-Err.ensures.inside honest))

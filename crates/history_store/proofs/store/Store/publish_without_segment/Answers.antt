@@ -5,7 +5,8 @@ use Rattle.directory.specs.declared.layout.Layout.TheVariants as layouts
 use Rattle.directory.specs.Listings.{DirectoryValue, IsListing}
 use Rattle.history_store.specs.StoreValue.{StoreValue}
 use Rattle.history_store.proofs.GoingOn.{merge_repeated}
-use Rattle.history_store.proofs.WrittenWhere.{none_added}
+use Rattle.history_store.proofs.WrittenWhere.{none_added, leaves_but_slots}
+use Rattle.history_store.proofs.ImportReads.{slot_forgotten}
 use Rattle.history_store.proofs.Held.{held_repeated, held_stands, leaves_repeated}
 use Rattle.history_store.proofs.store.Store.publish_without_segment.Goals as goal
 
@@ -42,3 +43,14 @@ pub returns-in-Ok-clause-elsewhere : goal.returns-in-Ok-clause-elsewhere
 returns-in-Ok-clause-elsewhere g c =
     let same = subst (λ (s : StoreValue g.row.D.Denot). IsNextOf c.args.next s) (sym c.self.view_is) c.requires.next in
     rw (← c.self.view_is) (λ honest. none_added (other c.self.inside.slot) c.self.inside.directory.entries c.args.next.entries _ _ (ap (λ (l : DirectoryValue). l.entries) same) (c.in-Ok.ensures.elsewhere honest))
+
+pub returns-in-Ok-clause-forgets : goal.returns-in-Ok-clause-forgets
+returns-in-Ok-clause-forgets g c =
+    let same = subst (λ (s : StoreValue g.row.D.Denot). IsNextOf c.args.next s) (sym c.self.view_is) c.requires.next in
+    rw (← c.self.view_is) (slot_forgotten c.self.inside.directory.entries c.args.next.entries c.in-Ok.slot _ _ (ap (λ (l : DirectoryValue). l.entries) same) (subst (λ x. Forgets (is_in x) c.self.inside.cache c.forget.new.self) c.extent.ensures c.forget.ensures))
+
+pub returns-in-Ok-clause-inside : goal.returns-in-Ok-clause-inside
+returns-in-Ok-clause-inside g c = rw (← c.self.view_is) (λ honest. leaves_but_slots (other c.self.inside.slot) _ _ (c.in-Ok.ensures.inside honest))
+
+pub returns-in-Err-clause-inside : goal.returns-in-Err-clause-inside
+returns-in-Err-clause-inside g c = rw (← c.self.view_is) (λ honest. leaves_but_slots (other c.self.inside.slot) _ _ (c.in-Err.ensures.inside honest))

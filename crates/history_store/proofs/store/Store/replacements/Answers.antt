@@ -1,4 +1,5 @@
-use Rattle.std.proofs.Common.{map, sym, ap, subst, ◌∙◌}
+use Rattle.std.specs.List.{sum_by}
+use Rattle.std.proofs.Common.{◌+◌, ◌≤◌, map, sym, ap, subst, ◌∙◌}
 use Rattle.history_model.specs.History.{rows_at}
 use Rattle.history_model.specs.Lists.{listed}
 use Rattle.links.specs.Replacements.{PostsReferences, reference_keys, replacements_among}
@@ -6,8 +7,9 @@ use Rattle.links.proofs.Posted.{posted_references_stand, posted_references_are_a
 use Rattle.segment.specs.Standing.{places_of}
 use Rattle.blocks.proofs.Looked.{none_looks_up}
 use Rattle.history_store.specs.Queries.{is_listed}
+use Rattle.history_store.specs.Reading.{row_cost}
 use Rattle.history_store.proofs.Lent.{reader_honest, held_left}
-use Rattle.history_store.proofs.Querying.{answered_so, answered_query, answered_bytes, closed_query, through_cache}
+use Rattle.history_store.proofs.Querying.{answered_so, answered_query, answered_bytes, closed_query, through_cache, calls_stay, always_bytes}
 use Rattle.history_store.proofs.store.Store.replacements.Goals as goal
 
 pub invariant_of-self : goal.invariant_of-self
@@ -45,3 +47,11 @@ returns-clause-looked_up g c = rw (← c.self.view_is) (
 
 pub returns-then-self-clause-looked_up : goal.returns-then-self-clause-looked_up
 returns-then-self-clause-looked_up g c = rw (← c.self.view_is) (none_looks_up (is_listed c.self.inside.directory.entries) c.self.inside.cache (g.D.Disk.bytes_read c.self.inside.disk))
+
+pub returns-clause-other_calls : goal.returns-clause-other_calls
+returns-clause-other_calls g c = rw (← c.self.view_is) (calls_stay g.D.Disk.other_calls _ _ c.replacements-read.new.reader.disk.now _ c.new-reader.ensures.disk c.answered.ensures.disk c.replacements-read.ensures.stays.6)
+
+pub returns-clause-bytes_read_always : goal.returns-clause-bytes_read_always
+returns-clause-bytes_read_always g c = rw (← c.self.view_is) (
+    subst (λ xs. g.D.Disk.bytes_read c.answered.new.self.disk ≤ g.D.Disk.bytes_read c.self.inside.disk + sum_by row_cost xs) (posted_references_are_all c.self.inside.index c.links.result.now c.args.id c.args.time c.args.pin c.links.ensures)
+    (always_bytes g.D.Disk.bytes_read (λ l. sum_by row_cost (replacements_among (reference_keys l c.links.result.now) c.args.id c.args.time (rows_at c.args.pin (listed l)))) _ _ c.self.inside.disk c.new-reader.result.disk.now c.answered.new.self.disk c.replacements-read.new.reader.disk.now c.new-reader.ensures.shown c.new-reader.ensures.disk c.answered.ensures.disk (c.replacements-read.ensures.work_always (c.places.ensures ∙ ap (map places_of) (sym c.new-reader.ensures.shown)) (subst (λ l. PostsReferences l c.links.result.now) (sym c.new-reader.ensures.shown) (posted_references_stand _ _ c.links.ensures)))))

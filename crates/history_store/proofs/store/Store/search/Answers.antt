@@ -1,4 +1,5 @@
-use Rattle.std.proofs.Common.{map, sym, ap, subst, ◌∙◌}
+use Rattle.std.specs.List.{sum_by}
+use Rattle.std.proofs.Common.{◌+◌, ◌≤◌, map, sym, ap, subst, ◌∙◌}
 use Rattle.history_model.specs.History.{rows_at}
 use Rattle.history_model.specs.Lists.{listed}
 use Rattle.term_prefix.specs.Terms.{PostsTerms, term_keys, terms_among}
@@ -6,8 +7,9 @@ use Rattle.term_prefix.proofs.Posted.{posted_terms_stand, posted_terms_are_all}
 use Rattle.segment.specs.Standing.{places_of}
 use Rattle.blocks.proofs.Looked.{none_looks_up}
 use Rattle.history_store.specs.Queries.{is_listed}
+use Rattle.history_store.specs.Reading.{row_cost}
 use Rattle.history_store.proofs.Lent.{reader_honest, held_left}
-use Rattle.history_store.proofs.Querying.{answered_so, answered_query, answered_bytes, closed_query, through_cache}
+use Rattle.history_store.proofs.Querying.{answered_so, answered_query, answered_bytes, closed_query, through_cache, calls_stay, always_bytes}
 use Rattle.history_store.proofs.store.Store.search.Goals as goal
 
 pub invariant_of-self : goal.invariant_of-self
@@ -45,3 +47,11 @@ returns-clause-looked_up g c = rw (← c.self.view_is) (
 
 pub returns-then-self-clause-looked_up : goal.returns-then-self-clause-looked_up
 returns-then-self-clause-looked_up g c = rw (← c.self.view_is) (none_looks_up (is_listed c.self.inside.directory.entries) c.self.inside.cache (g.D.Disk.bytes_read c.self.inside.disk))
+
+pub returns-clause-other_calls : goal.returns-clause-other_calls
+returns-clause-other_calls g c = rw (← c.self.view_is) (calls_stay g.D.Disk.other_calls _ _ c.find-read.new.reader.disk.now _ c.new-reader.ensures.disk c.answered.ensures.disk c.find-read.ensures.stays.6)
+
+pub returns-clause-bytes_read_always : goal.returns-clause-bytes_read_always
+returns-clause-bytes_read_always g c = rw (← c.self.view_is) (
+    subst (λ xs. g.D.Disk.bytes_read c.answered.new.self.disk ≤ g.D.Disk.bytes_read c.self.inside.disk + sum_by row_cost xs) (posted_terms_are_all c.self.inside.index c.terms.result.now c.args.prefix.now c.args.time c.args.after c.args.limit c.args.pin c.terms.ensures)
+    (always_bytes g.D.Disk.bytes_read (λ l. sum_by row_cost (terms_among (term_keys l c.terms.result.now) c.args.prefix.now c.args.time c.args.after c.args.limit (rows_at c.args.pin (listed l)))) _ _ c.self.inside.disk c.new-reader.result.disk.now c.answered.new.self.disk c.find-read.new.reader.disk.now c.new-reader.ensures.shown c.new-reader.ensures.disk c.answered.ensures.disk (c.find-read.ensures.work_always (c.places.ensures ∙ ap (map places_of) (sym c.new-reader.ensures.shown)) (subst (λ l. PostsTerms l c.terms.result.now) (sym c.new-reader.ensures.shown) (posted_terms_stand _ _ c.terms.ensures)))))
