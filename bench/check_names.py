@@ -4,7 +4,7 @@ of this repository by their paths.
 
 check_names.py
 
-It also checks that no module, type or trait of the sources has the name of a crate, which the gate
+It also checks that no module, type or trait of the sources has the name of a crate, which `rt ci`
 refuses only once it comes to that crate.
 
 It reads README.md, CHANGELOG.md and docs/*.md. Of each text between backquotes that begins with the

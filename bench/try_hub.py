@@ -1,5 +1,5 @@
 #!/usr/bin/env python3
-"""Tries examples/hub.py with the built program: many clients, bad ones, a refused opening, its end.
+"""Tries examples/hub.py with the built program: clients, openings, its socket, damage, its end.
 
 try_hub.py PROGRAM [HUB]
 
@@ -49,11 +49,14 @@ def same(what, found, wanted):
 class Hub:
     """A hub on a store in a folder. It runs no longer than its `with` block."""
 
-    def __init__(self, script, program, folder, store):
-        self.socket = os.path.join(folder, "hub")
+    def __init__(self, script, program, folder, store, path=None):
+        self.socket = path or os.path.join(folder, "hub")
         words = ["--program", program, "--store", store, "--releases", RELEASES]
-        self.process = subprocess.Popen(
-            [sys.executable, script, *words, "--socket", self.socket], stdout=subprocess.PIPE)
+        with open(os.path.join(folder, "faults"), "wb") as faults:
+            self.process = subprocess.Popen(
+                [sys.executable, script, *words, "--socket", self.socket], stdout=subprocess.PIPE,
+                stderr=faults)
+        self.faults = faults.name
         try:
             if not select.select([self.process.stdout], [], [], SECONDS)[0]:
                 raise Wrong("a hub says nothing for %d seconds after its start" % SECONDS)
@@ -100,6 +103,11 @@ class Hub:
     def stop(self, what):
         self.process.send_signal(signal.SIGTERM)
         return self.end(what)
+
+    def told(self):
+        """What it and its program have written to standard error."""
+        with open(self.faults, encoding="utf-8", errors="backslashreplace") as file:
+            return file.read()
 
 
 class Client:
@@ -165,13 +173,15 @@ def two_clients(hub):
     second.leave()
     later = Client(hub)
     same("a session that another had", later.ask(QUESTION), [AS_IN_2021, "END 1"])
+    lines = "STATUS\n%s\nTERMS 20200131 10 Straße\n" % QUESTION
     try:
+        # In a locale that isn't UTF-8, its lines and replies are the same bytes.
         done = subprocess.run(
-            [sys.executable, CLIENT, hub.socket], input=("STATUS\n%s\n" % QUESTION).encode(),
-            stdout=subprocess.PIPE, timeout=SECONDS, check=False)
+            [sys.executable, CLIENT, hub.socket], input=lines.encode(), stdout=subprocess.PIPE,
+            env={**os.environ, "PYTHONIOENCODING": "latin-1"}, timeout=SECONDS, check=False)
     except subprocess.TimeoutExpired:
         raise Wrong("examples/client.py hasn't ended after %d seconds" % SECONDS) from None
-    wanted = "OK 2 10 2 -\n%s\nEND 1\n" % AS_IN_2021
+    wanted = "OK 2 10 2 -\n%s\nEND 1\n%s\nEND 1\n" % (AS_IN_2021, TERM_IN_2020)
     same("examples/client.py", (done.stdout, done.returncode), (wanted.encode(), 0))
     later.leave()
     first.leave()
@@ -242,6 +252,58 @@ def openings(script, program, folder, store):
         same("the end of a hub without a store", third.end("a hub without a store"), 1)
 
 
+def refused_path(script, program, folder, store, path, why):
+    """A hub that is given the path of something else for its socket ends, and leaves that alone."""
+    with Hub(script, program, folder, store, path) as hub:
+        same("a hub on the path of %s" % why, hub.first_line, "")
+        same("its end", hub.end("a hub on the path of %s" % why), 1)
+        if why not in hub.told():
+            raise Wrong("a hub on the path of %s says %r" % (why, hub.told()))
+
+
+def sockets(script, program, folder, store):
+    """A file, or the socket of another program, is never replaced by a hub's socket."""
+    with open(store, "rb") as file:
+        content = file.read()
+    refused_path(script, program, folder, store, store, "something that is no socket")
+    with open(store, "rb") as file:
+        same("the store", file.read() == content, True)
+    another_store = os.path.join(folder, "another")
+    make_store(program, another_store)
+    with Hub(script, program, folder, store) as hub:
+        other = os.path.join(folder, "beside")
+        os.mkdir(other)
+        refused_path(script, program, other, another_store, hub.socket, "another program listens")
+        client = Client(hub)
+        same("the first hub", client.ask("STATUS"), ["OK 2 10 2 -"])
+        client.leave()
+        hub.process.kill()
+        hub.end("a hub that is killed")
+        same("the socket of a hub that was killed", os.path.exists(hub.socket), True)
+    with Hub(script, program, folder, another_store) as hub:
+        same("a hub where one was killed", hub.first_line, "OK ready")
+        os.unlink(hub.socket)
+        with socket.socket(socket.AF_UNIX) as later:
+            later.bind(hub.socket)
+            same("the end of a hub", hub.stop("a hub that is stopped"), 0)
+            same("a socket in the place of its own", os.path.exists(hub.socket), True)
+
+
+def damage(script, program, folder, store):
+    """A store that is changed while it is served: standard error says that it is damaged."""
+    with Hub(script, program, folder, store) as hub:
+        same("an opening", hub.first_line, "OK ready")
+        with open(store, "r+b") as file:
+            # The first byte of the first segment, which begins with its first row.
+            file.seek(4 * 4096)
+            file.write(b"\xff")
+        client = Client(hub)
+        same("a damaged row", client.ask("GET C 1000004 20200131"), ["ERR 8 Damaged"])
+        client.leave()
+        same("the end of the hub", hub.stop("a hub that is stopped"), 0)
+        same("what it told", hub.told(), "hub: the store is damaged: restore your copy\n")
+
+
 def kill_program(hub):
     """Where the program ends, the hub ends, so that what started it starts it again."""
     programs = hub.programs()
@@ -253,12 +315,16 @@ def kill_program(hub):
     client.leave()
 
 
-def all_trials(script, program, folder):
-    """How many trials there were."""
-    store = os.path.join(folder, "store")
+def make_store(program, store):
     made = subprocess.run([program, "init", "--store", store], stdout=subprocess.PIPE,
                           timeout=SECONDS, check=False)
     same("init", (made.stdout, made.returncode), (b"OK\n", 0))
+
+
+def all_trials(script, program, folder):
+    """How many trials there were."""
+    store = os.path.join(folder, "store")
+    make_store(program, store)
     tries = [two_clients, bad_clients, many_clients]
     with Hub(script, program, folder, store) as hub:
         same("an opening", hub.first_line, "OK ready")
@@ -268,7 +334,9 @@ def all_trials(script, program, folder):
     openings(script, program, folder, store)
     with Hub(script, program, folder, store) as hub:
         kill_program(hub)
-    return len(tries) + 2
+    sockets(script, program, folder, store)
+    damage(script, program, folder, store)
+    return len(tries) + 4
 
 
 def late(*_):

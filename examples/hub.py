@@ -13,7 +13,11 @@ Once the store is open, the hub prints `OK ready` (and tells systemd, where that
 opening that is refused ends the hub with the `ERR` line and the program's status. The hub ends with
 status 1 when the program ends, or after the program answered `ERR 2 DiskFault`: what started the
 hub should then start it again. SIGTERM and SIGINT end it with status 0, after the line that is being
-answered. Standard library alone.
+answered. Where a client is answered `ERR 8 Damaged`, standard error says that the store is damaged.
+
+PATH may name the socket that an earlier hub left behind, which is replaced. Anything else that
+stands there, such as a file or the socket of a program that runs, stays, and the hub ends with
+status 1. Standard library alone.
 """
 
 import argparse
@@ -22,6 +26,7 @@ import os
 import resource
 import signal
 import socket
+import stat
 import sys
 
 # Session 0 is the hub's own.
@@ -117,6 +122,9 @@ class Hub:
                 reply = [b"ERR 40 Long"] if line is TOO_LONG else await self.server.ask(session, line)
                 writer.write(b"".join(part + b"\n" for part in reply))
                 await writer.drain()
+                if reply[-1].startswith(b"ERR 8 "):
+                    print("hub: the store is damaged: restore your copy", file=sys.stderr,
+                          flush=True)
                 if reply[-1].startswith(b"ERR 2 "):
                     raise Ended(1)
         except ConnectionError:
@@ -160,7 +168,41 @@ async def opened(server):
         raise Ended(await server.failed(), line)
 
 
+def clear_path(path):
+    """Whether the socket can be made: one that an earlier hub left behind is removed, nothing else."""
+    try:
+        mode = os.lstat(path).st_mode
+    except FileNotFoundError:
+        return True
+    if not stat.S_ISSOCK(mode):
+        print("hub: %s: there is something that is no socket" % path, file=sys.stderr)
+        return False
+    with socket.socket(socket.AF_UNIX) as earlier:
+        if earlier.connect_ex(path) == 0:
+            print("hub: %s: another program listens on it" % path, file=sys.stderr)
+            return False
+    os.unlink(path)
+    return True
+
+
+def identity(path):
+    """What tells the file of this name from one that has taken its place."""
+    found = os.lstat(path)
+    return found.st_dev, found.st_ino
+
+
+def remove_own(path, own):
+    """Removes the socket of this name if it is still the one that the hub made."""
+    try:
+        if identity(path) == own:
+            os.unlink(path)
+    except FileNotFoundError:
+        pass
+
+
 async def serve(options):
+    if not clear_path(options.socket):
+        return 1
     words = ["serve", "--store", options.store, "--releases", options.releases]
     server = await Server.start([options.program] + words)
     try:
@@ -169,17 +211,20 @@ async def serve(options):
         sys.stdout.buffer.write(ended.line)
         return ended.status
     hub = Hub(server)
-    if os.path.exists(options.socket):
-        os.unlink(options.socket)
+    # Another hub may have begun to listen while the store was opened.
+    if not clear_path(options.socket):
+        await server.stop()
+        return 1
     listening = await asyncio.start_unix_server(
         hub.client, options.socket, limit=2 * LINE_LIMIT, backlog=1024)
+    own = identity(options.socket)
     for number in (signal.SIGTERM, signal.SIGINT):
         asyncio.get_running_loop().add_signal_handler(number, hub.end, 0)
     print("OK ready", flush=True)
     tell_systemd()
     status = await hub.ended
     listening.close()
-    os.unlink(options.socket)
+    remove_own(options.socket, own)
     await server.stop()
     return status
 

@@ -1,9 +1,9 @@
 #!/usr/bin/env python3
-"""Prints where the time of the check before a merge goes: minutes a crate, for its library, its
-tests and its must-fail edits.
+"""Prints where the time of a CI run goes: minutes a crate, for its library, its tests and its
+must-fail edits.
 
-gate_time.py COMMAND..      runs the command, as .ci/run, and watches the processes below it
-gate_time.py --pid NUMBER   watches a run that goes on already, until it ends
+ci_time.py COMMAND..      runs the command, as .ci/run, and watches the processes below it
+ci_time.py --pid NUMBER   watches a run that goes on already, until it ends
 
 Each second it reads from /proc what the processes below the run have used, and adds it to the crate
 that their command line names. Minutes are the processor's, and wall minutes those from the first
