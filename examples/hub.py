@@ -22,6 +22,7 @@ status 1. Standard library alone.
 
 import argparse
 import asyncio
+import errno
 import os
 import resource
 import signal
@@ -178,7 +179,7 @@ def clear_path(path):
         print("hub: %s: there is something that is no socket" % path, file=sys.stderr)
         return False
     with socket.socket(socket.AF_UNIX) as earlier:
-        if earlier.connect_ex(path) == 0:
+        if earlier.connect_ex(path) != errno.ECONNREFUSED:
             print("hub: %s: another program listens on it" % path, file=sys.stderr)
             return False
     os.unlink(path)
