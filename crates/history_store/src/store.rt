@@ -257,7 +257,6 @@ impl<D: Disk> Store<D> {
         ensures inside { D.is_honest self.old.disk
             → LeavesOnly (D.moments self.old.disk) (D.moments self.new.disk)
             (StemsWithin (D.moments self.old.disk).state slots_range) }
-        ensures fault { IfErr result (λ e. e ≡ refusals.DiskFault) }
         ensures forgets { OnOk result (ForgetsWritten
             (added_entries self.old.catalog self.new.catalog) self.old.cache self.new.cache) }
         ensures keeps { OnErr result (self.new.cache ≡ self.old.cache) }
@@ -305,7 +304,6 @@ impl<D: Disk> Store<D> {
             → LeavesOnly (D.moments self.old.disk) (D.moments self.new.disk)
             (StemsWithinAll (D.moments self.old.disk).state
             (slots_range ∷ byte_range (extent_of prepared.entry) ∷ [])) }
-        ensures fault { IfErr result (λ e. e ≡ refusals.DiskFault) }
         ensures forgets { OnOk result (ForgetsWritten
             (added_entries self.old.catalog self.new.catalog) self.old.cache self.new.cache) }
         ensures keeps { OnErr result (self.new.cache ≡ self.old.cache) }

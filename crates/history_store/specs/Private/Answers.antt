@@ -1,5 +1,5 @@
 -- Words beside those of `Answers` that no public clause cites.
-use Rattle.std.specs.Prelude.{◌≡◌, ◌⊎◌, false, List, Result, Ok, Err}
+use Rattle.std.specs.Prelude.{◌≡◌, false, List, Result, Ok, Err}
 use Rattle.rf2_values.specs.Row.{RowValue}
 use Rattle.history_model.specs.History.{History}
 use Rattle.import_check.specs.declared.release.Release.{Release}
@@ -12,14 +12,14 @@ use Rattle.history_store.specs.Catalog.{Catalog}
 use Rattle.history_store.specs.StoreValue.{StoreValue}
 use Rattle.history_store.specs.Answers.{IsRefused}
 
--- the store goes on to this history and catalog, or stays; memory may run out, or the device may
--- fail
+-- the store goes on to this history and catalog; or the device failed, they stay, and the store
+-- has to be opened again
 abbrev pub IsStep : {D : Type 0} → Result (Unit {0}) Refusal → StoreValue D → StoreValue D → History
     → Catalog → Type 0
 IsStep (Ok done) old new after next =
     (new.history ≡ after) × (new.catalog ≡ next) × (new.needs_reopen ≡ false)
 IsStep (Err e) old new after next =
-    ((e ≡ refusals.OutOfMemory) ⊎ (e ≡ refusals.DiskFault)) × IsRefused e old new
+    (e ≡ refusals.DiskFault) × IsRefused e old new
 
 -- why the new rows of a release are not had: a fault of the files
 -- on every disk, a contradiction and no damage on an honest one
