@@ -29,7 +29,7 @@ abbrev pub IsReadAt : Taken → StampedRow → Type 0
 IsReadAt t s = IsOfPlace s t.place
 
 -- a store that is open, in which this merge goes on
-pub record IsReady (honest : Type 0) (state : DiskState) (cache : LruCache ℕ (List ℕ))
+pub record IsReadyToStep (honest : Type 0) (state : DiskState) (cache : LruCache ℕ (List ℕ))
     (d : DirectoryValue) (lists : List (List StampedRow)) (m : MergeInProgress) : Type 0 where
   pub slot : Slot
   pub held : IsHeld honest state cache slot d lists false

@@ -26,7 +26,7 @@ loop-t-preserved g c =
     record {
       found = λ up agrees lists want there stand.
           let w = zip_at (StandsIn lists a.i a.j) a.taken.now want l.t-index t stand c.loop-t-test.true c.t-item.is in
-          let stands = subst (λ n. StandsAt lists n t.place w.0) (sym c.segment_of-segment.ensures) w.1 in
+          let stands = subst (λ n. StandsAt lists n t.place w.0) (sym c.segment_number-segment.ensures) w.1 in
           let agrees_still = subst (λ (m : Moments). AgreesWith l.cache m.state.now) (sym (so_far.moments up)) (so_far.agrees up agrees) in
           let same = read.found (so_far.honesty.0 up) agrees_still lists w.0 (subst (λ (m : Moments). AreThere a.entries.now lists m.state.now) (sym (so_far.moments up)) there) stands in
           items ∙ ap (λ (xs : List StampedRow). xs ++ row ∷ []) (so_far.found up agrees lists want there stand) ∙ ap (λ (s : StampedRow). take l.t-index want ++ s ∷ []) same
@@ -55,7 +55,7 @@ returns-in_err-row-clause-found g c = λ up agrees lists want there stand.
     let so_far = l.invariant in
     let t = c.t-item.result in
     let w = zip_at (StandsIn lists a.i a.j) a.taken.now want l.t-index t stand c.loop-t-test.true c.t-item.is in
-    let stands = subst (λ n. StandsAt lists n t.place w.0) (sym c.segment_of-segment.ensures) w.1 in
+    let stands = subst (λ n. StandsAt lists n t.place w.0) (sym c.segment_number-segment.ensures) w.1 in
     let agrees_still = subst (λ (m : Moments). AgreesWith l.cache m.state.now) (sym (so_far.moments up)) (so_far.agrees up agrees) in
     let only = c.in_err-row.ensures.found (so_far.honesty.0 up) agrees_still lists w.0 (subst (λ (m : Moments). AreThere a.entries.now lists m.state.now) (sym (so_far.moments up)) there) stands in
     search rules
