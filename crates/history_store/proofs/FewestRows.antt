@@ -3,7 +3,7 @@ use Rattle.std.proofs.Common.{◌≡◌, ◌⊎◌, inl, inr, ℕ, ◌+◌, ◌<
 use Rattle.std.specs.Prelude.{◌≢◌}
 use Rattle.std.proofs.lemmas.Bool.{cases_lt}
 use Rattle.directory.specs.declared.entry.Entry.{Entry}
-use Rattle.history_store.specs.Merging.{AreFewest, FewestAreOne, ComesFirst, rows_at_place}
+use Rattle.history_store.specs.Merging.{AreFewest, FewestAreOne, ComesFirst, rows_of_segment}
 
 pub record AreFewestBelow (entries : List Entry) (k first second : ℕ) : Type 0 where
   pub first_in : first < k
@@ -19,17 +19,17 @@ comes_trans entries p q r (inr a) (inl b) = inl (omega (arith, a.0, b))
 comes_trans entries p q r (inr a) (inr b) = inr (omega (arith, a.0, b.0), omega (arith, a.1, b.1))
 
 -- one that has no more rows, and is listed before
-comes_before : (entries : List Entry) (p k : ℕ) → (rows_at_place entries k < rows_at_place entries p → ⊥) → p < k → ComesFirst entries p k
-comes_before entries p k few below = elim (cases_lt (rows_at_place entries p) (rows_at_place entries k)) [
+comes_before : (entries : List Entry) (p k : ℕ) → (rows_of_segment entries k < rows_of_segment entries p → ⊥) → p < k → ComesFirst entries p k
+comes_before entries p k few below = elim (cases_lt (rows_of_segment entries p) (rows_of_segment entries k)) [
   | inl less ↦ inl less
-  | inr more ↦ elim (cases_lt (rows_at_place entries k) (rows_at_place entries p)) [
+  | inr more ↦ elim (cases_lt (rows_of_segment entries k) (rows_of_segment entries p)) [
     | inl fewer ↦ absurd (few fewer)
     | inr same ↦ inr (omega (arith, more, same), below)
   ]
 ]
 
 -- fewer than the second means before all that come after it
-comes_over : (entries : List Entry) (k s p : ℕ) → rows_at_place entries k < rows_at_place entries s → ComesFirst entries s p → ComesFirst entries k p
+comes_over : (entries : List Entry) (k s p : ℕ) → rows_of_segment entries k < rows_of_segment entries s → ComesFirst entries s p → ComesFirst entries k p
 comes_over entries k s p less (inl a) = inl (omega (arith, less, a))
 comes_over entries k s p less (inr a) = inl (omega (arith, less, a.0))
 
@@ -43,7 +43,7 @@ is_or p q = elim (cases_lt p q) [
 ]
 
 module _ (entries : List Entry) (k f s : ℕ) (are : AreFewestBelow entries k f s) where
-  pub fewer_than_first : rows_at_place entries k < rows_at_place entries f → AreFewestBelow entries (k + 1) k f
+  pub fewer_than_first : rows_of_segment entries k < rows_of_segment entries f → AreFewestBelow entries (k + 1) k f
   fewer_than_first less = record {
     first_in = omega arith;
     second_in = omega (arith, are.first_in);
@@ -55,7 +55,7 @@ module _ (entries : List Entry) (k f s : ℕ) (are : AreFewestBelow entries k f 
     ];
   }
 
-  pub fewer_than_second : (rows_at_place entries k < rows_at_place entries f → ⊥) → rows_at_place entries k < rows_at_place entries s → AreFewestBelow entries (k + 1) f k
+  pub fewer_than_second : (rows_of_segment entries k < rows_of_segment entries f → ⊥) → rows_of_segment entries k < rows_of_segment entries s → AreFewestBelow entries (k + 1) f k
   fewer_than_second few less = record {
     first_in = omega (arith, are.first_in);
     second_in = omega arith;
@@ -67,7 +67,7 @@ module _ (entries : List Entry) (k f s : ℕ) (are : AreFewestBelow entries k f 
     ];
   }
 
-  pub no_fewer : (rows_at_place entries k < rows_at_place entries s → ⊥) → AreFewestBelow entries (k + 1) f s
+  pub no_fewer : (rows_of_segment entries k < rows_of_segment entries s → ⊥) → AreFewestBelow entries (k + 1) f s
   no_fewer few = record {
     first_in = omega (arith, are.first_in);
     second_in = omega (arith, are.second_in);

@@ -12,8 +12,8 @@ use Rattle.directory.specs.Places.{extent_of}
 use Rattle.directory.specs.Fit.{fit}
 use Rattle.segment.specs.Records.{segment_of}
 
--- a merge that goes on: the places of its two segments,
--- where its output is to lie, and the rows that are left
+-- a merge that goes on: the numbers of its two segments, from 0 on,
+-- where its output is to lie, and how many rows are left
 pub record Merge : Type 0 where
   pub i : ℕ
   pub j : ℕ

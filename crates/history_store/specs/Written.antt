@@ -33,11 +33,12 @@ StemsWithinAll s (range ∷ ranges) c =
 abbrev pub reserved_ranges : Catalog → List (ℕ × ℕ)
 reserved_ranges catalog = map byte_range (option_to_list (reserved_by catalog.merge))
 
--- the segment at a place of the directory is of these rows: a read gives their records there
-pub record HasRows (entries : List Entry) (place : ℕ) (rows : List StampedRow) (now : List ℕ)
+-- the segment with this number in the directory, from 0 on, is of these rows: a read gives their
+-- records there
+pub record HasRows (entries : List Entry) (number : ℕ) (rows : List StampedRow) (now : List ℕ)
     : Type 0 where
   pub entry : Entry
-  pub entry_is : slice_get entries place ≡ Some entry
+  pub entry_is : slice_get entries number ≡ Some entry
   pub segment : IsSegmentOf entry rows
   pub stands : BeginsWith (extent_of entry) (segment_of rows) now
 

@@ -4,7 +4,7 @@ ghost use Rattle.std.specs.Prelude.{◌≡◌, ◌<◌, ◌≤◌, length, IfOk,
 ghost use Rattle.std.specs.Prelude.{nat_lt, Some, slice_get};
 ghost use Rattle.store_image.specs.Kept.{IsKept};
 ghost use Rattle.directory.specs.Listings.{IsListing};
-ghost use Rattle.history_store.specs.Merging.{AreFewest, rows_at_place};
+ghost use Rattle.history_store.specs.Merging.{AreFewest, rows_of_segment};
 ghost use Rattle.history_store.specs.Private.Beginning.{AreLong, IsNewMerge, IsUnbegun};
 
 use crate::merge_in_progress::MergeInProgress;
@@ -14,18 +14,18 @@ use directory::{Directory, Entry, first_fit};
 use segment_index::{IndexMerge, StoreIndex};
 use std::alloc::Global;
 
-/// Whether the segment at the one place has fewer rows than the one at the other.
+/// Whether the segment with the one number has fewer rows than the one with the other.
 fn has_fewer(entries: &[Entry], a: usize, b: usize) -> bool
     requires a { a < length entries.now }
     requires b { b < length entries.now }
-    ensures { result ≡ nat_lt (rows_at_place entries.now a) (rows_at_place entries.now b) }
+    ensures { result ≡ nat_lt (rows_of_segment entries.now a) (rows_of_segment entries.now b) }
 {
     entries[a].rows < entries[b].rows
 }
 
-/// The places of the two segments of fewest rows; of those with as many the first ones.
+/// The numbers, from 0 on, of the two segments of fewest rows; of those with as many the first.
 fn fewest(entries: &[Entry]) -> Option<(usize, usize)>
-    ensures found { IfSome result (λ places. AreFewest entries.now places.0 places.1) }
+    ensures found { IfSome result (λ numbers. AreFewest entries.now numbers.0 numbers.1) }
     ensures none { IsNone result → length entries.now < 2 }
     ensures two { 2 ≤ length entries.now → IsSome result }
 {

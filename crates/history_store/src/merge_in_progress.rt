@@ -6,7 +6,7 @@ use segment_index::IndexMerge;
 /// A merge of two segments into one, of which some rows are taken.
 #[derive(Drop)]
 pub(crate) struct MergeInProgress {
-    /// The places of its two segments in the directory.
+    /// The numbers of its two segments in the directory, from 0 on.
     pub(crate) i: usize,
     pub(crate) j: usize,
     /// Its output, as the directory is going to list it.

@@ -22,7 +22,7 @@ const NUMBERS_AHEAD: usize = 8;
 /// How far what is posted of two segments is merged.
 #[derive(Drop)]
 pub(crate) struct PostingsMerge {
-    /// The numbers of the two segments.
+    /// The numbers of the two segments, from 0 on.
     pub(crate) i: usize,
     pub(crate) j: usize,
     /// The numbers that rows of the two have among the rows of both, as far as they are found.
