@@ -2,7 +2,6 @@
 
 ghost use Rattle.std.specs.Prelude.{◌≡◌, ◌≢◌, ◌↔◌, ◌+◌, ◌≤◌, [], length, map, vec_items, IfOk};
 ghost use Rattle.std.specs.Prelude.{IfErr, OnOk};
-ghost use Rattle.lru.specs.LruCache.{lru_cache};
 ghost use Rattle.disk_model.specs.Disk.{LeavesOnly};
 ghost use Rattle.blocks.specs.Calls.{MakesCalls};
 ghost use Rattle.blocks.specs.Outside.{StemsWithin};
@@ -13,6 +12,7 @@ ghost use Rattle.segment_index.specs.Indexed.{AreIndexed};
 ghost use Rattle.store_image.specs.OnDisk.{IsOnDisk};
 ghost use Rattle.store_image.specs.Answers.{empty_listing, IsNewStore};
 ghost use Rattle.history_store.specs.Answers.{Counts, IsMakingCause, IsNotMade};
+ghost use Rattle.history_store.specs.StoreValue.{no_blocks};
 ghost use Rattle.history_store.specs.declared.refusal.Refusal.TheVariants as refusals;
 
 use crate::posting::Posting;
@@ -57,7 +57,7 @@ pub(crate) fn room_for(
     requires indexed { AreIndexed rows.items (map vec_items places.items)
         posting.sealed_terms.items posting.sealed_edges.items }
     ensures index { IfOk result (λ room. room.index ≡ rows.items) }
-    ensures cache { IfOk result (λ room. room.cache ≡ lru_cache [] 1024) }
+    ensures cache { IfOk result (λ room. room.cache ≡ no_blocks) }
 {
     let Posting {
         sealed_terms,
@@ -72,7 +72,7 @@ pub(crate) fn room_for(
 /// Makes a store on an empty disk.
 pub(crate) fn start<D: Disk>(alloc: Global, disk: &mut D) -> Result<Started, Refusal>
     ensures empty { IfOk result (λ s. (s.directory ≡ empty_listing) × (s.index ≡ [])
-        × (s.cache ≡ lru_cache [] 1024)) }
+        × (s.cache ≡ no_blocks)) }
     ensures made { D.is_honest disk.old → OnOk result (length (D.moments disk.old).state.now ≡ 0) }
     ensures on_disk { D.is_honest disk.old
         → IfOk result (λ s. IsOnDisk (D.moments disk.new).state s.slot s.directory []) }

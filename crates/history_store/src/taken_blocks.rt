@@ -6,6 +6,7 @@ ghost use Rattle.history_store.specs.MergeInProgress.{merge_of};
 ghost use Rattle.history_store.specs.Catalog.{reserved_by};
 ghost use Rattle.history_store.specs.Merging.{end_of_taken};
 
+use crate::counting::SLOT_BLOCKS;
 use crate::merge_in_progress::MergeInProgress;
 use blocks::Extent;
 use directory::Entry;
@@ -26,7 +27,7 @@ pub(crate) fn end_of(entries: &[Entry], reserved: Option<Extent>) -> u64
     ensures end { result ≡ end_of_taken (taken entries.now reserved) }
     ensures fits { result < 2 ^ 33 }
 {
-    let mut end = 4;
+    let mut end = SLOT_BLOCKS;
     for entry in entries {
         end = entry.extent().end().max(end);
     }
