@@ -177,7 +177,7 @@ impl Index {
 
     /// The same place as `place_at` gives. Where components are asked for in key order, a search in
     /// a list begins where the one before it ended, and the way from there is bisected.
-    pub fn place_by(
+    pub fn place_from_hints(
         &self,
         hints: &mut Hints,
         kind: Kind,

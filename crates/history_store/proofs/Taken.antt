@@ -11,7 +11,7 @@ use Rattle.term_prefix.specs.Pushed.{posted_term, ArePosted}
 use Rattle.links.specs.Edges.{Edges, AreSameEdges, edges_of, joined_edges, posted_edges}
 use Rattle.links.specs.Laws.{EachPosted}
 use Rattle.links.proofs.Posted.{pushed_one_by_one}
-use Rattle.history_store.specs.Private.Taken.{rows_in, TermsTaken, EdgesTaken}
+use Rattle.history_store.specs.Private.Taken.{rows_in, TermsTaken, LinksTaken}
 
 rows_more : (rows : List (StampedRow × RowPlace)) (x : StampedRow × RowPlace) → rows_in (rows ++ x ∷ []) ≡ rows_in rows ++ x.0 ∷ []
 rows_more [] x = refl
@@ -30,8 +30,8 @@ terms_pushed rows x =
     let count : 0 + length (rows_in rows) ≡ length rows = omega (arith, rows_counted rows) in
     ap (posted_all posted_term 0) (rows_more rows x) ∙ posted_push posted_term 0 (rows_in rows) x.0 ∙ ap (λ n. posted_all posted_term 0 (rows_in rows) ++ posted_term x.0.row n) count
 
-pub edges_pushed : (rows : List (StampedRow × RowPlace)) (x : StampedRow × RowPlace) → posted_edges (rows_in (rows ++ x ∷ [])) ≡ joined_edges (posted_edges (rows_in rows)) (edges_of x.0.row (length rows))
-edges_pushed rows x = ap posted_edges (rows_more rows x) ∙ pushed_one_by_one (rows_in rows) x.0 ∙ ap (λ n. joined_edges (posted_edges (rows_in rows)) (edges_of x.0.row n)) (rows_counted rows)
+pub links_pushed : (rows : List (StampedRow × RowPlace)) (x : StampedRow × RowPlace) → posted_edges (rows_in (rows ++ x ∷ [])) ≡ joined_edges (posted_edges (rows_in rows)) (edges_of x.0.row (length rows))
+links_pushed rows x = ap posted_edges (rows_more rows x) ∙ pushed_one_by_one (rows_in rows) x.0 ∙ ap (λ n. joined_edges (posted_edges (rows_in rows)) (edges_of x.0.row n)) (rows_counted rows)
 
 pub count_pushed : (rows : List (StampedRow × RowPlace)) (x : StampedRow × RowPlace) → length (rows ++ x ∷ []) ≡ length rows + 1
 count_pushed rows x = length-append rows (x ∷ [])
@@ -42,11 +42,11 @@ terms_sealed [] (us ∷ terms) rows ts taken is = absurd taken
 terms_sealed (s ∷ segments) [] rows ts taken is = absurd taken
 terms_sealed (s ∷ segments) (us ∷ terms) rows ts taken is = (taken.0, terms_sealed segments terms rows ts taken.1 is)
 
-pub edges_sealed : (segments : List (List (StampedRow × RowPlace))) (edges : List Edges) (rows : List (StampedRow × RowPlace)) (e : Edges) → EdgesTaken segments edges → AreSameEdges (posted_edges (rows_in rows)) e → EdgesTaken (segments ++ rows ∷ []) (edges ++ e ∷ [])
-edges_sealed [] [] rows e taken is = (is, tt)
-edges_sealed [] (f ∷ edges) rows e taken is = absurd taken
-edges_sealed (s ∷ segments) [] rows e taken is = absurd taken
-edges_sealed (s ∷ segments) (f ∷ edges) rows e taken is = (taken.0, edges_sealed segments edges rows e taken.1 is)
+pub links_sealed : (segments : List (List (StampedRow × RowPlace))) (links : List Edges) (rows : List (StampedRow × RowPlace)) (e : Edges) → LinksTaken segments links → AreSameEdges (posted_edges (rows_in rows)) e → LinksTaken (segments ++ rows ∷ []) (links ++ e ∷ [])
+links_sealed [] [] rows e taken is = (is, tt)
+links_sealed [] (f ∷ links) rows e taken is = absurd taken
+links_sealed (s ∷ segments) [] rows e taken is = absurd taken
+links_sealed (s ∷ segments) (f ∷ links) rows e taken is = (taken.0, links_sealed segments links rows e taken.1 is)
 
 -- the rows were those of lists, each with its own place
 pub terms_posted : (lists : List (List StampedRow)) (terms : List (List TermAt)) → TermsTaken (map (with_places 0) lists) terms → ArePosted lists terms
@@ -55,15 +55,15 @@ terms_posted [] (ts ∷ terms) taken = absurd taken
 terms_posted (rows ∷ lists) [] taken = absurd taken
 terms_posted (rows ∷ lists) (ts ∷ terms) taken = (subst (λ (l : List StampedRow). IsPermutation (posted_all posted_term 0 l) ts) (rows_placed 0 rows) taken.0, terms_posted lists terms taken.1)
 
-pub edges_posted : (lists : List (List StampedRow)) (edges : List Edges) → EdgesTaken (map (with_places 0) lists) edges → EachPosted lists edges
-edges_posted [] [] taken = tt
-edges_posted [] (e ∷ edges) taken = absurd taken
-edges_posted (rows ∷ lists) [] taken = absurd taken
-edges_posted (rows ∷ lists) (e ∷ edges) taken = (subst (λ (l : List StampedRow). AreSameEdges (posted_edges l) e) (rows_placed 0 rows) taken.0, edges_posted lists edges taken.1)
+pub links_posted : (lists : List (List StampedRow)) (links : List Edges) → LinksTaken (map (with_places 0) lists) links → EachPosted lists links
+links_posted [] [] taken = tt
+links_posted [] (e ∷ links) taken = absurd taken
+links_posted (rows ∷ lists) [] taken = absurd taken
+links_posted (rows ∷ lists) (e ∷ links) taken = (subst (λ (l : List StampedRow). AreSameEdges (posted_edges l) e) (rows_placed 0 rows) taken.0, links_posted lists links taken.1)
 
 -- nothing is posted of no rows
 pub no_terms : (terms : List (List TermAt)) → terms ≡ [] → TermsTaken [] terms
 no_terms terms same = subst (λ t. TermsTaken [] t) (sym same) tt
 
-pub no_links : (edges : List Edges) → edges ≡ [] → EdgesTaken [] edges
-no_links edges same = subst (λ e. EdgesTaken [] e) (sym same) tt
+pub no_links : (links : List Edges) → links ≡ [] → LinksTaken [] links
+no_links links same = subst (λ e. LinksTaken [] e) (sym same) tt

@@ -150,14 +150,14 @@ pub record WouldBeTaken (h : History) (catalog : Catalog) (release : Release) : 
 
 -- where the device may fail: known rows are read once each file is a
 -- release file, and it is written to only for a release that would be taken
-abbrev pub MayBlameDevice : History → Catalog → Release → Type 0
-MayBlameDevice h catalog release =
+abbrev pub DeviceMayFail : History → Catalog → Release → Type 0
+DeviceMayFail h catalog release =
     (IsNotSpent h.imports catalog.epoch × IsRead release) ⊎ WouldBeTaken h catalog release
 
 -- why a release isn't taken at a history and a catalog, on an honest device
 abbrev pub IsNotTaken : Refusal → History → Catalog → Release → Type 0
 IsNotTaken refusals.OutOfMemory h catalog release = IsNotSpent h.imports catalog.epoch
-IsNotTaken refusals.DiskFault h catalog release = MayBlameDevice h catalog release
+IsNotTaken refusals.DiskFault h catalog release = DeviceMayFail h catalog release
 IsNotTaken refusals.CountSpent h catalog release =
     (h.imports ≡ last_import) ⊎ (catalog.epoch ≡ last_epoch)
 IsNotTaken (refusals.Line file line fault) h catalog release =

@@ -55,16 +55,16 @@ pub(crate) fn room_for(
     requires few { length rows.items ≤ max_lists }
     requires lists { AreLists rows.items }
     requires indexed { AreIndexed rows.items (map vec_items places.items)
-        posting.sealed_terms.items posting.sealed_edges.items }
+        posting.sealed_terms.items posting.sealed_links.items }
     ensures index { IfOk result (λ room. room.index ≡ rows.items) }
     ensures cache { IfOk result (λ room. room.cache ≡ no_blocks) }
 {
     let Posting {
         sealed_terms,
-        sealed_edges,
+        sealed_links,
         ..
     } = posting;
-    let index = StoreIndex::of_parts(alloc, places, sealed_terms, sealed_edges, rows)?;
+    let index = StoreIndex::of_parts(alloc, places, sealed_terms, sealed_links, rows)?;
     let cache = BlockCache::new(alloc, KEPT_BLOCKS)?;
     Ok(Room { index, cache })
 }

@@ -125,7 +125,7 @@ impl Sweep {
     }
 
     /// Notes the line if its row isn't the one that stands.
-    fn judge(&mut self, line: &PlacedLine)
+    fn compare(&mut self, line: &PlacedLine)
         ensures kept { self.new ≡ record self.old { first = self.new.first } }
         ensures verdict { IsVerdict (standing_of self.old) self.old.first line.now self.new.first }
     {
@@ -176,13 +176,13 @@ impl Sweep {
     {
         let key = line.row.key();
         if self.is_at(key) {
-            self.judge(&line);
+            self.compare(&line);
             return Ok(());
         }
         match known.row(alloc, &key)? {
             Some(row) => {
                 self.turn_to(key, Some(row));
-                self.judge(&line);
+                self.compare(&line);
                 Ok(())
             }
             None => {

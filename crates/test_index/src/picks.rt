@@ -58,7 +58,7 @@ fn by_hints(
     date: u32,
     pin: u32,
 ) -> Result<Option<(usize, u32)>, Fail> {
-    let found = index.place_by(hints, Kind::Concept, u128::from(id), day(date)?, pin);
+    let found = index.place_from_hints(hints, Kind::Concept, u128::from(id), day(date)?, pin);
     Ok(found.map(|(segment, at)| (segment, at.key.time.value())))
 }
 

@@ -20,9 +20,9 @@ TermsTaken (rows ∷ segments) [] = ⊥
 TermsTaken (rows ∷ segments) (ts ∷ terms) =
     IsPermutation (posted_all posted_term 0 (rows_in rows)) ts × TermsTaken segments terms
 
-abbrev pub EdgesTaken : List (List (StampedRow × RowPlace)) → List Edges → Type 0
-EdgesTaken [] [] = Unit {0}
-EdgesTaken [] (e ∷ edges) = ⊥
-EdgesTaken (rows ∷ segments) [] = ⊥
-EdgesTaken (rows ∷ segments) (e ∷ edges) =
-    AreSameEdges (posted_edges (rows_in rows)) e × EdgesTaken segments edges
+abbrev pub LinksTaken : List (List (StampedRow × RowPlace)) → List Edges → Type 0
+LinksTaken [] [] = Unit {0}
+LinksTaken [] (e ∷ links) = ⊥
+LinksTaken (rows ∷ segments) [] = ⊥
+LinksTaken (rows ∷ segments) (e ∷ links) =
+    AreSameEdges (posted_edges (rows_in rows)) e × LinksTaken segments links

@@ -79,8 +79,8 @@ abbrev pub IsBlamed : Option Contradiction → PlacedLine → Type 0
 IsBlamed first line = MatchOption first ⊥ (λ c. StandsBy c.file c.line line.file line.line)
 
 -- the line's row is the one that stands, or a contradiction is found no later
-pub record IsJudged (known : List RowValue) (lines : List PlacedLine) (first : Option Contradiction)
-    (line : PlacedLine) : Type 0 where
+pub record IsCompared (known : List RowValue) (lines : List PlacedLine)
+    (first : Option Contradiction) (line : PlacedLine) : Type 0 where
   pub standing : RowValue
   pub stands : Stands known lines standing
   pub same_key : key_of standing ≡ key_of line.row
@@ -99,12 +99,12 @@ pub record IsLast (known : List RowValue) (lines done : List PlacedLine)
   pub greatest : (line : PlacedLine) → Has done line → is_gt (row_cmp line.row row) ≡ false
   pub at : (line : PlacedLine) × Has done line × (key_of line.row ≡ key_of row)
 
--- of all these lines, so many have been taken and so many judged
-pub record Swept (known : List RowValue) (lines judged done : List PlacedLine)
+-- of all these lines, so many have been taken and so many compared
+pub record Swept (known : List RowValue) (lines compared done : List PlacedLine)
     (known_row : Option RowValue) (fresh : List RowValue)
     (first : Option Contradiction) : Type 0 where
   pub standing : MatchOption (standing_row known_row fresh) (done ≡ []) (IsLast known lines done)
-  pub each_judged : (line : PlacedLine) → Has judged line → IsJudged known lines first line
+  pub each_compared : (line : PlacedLine) → Has compared line → IsCompared known lines first line
   pub contradiction : IfSome first (IsContradiction known lines)
   pub fresh_new : (row : RowValue) → Has fresh row → IsNewRow known lines row
   pub fresh_done : (row : RowValue) → Has fresh row
@@ -116,7 +116,7 @@ pub record Swept (known : List RowValue) (lines judged done : List PlacedLine)
 abbrev pub standing_of : Sweep → Option RowValue
 standing_of s = standing_row s.known_row s.fresh.items
 
--- all lines so far are judged
+-- all lines so far are compared
 abbrev pub IsSwept : List RowValue → List PlacedLine → List PlacedLine → Sweep → Type 0
 IsSwept known lines done s = Swept known lines done done s.known_row s.fresh.items s.first
 

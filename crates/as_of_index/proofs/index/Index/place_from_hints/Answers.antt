@@ -1,5 +1,5 @@
 use Rattle.as_of_index.proofs.Standing.{are_lists, get_from_pick}
-use Rattle.as_of_index.proofs.index.Index.place_by.Goals as goal
+use Rattle.as_of_index.proofs.index.Index.place_from_hints.Goals as goal
 
 pub returns-clause-found : goal.returns-clause-found
 returns-clause-found c = λ lists listed_so.
