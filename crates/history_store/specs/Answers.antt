@@ -118,8 +118,9 @@ abbrev pub IsOpeningOf : {D : Type 0} → StoreOr D → List ℕ → Type 0
 IsOpeningOf (Ok store) bytes = IsOpened store bytes
 IsOpeningOf (Err e) bytes = IsNotOpened e.0 bytes
 
--- a release that is taken: each file is a release file, the union is consistent,
--- the history goes on with its rows, and a segment of the new ones is added
+-- a release that is taken: each file is a release file, the union is consistent, the history goes
+-- on with its rows, which the receipt counts, and a segment of the new ones is added, if there are
+-- any
 pub record IsTaken (h after : History) (catalog next : Catalog) (release : Release)
     (receipt : Receipt) : Type 0 where
   pub room : IsNotSpent h.imports catalog.epoch
