@@ -61,9 +61,9 @@ The guide tells more: docs/GUIDE.md, \"The questions\"";
 pub(crate) const STATUS: &str = "Example:
   sctd status --store terms.store
 
-The answer is OK, the numbers of imports, rows and segments, and a - (no merge goes
-on). Standard error tells the version of the layout, the length of the file and the
-greatest effective time of a row.
+The answer is OK, the numbers of imports, rows and segments, and a - (no merge is in
+progress). Standard error tells the version of the layout, the length of the file, how
+many blocks the store needs, and the greatest effective time of a row.
 
 The guide tells more: docs/GUIDE.md, \"Importing a release\"";
 

@@ -63,15 +63,18 @@ pub(crate) fn meaning(code: usize) -> &'static str {
         1 => "memory ran out",
         3 => "the store has to be opened again",
         4 => "the file isn't empty",
-        5 => "the store has no room for it",
+        5 => {
+            "no free place in the store's 16 GiB is long enough for the segment, or that would \
+reach 4 GiB"
+        }
         6 => "there are too many segments; merge, and import again",
         7 => "the file is no store",
         8 => "the store is damaged; restore your copy",
-        13 => "the last import number was given",
+        13 => "import numbers or epochs ran out",
         20 => "a line is over 65,535 bytes",
         21 => "it isn't UTF-8",
         22 => "the first line isn't the column names of its kind",
-        23 => "another number of columns",
+        23 => "the line hasn't as many columns as its kind has",
         24 => "the first column is no SCTID",
         25 => "the id is an SCTID of another kind",
         26 => "effectiveTime is no date of eight digits",
@@ -82,7 +85,8 @@ pub(crate) fn meaning(code: usize) -> &'static str {
         31 => "a language code, a term or a value is empty",
         32 => "the row differs from another one of the same id and date",
         43 => {
-            "a release's name is letters, digits, _, - and ., in parts with one / between them"
+            "a release's name is ASCII letters, digits, _, - and ., in parts with one / between \
+them; no part is . or .., and it has at most 1,024 bytes"
         }
         _ => "it was refused",
     }

@@ -226,7 +226,9 @@ fn sctd<'a>(alloc: Global) -> Command<'a>
 {
     Command::new(alloc, "sctd")
         .version(VERSION)
-        .about("Answers what each component of a SNOMED CT terminology said on any past date")
+        .about(
+            "Answers what each component of a SNOMED CT terminology looked like on any past date",
+        )
         .after_help(helps::PROGRAM)
         .subcommand_required(true)
 }

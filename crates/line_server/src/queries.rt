@@ -14,7 +14,7 @@ use history_store::Store;
 use rf2_rows::{EffectiveTime, Kind, Sctid};
 use std::alloc::Global;
 
-/// What a component said on a date.
+/// What a component looked like on a date.
 pub(crate) fn answer_get<D: Disk>(
     alloc: Global,
     kind: Kind,
@@ -100,7 +100,7 @@ pub(crate) fn answer_search<D: Disk>(
     Ok(reply_rows(alloc, &found)?)
 }
 
-/// The associations that name what replaces a component on a date.
+/// The active associations of a component on a date.
 pub(crate) fn answer_replaced<D: Disk>(
     alloc: Global,
     id: Sctid,
@@ -135,7 +135,7 @@ pub(crate) fn answer_about<D: Disk>(
     Ok(reply_rows(alloc, &found)?)
 }
 
-/// What the components of a kind said on a date, by identifier.
+/// What the components of a kind looked like on a date, by identifier.
 pub(crate) fn answer_page<D: Disk>(
     alloc: Global,
     kind: Kind,

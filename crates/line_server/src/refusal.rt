@@ -15,7 +15,7 @@ pub enum LineRefusal {
     Unread(Unread),
     #[error("no import has this number")]
     PinRange,
-    #[error("no folder has this name")]
+    #[error("no release can be read from the folder")]
     NoFolder,
     #[error("{0}")]
     Store(Refusal),

@@ -14,7 +14,7 @@ use thiserror::Error;
 pub enum SourceFault {
     #[error("out of memory")]
     OutOfMemory,
-    #[error("no folder has this name")]
+    #[error("no release can be read from the folder")]
     NoFolder,
 }
 

@@ -1,5 +1,5 @@
 //! `sctd` keeps the release history of a SNOMED CT terminology in
-//! a file, and answers what each component said on any past date.
+//! a file, and answers what each component looked like on any past date.
 #![tactic(auto)]
 
 use command_line::run;
@@ -9,10 +9,10 @@ use std::process::ExitCode;
 use std::rt::HostRuntime;
 use std::{env, io};
 
-/// Opens the root folder three times. A stream that the program was started without has its number
-/// taken so, and no file that is opened from then on, as that of a store, stands in its place and
-/// takes the replies: it can be neither read nor written.
-fn places_of_streams(rt: &HostRuntime) -> io::Result<[File; 3]> {
+/// Opens `/` three times, so that descriptors 0 to 2 are taken even if the program was started
+/// without them; else the store's file would get one of them, and replies would be written into
+/// it. A folder can be neither read nor written.
+fn hold_standard_descriptors(rt: &HostRuntime) -> io::Result<[File; 3]> {
     Ok([fs::open(rt, "/")?, fs::open(rt, "/")?, fs::open(rt, "/")?])
 }
 
@@ -22,9 +22,13 @@ fn words_of(rt: &HostRuntime) -> io::Result<Vec<String>> {
 }
 
 fn main(rt: HostRuntime) -> ExitCode {
-    let Ok(_places) = places_of_streams(&rt) else {
-        let _ = eprintln!(rt; "ERR 2 DiskFault");
-        return ExitCode::FAILURE;
+    let _held = match hold_standard_descriptors(&rt) {
+        Ok(held) => held,
+        Err(error) => {
+            let _ = eprintln!(rt; "sctd: /: {error}");
+            let _ = eprintln!(rt; "ERR 2 DiskFault");
+            return ExitCode::FAILURE;
+        }
     };
     let words = match words_of(&rt) {
         Ok(words) => words,

@@ -3,7 +3,8 @@
 use crate::shown::{Shown, run_line};
 use std::test::Fail;
 
-const PROGRAM: &str = "Answers what each component of a SNOMED CT terminology said on any past date
+const PROGRAM: &str =
+    "Answers what each component of a SNOMED CT terminology looked like on any past date
 
 Usage: sctd <COMMAND>
 
@@ -120,9 +121,9 @@ Options:
 Example:
   sctd status --store terms.store
 
-The answer is OK, the numbers of imports, rows and segments, and a - (no merge goes
-on). Standard error tells the version of the layout, the length of the file and the
-greatest effective time of a row.
+The answer is OK, the numbers of imports, rows and segments, and a - (no merge is in
+progress). Standard error tells the version of the layout, the length of the file, how
+many blocks the store needs, and the greatest effective time of a row.
 
 The guide tells more: docs/GUIDE.md, \"Importing a release\"
 ";

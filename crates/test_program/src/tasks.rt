@@ -14,8 +14,8 @@ const NO_COMMAND: &str = "error: 'sctd' requires a subcommand but one was not pr
 Usage: sctd <COMMAND>\n\n\
 For more information, try '--help'.\n";
 
-const NAMES: &str =
-    "sctd: a release's name is letters, digits, _, - and ., in parts with one / between them\n";
+const NAMES: &str = "sctd: a release's name is ASCII letters, digits, _, - and ., in parts with \
+one / between them; no part is . or .., and it has at most 1,024 bytes\n";
 
 #[test]
 fn statuses(rt: HostRuntime) -> Result<(), Fail> {
@@ -223,7 +223,9 @@ fn why_a_release_was_refused(rt: HostRuntime) -> Result<(), Fail> {
     let import = "sctd import --quiet --store told --releases releases r1";
     let refused = run_line(&rt, import, b"")?;
     assert!(rt; refused.output.as_slice() == b"ERR 23 Columns 2 3\n".as_slice());
-    let told = format!(in rt.alloc(); "sctd: {name}, line 3: another number of columns\n")?;
+    let told = format!(in rt.alloc();
+        "sctd: {name}, line 3: the line hasn't as many columns as its kind has\n"
+    )?;
     assert!(rt; refused.faults.as_slice() == told.as_bytes());
     // A server goes on, and tells it too.
     let serve = "sctd serve --store told --releases releases";
