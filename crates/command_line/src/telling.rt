@@ -102,7 +102,8 @@ pub(crate) struct Scene<'a> {
     pub said: Option<io::Error>,
 }
 
-/// Tells why a task was refused, if it was and that wasn't told before.
+/// Tells what the system said of the call on the file that failed last, if one did; else why the
+/// task was refused, if it was and that wasn't told before.
 pub(crate) fn tell_why<E: Write>(told: Told, scene: &Scene<'_>, faults: &mut E) {
     let _ = write_why(told, scene, faults);
 }
@@ -155,7 +156,8 @@ pub(crate) fn tell_segments<E: Write>(store: &str, segments: u32, faults: &mut E
     let _ = writeln!(faults, "sctd: {store}: segments left: {segments}");
 }
 
-/// Writes why a task was refused, as a line.
+/// Writes that as a line. What the system said of a failed call is written also where no task was
+/// refused: `serve` goes on after an `ERR 2`.
 fn write_why<E: Write>(told: Told, scene: &Scene<'_>, faults: &mut E) -> io::Result<()> {
     let store = scene.store;
     if let Some(error) = scene.said {

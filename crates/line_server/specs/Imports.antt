@@ -38,10 +38,14 @@ RepresentsWithFailed h releases None c = ⊥
 RepresentsWithFailed h releases (Some release) c =
     (after : History) × TakesAll h releases after × RepresentsWith after release c
 
+-- what a stop may leave while these releases are imported: the history with the first
+-- so many of them, or with all of them and the one in whose import the device failed
 abbrev pub RepresentsSome : History → List Release → Option Release → List ℕ → Type 0
 RepresentsSome h releases failed c =
     RepresentsFront h releases c ⊎ RepresentsWithFailed h releases failed c
 
+-- what a stop may leave after that: the history with all of
+-- them, and perhaps with the one in whose import the device failed
 abbrev pub RepresentsAll : History → List Release → Option Release → List ℕ → Type 0
 RepresentsAll h releases failed c =
     RepresentsAfter h releases c ⊎ RepresentsWithFailed h releases failed c
