@@ -2,7 +2,7 @@
 
 use crate::progress::tell_taken;
 use crate::system::System;
-use crate::telling::{Scene, Told, is_about_row, tell_row, tell_why};
+use crate::telling::{Context, Told, is_about_row, tell_row, tell_why};
 use history_store::Refusal;
 use import_check::Release;
 use line_server::{Source, SourceFault};
@@ -22,13 +22,13 @@ pub struct FolderSource<'a, P: System, E: Write> {
 }
 
 impl<P: System, E: Write> FolderSource<'_, P, E> {
-    /// Tells why a task on the store under a name was refused, if it was.
+    /// Tells of a task on the store under a name what the function `tell_why` does.
     pub(crate) fn tell_why(&mut self, told: Told, store: &str, left: &P::Device) {
-        let scene = Scene {
+        let context = Context {
             store,
-            said: self.system.said(left),
+            last_error: self.system.last_error(left),
         };
-        tell_why(told, &scene, self.faults);
+        tell_why(told, &context, self.faults);
     }
 }
 

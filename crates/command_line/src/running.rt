@@ -19,7 +19,7 @@ use crate::making::init;
 use crate::merging::merge;
 use crate::serving::{serve_device, serve_new};
 use crate::system::System;
-use crate::telling::{Scene, Told, tell_figures, tell_why};
+use crate::telling::{Context, Told, tell_figures, tell_why};
 use crate::words::{Refused, Task, task_of};
 use disk_model::MemDisk;
 use history_store::Refusal;
@@ -147,11 +147,11 @@ fn init_at<P: System, O: Write, E: Write>(
         return (ended, Some(device));
     }
     let (ended, left) = init(alloc, device, output, &mut told);
-    let scene = Scene {
+    let context = Context {
         store: path,
-        said: system.said(&left),
+        last_error: system.last_error(&left),
     };
-    tell_why(told, &scene, faults);
+    tell_why(told, &context, faults);
     (ended, Some(left))
 }
 
@@ -251,11 +251,11 @@ fn status_at<P: System, O: Write, E: Write>(
         Ok(device) => {
             let size = system.size(path);
             let (ended, left, figures) = status(alloc, device, output, &mut told);
-            let scene = Scene {
+            let context = Context {
                 store: path,
-                said: system.said(&left),
+                last_error: system.last_error(&left),
             };
-            tell_why(told, &scene, faults);
+            tell_why(told, &context, faults);
             tell_figures(path, figures, size, faults);
             (ended, Some(left))
         }
@@ -285,11 +285,11 @@ fn merge_at<P: System, O: Write, E: Write>(
     match stands {
         Ok(device) => {
             let (ended, left) = merge(alloc, device, path, most, output, &mut told, faults);
-            let scene = Scene {
+            let context = Context {
                 store: path,
-                said: system.said(&left),
+                last_error: system.last_error(&left),
             };
-            tell_why(told, &scene, faults);
+            tell_why(told, &context, faults);
             (ended, Some(left))
         }
         Err(_) => (refuse(alloc, output, Refusal::DiskFault, &mut told), None),

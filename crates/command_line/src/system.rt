@@ -49,8 +49,8 @@ pub trait System {
         ensures kept { IfOk result (λ _. keeps self.now path.now) }
         ensures lost { IfErr result (λ _. loses self.now path.now) };
 
-    /// What the system said of the device's call that failed last.
-    fn said(&self, device: &Self::Device) -> Option<io::Error>;
+    /// What the system said of the device's call that failed last, if one has failed.
+    fn last_error(&self, device: &Self::Device) -> Option<io::Error>;
 
     /// How many bytes stand under a name, if that can be had.
     fn size(&self, path: &str) -> Option<u64>;
@@ -111,7 +111,7 @@ impl<R: Files<File = File> + AllocGlobal + Clone + Drop> System for R {
         }
     }
 
-    fn said(&self, device: &FileDisk) -> Option<io::Error> {
+    fn last_error(&self, device: &FileDisk) -> Option<io::Error> {
         device.fault()
     }
 

@@ -92,20 +92,20 @@ them; no part is . or .., and it has at most 1,024 bytes"
     }
 }
 
-/// What was at work when a task was refused: the store's
-/// name, and what the system said of its file.
+/// What is known of a task's store where its end is told:
+/// the store's name, and what the system said of its file.
 #[derive(Clone, Copy)]
-pub(crate) struct Scene<'a> {
+pub(crate) struct Context<'a> {
     /// The name of the store: the path of its file.
     pub store: &'a str,
-    /// What the system said of the call on the file that failed last.
-    pub said: Option<io::Error>,
+    /// What the system said of the call on the file that failed last, if one has failed.
+    pub last_error: Option<io::Error>,
 }
 
 /// Tells what the system said of the call on the file that failed last, if one did; else why the
 /// task was refused, if it was and that wasn't told before.
-pub(crate) fn tell_why<E: Write>(told: Told, scene: &Scene<'_>, faults: &mut E) {
-    let _ = write_why(told, scene, faults);
+pub(crate) fn tell_why<E: Write>(told: Told, context: &Context<'_>, faults: &mut E) {
+    let _ = write_why(told, context, faults);
 }
 
 /// What is told of a store that was opened: the version of its layout, how
@@ -158,9 +158,9 @@ pub(crate) fn tell_segments<E: Write>(store: &str, segments: u32, faults: &mut E
 
 /// Writes that as a line. What the system said of a failed call is written also where no task was
 /// refused: `serve` goes on after an `ERR 2`.
-fn write_why<E: Write>(told: Told, scene: &Scene<'_>, faults: &mut E) -> io::Result<()> {
-    let store = scene.store;
-    if let Some(error) = scene.said {
+fn write_why<E: Write>(told: Told, context: &Context<'_>, faults: &mut E) -> io::Result<()> {
+    let store = context.store;
+    if let Some(error) = context.last_error {
         return writeln!(faults, "sctd: {store}: {error}");
     }
     if let Some(damage) = told.damage {

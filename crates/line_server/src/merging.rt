@@ -12,7 +12,7 @@ use history_store::Store;
 use std::alloc::Global;
 
 /// Begins a merge, and says how many rows are left to it.
-pub(crate) fn begin_merge<D: Disk>(
+pub(crate) fn answer_merge<D: Disk>(
     alloc: Global,
     store: &mut Store<D>,
 ) -> Result<Reply, LineRefusal>
@@ -25,7 +25,7 @@ pub(crate) fn begin_merge<D: Disk>(
 }
 
 /// Merges up to so many rows more, and says how many are left.
-pub(crate) fn step_merge<D: Disk>(
+pub(crate) fn answer_step<D: Disk>(
     alloc: Global,
     rows: u32,
     store: &mut Store<D>,
@@ -39,7 +39,7 @@ pub(crate) fn step_merge<D: Disk>(
 }
 
 /// Puts the merged segment in the place of the two.
-pub(crate) fn publish_merge<D: Disk>(
+pub(crate) fn answer_publish<D: Disk>(
     alloc: Global,
     store: &mut Store<D>,
 ) -> Result<Reply, LineRefusal>
@@ -52,7 +52,7 @@ pub(crate) fn publish_merge<D: Disk>(
 }
 
 /// Gives the merge up.
-pub(crate) fn abandon_merge<D: Disk>(
+pub(crate) fn answer_abandon<D: Disk>(
     alloc: Global,
     store: &mut Store<D>,
 ) -> Result<Reply, LineRefusal>
@@ -65,7 +65,10 @@ pub(crate) fn abandon_merge<D: Disk>(
 }
 
 /// Cuts off what nothing uses at the end of the disk.
-pub(crate) fn trim_store<D: Disk>(alloc: Global, store: &mut Store<D>) -> Result<Reply, LineRefusal>
+pub(crate) fn answer_trim<D: Disk>(
+    alloc: Global,
+    store: &mut Store<D>,
+) -> Result<Reply, LineRefusal>
     ensures { IsCarriedOut result
         (device_view D.is_honest D.moments D.failures D.bytes_read) Trim store.old
         store.new }

@@ -8,7 +8,7 @@ ghost use Rattle.line_server.specs.Private.{IsQueried};
 
 use crate::refusal::LineRefusal;
 use crate::reply::Reply;
-use crate::wording::{reply_ids, reply_import, reply_rows};
+use crate::wording::{reply_ids, reply_receipt, reply_rows};
 use disk_model::Disk;
 use history_store::Store;
 use rf2_rows::{EffectiveTime, Kind, Sctid};
@@ -170,5 +170,5 @@ pub(crate) fn answer_receipt<D: Disk>(
         return Err(LineRefusal::PinRange);
     }
     let receipt = store.receipt(number)?;
-    Ok(reply_import(alloc, number, receipt))
+    Ok(reply_receipt(alloc, number, receipt))
 }

@@ -94,7 +94,7 @@ fn number_of_date(date: Option<EffectiveTime>) -> Option<u64>
 }
 
 /// The reply to an import.
-pub(crate) fn reply_receipt(alloc: Global, receipt: Receipt) -> Reply
+pub(crate) fn reply_import(alloc: Global, receipt: Receipt) -> Reply
     ensures { result ≡ reply_value (Ok (Done (decimal receipt.number ∷ decimal receipt.new ∷ decimal
         receipt.repeated ∷ []))) }
 {
@@ -106,7 +106,7 @@ pub(crate) fn reply_receipt(alloc: Global, receipt: Receipt) -> Reply
 }
 
 /// The reply to RECEIPT.
-pub(crate) fn reply_import(alloc: Global, number: u32, receipt: ImportReceipt) -> Reply
+pub(crate) fn reply_receipt(alloc: Global, number: u32, receipt: ImportReceipt) -> Reply
     ensures { result ≡ reply_value (Ok (Done (receipt_of number receipt.new receipt.latest))) }
 {
     let mut last = begin_line("OK");

@@ -16,7 +16,7 @@ pub returns-in-Ok-import-clause-response : goal.returns-in-Ok-import-clause-resp
 returns-in-Ok-import-clause-response g c session pins =
     let e = c.in-Ok-import.ensures in
     taking (source_view (g.S.Source.is_honest c.args.source.now) (g.S.Source.releases c.args.source.now)) (device_view g.D.Disk.is_honest g.D.Disk.moments g.D.Disk.failures g.D.Disk.bytes_read) c.args.name.now session pins c.args.store.now c.import.new.self c.in-Ok.release
-    (λ h. c.in-Ok.ensures.given h) e.any_moment e.acknowledged e.honesty c.in-Ok-import.receipt c.reply_receipt.result e.kept e.answer e.failures c.reply_receipt.ensures
+    (λ h. c.in-Ok.ensures.given h) e.any_moment e.acknowledged e.honesty c.in-Ok-import.receipt c.reply_import.result e.kept e.answer e.failures c.reply_import.ensures
 
 pub returns-in-Err-clause-response : goal.returns-in-Err-clause-response
 returns-in-Err-clause-response g c session pins =

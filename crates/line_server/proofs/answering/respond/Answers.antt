@@ -89,36 +89,36 @@ returns-in-Status-clause-response g c =
     rw c.in-Status.is (any_source (source_view (g.S.Source.is_honest c.args.source.now) (g.S.Source.releases c.args.source.now)) (device_view g.D.Disk.is_honest g.D.Disk.moments g.D.Disk.failures g.D.Disk.bytes_read) c.status.result c.args.session Status (server c.args.pins.now c.args.store.now) (server c.args.pins.now c.args.store.now) (c.status.ensures (g.S.Source.releases c.args.source.now) c.args.session c.args.pins.now))
 
 pub returns-in-Merge-clause-pins : goal.returns-in-Merge-clause-pins
-returns-in-Merge-clause-pins g c = within_more _ _ _ (c.begin_merge.ensures (g.S.Source.releases c.args.source.now) c.args.session c.args.pins.now).grows c.requires.within
+returns-in-Merge-clause-pins g c = within_more _ _ _ (c.answer_merge.ensures (g.S.Source.releases c.args.source.now) c.args.session c.args.pins.now).grows c.requires.within
 
 pub returns-in-Merge-clause-response : goal.returns-in-Merge-clause-response
 returns-in-Merge-clause-response g c =
-    rw c.in-Merge.is (any_source (source_view (g.S.Source.is_honest c.args.source.now) (g.S.Source.releases c.args.source.now)) (device_view g.D.Disk.is_honest g.D.Disk.moments g.D.Disk.failures g.D.Disk.bytes_read) c.begin_merge.result c.args.session Merge (server c.args.pins.now c.args.store.now) (server c.args.pins.now c.begin_merge.new.store) (c.begin_merge.ensures (g.S.Source.releases c.args.source.now) c.args.session c.args.pins.now))
+    rw c.in-Merge.is (any_source (source_view (g.S.Source.is_honest c.args.source.now) (g.S.Source.releases c.args.source.now)) (device_view g.D.Disk.is_honest g.D.Disk.moments g.D.Disk.failures g.D.Disk.bytes_read) c.answer_merge.result c.args.session Merge (server c.args.pins.now c.args.store.now) (server c.args.pins.now c.answer_merge.new.store) (c.answer_merge.ensures (g.S.Source.releases c.args.source.now) c.args.session c.args.pins.now))
 
 pub returns-in-Step-clause-pins : goal.returns-in-Step-clause-pins
-returns-in-Step-clause-pins g c = within_more _ _ _ (c.step_merge.ensures (g.S.Source.releases c.args.source.now) c.args.session c.args.pins.now).grows c.requires.within
+returns-in-Step-clause-pins g c = within_more _ _ _ (c.answer_step.ensures (g.S.Source.releases c.args.source.now) c.args.session c.args.pins.now).grows c.requires.within
 
 pub returns-in-Step-clause-response : goal.returns-in-Step-clause-response
 returns-in-Step-clause-response g c =
-    rw c.in-Step.is (any_source (source_view (g.S.Source.is_honest c.args.source.now) (g.S.Source.releases c.args.source.now)) (device_view g.D.Disk.is_honest g.D.Disk.moments g.D.Disk.failures g.D.Disk.bytes_read) c.step_merge.result c.args.session (Step c.in-Step.rows) (server c.args.pins.now c.args.store.now) (server c.args.pins.now c.step_merge.new.store) (c.step_merge.ensures (g.S.Source.releases c.args.source.now) c.args.session c.args.pins.now))
+    rw c.in-Step.is (any_source (source_view (g.S.Source.is_honest c.args.source.now) (g.S.Source.releases c.args.source.now)) (device_view g.D.Disk.is_honest g.D.Disk.moments g.D.Disk.failures g.D.Disk.bytes_read) c.answer_step.result c.args.session (Step c.in-Step.rows) (server c.args.pins.now c.args.store.now) (server c.args.pins.now c.answer_step.new.store) (c.answer_step.ensures (g.S.Source.releases c.args.source.now) c.args.session c.args.pins.now))
 
 pub returns-in-Publish-clause-pins : goal.returns-in-Publish-clause-pins
-returns-in-Publish-clause-pins g c = within_more _ _ _ (c.publish_merge.ensures (g.S.Source.releases c.args.source.now) c.args.session c.args.pins.now).grows c.requires.within
+returns-in-Publish-clause-pins g c = within_more _ _ _ (c.answer_publish.ensures (g.S.Source.releases c.args.source.now) c.args.session c.args.pins.now).grows c.requires.within
 
 pub returns-in-Publish-clause-response : goal.returns-in-Publish-clause-response
 returns-in-Publish-clause-response g c =
-    rw c.in-Publish.is (any_source (source_view (g.S.Source.is_honest c.args.source.now) (g.S.Source.releases c.args.source.now)) (device_view g.D.Disk.is_honest g.D.Disk.moments g.D.Disk.failures g.D.Disk.bytes_read) c.publish_merge.result c.args.session Publish (server c.args.pins.now c.args.store.now) (server c.args.pins.now c.publish_merge.new.store) (c.publish_merge.ensures (g.S.Source.releases c.args.source.now) c.args.session c.args.pins.now))
+    rw c.in-Publish.is (any_source (source_view (g.S.Source.is_honest c.args.source.now) (g.S.Source.releases c.args.source.now)) (device_view g.D.Disk.is_honest g.D.Disk.moments g.D.Disk.failures g.D.Disk.bytes_read) c.answer_publish.result c.args.session Publish (server c.args.pins.now c.args.store.now) (server c.args.pins.now c.answer_publish.new.store) (c.answer_publish.ensures (g.S.Source.releases c.args.source.now) c.args.session c.args.pins.now))
 
 pub returns-in-Abandon-clause-pins : goal.returns-in-Abandon-clause-pins
-returns-in-Abandon-clause-pins g c = within_more _ _ _ (c.abandon_merge.ensures (g.S.Source.releases c.args.source.now) c.args.session c.args.pins.now).grows c.requires.within
+returns-in-Abandon-clause-pins g c = within_more _ _ _ (c.answer_abandon.ensures (g.S.Source.releases c.args.source.now) c.args.session c.args.pins.now).grows c.requires.within
 
 pub returns-in-Abandon-clause-response : goal.returns-in-Abandon-clause-response
 returns-in-Abandon-clause-response g c =
-    rw c.in-Abandon.is (any_source (source_view (g.S.Source.is_honest c.args.source.now) (g.S.Source.releases c.args.source.now)) (device_view g.D.Disk.is_honest g.D.Disk.moments g.D.Disk.failures g.D.Disk.bytes_read) c.abandon_merge.result c.args.session Abandon (server c.args.pins.now c.args.store.now) (server c.args.pins.now c.abandon_merge.new.store) (c.abandon_merge.ensures (g.S.Source.releases c.args.source.now) c.args.session c.args.pins.now))
+    rw c.in-Abandon.is (any_source (source_view (g.S.Source.is_honest c.args.source.now) (g.S.Source.releases c.args.source.now)) (device_view g.D.Disk.is_honest g.D.Disk.moments g.D.Disk.failures g.D.Disk.bytes_read) c.answer_abandon.result c.args.session Abandon (server c.args.pins.now c.args.store.now) (server c.args.pins.now c.answer_abandon.new.store) (c.answer_abandon.ensures (g.S.Source.releases c.args.source.now) c.args.session c.args.pins.now))
 
 pub returns-in-Trim-clause-pins : goal.returns-in-Trim-clause-pins
-returns-in-Trim-clause-pins g c = within_more _ _ _ (c.trim_store.ensures (g.S.Source.releases c.args.source.now) c.args.session c.args.pins.now).grows c.requires.within
+returns-in-Trim-clause-pins g c = within_more _ _ _ (c.answer_trim.ensures (g.S.Source.releases c.args.source.now) c.args.session c.args.pins.now).grows c.requires.within
 
 pub returns-in-Trim-clause-response : goal.returns-in-Trim-clause-response
 returns-in-Trim-clause-response g c =
-    rw c.in-Trim.is (any_source (source_view (g.S.Source.is_honest c.args.source.now) (g.S.Source.releases c.args.source.now)) (device_view g.D.Disk.is_honest g.D.Disk.moments g.D.Disk.failures g.D.Disk.bytes_read) c.trim_store.result c.args.session Trim (server c.args.pins.now c.args.store.now) (server c.args.pins.now c.trim_store.new.store) (c.trim_store.ensures (g.S.Source.releases c.args.source.now) c.args.session c.args.pins.now))
+    rw c.in-Trim.is (any_source (source_view (g.S.Source.is_honest c.args.source.now) (g.S.Source.releases c.args.source.now)) (device_view g.D.Disk.is_honest g.D.Disk.moments g.D.Disk.failures g.D.Disk.bytes_read) c.answer_trim.result c.args.session Trim (server c.args.pins.now c.args.store.now) (server c.args.pins.now c.answer_trim.new.store) (c.answer_trim.ensures (g.S.Source.releases c.args.source.now) c.args.session c.args.pins.now))

@@ -15,4 +15,4 @@ returns-in_err-receipt g c =
 pub returns : goal.returns
 returns g c =
     let e = c.in_ok-receipt.ensures in
-    import_told (device_view g.D.Disk.is_honest g.D.Disk.moments g.D.Disk.failures g.D.Disk.bytes_read) c.args.number c.args.pin c.args.store.now c.in_ok-receipt.receipt.new c.in_ok-receipt.receipt.latest c.reply_import.result c.if-number-pin.false e.found.0 e.found.1 c.reply_import.ensures
+    import_told (device_view g.D.Disk.is_honest g.D.Disk.moments g.D.Disk.failures g.D.Disk.bytes_read) c.args.number c.args.pin c.args.store.now c.in_ok-receipt.receipt.new c.in_ok-receipt.receipt.latest c.reply_receipt.result c.if-number-pin.false e.found.0 e.found.1 c.reply_receipt.ensures

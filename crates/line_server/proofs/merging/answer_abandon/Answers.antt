@@ -1,7 +1,7 @@
 use Rattle.std.proofs.lemmas.Result.{err_from_is_err_and}
 use Rattle.line_server.specs.DeviceView.{device_view}
 use Rattle.line_server.proofs.MergeTold.{abandoned, not_abandoned}
-use Rattle.line_server.proofs.merging.abandon_merge.Goals as goal
+use Rattle.line_server.proofs.merging.answer_abandon.Goals as goal
 
 pub returns-in_err-merge_abandon : goal.returns-in_err-merge_abandon
 returns-in_err-merge_abandon g c =

@@ -1,7 +1,7 @@
 use Rattle.std.proofs.lemmas.Result.{err_from_is_err_and}
 use Rattle.line_server.specs.DeviceView.{device_view}
 use Rattle.line_server.proofs.MergeTold.{of_one, trimmed, not_trimmed}
-use Rattle.line_server.proofs.merging.trim_store.Goals as goal
+use Rattle.line_server.proofs.merging.answer_trim.Goals as goal
 
 pub returns-in_err-_bytes : goal.returns-in_err-_bytes
 returns-in_err-_bytes g c =

@@ -1,7 +1,7 @@
 use Rattle.std.proofs.lemmas.Result.{err_from_is_err_and}
 use Rattle.line_server.specs.DeviceView.{device_view}
 use Rattle.line_server.proofs.MergeTold.{begun, not_begun}
-use Rattle.line_server.proofs.merging.begin_merge.Goals as goal
+use Rattle.line_server.proofs.merging.answer_merge.Goals as goal
 
 pub returns-in_err-left : goal.returns-in_err-left
 returns-in_err-left g c =

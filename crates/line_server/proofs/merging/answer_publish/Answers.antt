@@ -1,7 +1,7 @@
 use Rattle.std.proofs.lemmas.Result.{err_from_is_err_and}
 use Rattle.line_server.specs.DeviceView.{device_view}
 use Rattle.line_server.proofs.MergeTold.{of_either, published, not_published}
-use Rattle.line_server.proofs.merging.publish_merge.Goals as goal
+use Rattle.line_server.proofs.merging.answer_publish.Goals as goal
 
 pub returns-in_err-merge_publish : goal.returns-in_err-merge_publish
 returns-in_err-merge_publish g c =
