@@ -24,14 +24,17 @@ pub record AreCut (bytes : List ℕ) (lines : List (List ℕ)) (part : List ℕ)
   pub lines_are : lines ≡ lines_in ended
   pub free : IsUnended part
 
--- Each reply was written; or the writer failed, and the
--- last reply alone wasn't written, or in part.
+-- each reply but the last was written, and of that one a front part alone, or nothing
+abbrev pub LacksLastReply : Option (List ℕ) → Option (List ℕ) → List Turn → Type 0
+LacksLastReply old new turns =
+    (done : List Turn) × (last : Turn) × (mid : Option (List ℕ)) × (turns ≡ done ++ last ∷ [])
+    × Appends old mid (replies done) × AppendsSome mid new (bytes_of (reply_value last.outcome))
+
+-- each reply was written, or the writer failed in the last one
 abbrev pub AreReplied : {T E : Type 0} → Result T E → Option (List ℕ) → Option (List ℕ) → List Turn
     → Type 0
 AreReplied (Ok x) old new turns = Appends old new (replies turns)
-AreReplied (Err e) old new turns =
-    (done : List Turn) × (last : Turn) × (mid : Option (List ℕ)) × (turns ≡ done ++ last ∷ [])
-    × Appends old mid (replies done) × AppendsSome mid new (bytes_of (reply_value last.outcome))
+AreReplied (Err e) old new turns = LacksLastReply old new turns
 
 -- What a piece of the input does: the part of a line that had come before, the piece, what is kept
 -- of the next line after it, and the bytes of the output before and after, where they are known.

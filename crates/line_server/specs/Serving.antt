@@ -8,12 +8,12 @@ use Rattle.history_store.specs.StoreValue.{StoreValue}
 use Rattle.line_server.specs.declared.serving.ServeFault.{ServeFault}
 use Rattle.line_server.specs.declared.serving.ServeFault.TheVariants as faults
 use Rattle.line_server.specs.Sources.{SourceView}
-use Rattle.line_server.specs.ReplyValue.{reply_value, bytes_of}
 use Rattle.line_server.specs.Pins.{unpinned}
 use Rattle.line_server.specs.Replies.{server}
 use Rattle.line_server.specs.Imports.{IsFront, Imports}
 use Rattle.line_server.specs.Turns.{Turn, Run, lines_asked, replies, imported, failed_in}
-use Rattle.line_server.specs.Streams.{Streams, ends_in, AppendsSome}
+use Rattle.line_server.specs.Streams.{Streams, ends_in}
+use Rattle.line_server.specs.Feeding.{LacksLastReply}
 use Rattle.line_server.specs.Reads.{Reading, Gave, Failed, all_of, IsPiece, Makes}
 
 -- after Ok the lines of the input, and after a fault the first of them
@@ -41,12 +41,9 @@ IsRead (Err faults.Read) most came rest answered = answered ≡ ends_in came
 IsRead (Err faults.Write) most came rest answered = EndsInLastPiece came answered
 IsRead (Err faults.Reads) most came rest answered = (answered ≡ ends_in came) × (most ≤ length came)
 
--- Each reply was written. After a fault of the writer the last line
--- that was answered is the one whose reply isn't, or in part alone.
+-- each reply was written, but after a fault of the writer the last one
 abbrev pub IsWritten : Result ℕ ServeFault → Option (List ℕ) → Option (List ℕ) → List Turn → Type 0
-IsWritten (Err faults.Write) old new turns =
-    (done : List Turn) × (last : Turn) × (mid : Option (List ℕ)) × (turns ≡ done ++ last ∷ [])
-    × Appends old mid (replies done) × AppendsSome mid new (bytes_of (reply_value last.outcome))
+IsWritten (Err faults.Write) old new turns = LacksLastReply old new turns
 IsWritten result old new turns = Appends old new (replies turns)
 
 abbrev pub IsCount : Result ℕ ServeFault → ℕ → Type 0
