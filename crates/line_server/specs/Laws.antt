@@ -1,6 +1,6 @@
 -- What holds of every run of lines, on an honest disk.
 use Rattle.std.specs.Prelude.{◌≡◌, ◌⊎◌, ℕ, ◌++◌, false, ◌+◌, ◌≤◌, List, [], ◌∷◌, length, Option}
-use Rattle.std.specs.Prelude.{Some, Result, Ok, Err, MatchResult, slice_index_or, None}
+use Rattle.std.specs.Prelude.{Some, Result, Ok, Err, IfOk, MatchResult, slice_index_or, None}
 use Rattle.line_server.specs.DeviceView.{DeviceView}
 use Rattle.std.specs.List.{AllByRecursion}
 use Rattle.std.specs.Option.{option_or}
@@ -12,7 +12,8 @@ use Rattle.import_check.specs.declared.release.Release.{Release}
 use Rattle.history_store.specs.declared.refusal.Refusal.{Refusal}
 use Rattle.history_store.specs.declared.refusal.Refusal.TheVariants as store
 use Rattle.history_store.specs.StoreValue.{StoreValue, IsAcknowledged}
-use Rattle.history_store.specs.Answers.{IsImportOf, IsOpeningOf, StoreOr}
+use Rattle.history_store.specs.Answers.{IsImportOf, IsOpeningOf, StoreOr, device_of}
+use Rattle.history_store.specs.Openings.{IsOpening}
 use Rattle.line_commands.specs.Commands.{Command, Import, Receipt as AskReceipt}
 use Rattle.line_commands.specs.Requests.{Asks}
 use Rattle.line_server.specs.declared.refusal.LineRefusal.{LineRefusal}
@@ -26,6 +27,7 @@ use Rattle.line_server.specs.Imports.{Imports, IsFront, TakesAll, RepresentsSome
 use Rattle.line_server.specs.Turns.{Turn, IsTurn, Run, imported, failed_in}
 use Rattle.line_server.specs.Pinning.{IsPinnedTo, LeavesPin, StaysPinned}
 use Rattle.line_server.specs.Life.{Stage, IsStage, IsLife, AreKept, IsSubsequence, acknowledged}
+use Rattle.line_server.specs.Life.{IsOpenedFrom, StopLeaves, OpeningLeaves}
 
 -- the outcome is neither that memory ran out nor that the device failed
 abbrev pub IsSure : Result Answer LineRefusal → Type 0
@@ -217,6 +219,19 @@ EachLifeIsOpened D view =
     (λ s. (releases : List Release) × AreKept (life ++ stage ∷ []) releases
     × TakesAll first.history releases s.history)
     (λ e. (e.0 ≡ store.OutOfMemory) ⊎ (e.0 ≡ store.DiskFault))
+
+-- An opening of an honest device is one of those that a life names: where a store is opened, it is
+-- opened from what a read gives; and whatever is answered, where a stop before it leaves what a read
+-- gives, a stop within it leaves what it might have left before.
+abbrev pub EachOpeningIsOfALife : (D : Type 0) → DeviceView D → Type 0
+EachOpeningIsOfALife D view =
+    (device : D) (result : StoreOr D) → view.is_honest device
+    → IsOpening result view.is_honest view.moments view.failures device
+    → IfOk result (IsOpenedFrom view (view.moments device).state.now device)
+    × ((left : List ℕ)
+    → EachImage (view.moments device).state (λ c. c ≡ (view.moments device).state.now)
+    → StopLeaves (view.moments device) (view.moments (device_of result)) left
+    → OpeningLeaves view (view.moments device).state.now device (device_of result) left)
 
 -- A session stays pinned while lines are answered none of which pins it or
 -- unpins it, and the history stays as it was up to the pin:

@@ -8,6 +8,7 @@ ghost use Rattle.line_server.specs.Laws.{AcknowledgedImportsStay, AcknowledgedIm
 ghost use Rattle.line_server.specs.Laws.{OkIsImported, RefusedIsNotImported, ImportedIsOk};
 ghost use Rattle.line_server.specs.Laws.{RunNeedsNoSource, EachLifeKeepsItsImports};
 ghost use Rattle.line_server.specs.Laws.{KeptAreAcknowledged, EachLifeIsOpened};
+ghost use Rattle.line_server.specs.Laws.{EachOpeningIsOfALife};
 ghost use Rattle.line_server.specs.Laws.{RunKeepsPin, PinnedSeesItsImports, PinnedSeesItsReceipts};
 ghost use Rattle.line_server.specs.Laws.{PinnedRunsAreUndisturbed, PinnedReceiptsAreUndisturbed};
 
@@ -99,6 +100,12 @@ pub fn kept_are_acknowledged()
 /// openings.
 pub fn each_life_is_opened<D: Disk>()
     ensures { EachLifeIsOpened D (device_view D.is_honest D.moments D.failures D.bytes_read) }
+{}
+
+/// The openings of a life are those that `Store::open` makes.
+pub fn each_opening_is_of_a_life<D: Disk>()
+    ensures { EachOpeningIsOfALife D
+        (device_view D.is_honest D.moments D.failures D.bytes_read) }
 {}
 
 /// Lines of other sessions leave a session its pin, and the history up to it.
