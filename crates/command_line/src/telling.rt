@@ -84,7 +84,8 @@ reach 4 GiB"
         30 => "the id of an association member is no UUID",
         31 => "a language code, a term or a value is empty",
         32 => "the row differs from another one of the same id and date",
-        43 => {
+        // Of a line that a task asks, the name of a release alone can be too long.
+        40 | 43 => {
             "a release's name is ASCII letters, digits, _, - and ., in parts with one / between \
 them; no part is . or .., and it has at most 1,024 bytes"
         }
@@ -174,7 +175,7 @@ fn write_why<E: Write>(told: Told, context: &Context<'_>, faults: &mut E) -> io:
         // Nothing was refused; or it was told where the file or the folder was looked
         // for, or where the release was at hand.
         0 | 2 | 20..=32 | 45 => Ok(()),
-        43 => writeln!(faults, "sctd: {why}"),
+        40 | 43 => writeln!(faults, "sctd: {why}"),
         _ => writeln!(faults, "sctd: {store}: {why}"),
     }
 }

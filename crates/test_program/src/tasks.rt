@@ -338,28 +338,32 @@ fn names_as_people_type_them(rt: HostRuntime) -> Result<(), Fail> {
     write_release(&rt, "single/Terminology", "r1")?;
     let folder = env::current_dir(&rt)?;
     let absolute = format!(in rt.alloc(); "{}/releases/2020/r1/", folder.display())?;
+    // As long that a line with it is over 4,096 bytes.
+    let mut long = String::new(rt.alloc());
+    for _ in 0..4088 {
+        long.push_str("n")?;
+    }
     let made = run_line(&rt, "sctd init --store typed", b"")?;
     assert_eq!(rt; made.status, 0);
-    // What the release is named by, and the output.
+    let absent = "sctd: //no-such-release: no such folder\n";
+    // What the release is named by, the output, what is written of faults.
     let cases = [
-        ("--releases releases 2020/r1", "OK 1 6 0\n"),
-        ("--releases releases 2020/r1//", "OK 2 0 6\n"),
-        ("releases/2020/r1", "OK 3 0 6\n"),
-        ("./releases//2020//r1/", "OK 4 0 6\n"),
-        ("single/", "OK 5 0 6\n"),
-        (absolute.as_str(), "OK 6 0 6\n"),
-        ("/no-such-release", "ERR 45 NoFolder\n"),
-        ("/", "ERR 43 Arguments\n"),
-        ("--releases releases /2020/r1", "ERR 43 Arguments\n"),
+        ("--releases releases 2020/r1", "OK 1 6 0\n", ""),
+        ("--releases releases 2020/r1//", "OK 2 0 6\n", ""),
+        ("releases/2020/r1", "OK 3 0 6\n", ""),
+        ("./releases//2020//r1/", "OK 4 0 6\n", ""),
+        ("single/", "OK 5 0 6\n", ""),
+        (absolute.as_str(), "OK 6 0 6\n", ""),
+        ("/no-such-release", "ERR 45 NoFolder\n", absent),
+        ("/", "ERR 43 Arguments\n", NAMES),
+        ("--releases releases /2020/r1", "ERR 43 Arguments\n", NAMES),
+        (long.as_str(), "ERR 40 Long\n", NAMES),
     ];
-    for (words, output) in &cases {
+    for (words, output, faults) in &cases {
         let line = format!(in rt.alloc(); "sctd import --quiet --store typed {words}")?;
         let got = run_line(&rt, line.as_str(), b"")?;
         assert!(rt; got.output.as_slice() == output.as_bytes(), "{words}");
-        if *words == "/no-such-release" {
-            let told: &[u8] = b"sctd: //no-such-release: no such folder\n";
-            assert!(rt; got.faults.as_slice() == told, "{words}");
-        }
+        assert!(rt; got.faults.as_slice() == faults.as_bytes(), "{words}");
     }
     Ok(())
 }
