@@ -4,15 +4,16 @@
 try_mistakes.py PROGRAM
 
 PROGRAM is the built `sctd`. In a fresh folder below the system's temporary one it is given wrong
-paths, folders that are no release, files that never end, a full disk and a store that is in use.
-Each time its reply, its status and the line on standard error have to be as wanted within ten
-seconds, and the store has to be left as it was. Then four imports run on one store at once, and
-again beside a server: each release that was answered OK has to be there after the next opening,
-and no other. What the machine lacks for a try is said and not counted. The status is 1 where
-something isn't as wanted. Standard library alone.
+paths, folders that are no release, files that never end, a full disk, too few files that may be
+open and a store that is in use. Each time its reply, its status and the line on standard error have
+to be as wanted within ten seconds, and the store has to be left as it was. Then four imports run on
+one store at once, and again beside a server: each release that was answered OK has to be there
+after the next opening, and no other. What the machine lacks for a try is said and not counted. The
+status is 1 where something isn't as wanted. Standard library alone.
 """
 
 import os
+import resource
 import select
 import shutil
 import stat
@@ -42,12 +43,13 @@ class Tries:
     def path(self, *names):
         return os.path.join(self.place, *names)
 
-    def run(self, words, text=""):
-        """The status, what was written to each stream; the status is None where it didn't end."""
+    def run(self, words, text="", before=None):
+        """The status, what was written to each stream; the status is None where it didn't end.
+        The process that becomes the program does what is before it."""
         try:
             ran = subprocess.run([self.program] + words, cwd=self.place, input=text.encode(),
                                  stdout=subprocess.PIPE, stderr=subprocess.PIPE,
-                                 timeout=SECONDS)
+                                 timeout=SECONDS, preexec_fn=before)
         except subprocess.TimeoutExpired:
             return None, "", ""
         return ran.returncode, ran.stdout.decode(), ran.stderr.decode()
@@ -246,6 +248,14 @@ def try_full_disk(tries):
         subprocess.run(["umount", small], check=False)
 
 
+def try_few_files(tries):
+    """A process that may have five files open, as with `ulimit -n 5`: one too few to begin with."""
+    got = tries.run(["status", "--store", "store"],
+                    before=lambda: resource.setrlimit(resource.RLIMIT_NOFILE, (5, 5)))
+    told = "sctd: /: Too many open files (os error 24)\nERR 2 DiskFault\n"
+    tries.check("few files", got == (1, "", told), got)
+
+
 def start(tries, words):
     return subprocess.Popen([tries.program] + words, cwd=tries.place, stdin=subprocess.PIPE,
                             stdout=subprocess.PIPE, stderr=subprocess.PIPE)
@@ -331,7 +341,7 @@ def main(words):
         made = tries.run(["init", "--store", "store"])
         tries.check("init", made == (0, "OK\n", ""), made)
         for part in (try_folders, try_names, try_telling, try_traps, try_stores, try_rights,
-                     try_full_disk, try_at_once):
+                     try_full_disk, try_few_files, try_at_once):
             part(tries)
     print("%d tried, %d not as wanted, %d skipped" % (tries.done, tries.wrong, tries.skipped))
     return 1 if tries.wrong else 0
