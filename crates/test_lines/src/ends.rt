@@ -126,16 +126,19 @@ fn ends_and_faults(rt: HostRuntime) -> Result<(), Fail> {
 #[test]
 fn long_lines(rt: HostRuntime) -> Result<(), Fail> {
     // So many bytes, what follows them, how many lines these are, and what is written.
-    let ends: [(usize, &[u8], u64, &[u8]); 9] = [
+    let ends: [(usize, &[u8], u64, &[u8]); 11] = [
         (4_096, b"\n", 1, b"END 0\n"),
         (4_096, b"\r\n", 1, b"END 0\n"),
         (4_096, b"", 1, b"END 0\n"),
         (4_096, b"\r", 1, b"ERR 40 Long\n"),
         (4_096, b"\r\r\n", 1, b"ERR 40 Long\n"),
+        (4_096, b"\rx\n", 1, b"ERR 40 Long\n"),
         (4_097, b"\n", 1, b"ERR 40 Long\n"),
         (4_097, b"\r\n0 STATUS\n", 2, b"ERR 40 Long\nOK 0 0 0 -\n"),
         (4_097, b"", 1, b"ERR 40 Long\n"),
         (9_999, b"\n0 STATUS", 2, b"ERR 40 Long\nOK 0 0 0 -\n"),
+        // Not UTF-8.
+        (20, b"\xff\n", 1, b"ERR 43 Arguments\n"),
     ];
     for (length, end, lines, want) in &ends {
         let mut line = Vec::from_slice(rt.alloc(), b"0 TERMS 20210131 10 ")?;
