@@ -1,31 +1,10 @@
 //! What the program writes and ends with where it is
 //! refused, isn't told what to do, or can't write.
 
-use crate::shown::words_of;
-use command_line::run;
-use std::io::Write;
+use crate::shown::{run_into, run_line};
+use crate::tasks::Narrow;
+use std::fs;
 use std::test::Fail;
-use std::{fs, io};
-
-/// Runs the program on the words of a line. Its status, and what it writes of faults.
-fn run_words<O: Write>(
-    rt: &HostRuntime,
-    line: &str,
-    mut input: &[u8],
-    output: &mut O,
-) -> Result<(u8, Vec<u8>), Fail> {
-    let words = words_of(rt.alloc(), line)?;
-    let mut faults = Vec::new(rt.alloc());
-    let (status, _) = run(
-        rt,
-        rt.alloc(),
-        words.as_slice(),
-        &mut input,
-        output,
-        &mut faults,
-    );
-    Ok((status, faults))
-}
 
 #[test]
 fn refusals_and_their_status(rt: HostRuntime) -> Result<(), Fail> {
@@ -83,11 +62,10 @@ fn refusals_and_their_status(rt: HostRuntime) -> Result<(), Fail> {
         ),
     ];
     for (line, status, want, why) in &cases {
-        let mut output = Vec::new(rt.alloc());
-        let (got, faults) = run_words(&rt, *line, b"", &mut output)?;
-        assert_eq!(rt; got, *status, "{line}");
-        assert!(rt; output.as_slice() == want.as_bytes(), "{line}");
-        assert!(rt; faults.as_slice() == why.as_bytes(), "{line}");
+        let got = run_line(&rt, *line, b"")?;
+        assert_eq!(rt; got.status, *status, "{line}");
+        assert!(rt; got.output.as_slice() == want.as_bytes(), "{line}");
+        assert!(rt; got.faults.as_slice() == why.as_bytes(), "{line}");
     }
     Ok(())
 }
@@ -112,38 +90,18 @@ fn words_that_are_no_command(rt: HostRuntime) -> Result<(), Fail> {
         "sctd demo more",
     ];
     for line in lines {
-        let mut output = Vec::new(rt.alloc());
-        let (status, faults) = run_words(&rt, line, b"0 STATUS\n", &mut output)?;
-        assert_eq!(rt; status, 2, "{line}");
-        assert!(rt; output.is_empty(), "{line}");
-        assert!(rt; !faults.is_empty(), "{line}");
+        let got = run_line(&rt, line, b"0 STATUS\n")?;
+        assert_eq!(rt; got.status, 2, "{line}");
+        assert!(rt; got.output.is_empty(), "{line}");
+        assert!(rt; !got.faults.is_empty(), "{line}");
     }
     Ok(())
 }
 
-/// Takes so many bytes.
-#[derive(Drop)]
-struct Short {
-    room: usize,
-}
-
-impl Write for Short {
-    fn write(&mut self, buf: &[u8]) -> io::Result<usize> {
-        let n = buf.len().min(self.room);
-        self.room -= n;
-        Ok(n)
-    }
-
-    fn flush(&mut self) -> io::Result<()> {
-        Ok(())
-    }
-}
-
 #[test]
 fn output_that_cannot_be_written(rt: HostRuntime) -> Result<(), Fail> {
-    let mut output = Vec::new(rt.alloc());
-    let made = run_words(&rt, "sctd init --store statuses-short", b"", &mut output)?;
-    assert_eq!(rt; made.0, 0);
+    let made = run_line(&rt, "sctd init --store statuses-short", b"")?;
+    assert_eq!(rt; made.status, 0);
     // The words, and for how many bytes of the output there is no room.
     let cases = [
         ("sctd init --store statuses-new", 2),
@@ -154,8 +112,11 @@ fn output_that_cannot_be_written(rt: HostRuntime) -> Result<(), Fail> {
         ("sctd status --store statuses-short", 10),
     ];
     for (line, room) in &cases {
-        let mut output = Short { room: *room };
-        let (status, faults) = run_words(&rt, *line, b"0 STATUS\n", &mut output)?;
+        let mut output = Narrow {
+            room: *room,
+            goes_out: true,
+        };
+        let (status, faults) = run_into(&rt, *line, b"0 STATUS\n", &mut output)?;
         assert_eq!(rt; status, 1, "{line}");
         assert!(rt; faults.ends_with(b"ERR 51 Write\n".as_slice()), "{line}");
     }

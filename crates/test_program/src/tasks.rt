@@ -380,9 +380,9 @@ impl Read for Broken {
 
 /// Takes so many bytes, and goes out or doesn't.
 #[derive(Drop)]
-struct Narrow {
-    room: usize,
-    goes_out: bool,
+pub(crate) struct Narrow {
+    pub(crate) room: usize,
+    pub(crate) goes_out: bool,
 }
 
 impl Write for Narrow {
