@@ -1,7 +1,7 @@
 //! What a store is after a stop, after a failed call and after damage: a script and the first
-//! publication of a store that `sctd` 1.0 made, stopped at each moment and with each call on the
-//! disk failing in turn; and images of disks that are cut short or changed byte by byte. It has no
-//! code of its own.
+//! publication of a store from the `sctd` that writes layout 1, stopped at each moment and with
+//! each call on the disk failing in turn; and images of disks that are cut short or changed byte
+//! by byte. It has no code of its own.
 #![tactic(auto)]
 
 #[cfg(test)]

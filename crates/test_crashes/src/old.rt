@@ -1,4 +1,4 @@
-//! Disks that `sctd` 1.0 wrote, and stores that are made anew by the same imports.
+//! Disks of the `sctd` that writes layout 1, and stores that are made anew by the same imports.
 
 use disk_model::MemDisk;
 use history_store::Refusal;
