@@ -5,7 +5,7 @@ use history_store::{Damage, Refusal};
 use std::alloc::{AllocError, Global};
 use std::process::Abort;
 use std::test::Fail;
-use test_support::{Example, merged_disk, root_disk};
+use test_support::{Example, merged_disk, put, root_disk};
 
 /// How many imports the disk of these bytes is opened with.
 fn count_imports(alloc: Global, bytes: Vec<u8>) -> Result<u32, Refusal> {
@@ -18,11 +18,7 @@ fn count_imports(alloc: Global, bytes: Vec<u8>) -> Result<u32, Refusal> {
 /// The bytes with others in the place of those from a place on.
 fn replace(alloc: Global, bytes: &[u8], from: usize, by: &[u8]) -> Result<Vec<u8>, AllocError> {
     let mut changed = bytes.to_vec(alloc)?;
-    for (behind, new) in by.iter().enumerate() {
-        if let Some(old) = changed.get_mut(from.saturating_add(behind)) {
-            *old = *new;
-        }
-    }
+    put(&mut changed, from, by);
     Ok(changed)
 }
 

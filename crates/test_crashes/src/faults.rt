@@ -1,14 +1,6 @@
-//! Which calls on a disk fail, what came of a run with such a call, and the images of a stop.
+//! Which calls on a disk fail, and what came of a run with such a call.
 
-use disk_model::{Choice, MemDisk};
-
-/// The images of a stop that are looked at.
-pub const CHOICES: [Choice; 4] = [
-    Choice::Lost,
-    Choice::Filled(0),
-    Choice::Kept,
-    Choice::Filled(165),
-];
+use disk_model::MemDisk;
 
 /// Which calls fail.
 #[derive(Clone, Copy, Debug)]

@@ -3,7 +3,7 @@
 use disk_model::MemDisk;
 use history_store::Refusal;
 use std::alloc::{AllocError, Global};
-use test_support::{Example, root_years};
+use test_support::{Example, put, root_years};
 
 /// The stores that program left.
 #[derive(Clone, Copy, PartialEq, Eq)]
@@ -120,15 +120,6 @@ const AFTER_THREE: [(usize, &[u8]); 7] = [
 
 /// The bytes of that disk.
 const LEN: usize = 24_668;
-
-/// Puts bytes in the place of those from a place on.
-pub fn put(image: &mut Vec<u8>, from: usize, bytes: &[u8]) {
-    for (behind, new) in bytes.iter().enumerate() {
-        if let Some(old) = image.get_mut(from.saturating_add(behind)) {
-            *old = *new;
-        }
-    }
-}
 
 /// The disk of three imports.
 fn after_three(alloc: Global) -> Result<Vec<u8>, AllocError> {

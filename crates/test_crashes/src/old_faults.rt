@@ -1,13 +1,13 @@
 //! The first publication on an old disk, each of whose calls fails in turn.
 
-use crate::faults::{CHOICES, Fault, Outcome};
+use crate::faults::{Fault, Outcome};
 use crate::old::Old;
 use crate::old_first::{Case, First, Wanted, counts, is_wanted};
 use disk_model::MemDisk;
 use history_store::Refusal;
 use std::alloc::Global;
 use std::test::Fail;
-use test_support::Example;
+use test_support::{CHOICES, Example};
 
 /// Whether each image of the disk is the store from before or the one after.
 fn is_before_or_after(alloc: Global, disk: &MemDisk, wanted: &Wanted) -> Result<bool, Refusal> {

@@ -1,9 +1,9 @@
 //! A store of version 1 with as many segments as that version could list.
 
-use crate::old::{Old, put};
+use crate::old::Old;
 use history_store::{Damage, Receipt, Refusal};
 use std::test::Fail;
-use test_support::{Example, root_years};
+use test_support::{Example, put, root_years};
 
 #[test]
 fn it_takes_no_new_row_and_stays_as_it_is(rt: HostRuntime) -> Result<(), Fail> {

@@ -1,13 +1,13 @@
 //! What an old disk is opened as, and which disks of version 1 aren't opened.
 
-use crate::old::{Old, put};
+use crate::old::Old;
 use crate::old_first::{Case, First, STRENGTH, answers_of, pages};
 use disk_model::MemDisk;
 use history_store::{Damage, Refusal};
 use rf2_rows::{Kind, LineFault};
 use std::alloc::Global;
 use std::test::Fail;
-use test_support::{Example, line, one_file};
+use test_support::{Example, line, one_file, put};
 
 /// Where the version stands in the mark of either directory.
 const VERSIONS: [usize; 2] = [4_111, 12_303];

@@ -1,13 +1,12 @@
 //! The first publication on an old disk, stopped at each moment.
 
-use crate::faults::CHOICES;
 use crate::old::Old;
 use crate::old_first::{Case, First, Wanted, is_wanted};
 use disk_model::MemDisk;
 use history_store::Refusal;
 use std::alloc::Global;
 use std::test::Fail;
-use test_support::{Example, image_after, root_years};
+use test_support::{CHOICES, Example, image_after, root_years};
 
 /// The old disk after an opening and the publication.
 fn publish_and_close(case: Case, alloc: Global) -> Result<MemDisk, Refusal> {

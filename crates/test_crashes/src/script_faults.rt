@@ -1,13 +1,13 @@
 //! The script, with each call on the disk failing in turn.
 
-use crate::faults::{CHOICES, Fault, Outcome};
+use crate::faults::{Fault, Outcome};
 use crate::script::{RELEASES, SCRIPT, Step, make};
 use disk_model::MemDisk;
 use history_store::Refusal;
 use rf2_rows::Kind;
 use std::alloc::Global;
 use std::test::Fail;
-use test_support::{Example, holds, root_release};
+use test_support::{CHOICES, Example, holds, root_release};
 
 /// The component that is asked for.
 const STREET: u128 = 1_000_004;

@@ -1,12 +1,11 @@
 //! The script, stopped at each moment.
 
-use crate::faults::CHOICES;
 use crate::script::{RELEASES, SCRIPT, make};
 use disk_model::{Choice, MemDisk};
 use history_store::Refusal;
 use std::alloc::Global;
 use std::test::Fail;
-use test_support::{Example, holds, image_after};
+use test_support::{CHOICES, Example, holds, image_after};
 
 /// How many changing calls the creation of a store makes, and how many the script.
 const MAKING: u64 = 9;

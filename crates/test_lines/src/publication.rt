@@ -1,9 +1,8 @@
 //! A merge beside an import, published, and stopped at each moment of its publication.
 
-use disk_model::Choice;
 use line_support::{Server, Turn, after, publication};
 use std::test::Fail;
-use test_support::image_before_end;
+use test_support::{MERGED_CONTENT, UNPUBLISHED, image_before_end};
 
 /// Three segments, as before the publication, and two, as behind it.
 const BEFORE: [Turn; 1] = [("0 STATUS", &["OK 3 12 3 -"])];
@@ -84,14 +83,6 @@ const ROWS: [Turn; 13] = [
     ("0 RECEIPT 3", &["OK 3 2 20200731"]),
 ];
 
-/// The front of the content of epoch 5: the mark, three imports and two segments. The
-/// first has 638 bytes and 10 rows in block 6, the second 92 bytes and 2 rows in block 7.
-const CONTENT: [u8; 64] = [
-    0, 0, 0, 0, 0, 0, 0, 5, 0x53, 0x43, 0x54, 0x48, 0x49, 0x53, 0x54, 0x32, 0, 0, 0, 3, 0, 0, 0, 2,
-    0, 0, 0, 0, 0, 0, 0, 0, 0, 0, 0, 6, 0, 0, 2, 0x7e, 0, 0, 0, 10, 0, 0, 0, 0, 0, 0, 0, 7, 0, 0,
-    0, 92, 0, 0, 0, 2, 0, 0, 0, 0,
-];
-
 #[test]
 fn a_merge_is_published(rt: HostRuntime) -> Result<(), Fail> {
     let mut server = after(rt.alloc(), publication())?.ok_or("other replies")?;
@@ -99,7 +90,7 @@ fn a_merge_is_published(rt: HostRuntime) -> Result<(), Fail> {
     let disk = server.close();
     assert_eq!(rt; disk.bytes().first(), Some(&0xa5));
     let content = disk.bytes().get(4_096..4_160).ok_or("a content block")?;
-    assert!(rt; content == CONTENT.as_slice());
+    assert!(rt; content == MERGED_CONTENT.as_slice());
     // The rest of the block lists nothing.
     let rest = disk.bytes().get(4_160..8_192).ok_or("a content block")?;
     assert!(rt; rest.iter().all(|byte| *byte == 0));
@@ -112,16 +103,7 @@ fn a_merge_is_published(rt: HostRuntime) -> Result<(), Fail> {
 fn a_publication_is_stopped(rt: HostRuntime) -> Result<(), Fail> {
     let server = after(rt.alloc(), publication())?.ok_or("other replies")?;
     let disk = server.close();
-    // A publication makes seven changing calls: the sixth opens the gate, and the last syncs it.
-    // Filled with 165 a gate that isn't synced reads as open, and filled with 0 as closed. The
-    // merge isn't there yet where so many calls are still to come.
-    let cases = [
-        (Choice::Kept, 2),
-        (Choice::Lost, 1),
-        (Choice::Filled(0), 1),
-        (Choice::Filled(165), 2),
-    ];
-    for (choice, unpublished) in &cases {
+    for (choice, unpublished) in &UNPUBLISHED {
         for left in 0..8 {
             let image = image_before_end(&disk, left, *choice)?;
             let mut server = Server::of_bytes(rt.alloc(), image.as_slice())?;

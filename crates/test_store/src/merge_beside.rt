@@ -6,15 +6,7 @@ use rf2_rows::Kind;
 use std::alloc::Global;
 use std::process::Abort;
 use std::test::Fail;
-use test_support::Example;
-
-/// The front of the content of epoch 5: three imports, a segment of 638
-/// bytes and 10 rows at block 6, and one of 92 bytes and 2 rows at block 7.
-const CONTENT: [u8; 64] = [
-    0, 0, 0, 0, 0, 0, 0, 5, 0x53, 0x43, 0x54, 0x48, 0x49, 0x53, 0x54, 0x32, 0, 0, 0, 3, 0, 0, 0, 2,
-    0, 0, 0, 0, 0, 0, 0, 0, 0, 0, 0, 6, 0, 0, 0x02, 0x7e, 0, 0, 0, 0x0a, 0, 0, 0, 0, 0, 0, 0, 7, 0,
-    0, 0, 0x5c, 0, 0, 0, 2, 0, 0, 0, 0,
-];
+use test_support::{Example, MERGED_CONTENT};
 
 /// The first two records of the output: 1000004 of 2020 at
 /// import 1, active, and that of 2021 at import 2, inactive.
@@ -40,7 +32,7 @@ fn a_merge_beside_an_import(rt: HostRuntime) -> Result<(), Fail> {
 fn a_merge_byte_for_byte(rt: HostRuntime) -> Result<(), Fail> {
     let disk = play_new(&rt, rt.alloc(), MERGED)?.close();
     let content = disk.bytes().get(4_096..4_160);
-    assert_eq!(rt; content, Some(CONTENT.as_slice()));
+    assert_eq!(rt; content, Some(MERGED_CONTENT.as_slice()));
     let records = disk.bytes().get(24_576..24_668);
     assert_eq!(rt; records, Some(RECORDS.as_slice()));
     Ok(())

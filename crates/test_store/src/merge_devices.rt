@@ -7,15 +7,7 @@ use disk_model::{Choice, MemDisk};
 use std::alloc::Global;
 use std::process::Abort;
 use std::test::Fail;
-use test_support::{Example, holds, image_before_end};
-
-/// What is read of bytes that a stop may leave.
-const CHOICES: [Choice; 4] = [
-    Choice::Kept,
-    Choice::Lost,
-    Choice::Filled(0),
-    Choice::Filled(165),
-];
+use test_support::{CHOICES, Example, UNPUBLISHED, holds, image_before_end};
 
 /// How many segments a store lists after a stop with so many changing calls of the disk still to
 /// come; none unless it has the rows of three imports, as each pin shows them, and no merge.
@@ -36,15 +28,8 @@ fn segments_left(
 #[test]
 fn a_publication_that_stops_loses_nothing(rt: HostRuntime) -> Result<(), Fail> {
     let disk = play_new(&rt, rt.alloc(), MERGED)?.close();
-    // The sixth of its seven calls opens the gate, and the last one syncs it.
-    let cases = [
-        (Choice::Kept, 2),
-        (Choice::Lost, 1),
-        (Choice::Filled(0), 1),
-        (Choice::Filled(165), 2),
-    ];
     for left in 0..8u64 {
-        for (choice, unpublished) in &cases {
+        for (choice, unpublished) in &UNPUBLISHED {
             let want = if left < *unpublished { 2 } else { 3 };
             let segments = segments_left(rt.alloc(), &disk, left, *choice)?;
             assert!(rt; segments == Some(want), "{left} calls before the end");

@@ -1,7 +1,25 @@
-//! Images of disks.
+//! Images of disks, and what a stop leaves of one.
 
 use disk_model::{Choice, MemDisk};
 use std::alloc::{AllocError, Global};
+
+/// What may be read after a stop of bytes that weren't synced. A gate that was
+/// opened and not synced is closed by the first two, and open by the others.
+pub const CHOICES: [Choice; 4] = [
+    Choice::Lost,
+    Choice::Filled(0),
+    Choice::Kept,
+    Choice::Filled(165),
+];
+
+/// With at least so many of the seven changing calls of a publication still to come at a stop, it
+/// isn't published: the sixth call opens the gate, and the last one syncs it.
+pub const UNPUBLISHED: [(Choice, u64); 4] = [
+    (Choice::Lost, 1),
+    (Choice::Filled(0), 1),
+    (Choice::Kept, 2),
+    (Choice::Filled(165), 2),
+];
 
 /// What a stop leaves right after so many of the disk's
 /// changing calls, or after all where it made fewer.
@@ -30,4 +48,13 @@ pub fn patch(
         }
     }
     Ok(bytes)
+}
+
+/// Puts bytes in the place of those from a place on.
+pub fn put(image: &mut Vec<u8>, from: usize, bytes: &[u8]) {
+    for (behind, new) in bytes.iter().enumerate() {
+        if let Some(old) = image.get_mut(from.saturating_add(behind)) {
+            *old = *new;
+        }
+    }
 }
