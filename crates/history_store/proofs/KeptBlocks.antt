@@ -1,11 +1,10 @@
 -- What looking up leaves of the cache, and which blocks are looked up.
 use Rattle.std.proofs.Common.{◌≡◌, ℕ, zero, suc, ◌+◌, ◌*◌, ◌<◌, ◌≤◌, ◌||◌, Bool, true, false, ◌/◌, List, [], ◌∷◌, length, get_or, inl, inr, refl, sym, ap, subst, ◌∙◌, arith}
 use Rattle.std.specs.Prelude.{Option, Some, Result, Ok, Err, OnOk, OnErr}
-use Rattle.std.specs.List.{list_any}
 use Rattle.std.proofs.lemmas.Bool.Decides.{nat_tests}
 use Rattle.lru.specs.LruCache.{LruCache}
 use Rattle.blocks.specs.declared.extent.Extent.{Extent}
-use Rattle.blocks.specs.Cache.{LooksUp, LooksUpAll, LooksUpSome, LooksUpPart, Forgets, is_in, spanned}
+use Rattle.blocks.specs.Cache.{LooksUp, LooksUpAll, LooksUpSome, LooksUpPart, Forgets, is_in}
 use Rattle.blocks.proofs.Looked.{none_looks_up, part_looks_up, spanned_below}
 use Rattle.directory.specs.declared.entry.Entry.{Entry}
 use Rattle.directory.specs.Places.{extent_of}

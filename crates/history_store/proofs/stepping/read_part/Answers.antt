@@ -4,7 +4,6 @@ use Rattle.history_model.specs.declared.stamped.StampedRow.{StampedRow}
 use Rattle.history_model.specs.InOrder.{IsAscending}
 use Rattle.history_model.specs.History.{stamped_cmp}
 use Rattle.segment.specs.Records.{segment_of}
-use Rattle.history_store.proofs.Refusing.{read_undamaged}
 use Rattle.history_store.proofs.ReadRows.{from_one, read_are_stamped, read_ascend, read_bytes}
 use Rattle.history_store.proofs.stepping.read_part.Goals as goal
 

@@ -1,5 +1,5 @@
 use Rattle.std.specs.Prelude.{OnOk}
-use Rattle.std.proofs.Common.{[], ◌∷◌, inl, ◌∙◌, refl, sym, subst, arith}
+use Rattle.std.proofs.Common.{inl, ◌∙◌, refl, sym, subst, arith}
 use Rattle.std.proofs.lemmas.Result.{err_from_is_err_and}
 use Rattle.disk_model.specs.Disk.{Moments, LeavesOnly}
 use Rattle.blocks.specs.declared.extent.Extent.{Extent}

@@ -1,4 +1,4 @@
-use Rattle.std.proofs.Common.{◌+◌, ◌++◌, List, length, sym, ap, ◌∙◌, arith}
+use Rattle.std.proofs.Common.{◌++◌, List, sym, ap, ◌∙◌, arith}
 use Rattle.history_model.specs.declared.stamped.StampedRow.{StampedRow}
 use Rattle.segment.specs.declared.place.RowPlace.{RowPlace}
 use Rattle.term_prefix.specs.Terms.{TermAt}

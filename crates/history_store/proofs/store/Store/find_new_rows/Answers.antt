@@ -1,4 +1,4 @@
-use Rattle.std.proofs.Common.{◌≡◌, ◌+◌, ◌≤◌, false, ap, sym, subst, arith}
+use Rattle.std.proofs.Common.{◌≡◌, false, ap, sym, subst, arith}
 use Rattle.std.specs.List.{sum_by}
 use Rattle.import_check.specs.Known.{already_known}
 use Rattle.history_store.specs.Reading.{row_cost}

@@ -1,6 +1,5 @@
-use Rattle.std.proofs.Common.{sym, ap, subst}
+use Rattle.std.proofs.Common.{sym, ap}
 use Rattle.store_image.specs.Kept.{history_of}
-use Rattle.history_store.specs.StoreValue.{IsHeld}
 use Rattle.history_store.specs.Catalog.{catalog_of}
 use Rattle.history_store.specs.MergeInProgress.{merge_of}
 use Rattle.history_store.proofs.GoingOn.{no_merge}
