@@ -103,6 +103,18 @@ fn the_folder_of_a_file_is_synced(rt: HostRuntime) -> Result<(), Fail> {
     Ok(())
 }
 
+/// Whether the images after so many calls are all three: kept, lost, filled with 170.
+fn has_images_after(disk: &MemDisk, calls: u64, images: [&[u8]; 3]) -> Result<bool, AllocError> {
+    if calls > disk.changes() {
+        return Ok(false);
+    }
+    let [kept, lost, filled] = images;
+    let is_kept = disk.image(calls, Choice::Kept)?.as_slice() == kept;
+    let is_lost = disk.image(calls, Choice::Lost)?.as_slice() == lost;
+    let is_filled = disk.image(calls, Choice::Filled(170))?.as_slice() == filled;
+    Ok(is_kept && is_lost && is_filled)
+}
+
 #[test]
 fn images_after_each_call(rt: HostRuntime) -> Result<(), Fail> {
     let mut disk = MemDisk::from_bytes(rt.alloc(), vec![in rt.alloc(); 1, 2, 3, 4]?);
@@ -133,23 +145,8 @@ fn images_after_each_call(rt: HostRuntime) -> Result<(), Fail> {
         (&[1, 9, 0], &[1, 9, 0], &[1, 9, 0]),
     ];
     for (number, (kept, lost, filled)) in images.iter().enumerate() {
-        let after = number as u64;
-        assert!(rt; after <= disk.changes());
-        assert_eq!(rt;
-            disk.image(after, Choice::Kept)?.as_slice(),
-            *kept,
-            "kept after {number}"
-        );
-        assert_eq!(rt;
-            disk.image(after, Choice::Lost)?.as_slice(),
-            *lost,
-            "lost after {number}"
-        );
-        assert_eq!(rt;
-            disk.image(after, Choice::Filled(170))?.as_slice(),
-            *filled,
-            "filled after {number}"
-        );
+        let is_so = has_images_after(&disk, number as u64, [*kept, *lost, *filled])?;
+        assert!(rt; is_so, "after {number}");
     }
     Ok(())
 }
