@@ -4,6 +4,7 @@ use disk_model::{Choice, Disk, DiskFault, FileDisk, MemDisk, OpenFault, sync_fol
 use std::alloc::AllocError;
 use std::fs::{self, Files};
 use std::io::ErrorKind;
+use std::process::Abort;
 use std::test::Fail;
 
 /// What a disk holds after the calls of `write_and_read`.
@@ -161,41 +162,56 @@ fn has_images(disk: &MemDisk, images: [&[u8]; 3]) -> Result<bool, AllocError> {
     Ok(is_kept && is_lost && is_filled)
 }
 
-#[test]
-fn calls_that_fail_count_for_the_images(rt: HostRuntime) -> Result<(), Fail> {
-    let mut disk = MemDisk::from_bytes(rt.alloc(), vec![in rt.alloc(); 1, 2, 3, 4]?);
+/// The second of two writes fails with one byte written, and then all is synced.
+fn break_a_write(rt: &impl Abort, disk: &mut MemDisk) -> Result<(), Fail> {
     disk.set_break(1, 1);
     disk.write_at(0, &[9])?;
     assert_eq!(rt; disk.write_at(1, &[7, 8]), Err(DiskFault));
-    assert!(rt; has_images(&disk, [&[9, 7, 3, 4], &[1, 2, 3, 4], &[170, 170, 170, 4]])?);
+    assert!(rt; has_images(disk, [&[9, 7, 3, 4], &[1, 2, 3, 4], &[170, 170, 170, 4]])?);
     assert_eq!(rt; disk.changes(), 1);
     assert_eq!(rt;
         disk.image(1, Choice::Filled(170))?.as_slice(),
         [170, 2, 3, 4].as_slice()
     );
     disk.sync()?;
-    assert!(rt; has_images(&disk, [&[9, 7, 3, 4], &[9, 7, 3, 4], &[9, 7, 3, 4]])?);
+    assert!(rt; has_images(disk, [&[9, 7, 3, 4], &[9, 7, 3, 4], &[9, 7, 3, 4]])?);
+    Ok(())
+}
+
+/// Two cuts fail, of which the second is made, and a sync.
+fn break_cuts_and_a_sync(rt: &impl Abort, disk: &mut MemDisk) -> Result<(), Fail> {
     disk.set_break(0, 0);
     assert_eq!(rt; disk.cut(2), Err(DiskFault));
-    assert!(rt; has_images(&disk, [&[9, 7, 3, 4], &[9, 7], &[9, 7, 170, 170]])?);
+    assert!(rt; has_images(disk, [&[9, 7, 3, 4], &[9, 7], &[9, 7, 170, 170]])?);
     disk.set_break(0, 1);
     assert_eq!(rt; disk.cut(1), Err(DiskFault));
-    assert!(rt; has_images(&disk, [&[9], &[9], &[9]])?);
+    assert!(rt; has_images(disk, [&[9], &[9], &[9]])?);
     disk.write_at(1, &[6])?;
     disk.set_break(0, 9);
     assert_eq!(rt; disk.sync(), Err(DiskFault));
-    assert!(rt; has_images(&disk, [&[9, 6], &[9], &[9, 170]])?);
+    assert!(rt; has_images(disk, [&[9, 6], &[9], &[9, 170]])?);
     Ok(())
 }
 
 #[test]
-fn a_fuse_and_a_break_of_reads(rt: HostRuntime) -> Result<(), Fail> {
-    let mut disk = MemDisk::from_bytes(rt.alloc(), vec![in rt.alloc(); 1, 2]?);
+fn calls_that_fail_count_for_the_images(rt: HostRuntime) -> Result<(), Fail> {
+    let mut disk = MemDisk::from_bytes(rt.alloc(), vec![in rt.alloc(); 1, 2, 3, 4]?);
+    break_a_write(&rt, &mut disk)?;
+    break_cuts_and_a_sync(&rt, &mut disk)
+}
+
+/// The second of two reads fails, and no other call.
+fn break_a_read(rt: &impl Abort, disk: &mut MemDisk) -> Result<(), Fail> {
     disk.set_read_break(1);
     assert_eq!(rt; disk.len()?, 2);
     disk.sync()?;
     assert_eq!(rt; disk.read_at(0, &mut [0u8; 2]), Err(DiskFault));
     assert_eq!(rt; disk.read_at(0, &mut [0u8; 2])?, 2);
+    Ok(())
+}
+
+/// All calls behind the second one fail.
+fn burn_a_fuse(rt: &impl Abort, disk: &mut MemDisk) -> Result<(), Fail> {
     disk.set_fuse(2);
     disk.write_at(2, &[3])?;
     assert_eq!(rt; disk.len()?, 3);
@@ -203,6 +219,14 @@ fn a_fuse_and_a_break_of_reads(rt: HostRuntime) -> Result<(), Fail> {
     assert_eq!(rt; disk.write_at(0, &[9]), Err(DiskFault));
     assert_eq!(rt; disk.sync(), Err(DiskFault));
     assert_eq!(rt; disk.read_at(0, &mut [0u8; 2]), Err(DiskFault));
+    Ok(())
+}
+
+#[test]
+fn a_fuse_and_a_break_of_reads(rt: HostRuntime) -> Result<(), Fail> {
+    let mut disk = MemDisk::from_bytes(rt.alloc(), vec![in rt.alloc(); 1, 2]?);
+    break_a_read(&rt, &mut disk)?;
+    burn_a_fuse(&rt, &mut disk)?;
     assert!(rt; has_images(&disk, [&[1, 2, 3], &[1, 2], &[170, 2, 170]])?);
     assert_eq!(rt; disk.changes(), 2);
     Ok(())
