@@ -103,31 +103,31 @@ fn street_replaced_by_other(time: u32) -> Result<Row, Fail> {
 }
 
 fn first_release(alloc: Global) -> Result<Vec<Row>, Fail> {
-    Ok(vec![in alloc;
-        concept(ROOT, 20_200_131, true)?,
-        concept(STREET, 20_200_131, true)?,
-        concept(OTHER, 20_200_131, true)?,
-        street_name(alloc, 20_200_131, "Straße")?,
-        street_under_root(1_000_027, 20_200_131, true)?,
-        street_under_root(2_000_029, 20_200_131, true)?,
-    ]?)
+    let mut rows = Vec::new(alloc);
+    rows.push(concept(ROOT, 20_200_131, true)?)?;
+    rows.push(concept(STREET, 20_200_131, true)?)?;
+    rows.push(concept(OTHER, 20_200_131, true)?)?;
+    rows.push(street_name(alloc, 20_200_131, "Straße")?)?;
+    rows.push(street_under_root(1_000_027, 20_200_131, true)?)?;
+    rows.push(street_under_root(2_000_029, 20_200_131, true)?)?;
+    Ok(rows)
 }
 
 fn second_release(alloc: Global) -> Result<Vec<Row>, Fail> {
-    Ok(vec![in alloc;
-        concept(STREET, 20_210_131, false)?,
-        street_name(alloc, 20_210_131, "Weg")?,
-        street_under_root(2_000_029, 20_210_131, false)?,
-        street_replaced_by_other(20_210_131)?,
-    ]?)
+    let mut rows = Vec::new(alloc);
+    rows.push(concept(STREET, 20_210_131, false)?)?;
+    rows.push(street_name(alloc, 20_210_131, "Weg")?)?;
+    rows.push(street_under_root(2_000_029, 20_210_131, false)?)?;
+    rows.push(street_replaced_by_other(20_210_131)?)?;
+    Ok(rows)
 }
 
 fn third_release(alloc: Global) -> Result<Vec<Row>, Fail> {
-    Ok(vec![in alloc;
-        concept(ROOT, 20_200_131, true)?,
-        concept(STREET, 20_200_731, false)?,
-        concept(3_000_005, 20_200_131, true)?,
-    ]?)
+    let mut rows = Vec::new(alloc);
+    rows.push(concept(ROOT, 20_200_131, true)?)?;
+    rows.push(concept(STREET, 20_200_731, false)?)?;
+    rows.push(concept(3_000_005, 20_200_131, true)?)?;
+    Ok(rows)
 }
 
 /// Imports a release, and gives its receipt.
