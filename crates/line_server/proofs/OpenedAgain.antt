@@ -1,5 +1,5 @@
 -- What an opening answers, as a life of a store tells of it.
-use Rattle.std.proofs.Common.{◌≡◌, ℕ, List, Result, Ok, Err, refl}
+use Rattle.std.proofs.Common.{Ok, Err, refl}
 use Rattle.line_server.specs.DeviceView.{DeviceView}
 use Rattle.std.specs.Prelude.{IfOk}
 use Rattle.history_store.specs.Answers.{StoreOr}
