@@ -221,8 +221,8 @@ EachLifeIsOpened D view =
     (λ e. (e.0 ≡ store.OutOfMemory) ⊎ (e.0 ≡ store.DiskFault))
 
 -- An opening of an honest device is one of those that a life names: where a store is opened, it is
--- opened from what a read gives; and whatever is answered, where a stop before it leaves what a read
--- gives, a stop within it leaves what it might have left before.
+-- opened from what a read gives; and whatever is answered, where a stop before it leaves what a
+-- read gives, a stop within it leaves what it might have left before.
 abbrev pub EachOpeningIsOfALife : (D : Type 0) → DeviceView D → Type 0
 EachOpeningIsOfALife D view =
     (device : D) (result : StoreOr D) → view.is_honest device

@@ -71,8 +71,8 @@ LeavesQueried view outcome old new =
 -- stop leaves, but not where they are refused for another reason than the device. After TRIM a read
 -- gives what it gave before, up to the last block that is listed or reserved, and nothing behind
 -- that. STEP looks blocks up as a query does, and may then forget those that the merge has
--- reserved; PUBLISH reads one byte at most, and TRIM none. Every other command that asks for no rows
--- leaves the device as it was.
+-- reserved; PUBLISH reads one byte at most, and TRIM none. Every other command that asks for no
+-- rows leaves the device as it was.
 abbrev pub LeavesDisk : {D : Type 0} → DeviceView D → Command → Result Answer LineRefusal
     → StoreValue D → StoreValue D → Type 0
 LeavesDisk view (Import name) outcome old new =

@@ -102,7 +102,7 @@ pub fn each_life_is_opened<D: Disk>()
     ensures { EachLifeIsOpened D (device_view D.is_honest D.moments D.failures D.bytes_read) }
 {}
 
-/// The openings of a life are those that `Store::open` makes.
+/// Each opening that `Store::open` makes is one of those that a life names.
 pub fn each_opening_is_of_a_life<D: Disk>()
     ensures { EachOpeningIsOfALife D
         (device_view D.is_honest D.moments D.failures D.bytes_read) }

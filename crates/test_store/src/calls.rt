@@ -7,9 +7,9 @@
 //!   of the root concept, of 2001, 2002 and 2003, and `term 100` one of a description whose term
 //!   has 100 bytes;
 //! - `begin`, `step 1`, `publish`, `abandon` and `trim` are calls of the store;
-//! - `imports`, `rows`, `segments`, `blocks`, `left` and `closed` ask what it shows: `blocks` is how
-//!   many blocks it needs, `left` is `none` without a merge, and `closed` is 1 where it has to be
-//!   opened again; `versions` asks how many versions of the root concept there are;
+//! - `imports`, `rows`, `segments`, `blocks`, `left` and `closed` ask what it shows: `blocks` is
+//!   how many blocks it needs, `left` is `none` without a merge, and `closed` is 1 where it has to
+//!   be opened again; `versions` asks how many versions of the root concept there are;
 //! - `open` closes it and opens it again, and so do `length`, the length of the disk, and
 //!   `lists`, which is 1 where the newer content block is as the words behind it say.
 
