@@ -1,43 +1,86 @@
 #!/usr/bin/env python3
 """Tries, for each public call that may run out of memory, a body that always is.
 
-always_refused.py [--rt COMMAND] [--only WORD] [--keep FOLDER] [--table]
+always_refused.py [--only WORD] [--tests CRATE] [--keep FOLDER] [--table]
 
 A contract allows such a refusal at any time, so such a body could be proved: a test has to fail.
-Each call of CALLS is made to give its refusal at once, in a copy of this repository; there the
-tests of a crate are run by `rt try --test`, which proves nothing and needs no library. A line for
-each call says which of them failed, and the one that CALLS names has to be among them. The last
-line counts the calls, and those that were not caught: the status is 1 where there are any.
+Each call of CALLS gets a first line that gives its refusal while the call's number is in a byte of
+the built program. All of them stand in one copy of this repository; there each crate of tests is
+built once by `rt try`, which proves nothing and needs no library, and the built program is run once
+as it is and once with each call's number in the byte. A line for each call says what failed, and
+what CALLS names has to be among it: a test, or, in a crate whose program runs cases, one that isn't
+told to be `ok` as in its file `stdout`. The last line counts the calls, and those that were not
+caught: the status is 1 where there are any.
 
-WORD takes the calls with this text in their crate and name. COMMAND is the kit's, `rt` where none
-is given. The copy lies in a temporary folder, or in FOLDER, and then it stays. Each crate's tests
-are run once as they are, before the first of its calls: a test that fails then catches nothing. A
-run takes about half a minute to a minute and a half of one processor. Before all that it looks if
-each call and each test of the table stands in the sources, which takes no time; with --table it
-does that alone. Standard library alone.
+WORD takes the calls with this text in their crate and name, CRATE those that its tests are to
+catch. The copy lies in a temporary folder, or in FOLDER, and then it stays. What fails as it is
+catches nothing. A build takes about two minutes of one processor, a run some seconds. Before all
+that it looks if each call and each test of the table stands in the sources, and if each refusal is
+one that the call's file can name, which takes no time; with --table it does that alone. Standard
+library alone.
 """
 
+from __future__ import annotations
+
 import argparse
-import os
 import re
-import shlex
 import shutil
 import subprocess
 import sys
 import tempfile
-from collections import namedtuple
+from pathlib import Path
+from typing import Iterable, Iterator, NamedTuple
 
-TOP = os.path.dirname(os.path.dirname(os.path.abspath(__file__)))
+from unproved import Builder, bytes_of, kit_folder, run_program, status_of
 
-# A call's crate and name; the file in the crate's src/, and a text that stands in the call's head
-# there and nowhere else; the refusal that it is to give; the crate whose tests are run, and the one
-# of them that must fail.
-Call = namedtuple("Call", "crate name file head refusal tests must_fail")
+TOP = Path(__file__).resolve().parent.parent
+
+# How long a test may take, and a program of cases, with the checks of `rt try` in it.
+SECONDS = 120
+
+# How a program of cases begins the line of one that passed.
+PASSED = "ok "
+
+# The byte of a built program behind this text is the number of the call that is refused; 0 is none.
+MARK = b"THE-CALL-THAT-IS-REFUSED:"
+# It stands in C, since a constant of Rattle is folded into the code.
+SWITCH = "refusal_switch"
+SWITCH_CODE = """//! Which call is refused.
+#![tactic(auto)]
+
+unsafe extern "C" {
+    safe fn call_that_is_refused() -> u8;
+}
+
+/// Whether the call with this number is refused.
+pub fn is_on(number: u8) -> bool {
+    call_that_is_refused() == number
+}
+"""
+SWITCH_C = """static const volatile unsigned char mark[] = "%s\\0";
+unsigned char call_that_is_refused(void) { return mark[sizeof mark - 2]; }
+""" % MARK.decode()
+
+
+class Call(NamedTuple):
+    """A call's crate and name; the file in the crate's src/, and a text that stands in the call's
+    head there and nowhere else; the refusal that it is to give; the crate whose tests or cases are
+    run, and the one of them that must fail."""
+
+    crate: str
+    name: str
+    file: str
+    head: str
+    refusal: str
+    tests: str
+    must_fail: str
+
 
 # The refusals.
 ALLOC = "Err(AllocError)"
 SEGMENT = "Err(SegmentFault::OutOfMemory)"
-IMAGE = "Err(ImageFault::OutOfMemory)"
+MAKE = "Err(MakeFault::OutOfMemory)"
+LOAD = "Err(LoadFault::OutOfMemory)"
 FOLDER = "Err(FolderFault::OutOfMemory)"
 READ = "Err(ReadFault::OutOfMemory)"
 STORE = "Err(Refusal::OutOfMemory)"
@@ -47,47 +90,47 @@ SOURCE = "Err(SourceFault::OutOfMemory)"
 CALLS = [
     # Values and rows.
     Call("rf2_values", "Text::of", "text.rt", "pub fn of(", ALLOC,
-         "test_values", "rows_of_columns"),
+         "value_cases", "rows of columns"),
     Call("rf2_values", "Text::try_clone", "text.rt", "pub fn try_clone(", ALLOC,
-         "test_values", "read_and_written"),
+         "value_cases", "read and written"),
     Call("rf2_values", "Body::try_clone", "row.rt", "Result<Body, AllocError>", ALLOC,
-         "test_values", "read_and_written"),
+         "value_cases", "read and written"),
     Call("rf2_values", "Row::try_clone", "row.rt", "Result<Row, AllocError>", ALLOC,
-         "test_values", "read_and_written"),
+         "value_cases", "read and written"),
     Call("rf2_values", "Member::write", "member.rt", "pub fn write(", ALLOC,
-         "test_values", "read_and_written"),
+         "value_cases", "read and written"),
     Call("rf2_rows", "parse_line", "line.rt",
-         "pub fn parse_line(", "Err(RowFault::OutOfMemory)", "test_values", "faults_of_lines"),
+         "pub fn parse_line(", "Err(RowFault::OutOfMemory)", "value_cases", "faults of lines"),
     Call("rf2_rows", "read_file", "file.rt", "pub fn read_file(", "Err(FileFault::OutOfMemory)",
-         "test_values", "concept_files"),
+         "value_cases", "concept files"),
     Call("rf2_rows", "write_row", "write.rt", "pub fn write_row(", ALLOC,
-         "test_values", "read_and_written"),
+         "value_cases", "read and written"),
     Call("history_model", "StampedRow::try_clone", "stamped.rt", "pub fn try_clone(", ALLOC,
-         "test_values", "receipts"),
+         "history_cases", "receipts"),
     Call("history_model", "GhostRows::push", "ghost_rows.rt", "pub fn push(", ALLOC,
-         "test_values", "shown_rows_take_rows_and_no_memory"),
+         "history_cases", "shown rows take rows and no memory"),
     Call("history_model", "plain::snapshot", "plain.rt", "pub fn snapshot(", ALLOC,
-         "test_values", "versions_and_snapshots"),
+         "history_cases", "versions and snapshots"),
     Call("history_model", "plain::versions", "plain.rt", "pub fn versions(", ALLOC,
-         "test_values", "versions_and_snapshots"),
+         "history_cases", "versions and snapshots"),
     Call("history_model", "plain::page", "plain.rt", "pub fn page(", ALLOC,
-         "test_values", "terms_and_pages"),
+         "history_cases", "terms and pages"),
     Call("history_model", "plain::terms", "plain.rt", "pub fn terms<", ALLOC,
-         "test_values", "terms_and_pages"),
+         "history_cases", "terms and pages"),
     Call("history_model", "plain::children", "plain.rt", "pub fn children(", ALLOC,
-         "test_values", "children_and_replacements"),
+         "history_cases", "children and replacements"),
     Call("history_model", "plain::replacements", "plain.rt", "pub fn replacements(", ALLOC,
-         "test_values", "children_and_replacements"),
+         "history_cases", "children and replacements"),
     Call("history_model", "plain::about", "plain.rt", "pub fn about(", ALLOC,
-         "test_values", "rows_about_a_component"),
+         "history_cases", "rows about a component"),
     Call("history_model", "plain::search_terms", "plain.rt", "pub fn search_terms<", ALLOC,
-         "test_values", "searches_that_go_on"),
+         "history_cases", "searches that go on"),
     Call("history_model", "plain::rows_at", "plain.rt", "pub fn rows_at(", ALLOC,
-         "test_values", "concepts_at_a_date_and_a_pin"),
+         "history_cases", "concepts at a date and a pin"),
     Call("history_model", "plain::after_release", "plain.rt", "pub fn after_release(", ALLOC,
-         "test_values", "receipts"),
+         "history_cases", "receipts"),
     Call("history_model", "plain::receipt", "plain.rt", "pub fn receipt(", ALLOC,
-         "test_values", "receipts"),
+         "history_cases", "receipts"),
     # What lies on the disk.
     Call("disk_model", "MemDisk::image", "memory.rt", "pub fn image(", ALLOC,
          "test_blocks", "images_after_each_call"),
@@ -100,19 +143,19 @@ CALLS = [
     Call("directory", "Directory::new", "listing.rt", "pub fn new(", ALLOC,
          "test_blocks", "entries_go_last_and_close_up"),
     Call("directory", "Directory::try_clone", "listing.rt", "pub fn try_clone(", ALLOC,
-         "test_store", "one_concept_is_found_from_its_day_on"),
+         "store_cases", "one concept is found from its day on"),
     Call("directory", "Directory::decode", "listing.rt",
          "pub fn decode(", "Err(DirectoryFault::OutOfMemory)",
          "test_blocks", "each_way_in_which_a_block_is_bad"),
     Call("segment", "encode", "encoding.rt", "pub fn encode(", ALLOC,
-         "segment", "a_record_of_each_kind"),
+         "segment_cases", "a record of each kind"),
     Call("segment", "decode", "decoding.rt", "pub fn decode(", SEGMENT,
-         "segment", "rows_out_of_order_are_refused"),
+         "segment_cases", "rows out of order are refused"),
     Call("segment", "record_at", "decoding.rt", "pub fn record_at(", SEGMENT,
-         "segment", "a_row_at_its_place"),
-    Call("store_image", "make", "making.rt", "pub fn make<", IMAGE,
+         "segment_cases", "a row at its place"),
+    Call("store_image", "make", "making.rt", "pub fn make<", MAKE,
          "test_images", "an_empty_store"),
-    Call("store_image", "load", "opening.rt", "pub fn load<", IMAGE,
+    Call("store_image", "load", "opening.rt", "pub fn load<", LOAD,
          "test_images", "an_empty_store"),
     # Releases.
     Call("samples", "sample", "releases.rt", "pub fn sample(", ALLOC,
@@ -129,19 +172,19 @@ CALLS = [
          "test_releases", "files_of_one_kind_come_in_the_byte_order_of_their_names"),
     # The index.
     Call("merge", "MergeProgress::take", "lib.rt", "pub fn take(", ALLOC,
-         "merge", "the_first_places_come_in_key_order"),
+         "test_index", "the_first_places_come_in_key_order"),
     Call("as_of_index", "Index::new", "index.rt", "pub fn new(", ALLOC,
-         "test_index", "what_three_releases_say_at_a_date"),
+         "history_cases", "what three releases say at a date"),
     Call("as_of_index", "Index::get", "index.rt", "pub fn get<", READ,
-         "test_index", "what_three_releases_say_at_a_date"),
+         "history_cases", "what three releases say at a date"),
     Call("as_of_index", "Index::history", "index.rt", "pub fn history<", READ,
-         "test_index", "versions_and_pages_of_three_releases"),
+         "history_cases", "versions and pages of three releases"),
     Call("as_of_index", "Index::page", "index.rt", "pub fn page<", READ,
-         "test_index", "versions_and_pages_of_three_releases"),
+         "history_cases", "versions and pages of three releases"),
     Call("as_of_index", "KeptRows::row", "kept.rt", "Result<StampedRow, ReadFault> {", READ,
-         "test_index", "what_three_releases_say_at_a_date"),
+         "history_cases", "what three releases say at a date"),
     Call("as_of_index", "read_all", "chosen.rt", "pub fn read_all<", READ,
-         "test_index", "a_street_is_replaced_once_an_association_says_so"),
+         "history_cases", "a street is replaced once an association says so"),
     Call("as_of_index", "PerList::new", "per_list.rt", "pub fn new(", ALLOC,
          "test_index", "terms_of_as_many_lists_as_may_be"),
     Call("as_of_index", "NumberTable::extend", "number_table.rt", "pub fn extend(", ALLOC,
@@ -153,69 +196,116 @@ CALLS = [
     Call("term_prefix", "Merging::advance", "merging.rt", "pub fn advance(", ALLOC,
          "test_index", "made_terms_are_merged_in_turns"),
     Call("term_prefix", "find", "search.rt", "pub fn find<", READ,
-         "test_index", "streets_by_the_beginning_of_their_names"),
+         "history_cases", "streets by the beginning of their names"),
     Call("links", "Postings::push", "postings.rt", "pub fn push(", ALLOC,
          "test_index", "each_row_is_found_by_its_own_postings"),
     Call("links", "Merging::advance", "merging.rt", "pub fn advance(", ALLOC,
          "test_index", "merged_subjects_are_those_of_all_rows"),
     Call("links", "children", "hierarchy.rt", "pub fn children(", ALLOC,
-         "test_index", "a_street_is_a_child_while_a_relationship_says_so"),
+         "history_cases", "a street is a child while a relationship says so"),
     Call("links", "replacements", "references.rt", "pub fn replacements<", READ,
-         "test_index", "a_street_is_replaced_once_an_association_says_so"),
+         "history_cases", "a street is replaced once an association says so"),
     Call("links", "about", "subjects.rt", "pub fn about<", READ,
-         "test_index", "what_is_about_a_street"),
-    Call("segment_index", "IndexBuilder::with_capacity", "builder.rt", "pub fn with_capacity(", ALLOC,
-         "test_store", "one_concept_is_found_from_its_day_on"),
+         "history_cases", "what is about a street"),
+    Call("segment_index", "IndexBuilder::with_capacity", "builder.rt",
+         "pub fn with_capacity(", ALLOC, "store_cases", "one concept is found from its day on"),
     Call("segment_index", "IndexBuilder::push", "builder.rt", "pub fn push(", ALLOC,
-         "test_store", "one_concept_is_found_from_its_day_on"),
+         "store_cases", "one concept is found from its day on"),
     Call("segment_index", "IndexMerge::take", "index_merge.rt", "pub fn take(", ALLOC,
-         "test_store", "five_segments_become_one"),
+         "store_cases", "five segments become one"),
     Call("segment_index", "StoreIndex::new", "store_index.rt", "pub fn new(", ALLOC,
-         "test_store", "nothing_is_found_in_an_empty_store"),
+         "store_cases", "nothing is found in an empty store"),
     Call("segment_index", "StoreIndex::of_parts", "store_index.rt", "pub fn of_parts(", ALLOC,
-         "test_store", "a_merge_ends_with_the_store"),
+         "store_cases", "a merge ends with the store"),
     # The store.
     Call("history_store", "Store::create", "store.rt", "pub fn create(", BACK,
-         "test_store", "nothing_is_found_in_an_empty_store"),
+         "store_cases", "nothing is found in an empty store"),
     Call("history_store", "Store::open", "store.rt", "pub fn open(", BACK,
-         "test_store", "a_merge_ends_with_the_store"),
+         "store_cases", "a merge ends with the store"),
     Call("history_store", "Store::import", "store.rt", "pub fn import(", STORE,
-         "test_store", "one_concept_is_found_from_its_day_on"),
+         "store_cases", "one concept is found from its day on"),
     Call("history_store", "Store::get", "queries.rt", "pub fn get(", STORE,
-         "test_store", "a_pin_shows_the_imports_up_to_it"),
+         "store_cases", "a pin shows the imports up to it"),
     Call("history_store", "Store::history", "queries.rt", "pub fn history(", STORE,
-         "test_store", "versions_ascend_by_time"),
+         "store_cases", "versions ascend by time"),
     Call("history_store", "Store::page", "queries.rt", "pub fn page(", STORE,
-         "test_store", "pages_follow_one_another"),
+         "store_cases", "pages follow one another"),
     Call("history_store", "Store::about", "queries.rt", "pub fn about(", STORE,
-         "test_store", "a_component_has_rows_about_it"),
+         "store_cases", "a component has rows about it"),
     Call("history_store", "Store::terms", "queries.rt", "pub fn terms(", STORE,
-         "test_store", "terms_are_found_whatever_their_case"),
+         "store_cases", "terms are found whatever their case"),
     Call("history_store", "Store::search", "queries.rt", "pub fn search(", STORE,
-         "test_store", "a_search_goes_on_above_an_id"),
+         "store_cases", "a search goes on above an id"),
     Call("history_store", "Store::children", "queries.rt", "pub fn children(", STORE,
-         "test_store", "a_child_is_named_once"),
+         "store_cases", "a child is named once"),
     Call("history_store", "Store::replacements", "queries.rt", "pub fn replacements(", STORE,
-         "test_store", "a_replacement_holds_from_its_day_on"),
+         "store_cases", "a replacement holds from its day on"),
     Call("history_store", "Store::merge_step", "merge_calls.rt", "pub fn merge_step(", STORE,
-         "test_store", "a_merge_beside_an_import"),
+         "store_cases", "a merge beside an import"),
     # The server and the program.
     Call("command_line", "Samples::release", "demonstration.rt",
          "Result<Release, SourceFault> {", SOURCE, "test_program",
          "the_demonstration_is_the_script"),
     Call("line_server", "answer", "answering.rt",
          "pub fn answer<", "reply_refusal(alloc, LineRefusal::Store(Refusal::OutOfMemory))",
-         "test_lines", "lines_on_a_new_store"),
+         "line_cases", "questions"),
     Call("line_server", "serve", "serving.rt", "pub fn serve<", "Err(ServeFault::OutOfMemory)",
-         "test_lines", "pieces_play_no_part"),
+         "line_cases", "pieces play no part"),
     Call("command_line", "FolderSource::release", "folders.rt", "fn release(", SOURCE,
-         "test_program", "a_file_keeps_what_was_imported"),
+         "program_cases", "a file keeps what was imported"),
     Call("command_line", "run", "running.rt", "pub fn run<",
-         "(fail(ServeFault::OutOfMemory, faults), None)", "test_program", "statuses"),
+         "(fail(ServeFault::OutOfMemory, faults), None)", "program_cases", "statuses"),
 ]
 
 
-def body_of(lines, head):
+class Sources:
+    """The sources of a repository's crates."""
+
+    def __init__(self, top: Path) -> None:
+        self.top = top
+        self.known: dict[str, str] = {}
+
+    def text_of(self, crate: str) -> str:
+        """All sources of a crate, as one text; nothing of a crate that isn't in the repository."""
+        if crate not in self.known:
+            paths = sorted((self.top / "crates" / crate / "src").rglob("*.rt"))
+            texts = [path.read_text(encoding="utf-8") for path in paths]
+            self.known[crate] = "\n".join(texts)
+        return self.known[crate]
+
+    def has_variant(self, crate: str, name: str, variant: str) -> bool:
+        """Whether a crate has the variant, or hands on the enum of one that has it."""
+        text = self.text_of(crate)
+        body = re.search(r"\benum %s\b[^{]*\{(.*?)^\}" % name, text, re.MULTILINE | re.DOTALL)
+        if body:
+            return re.search(r"^ +%s\b" % variant, body[1], re.MULTILINE) is not None
+        origin = origin_of(text, name, "pub use")
+        return origin not in (None, crate, "crate") and self.has_variant(origin, name, variant)
+
+
+def origin_of(text: str, name: str, word: str = "use") -> str | None:
+    """The first name of the path by which a text brings a name in; None where it doesn't."""
+    for path in re.findall(r"^ *(?:pub )?%s ([^;]+);" % word, text, re.MULTILINE):
+        if re.search(r"(?:::|[{\s])%s\s*(?:[,}]|$)" % name, path):
+            return str(path.split("::")[0])
+    return None
+
+
+def faults_of_refusal(call: Call, text: str, sources: Sources) -> Iterator[str]:
+    """What isn't so of the types and variants that a refusal names, in the text of its file."""
+    for name, variant in re.findall(r"\b([A-Z]\w*)(?:::([A-Z]\w*))?", call.refusal):
+        if name in ("Err", "None"):
+            continue
+        is_own = re.search(r"\b(?:enum|struct) %s\b" % name, text)
+        origin = call.crate if is_own else origin_of(text, name)
+        crate = call.crate if origin in ("crate", "super", "self") else origin
+        if crate is None:
+            yield "%s doesn't know %s" % (call.file, name)
+        elif variant and not sources.has_variant(crate, name, variant):
+            yield "%s has no %s::%s" % (crate, name, variant)
+
+
+def body_of(lines: list[str], head: str) -> int:
     """The number of the first line of a body, below a head and its contract."""
     places = [place for place, line in enumerate(lines) if head in line]
     if len(places) != 1:
@@ -228,111 +318,195 @@ def body_of(lines, head):
     raise ValueError("%r has no body" % head)
 
 
-def planted(text, call):
-    """The text of a file in which the call always gives its refusal."""
+def planted(text: str, call: Call, number: int) -> str:
+    """The text of a file in which the call gives its refusal while its number is on."""
     lines = text.split("\n")
-    lines.insert(body_of(lines, call.head), "return %s;" % call.refusal)
+    line = "if %s::is_on(%d) { return %s; }" % (SWITCH, number, call.refusal)
+    lines.insert(body_of(lines, call.head), line)
     return "\n".join(lines)
 
 
-def faults_of(call):
-    """What isn't so of a call in the sources, if anything."""
-    folder = os.path.join(TOP, "crates", call.crate, "src")
-    tests = os.path.join(TOP, "crates", call.tests, "src")
+def is_program(crate: Path) -> bool:
+    return (crate / "src" / "main.rt").exists()
+
+
+def cases_in(printed: bytes) -> list[str]:
+    """The cases that a program tells to be `ok`, and other lines as they are."""
+    lines = printed.decode(errors="replace").splitlines()
+    return [line[len(PASSED) :] if line.startswith(PASSED) else line for line in lines]
+
+
+def names_what_fails(call: Call, sources: Sources) -> bool:
+    """Whether what must fail is a test, or a case that a program is to tell to be `ok`."""
+    crate = sources.top / "crates" / call.tests
+    if is_program(crate):
+        return call.must_fail in cases_in(bytes_of(crate / "stdout"))
+    text = sources.text_of(call.tests)
+    return re.search(r"#\[test\]\s+fn %s\(" % call.must_fail, text) is not None
+
+
+def faults_of(call: Call, sources: Sources) -> Iterator[str]:
+    """What isn't so of a call in the sources."""
     try:
-        with open(os.path.join(folder, call.file), encoding="utf-8") as file:
-            planted(file.read(), call)
-        texts = []
-        for name in os.listdir(tests):
-            with open(os.path.join(tests, name), encoding="utf-8") as file:
-                texts.append(file.read())
+        path = sources.top / "crates" / call.crate / "src" / call.file
+        text = path.read_text(encoding="utf-8")
+        planted(text, call, 0)
     except (OSError, ValueError) as why:
-        return str(why)
-    is_test = re.search(r"#\[test\]\s+fn %s\(" % call.must_fail, "\n".join(texts))
-    return None if is_test else "%s has no test %s" % (call.tests, call.must_fail)
+        yield str(why)
+        return
+    yield from faults_of_refusal(call, text, sources)
+    if not names_what_fails(call, sources):
+        yield "%s has no test or case %s" % (call.tests, call.must_fail)
 
 
-def is_in_sources(calls):
+def is_in_sources(calls: list[Call]) -> bool:
     """Whether each call can be planted and its test is there; what isn't so is told."""
-    wrong = [(call, faults_of(call)) for call in calls]
-    wrong = [(call, why) for call, why in wrong if why]
+    sources = Sources(TOP)
+    wrong = [(call, why) for call in calls for why in faults_of(call, sources)]
     for call, why in wrong:
         print("%s %s: %s" % (call.crate, call.name, why), file=sys.stderr)
-    print("%d calls, %d not in the sources" % (len(calls), len(wrong)), file=sys.stderr)
+    lost = len({call for call, _ in wrong})
+    print("%d calls, %d not in the sources" % (len(calls), lost), file=sys.stderr)
     return not wrong
 
 
-def failed_tests(rt, folder):
-    """The names of the tests of a crate that fail, and how many tests it has; None without any."""
-    done = subprocess.run(
-        shlex.split(rt) + ["try", "--test"],
-        cwd=folder,
-        stdout=subprocess.PIPE,
-        stderr=subprocess.STDOUT,
-        check=False,
-    )
-    text = done.stdout.decode(errors="replace")
-    ends = re.findall(r"^test (\S+) \.\.\. (\w+)", text, re.MULTILINE)
-    if not ends:
-        print(text, file=sys.stderr)
+def add_switch(top: Path, users: Iterable[str]) -> None:
+    """Adds the crate that says which call is refused, for these crates to use."""
+    for name, text in (("src/lib.rt", SWITCH_CODE), ("c/switch.c", SWITCH_C)):
+        path = top / "crates" / SWITCH / name
+        path.parent.mkdir(parents=True)
+        path.write_text(text, encoding="utf-8")
+    listed = (top / "crates.txt").read_text(encoding="utf-8").splitlines()
+    lines = [
+        line + " " + SWITCH if line.split(":")[0] in users else line
+        for line in listed
+    ]
+    text = "\n".join(lines + [SWITCH + ":"]) + "\n"
+    (top / "crates.txt").write_text(text, encoding="utf-8")
+
+
+def plant_all(top: Path, numbers: dict[Call, int]) -> None:
+    """Plants the refusals in a copy of the repository."""
+    for call, number in numbers.items():
+        path = top / "crates" / call.crate / "src" / call.file
+        text = path.read_text(encoding="utf-8")
+        path.write_text(planted(text, call, number), encoding="utf-8")
+    add_switch(top, {call.crate for call in numbers})
+
+
+class Tests:
+    """The built tests of a crate, or its built program."""
+
+    def __init__(self, kit: Path, crate: Path, program: Path) -> None:
+        self.kit, self.crate, self.program = kit, crate, program
+        self.code = program.read_bytes()
+
+    def failed(self, number: int) -> list[str] | None:
+        """What fails while the call with this number is refused; None where nothing was run."""
+        at = self.code.index(MARK) + len(MARK)
+        path = self.program.with_name("switched")
+        path.write_bytes(self.code[:at] + bytes([number]) + self.code[at + 1 :])
+        path.chmod(0o755)
+        try:
+            return self.failed_cases(path) if is_program(self.crate) else self.failed_tests(path)
+        except subprocess.TimeoutExpired:
+            return None
+        finally:
+            path.unlink()
+
+    def failed_tests(self, path: Path) -> list[str] | None:
+        runner = self.kit / "bin" / "rattle-test"
+        # In a folder of its own: what an earlier run has left there would let tests fail.
+        with tempfile.TemporaryDirectory() as folder:
+            done = subprocess.run(
+                [str(runner), "--seconds", str(SECONDS), str(path)],
+                cwd=folder,
+                stdout=subprocess.PIPE,
+                stderr=subprocess.STDOUT,
+                check=False,
+            )
+        text = done.stdout.decode(errors="replace")
+        ends = re.findall(r"^test (\S+) \.\.\. (.*)", text, re.MULTILINE)
+        return [name.split("::")[-1] for name, end in ends if end != "ok"] if ends else None
+
+    def failed_cases(self, path: Path) -> list[str]:
+        """The cases that the program doesn't tell to be `ok` as its file `stdout` does."""
+        done = run_program(path, self.crate, SECONDS)
+        wanted = bytes_of(self.crate / "stdout")
+        if done.stdout == wanted and done.returncode != status_of(self.crate):
+            return ["(status %d)" % done.returncode]
+        printed = cases_in(done.stdout)
+        return [case for case in cases_in(wanted) if case not in printed]
+
+
+def build(kit: Path, top: Path, name: str, place: Path) -> Tests | None:
+    """Builds the tests of a crate, or its program; None where it can't be built, which is told."""
+    crate = top / "crates" / name
+    builder = Builder(kit, place, is_run=False)
+    words = [] if is_program(crate) else ["--test"]
+    done = builder.run(crate, words, around={"RT_ALLOW_C": SWITCH})
+    if not builder.program.exists():
+        print((done.stdout + done.stderr).decode(errors="replace"), file=sys.stderr)
         return None
-    return [name.split("::")[-1] for name, end in ends if end != "ok"], len(ends)
+    tests = Tests(kit, crate, builder.program)
+    if tests.code.count(MARK) != 1:
+        print("%s: no call that is refused is in its program" % name, file=sys.stderr)
+        return None
+    return tests
 
 
-def passing(rt, top, name, known):
-    """Whether the tests of a crate pass as they are; they are run once."""
-    if name not in known:
-        found = failed_tests(rt, os.path.join(top, "crates", name))
-        known[name] = found is not None and not found[0]
-        if not known[name]:
-            print("%s: its tests fail as they are: %s" % (name, found), flush=True)
-    return known[name]
-
-
-def is_caught(rt, top, call, known):
+def is_caught(call: Call, number: int, tests: Tests) -> bool:
     """Tries one call, and prints what came of it."""
-    if not passing(rt, top, call.tests, known):
-        print("%s %s: NOT TRIED" % (call.crate, call.name), flush=True)
-        return False
-    path = os.path.join(top, "crates", call.crate, "src", call.file)
-    with open(path, encoding="utf-8") as file:
-        text = file.read()
-    with open(path, "w", encoding="utf-8") as file:
-        file.write(planted(text, call))
-    try:
-        found = failed_tests(rt, os.path.join(top, "crates", call.tests))
-    finally:
-        with open(path, "w", encoding="utf-8") as file:
-            file.write(text)
-    failed, count = found or ([], 0)
-    caught = call.must_fail in failed
-    print("%s %s: %s, %d of the %d tests of %s fail: %s" % (
-        call.crate, call.name, "caught" if caught else "NOT CAUGHT",
-        len(failed), count, call.tests, " ".join(failed)), flush=True)
+    failed = tests.failed(number)
+    caught = failed is not None and call.must_fail in failed
+    what = "caught" if caught else "NOT CAUGHT"
+    told = ", ".join(failed) if failed else "nothing fails" if failed == [] else "nothing was run"
+    count = "%d fail: " % len(failed) if failed else ""
+    what += " by " + call.tests
+    print("%s %s: %s, %s%s" % (call.crate, call.name, what, count, told), flush=True)
     return caught
 
 
-def main():
+def try_calls(kit: Path, top: Path, name: str, numbers: dict[Call, int]) -> int:
+    """Tries the calls that a crate's tests are to catch. How many of them weren't caught."""
+    with tempfile.TemporaryDirectory() as place:
+        tests = build(kit, top, name, Path(place))
+        found = tests.failed(0) if tests else None
+        if tests is None or found != []:
+            print("%s: its tests fail as they are: %s" % (name, found), flush=True)
+            for call in numbers:
+                print("%s %s: NOT TRIED" % (call.crate, call.name), flush=True)
+            return len(numbers)
+        return sum(not is_caught(call, number, tests) for call, number in numbers.items())
+
+
+def main() -> int:
+    assert __doc__
     parser = argparse.ArgumentParser(description=__doc__.strip().split("\n", maxsplit=1)[0])
-    parser.add_argument("--rt", default="rt", help="the command of the kit")
     parser.add_argument("--only", default="", help="the calls with this word in crate or name")
+    parser.add_argument("--tests", help="the calls that the tests of this crate are to catch")
     parser.add_argument("--table", action="store_true", help="look at the table alone")
     parser.add_argument("--keep", help="the folder of the copy, which stays")
     asked = parser.parse_args()
-    calls = [call for call in CALLS if asked.only in call.crate + " " + call.name]
-    is_right = is_in_sources(calls)
+    numbers = {call: number for number, call in enumerate(CALLS, 1)
+               if asked.only in call.crate + " " + call.name
+               and asked.tests in (None, call.tests)}
+    is_right = is_in_sources(list(numbers))
     if asked.table or not is_right:
-        return 0 if calls and is_right else 1
-    top = asked.keep or tempfile.mkdtemp(prefix="sctd-refused-")
+        return 0 if numbers and is_right else 1
+    top = Path(asked.keep or tempfile.mkdtemp(prefix="sctd-refused-"))
     try:
         shutil.copytree(TOP, top, ignore=shutil.ignore_patterns(".git", "out"), dirs_exist_ok=True)
-        known = {}
-        missed = sum(not is_caught(asked.rt, top, call, known) for call in calls)
+        plant_all(top, numbers)
+        kit, missed = kit_folder(), 0
+        for name in dict.fromkeys(call.tests for call in numbers):
+            of_crate = {call: n for call, n in numbers.items() if call.tests == name}
+            missed += try_calls(kit, top, name, of_crate)
     finally:
         if not asked.keep:
             shutil.rmtree(top)
-    print("%d calls, %d not caught" % (len(calls), missed))
-    return 1 if missed or not calls else 0
+    print("%d calls, %d not caught" % (len(numbers), missed))
+    return 1 if missed or not numbers else 0
 
 
 if __name__ == "__main__":

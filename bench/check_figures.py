@@ -5,11 +5,11 @@ check_figures.py [--renew]
 
 FIGURES names each of them with the command that prints it: the document, the text around the
 number, and the command, which bash runs at the top of the repository. The text stands in its
-document just once, and its number has to be the one that is printed. And a number of edits, tests
-or crates that stands in a document without being in FIGURES is an error, but for the rows of dated
-measurements. --renew writes what the commands print into the documents. Nothing is built, and it
-takes a second or two; what there is to say goes to standard error. The status is 1 where a figure
-isn't so. Standard library alone.
+document just once, and its number has to be the one that is printed. And a number of edits, tests,
+cases in files or crates that stands in a document without being in FIGURES is an error, but for the
+rows of dated measurements. --renew writes what the commands print into the documents. Nothing is
+built, and it takes a second or two; what there is to say goes to standard error. The status is 1
+where a figure isn't so. Standard library alone.
 """
 
 import glob
@@ -25,9 +25,12 @@ ROOT = os.path.dirname(os.path.dirname(os.path.abspath(__file__)))
 Figure = namedtuple("Figure", "document text command")
 
 PERFORMANCE, RELIABILITY = "docs/PERFORMANCE.md", "docs/RELIABILITY.md"
-EDITS = "ls crates/*/must-fail/*.edit | wc -l"
+EDITS = "ls crates/*/must-fail/*.edit crates/*/edits/*.edit | wc -l"
 TESTS = "grep -rhE '^ *#\\[test\\]' --include=*.rt crates/*/src | wc -l"
+CASES = "grep -hE '^case ' crates/*/data/cases/* | wc -l"
 CRATES = "ls -d crates/*/ | wc -l"
+# The definitions that the contract of an answer rests on.
+REACH = "python3 bench/count_reach.py line_server::answer | sed -nE 's/.*: ([0-9]+) words.*/\\1/p'"
 # All functions of src/, those of traits and the tests' helpers too, less the tests themselves.
 FUNCTIONS = (
     "echo $(( $(grep -rhE '^ *(pub(\\([a-z]+\\))? )?fn ' --include=*.rt crates/*/src | wc -l)"
@@ -72,10 +75,12 @@ def asked_for(path, what, behind):
 
 
 FIGURES = [
+    Figure("README.md", "ties the two. It rests on {}", REACH),
     Figure(PERFORMANCE, "There are {} edits", EDITS),
-    Figure(PERFORMANCE, " edits, {} tests and", TESTS),
+    Figure(PERFORMANCE, " edits, {} tests,", TESTS),
+    Figure(PERFORMANCE, " tests, {} cases in files and", CASES),
     Figure(PERFORMANCE, " functions in {} crates now", CRATES),
-    Figure(PERFORMANCE, " tests and {} functions in", FUNCTIONS),
+    Figure(PERFORMANCE, "cases in files and {} functions in", FUNCTIONS),
     Figure(RELIABILITY, "it makes {} changing calls", SCRIPT_CALLS),
     Figure(RELIABILITY, "| A crash | {} moments, 4 images each", reckoned(SCRIPT_CALLS, "n + 1")),
     Figure(RELIABILITY, ": {} disks | before, between and after all calls of the script",
@@ -116,7 +121,9 @@ FIGURES = [
 ]
 
 # What has to be in FIGURES wherever it stands, and the rows that say what was so on a day.
-COUNTED = re.compile(r"\b[0-9][0-9,]*\** (?:must-fail edits|edits|tests|crates)\b(?!/)")
+COUNTED = re.compile(
+    r"\b[0-9][0-9,]*\** (?:must-fail edits|edits|tests|cases in files|crates)\b(?!/)"
+)
 DATED = re.compile(r"\| (?:20[0-9]{2}-|the same )")
 
 

@@ -3,13 +3,16 @@
 
 check_promises.py
 
-Each promise is an item of a list with two items below it: `Clause:` names the clauses that prove it,
-and `Shown by:` what shows that they do. A clause is named as `function · clause`: the function has to
-stand in the sources of the crates that the heading names, or of the crate that the name begins with,
-and has to have that clause. What shows it are must-fail edits as `crate/edit`, tests as `crate::test`,
-or the word `law`, which is enough for a promise that names a law: a law's body is empty, and so no
-edit can change it. A promise that has none of these, or names what isn't there, is said in a line of
-its own on standard error, and the status is 1 then. Nothing is built. Standard library alone.
+Each promise is an item of a list with two items below it: `Clause:` names the clauses that prove
+it, and `Shown by:` what shows that they do. A clause is named as `function · clause`: the function
+has to stand in the sources of the crates that the heading names, or of the crate that the name
+begins with, and has to have that clause. What shows it are edits as `crate/edit`, of the crate's
+`must-fail/` or `edits/`, tests as `crate::test`, cases of the files in a crate's data/cases as
+`crate: case`, or the word `law`, which is enough for a promise that names a law: a law's body is
+empty, and so no edit can change it. Where a promise names edits alone, one of them has to stand in
+`must-fail/`, whose edits CI tries. A promise that has none of these, or names what isn't there, is
+said in a line of its own on standard error, and the status is 1 then. Nothing is built. Standard
+library alone.
 """
 
 import glob
@@ -20,6 +23,9 @@ import sys
 ROOT = os.path.dirname(os.path.dirname(os.path.abspath(__file__)))
 DOCUMENT = "docs/PROMISES.md"
 PARTS = ("- ", "  - Clause: ", "  - Shown by: ")
+# The folders of a crate that hold edits, and the one of them whose edits CI tries.
+TRIED_BY_CI = "must-fail"
+EDIT_FOLDERS = (TRIED_BY_CI, "edits")
 
 OWNER = re.compile(
     r"(?:pub(?:\(crate\))? )?(?:trait (?P<made>\w+)"
@@ -46,11 +52,11 @@ class Function:
 
 
 class Sources:
-    """The functions, types, impls, definitions, edits and tests of all crates."""
+    """The functions, types, impls, definitions, edits, tests and cases of all crates."""
 
     def __init__(self):
         self.functions, self.types, self.impls = [], set(), set()
-        self.words, self.edits, self.tests = {}, set(), set()
+        self.words, self.edits, self.tests, self.cases = {}, {}, set(), set()
         self.crates = sorted(os.path.basename(d) for d in glob.glob(ROOT + "/crates/*"))
         for crate in self.crates:
             folder = os.path.join(ROOT, "crates", crate)
@@ -58,8 +64,15 @@ class Sources:
                 self.read(crate, os.path.basename(path)[: -len(".rt")], text_of(path))
             specs = map(text_of, glob.glob(folder + "/specs/**/*.antt", recursive=True))
             self.words[crate] = set(re.findall(r"\w+", "\n".join(specs)))
-            for path in glob.glob(folder + "/must-fail/*.edit"):
-                self.edits.add(crate + "/" + os.path.basename(path)[: -len(".edit")])
+            for part in EDIT_FOLDERS:
+                names = {crate + "/" + name for name in edits_in(os.path.join(folder, part))}
+                self.edits.setdefault(part, set()).update(names)
+            for path in glob.glob(folder + "/data/cases/*"):
+                cases = re.findall("^case (.+)$", text_of(path), re.MULTILINE)
+                self.cases.update(crate + ": " + case for case in cases)
+
+    def is_edit(self, name):
+        return any(name in names for names in self.edits.values())
 
     def read(self, crate, module, text):
         """Takes what a file of sources has."""
@@ -119,6 +132,11 @@ class Sources:
             return False
         crates = [found[2]] if found[2] else crates
         return any((crate, found[1], found[3]) in self.impls for crate in crates)
+
+
+def edits_in(folder):
+    """The names of the edits that stand in a folder."""
+    return [os.path.basename(p)[: -len(".edit")] for p in glob.glob(folder + "/*.edit")]
 
 
 def text_of(path):
@@ -185,6 +203,26 @@ def laws_in(cell):
             yield from spelled_out(token)
 
 
+def faults_of_shown(names, laws, sources):
+    """What isn't so of the names behind `Shown by:`."""
+    for name in names:
+        if name == "law":
+            if not laws:
+                yield "it says law, and names none"
+        elif "/" in name and not sources.is_edit(name):
+            yield "there is no edit %s" % name
+        elif "::" in name and name not in sources.tests:
+            yield "there is no test %s" % name
+        elif ": " in name and name not in sources.cases:
+            yield "there is no case %s" % name
+        elif not any(mark in name for mark in ("/", "::", ": ")):
+            yield "%s is no edit, no test, no case and no law" % name
+    if not names:
+        yield "it names no edit, no test, no case and no law"
+    elif all("/" in name for name in names) and not sources.edits[TRIED_BY_CI].intersection(names):
+        yield "none of its edits is in %s/" % TRIED_BY_CI
+
+
 def faults_of_promise(parts, crates, sources):
     """What isn't so of a promise."""
     if len(parts) != len(PARTS):
@@ -198,18 +236,8 @@ def faults_of_promise(parts, crates, sources):
     for path in laws:
         if not any(f.is_law() for f in sources.named(path, crates)):
             yield "%s is no law" % path
-    for name in filter(None, (n.strip() for n in shown.split(","))):
-        if name == "law":
-            if not laws:
-                yield "it says law, and names none"
-        elif "/" in name and name.strip("`") not in sources.edits:
-            yield "there is no edit %s" % name
-        elif "::" in name and name.strip("`") not in sources.tests:
-            yield "there is no test %s" % name
-        elif "/" not in name and "::" not in name:
-            yield "%s is no edit, no test and no law" % name
-    if not shown.strip():
-        yield "it names no edit, no test and no law"
+    names = [name.strip().strip("`") for name in shown.split(",") if name.strip()]
+    yield from faults_of_shown(names, laws, sources)
 
 
 def promises(text):

@@ -4,25 +4,87 @@ must-fail edits.
 
 ci_time.py COMMAND..      runs the command, as .ci/run, and watches the processes below it
 ci_time.py --pid NUMBER   watches a run that goes on already, until it ends
+ci_time.py --last         says what CI does and how long its last run took, and runs nothing
 
 Each second it reads from /proc what the processes below the run have used, and adds it to the crate
 that their command line names. Minutes are the processor's, and wall minutes those from the first
 sight of a crate's part to the last. What isn't of a crate, as scripts and the run itself, stands
-under "other". It needs Linux, and ends with the status of the command. Standard library alone.
+under "other". Last comes the line of this run for the table of CI's runs in docs/PERFORMANCE.md,
+from which --last reads. It needs Linux, and ends with the status of the command. Standard library
+alone.
 """
 
+from __future__ import annotations
+
+import glob
 import os
+import re
 import subprocess
 import sys
 import time
 from collections import defaultdict
+from typing import Iterator, NamedTuple, Optional, Tuple
 
 TICKS = os.sysconf("SC_CLK_TCK")
 PARTS = ("library", "tests", "edits", "run")
 BETWEEN_LOOKS = 1.0
+TOP = os.path.dirname(os.path.dirname(os.path.abspath(__file__)))
+DOCUMENT = os.path.join(TOP, "docs", "PERFORMANCE.md")
+EDITS = os.path.join(TOP, "crates", "*", "must-fail", "*.edit")
+CRATES = os.path.join(TOP, "crates", "*", "src")
+
+# The crate and the part of the check that a process works on.
+Place = Tuple[str, str]
 
 
-def read(path):
+class Run(NamedTuple):
+    """A line of the table of CI's runs: what there was, the minutes of the processor, and those by
+    the wall on so many cores."""
+
+    date: str
+    crates: int
+    edits: int
+    library: int
+    tests: int
+    tried: int
+    all: int
+    cores: int
+    wall: int
+
+    def line(self) -> str:
+        return "| %s |" % " | ".join(map(str, self))
+
+    def told(self) -> str:
+        return LAST.format(**self._asdict())
+
+
+RUN = re.compile(r"^\| (\d{4}-\d{2}-\d{2})" + r" \| (\d+)" * 8 + r" \|$", re.MULTILINE)
+PLAN = """\
+First come the checks of the documents, which take seconds. Then `rt ci` proves each crate and its
+tests, tries the must-fail edits, and runs the tests and the programs; what it proved before on this
+machine, and what hasn't changed since, it doesn't prove again. Last come the trials of the built
+program. (python3 bench/quick.py runs all tests and trials without a proof, in ten minutes.)"""
+LAST = """\
+CI's last run that began with nothing kept (docs/PERFORMANCE.md), on {date}, took {wall} minutes by
+the wall on {cores} cores, and {all} of the processor: {library} for libraries, {tests} for tests
+and {tried} for {edits} must-fail edits."""
+
+
+def runs_in(text: str) -> list[Run]:
+    """The whole lines of the table of CI's runs, the last one last."""
+    return [Run(found[1], *map(int, found.groups()[1:])) for found in RUN.finditer(text)]
+
+
+def tell_last() -> int:
+    """Says what CI does, and how long it took; 1 where the document doesn't say it."""
+    with open(DOCUMENT, encoding="utf-8") as file:
+        found = runs_in(file.read())
+    print(PLAN)
+    print(found[-1].told() if found else "docs/PERFORMANCE.md has no run of CI")
+    return 0 if found else 1
+
+
+def read(path: str) -> bytes:
     try:
         with open(path, "rb") as file:
             return file.read()
@@ -30,7 +92,7 @@ def read(path):
         return b""
 
 
-def processes():
+def processes() -> dict[int, tuple[int, float]]:
     """The parent and the used seconds of each process, by its number."""
     found = {}
     for name in os.listdir("/proc"):
@@ -42,7 +104,7 @@ def processes():
     return found
 
 
-def part_of(pid):
+def part_of(pid: int) -> Optional[Place]:
     """The crate and the part of the check that a process works on, if its words say so."""
     words = read("/proc/%d/cmdline" % pid).decode("utf-8", "replace").split("\0")
     if "--crate-name" in words:
@@ -57,11 +119,15 @@ def part_of(pid):
 
 
 class Watch:
-    def __init__(self, root):
-        self.root, self.begun = root, time.monotonic()
-        self.parts, self.used, self.seen = {}, {}, {}
+    """What the processes below a run use."""
 
-    def look(self):
+    def __init__(self, root: int) -> None:
+        self.root, self.begun = root, time.monotonic()
+        self.parts: dict[int, Place] = {}
+        self.used: dict[tuple[int, Place], float] = {}
+        self.seen: dict[Place, tuple[float, float]] = {}
+
+    def look(self) -> bool:
         """Takes down what each process below the root has used so far."""
         now, found = time.monotonic() - self.begun, processes()
         for pid in found:
@@ -76,7 +142,7 @@ class Watch:
                 self.seen[part] = (first, now)
         return self.root in found
 
-    def part(self, chain):
+    def part(self, chain: list[int]) -> Place:
         """What a process works on, or else the nearest one above it that says so."""
         for pid in chain:
             words = part_of(pid) or self.parts.get(pid)
@@ -85,11 +151,34 @@ class Watch:
                 return words
         return ("other", "run")
 
-    def table(self):
-        """The lines of the table, the most expensive crate first."""
-        sums = defaultdict(lambda: dict.fromkeys(PARTS, 0.0))
+    def sums(self) -> dict[str, dict[str, float]]:
+        """The seconds of each part of each crate."""
+        sums: dict[str, dict[str, float]] = defaultdict(lambda: dict.fromkeys(PARTS, 0.0))
         for (_, (crate, part)), seconds in self.used.items():
             sums[crate][part] += seconds
+        return sums
+
+    def as_line(self) -> Run:
+        """This run, for the table of CI's runs."""
+        of = [(part, seconds) for (_, (_, part)), seconds in self.used.items()]
+        library, tests, tried = (
+            round(sum(s for name, s in of if name == part) / 60) for part in PARTS[:3]
+        )
+        return Run(
+            date=time.strftime("%Y-%m-%d"),
+            crates=len(glob.glob(CRATES)),
+            edits=len(glob.glob(EDITS)),
+            library=library,
+            tests=tests,
+            tried=tried,
+            all=round(sum(seconds for _, seconds in of) / 60),
+            cores=len(os.sched_getaffinity(0)),
+            wall=round((time.monotonic() - self.begun) / 60),
+        )
+
+    def table(self) -> Iterator[str]:
+        """The lines of the table, the most expensive crate first."""
+        sums = self.sums()
         row = "| %-22s | %8s | %8s | %8s | %8s | %-s |"
         yield row % ("Crate", "library", "tests", "edits", "run", "wall minutes, from and to")
         yield row.replace("%-s", "%s") % ("---", "--:", "--:", "--:", "--:", "---")
@@ -105,9 +194,11 @@ class Watch:
                      "%.1f of the processor" % (sum(total.values()) / 60))
 
 
-def main(words):
+def main(words: list[str]) -> int:
+    if words == ["--last"]:
+        return tell_last()
     if not words or (words[0] == "--pid" and len(words) != 2):
-        print(__doc__.strip(), file=sys.stderr)
+        print((__doc__ or "").strip(), file=sys.stderr)
         return 2
     run = None if words[0] == "--pid" else subprocess.Popen(words)
     watch = Watch(run.pid if run else int(words[1]))
@@ -115,6 +206,7 @@ def main(words):
         time.sleep(BETWEEN_LOOKS)
     print("\n".join(watch.table()))
     print("%.1f minutes by the wall" % ((time.monotonic() - watch.begun) / 60))
+    print("For the table of CI's runs in docs/PERFORMANCE.md:\n" + watch.as_line().line())
     return run.returncode if run else 0
 
 

@@ -1,64 +1,134 @@
 #!/usr/bin/env python3
-"""Tries must-fail edits, many in one check, each by the line of its own function.
+"""Tries the edits of a crate, many in one check, each by the goals of its own function.
 
-try_edits.py [--jobs N] [--alone] CRATE[/EDIT]..
+try_edits.py [--jobs N] [--must-fail] [--anew] [--logs FOLDER] CRATE[/EDIT]..
 
-`rt must-fail` checks a crate once for each edit, and most of that time goes into what the prover
-loads. This script puts edits of functions that don't call each other into one check of these
-functions alone. No proof reads the body of another function, so each is refused by its own clause.
-A line for each edit says which function was not proved. The last line counts the edits, and those
-that were not refused: the status is 1 where there are any.
+CRATE stands for the edits of its edits/, with --must-fail for those of its must-fail/ too, and
+CRATE/EDIT for one edit of either folder. An edit is refused where the prover names a goal of the
+function that it changes, or of a closure of it, which isn't proved any more. That a function calls
+another one that isn't proved is no reason, nor that a statement wasn't admitted, nor that a proof
+file names what the edit took away. (Where a function has answers in proofs/, a change that means
+the same as before may be refused too, since they no longer fit.) No proof reads the body of another
+function, so a check has edits of many functions, of which none calls another one; an edit of what
+is no body, or whose check names no goal of its function, is tried by a whole check of the crate.
+Each check of many edits also has a statement that does nothing, planted in a function without an
+edit, which has to be proved: otherwise a refusal would say nothing, the control is lost, and the
+crate fails.
 
-The crate has to be proved and its work kept, as `rt check` leaves it; nothing is written there. An
-edit of what is no body, or whose check says nothing of its function, is tried by a whole check of
-the crate, as all are with --alone. N checks go on at once: 1 where none is given. This is for the
-time before a commit: the verdict is that of `rt ci`, which tries each edit from nothing. It reads
-the kit's own scripts. Standard library alone.
+A line for each edit says why it was refused. The last line counts the edits and those that were
+not; the status is 1 where there are any. When all edits of a crate's edits/ were refused, the
+record edits/tried is written, which check_edits.py compares with the crate; else it is removed.
+
+The crate has to be proved and its work kept, as `rt check` leaves it in out/. There is also written
+which edits were refused: they aren't tried again as long as nothing changes in the crate and those
+below, but with --anew. N checks go on at once: 1 where none is given. What each check printed is
+written to FOLDER. This is for the time before a commit: `rt ci` tries the edits of must-fail/, each
+from nothing. It reads the kit's own scripts. Standard library alone.
 """
 
+from __future__ import annotations
+
 import argparse
+import datetime
+import enum
+import hashlib
 import importlib.util
+import itertools
 import os
 import re
 import shutil
 import subprocess
 import sys
 import tempfile
-from collections import namedtuple
+from collections.abc import Iterable, Iterator
 from concurrent.futures import ThreadPoolExecutor
+from dataclasses import dataclass
 from importlib.machinery import SourceFileLoader
+from typing import Any
 
-TOP = os.path.dirname(os.path.dirname(os.path.abspath(__file__)))
+import check_edits
+from check_edits import EDITS, FOLDERS, MUST_FAIL, TOP, Change, Edit, Misfit, read, texts_with
 
-# A function in a source file: the names of its module, of the type it belongs to and its own, and
-# where its body begins and ends.
-Function = namedtuple("Function", "module owner name body end")
-# An edit: its name, its changes (file, old text, new text), and the functions that they lie in, by
-# the prover's names; none where a change lies in no body.
-Edit = namedtuple("Edit", "name changes functions")
+# The statement that does nothing, and in how many functions it is tried before the edits.
+PLANTED = " let planted = 0u8; let _ = planted;"
+PLANTS = 6
 
 COMMENTS = re.compile(r'//[^\n]*|b?"(?:\\.|[^"\\])*"|b?\'(?:\\[^\']*|[^\'\\\n])\'', re.S)
+TRAIT = re.compile(r"(?:pub(?:\([^)]*\))? )?trait\b")
 OWNERS = re.compile(r"^(?:pub(?:\([^)]*\))? )?(?:impl|trait)\b[^{;]*\{", re.M)
 CLAUSE = re.compile(r"\b(ensures|requires|ghost|decreases)\b\*?[^{}]*\Z")
-SAID = re.compile(r"^fn \w+::(\S+): (proved|not proved|no proof|could not tell)", re.M)
+
+# What a check prints: of each function; of a goal that isn't proved, above its function's line; of
+# an answer that doesn't prove its goal, in a function's folder of proofs/, and of those that rest
+# on one; and what it says of an answer if that only names what isn't there any more.
+OF_FUNCTION = re.compile(r"fn (\w+)::(\S+): (.*)")
+OF_GOAL = re.compile(r"note: \S+: it is not proved that .*?\(`([^`]+)`\)")
+OF_ANSWER = re.compile(r"(?:\./)?proofs/(\S+)/\w+\.antt:\d+:\d+: error: `([^`]+)`: (.*)")
+OF_DEPENDENTS = re.compile(
+    r"(?:\./)?proofs/(\S+)/\w+\.antt:\d+:\d+: error: .* on `([^`]+)`, .* were not checked: (.*)")
+LOST = re.compile(r"has no field|is not in scope|has no `|was not admitted|is no name")
+UNPROVED = ("not proved", "no proof")
+SEARCHED = re.compile(r"`search` did not prove ((?:`[^`]+`(?:, )?)+)")
+ENDED = re.compile(r"(only=|logic=)\S+")
 
 
-def kit():
+@dataclass(frozen=True)
+class Function:
+    """A function of a source file: its module, the head of the `impl` block around it, its name,
+    and where its body begins and ends."""
+
+    module: str
+    owner: str
+    name: str
+    body: int
+    end: int
+
+    def is_method_of_trait(self) -> bool:
+        return " for " in self.owner or re.match(TRAIT, self.owner) is not None
+
+
+class Outcome(enum.Enum):
+    """What a try of an edit came to."""
+
+    REFUSED = "refused"
+    PROVED = "NOT REFUSED: the crate is proved with this edit"
+    UNEXPLAINED = "NOT REFUSED BY ITS REASON"
+    NOT_COMPILED = "NOT COMPILED"
+    NO_VERDICT = "NO VERDICT"
+
+
+@dataclass(frozen=True)
+class Verdict:
+    """What a try of an edit came to, and what the check said."""
+
+    edit: Edit
+    outcome: Outcome
+    why: str
+
+    def __str__(self) -> str:
+        return f"{self.edit}: {self.outcome.value}: {self.why}"
+
+
+# Edits, each with the functions that it changes.
+Batch = list[tuple[Edit, frozenset[str]]]
+
+
+class LostControl(Exception):
+    """Why the refusals of a crate say nothing."""
+
+
+def kit() -> Any:
     """The kit's `rt`, as a module."""
     path = os.path.realpath(shutil.which("rt") or sys.exit("rt is not on the path"))
     loader = SourceFileLoader("rt", path)
-    module = importlib.util.module_from_spec(importlib.util.spec_from_loader("rt", loader))
+    spec = importlib.util.spec_from_loader("rt", loader)
+    module = importlib.util.module_from_spec(spec) if spec else sys.exit(f"{path}: no script")
     sys.path.insert(0, os.path.dirname(path))
     loader.exec_module(module)
     return module
 
 
-def read(path):
-    with open(path, encoding="utf-8", errors="replace") as file:
-        return file.read()
-
-
-def end_of(text, at):
+def end_of(text: str, at: int) -> int:
     """Where the braces close that open at this place."""
     depth = 0
     for found in re.compile(r"[{}]").finditer(text, at):
@@ -68,7 +138,7 @@ def end_of(text, at):
     return len(text)
 
 
-def body_of(text, at):
+def body_of(text: str, at: int) -> int | None:
     """Where the body begins of the function whose head stands here, past its clauses."""
     begin = at
     while True:
@@ -83,9 +153,9 @@ def body_of(text, at):
             return found.start()
 
 
-def functions_in(folder, path):
-    """The functions of a source file."""
-    text = COMMENTS.sub(lambda it: re.sub(r"[^\n]", " ", it[0]), read(f"{folder}/{path}"))
+def functions_in(text: str, path: str) -> list[Function]:
+    """The functions of the text of a source file."""
+    text = COMMENTS.sub(lambda it: re.sub(r"[^\n]", " ", it[0]), text)
     owners = [(it.start(), end_of(text, it.end() - 1), it[0]) for it in OWNERS.finditer(text)]
     module = re.sub(r"^src/|\.rt$|/mod\.rt$", "", path).replace("/", "::")
     module = "" if module in ("lib", "main") else module
@@ -98,66 +168,139 @@ def functions_in(folder, path):
     return found
 
 
-def proved_name(function, names):
+def proved_owner(owner: str) -> str:
+    """The prover's name of a type, or of an `impl` of a trait, by the head of its block."""
+    head = re.sub(r"^(pub(\([^)]*\))? )?(impl(<[^{]*?>)? |trait )", "", owner.strip("{ \n"))
+    of_trait, is_impl, of_type = head.partition(" for ")
+    named = re.match(r"\w+", of_type if is_impl else head)
+    return (named[0] if named else "") + (re.sub(r"\W", "", of_trait) if is_impl else "")
+
+
+def proved_name(function: Function, names: Iterable[str]) -> str | None:
     """The prover's name of a function: of those in its module with its own name, the one whose type
     the head of the `impl` block names."""
     before = f"{function.module}::" if function.module else ""
-    found = [it for it in names if it.startswith(before) and it.rpartition("::")[2] == function.name]
+    found = [it for it in names if it.startswith(before)]
+    found = [it for it in found if it.rpartition("::")[2] == function.name]
     found = [it for it in found if it[len(before) :].count("::") == bool(function.owner)]
     if len(found) > 1:
+        exact = [it for it in found if it.split("::")[-2] == proved_owner(function.owner)]
+        if exact:
+            return exact[0]
         words = re.sub(r"\W", "", re.sub(r"<[^<>]*>", "", function.owner))
         owned = [it for it in found if it.split("::")[-2] in words]
-        found = owned or [it for it in found if re.match(r"\w*", it.split("::")[-2])[0] in words]
+        found = owned or [it for it in found if first_word(it.split("::")[-2]) in words]
     return found[0] if len(found) == 1 else None
 
 
-def edit_of(folder, name, sources, names):
-    """Reads an edit, and finds the functions that it changes."""
-    changes, path, old = [], None, None
-    for line in read(f"{folder}/must-fail/{name}").split("\n"):
-        if line.startswith("file: "):
-            path = line[len("file: ") :].strip()
-        elif line.startswith("old: "):
-            old = line[len("old: ") :]
-        elif line.startswith("new:") and path and old:
-            changes.append((path, old, line[len("new:") :].removeprefix(" ")))
-    functions = set()
-    for path, old, _ in changes:
-        at = read(f"{folder}/{path}").find(old)
-        around = [it for it in sources.get(path, []) if it.body <= at and at + len(old) <= it.end]
-        inner = max(around, key=lambda it: it.body, default=None)
-        functions.add(inner and proved_name(inner, names))
-    return Edit(name, changes, frozenset() if None in functions else frozenset(functions))
+def first_word(name: str) -> str:
+    return (re.match(r"\w*", name) or [""])[0]
 
 
-def texts_of(folder, edits):
-    """The texts of the files with these edits, or None where one can't be applied once."""
-    texts = {}
-    for path, old, new in (it for edit in edits for it in edit.changes):
-        text = texts.get(path) or read(f"{folder}/{path}")
-        if text.count(old) != 1:
-            return None
-        texts[path] = text.replace(old, new)
-    return texts
+class Report:
+    """What a check says of the functions of a crate."""
+
+    def __init__(self, ran: subprocess.CompletedProcess[str], crate: str) -> None:
+        self.status, self.lines = ran.returncode, ran.stdout.rstrip("\n").split("\n")
+        self.said: dict[str, list[str]] = {}
+        self.goals: dict[str, list[str]] = {}
+        self.answers: dict[str, set[str]] = {}
+        noted: list[str] = []
+        for line in self.lines:
+            goal, function = OF_GOAL.match(line), OF_FUNCTION.match(line)
+            self.take_answer(line)
+            if goal:
+                noted.append(goal[1])
+            elif function and function[1] == crate:
+                self.take_function(function[2], function[3], noted)
+                noted = []
+
+    def take_answer(self, line: str) -> None:
+        """Takes what a line says of an answer that doesn't prove its goal, or of those on it."""
+        answer, dependents = OF_ANSWER.match(line), OF_DEPENDENTS.match(line)
+        if answer and not LOST.search(answer[3]):
+            self.answers.setdefault(answer[1].replace("/", "::"), set()).add(answer[2])
+        elif dependents:
+            known = self.answers.get(dependents[1].replace("/", "::"), set())
+            known |= set(dependents[3].split(", ")) if dependents[2] in known else set()
+
+    def take_function(self, name: str, said: str, noted: list[str]) -> None:
+        """Takes the line of a function, above which these goals were noted."""
+        self.said.setdefault(name, []).append(said)
+        if said.startswith(UNPROVED):
+            searched = SEARCHED.search(said)
+            goals = re.findall(r"`([^`]+)`", searched[1]) if searched else []
+            self.goals.setdefault(name, []).extend(goals or noted)
+
+    def has_ended(self) -> bool:
+        """Whether the prover came to an end with what it was asked."""
+        return self.status in (0, 1) and ENDED.match(self.lines[-1]) is not None
+
+    def is_proved(self, name: str) -> bool:
+        return self.said.get(name) == ["proved"]
+
+    def proved(self) -> set[str]:
+        return {name for name in self.said if self.is_proved(name)}
+
+    def reason(self, function: str | None, proofs: str) -> str | None:
+        """A goal that isn't proved, of this function or of a closure of it, or of any function: one
+        that was searched for, or else one whose answer in the folder `proofs` no longer fits."""
+        own = [name for name in sorted(self.said) if function is None or is_within(name, function)]
+        own = [name for name in own if any(is_unproved(said) for said in self.said[name])]
+        for name in own:
+            if self.goals.get(name):
+                return f"{name}: {self.goals[name][0]}"
+        for name in own:
+            goals = self.answers.get(name, set()) & goals_answered(proofs, name)
+            if goals:
+                return f"{name}: {min(goals)}, by its answer"
+        return None
+
+    def first_fault(self) -> str:
+        """The first line that tells a fault, or the last one."""
+        faults = [line for line in self.lines if re.search(r"\berror\b|not proved|no proof", line)]
+        return (faults or self.lines[-1:])[0][:300]
+
+
+def is_unproved(said: str) -> bool:
+    """Whether a function's line says that it isn't proved, and not since its statement isn't."""
+    return said.startswith(UNPROVED) and "did not admit" not in said
+
+
+def goals_answered(proofs: str, function: str) -> set[str]:
+    """The goals of a function that have an answer."""
+    path = os.path.join(proofs, *function.split("::"), "Answers.antt")
+    return set(re.findall(r"goal\.(\S+)", read(path))) if os.path.isfile(path) else set()
+
+
+def is_within(name: str, function: str) -> bool:
+    """Whether it is this function, by the prover's name, or a closure in it."""
+    module, _, own = function.rpartition("::")
+    inner = "::".join(filter(None, [module, "fn", own]))
+    return name == function or name.startswith((f"{inner}::", f"{function}::"))
 
 
 class Calls:
     """Which functions of a crate a function reaches, as the prover's kept files name them."""
 
-    def __init__(self, crate, kept):
-        self.reached, self.direct = {}, {}
+    def __init__(self, crate: str, kept: str) -> None:
+        self.reached: dict[str, set[str]] = {}
+        self.direct: dict[str, set[str]] = {}
         head = f"Rattle-{crate}-proofs."
         called = re.compile(rf"^--@ import {re.escape(head)}(\S+)\.Symbol ", re.M)
         for at, _, files in os.walk(kept):
             for file in files:
                 if file.startswith(head) and file.endswith(".Code.oantt"):
-                    function = file[len(head) : -len(".Code.oantt")].replace(".", "::")
-                    found = called.findall(read(f"{at}/{file}"))
-                    self.direct[function] = {it.replace(".", "::") for it in found}
+                    function = file.removeprefix(head).removesuffix(".Code.oantt")
+                    with open(os.path.join(at, file), encoding="utf-8", errors="replace") as code:
+                        found = called.findall(code.read())
+                    own = {it.replace(".", "::") for it in found} - {function.replace(".", "::")}
+                    self.direct[function.replace(".", "::")] = own
 
-    def reach(self, function):
+    def reach(self, function: str) -> set[str]:
         if function not in self.reached:
-            found, left = set(), [function]
+            found: set[str] = set()
+            left = [function]
             while left:
                 new = self.direct.get(left.pop(), set()) - found
                 found |= new
@@ -165,128 +308,307 @@ class Calls:
             self.reached[function] = found
         return self.reached[function]
 
-    def meet(self, one, other):
-        """Whether two edits change one function, or one that the other calls."""
-        said = " ".join(new for edit in (one, other) for _, _, new in edit.changes)
-        for a in one.functions:
-            for b in other.functions:
-                if a == b or a in self.reach(b) or b in self.reach(a):
-                    return True
-        names = {it.rpartition("::")[2] for it in one.functions | other.functions}
-        return any(re.search(rf"\b{re.escape(it)}\(", said) for it in names)
-
-
-def batches_of(folder, edits, calls):
-    """The edits in as few checks as a first fit finds."""
-    batches = []
-    for edit in sorted(edits, key=lambda it: -sum(len(calls.reach(f)) for f in it.functions)):
-        for batch in batches:
-            apart = not any(calls.meet(edit, other) for other in batch)
-            if apart and texts_of(folder, [*batch, edit]) is not None:
-                batch.append(edit)
-                break
-        else:
-            batches.append([edit])
-    return batches
+    def meet(self, ones: Iterable[str], others: Iterable[str]) -> bool:
+        """Whether one of these functions is one of the others, or calls one, or is called."""
+        return any(one == other or one in self.reach(other) or other in self.reach(one)
+                   for one in ones for other in others)
 
 
 class Trial:
     """The checks of one crate over what an earlier one kept."""
 
-    def __init__(self, rt, crate, room):
-        self.rt, self.crate, self.folder = rt, crate, crate.folder
-        self.seed = f"{room}/{crate.name}"
-        self.rt.linked(f"{crate.folder}/out/incremental", self.seed)
-        self.ran = self.check({}, [], self.seed)
+    def __init__(self, rt: Any, crate: Any, room: str, logs: str | None) -> None:
+        self.rt, self.crate, self.folder, self.name = rt, crate, crate.folder, crate.name
+        self.logs, self.count = logs, itertools.count(1)
+        self.seed = os.path.join(room, crate.name)
+        self.rt.linked(os.path.join(self.folder, "out", "incremental"), self.seed)
+        unedited = self.check({}, [], self.seed)
+        self.is_proved, self.names = unedited.status == 0, unedited.proved()
+        self.sources, self.calls = dict(self.functions_of_sources()), Calls(self.name, self.seed)
+        self.controls: list[tuple[str, Function]] = []
 
-    def check(self, texts, only, kept):
+    def functions_of_sources(self) -> Iterator[tuple[str, list[Function]]]:
+        for at, _, names in os.walk(os.path.join(self.folder, "src")):
+            for path in (os.path.join(at, name) for name in names):
+                inside = os.path.relpath(path, self.folder)
+                yield inside, functions_in(read(path), inside)
+
+    def check(self, texts: dict[str, str], only: Iterable[str], kept: str) -> Report:
         words = ["--jobs", "1"] + [word for it in only for word in ("--only", it)]
-        return self.rt.checked(self.crate, texts, words, kept)
+        ran = self.rt.checked(self.crate, texts, words, kept)
+        if self.logs:
+            with open(f"{self.logs}/{self.name}.{next(self.count)}", "w", encoding="utf-8") as file:
+                file.write(ran.stdout)
+        return Report(ran, self.name)
 
-    def over_copy(self, texts, only):
+    def over_copy(self, texts: dict[str, str], only: Iterable[str]) -> Report:
+        """A check over a copy of what was kept."""
         with tempfile.TemporaryDirectory(dir=os.path.dirname(self.seed)) as room:
             self.rt.linked(self.seed, f"{room}/kept")
             return self.check(texts, only, f"{room}/kept")
 
-    def try_batch(self, batch):
-        """What the prover says of each edit's functions; None where it says nothing of it."""
-        only = sorted(set().union(*[it.functions for it in batch]))
-        ran = self.over_copy(texts_of(self.folder, batch), only)
-        said = dict(SAID.findall(ran.stdout))
-        return [(edit, self.refusing(edit, said)) for edit in batch]
+    def functions_of(self, edit: Edit) -> frozenset[str]:
+        """The functions whose bodies an edit changes; none where it changes anything else."""
+        changed = [self.function_of(change) for change in edit.changes]
+        return frozenset(it for it in changed if it) if all(changed) else frozenset()
 
-    def refusing(self, edit, said):
-        """The function that isn't proved with this edit: its own, or one of its closures."""
-        for function in sorted(edit.functions):
-            module, _, name = function.rpartition("::")
-            inner = "::".join(filter(None, [module, "fn", name]))
-            for it, word in said.items():
-                if (it == function or it.startswith(f"{inner}::")) and word in ("not proved", "no proof"):
-                    return it
+    def function_of(self, change: Change) -> str | None:
+        """The function in whose body a text is changed."""
+        at = read(os.path.join(self.folder, change.path)).find(change.old)
+        end = at + len(change.old)
+        functions = self.sources.get(change.path, [])
+        around = [it for it in functions if it.body <= at and end <= it.end]
+        inner = max(around, key=lambda it: it.body, default=None)
+        return proved_name(inner, self.names) if inner else None
+
+    def leaves(self) -> Iterator[tuple[str, Function]]:
+        """Functions that call no other of the crate and have no proof file, with their files."""
+        for path, functions in sorted(self.sources.items()):
+            for function in functions:
+                name = proved_name(function, self.names)
+                if name and not function.is_method_of_trait() and self.is_leaf(name):
+                    yield path, function
+
+    def is_leaf(self, name: str) -> bool:
+        has_proof = os.path.isdir(os.path.join(self.folder, "proofs", *name.split("::")))
+        return not (self.calls.direct.get(name, set()) & self.names or has_proof)
+
+    def planted(self, texts: dict[str, str], path: str, function: Function) -> dict[str, str]:
+        """The texts with the statement that does nothing at the beginning of this function."""
+        text = texts.get(path) or read(os.path.join(self.folder, path))
+        now = functions_in(text, path)
+        same = [it for it in now if (it.owner, it.name) == (function.owner, function.name)]
+        if len(same) != 1:
+            raise LostControl(f"{function.name} stands in {path} {len(same)} times")
+        at = same[0].body + 1
+        return {**texts, path: text[:at] + PLANTED + text[at:]}
+
+    def find_controls(self) -> None:
+        """Finds functions whose proofs accept the statement that does nothing."""
+        leaves = [it for _, it in zip(range(PLANTS), self.leaves())]
+        texts: dict[str, str] = {}
+        for path, function in leaves:
+            texts = self.planted(texts, path, function)
+        named = {str(proved_name(function, self.names)): (path, function)
+                 for path, function in leaves}
+        if not named:
+            raise LostControl("there is no function to plant a statement in that does nothing")
+        report = self.over_copy(texts, sorted(named))
+        self.controls = [named[it] for it in sorted(named) if report.is_proved(it)]
+        if not self.controls:
+            raise LostControl("a statement that does nothing was refused wherever it was planted")
+
+    def control_beside(self, functions: set[str]) -> tuple[str, Function] | None:
+        """A control in a function that is none of these, and calls none of them."""
+        for path, function in self.controls:
+            if not self.calls.meet([str(proved_name(function, self.names))], functions):
+                return path, function
         return None
 
-    def try_alone(self, edit):
-        """Tries an edit by a whole check, as `rt must-fail` does."""
-        path = f"{self.folder}/must-fail/{edit.name}"
-        with tempfile.TemporaryDirectory(dir=os.path.dirname(self.seed)) as room:
-            self.rt.linked(self.seed, f"{room}/kept")
-            kind, said = self.rt.must_fail(self.crate, path, ["--jobs", "1"], f"{room}/kept")
-        return kind in (self.rt.REFUSED, self.rt.AT_LIMIT), said
+    def try_batch(self, batch: Batch) -> Iterator[Verdict | Edit]:
+        """Tries edits of different functions in one check: the verdict on each that is refused, and
+        each edit of which it says nothing."""
+        functions = {name for _, names in batch for name in names}
+        texts = texts_with([edit for edit, _ in batch])
+        control = self.control_beside(functions)
+        planted = self.planted(texts, *control) if control else texts
+        name = str(proved_name(control[1], self.names)) if control else None
+        report = self.over_copy(planted, sorted(functions | ({name} if name else set())))
+        if not report.has_ended() and len(batch) > 1:
+            half = len(batch) // 2
+            yield from self.try_batch(batch[:half])
+            yield from self.try_batch(batch[half:])
+            return
+        if report.has_ended() and name and not report.is_proved(name):
+            raise LostControl(f"{name} isn't proved with a statement that does nothing")
+        for edit, names in batch:
+            once = [it for it in sorted(names) if len(report.said.get(it, [])) == 1]
+            reason = self.reason(report, once)
+            yield Verdict(edit, Outcome.REFUSED, reason) if reason else edit
+
+    def try_alone(self, edit: Edit, functions: frozenset[str]) -> Verdict:
+        """Tries an edit by a whole check."""
+        report = self.over_copy(texts_with([edit]), [])
+        if report.status == 0:
+            return Verdict(edit, Outcome.PROVED, report.lines[-1])
+        if not report.has_ended():
+            is_bad = any("error[" in line for line in report.lines)
+            outcome = Outcome.NOT_COMPILED if is_bad else Outcome.NO_VERDICT
+            return Verdict(edit, outcome, report.first_fault())
+        own: list[str | None] = [*sorted(functions)] or [None]
+        reason = self.reason(report, own)
+        if reason:
+            return Verdict(edit, Outcome.REFUSED, f"{reason} (whole check)")
+        return Verdict(edit, Outcome.UNEXPLAINED, report.first_fault())
 
 
-def edits_of(trial, wanted):
-    """The edits of a crate that are asked for, with the functions that they change."""
-    names = {it for it, _ in SAID.findall(trial.ran.stdout)}
-    sources = {}
-    for at, _, files in os.walk(f"{trial.folder}/src"):
-        for path in (os.path.relpath(f"{at}/{it}", trial.folder) for it in files):
-            sources[path] = functions_in(trial.folder, path)
-    files = [os.path.basename(it) for it in trial.rt.edits_of(trial.crate)[0]]
-    files = [it for it in files if not wanted or it.removesuffix(".edit") in wanted]
-    return [edit_of(trial.folder, it, sources, names) for it in files]
+    def reason(self, report: Report, functions: Iterable[str | None]) -> str | None:
+        """Why one of these functions isn't proved, or where it is None any function."""
+        proofs = os.path.join(self.folder, "proofs")
+        return next(filter(None, (report.reason(it, proofs) for it in functions)), None)
 
 
-def try_crate(trial, wanted, alone, pool):
-    """Tries the edits of a crate, and returns how many there are and those not refused."""
-    name = trial.crate.name
-    if trial.ran.returncode:
-        print(f"{name}: it isn't proved as it stands: run rt check first")
-        return 1, [name]
-    edits = edits_of(trial, wanted)
-    together = [] if alone else [it for it in edits if it.functions]
-    batches = batches_of(trial.folder, together, Calls(name, trial.seed))
-    left, missed = [it for it in edits if it not in together], []
-    for edit, function in (it for found in pool.map(trial.try_batch, batches) for it in found):
-        if function:
-            print(f"{name}/{edit.name}: refused: {function}", flush=True)
+def batches_of(edits: Batch, calls: Calls) -> list[Batch]:
+    """The edits in as few checks as a first fit finds: in a check no two edits of one function, or
+    of one that another one's calls, since the prover may wait for what is called."""
+    batches: list[Batch] = []
+    for edit, functions in sorted(edits, key=lambda it: -sum(len(calls.reach(f)) for f in it[1])):
+        for batch in batches:
+            if not any(calls.meet(functions, own) for _, own in batch) and fits(batch, edit):
+                batch.append((edit, functions))
+                break
         else:
-            left.append(edit)
-    for edit, (refused, said) in zip(left, pool.map(trial.try_alone, left)):
-        print(said, flush=True)
-        missed += [] if refused else [f"{name}/{edit.name}"]
-    print(f"{name}: {len(edits)} edits in {len(batches)} checks, {len(left)} by a whole check")
-    return len(edits), missed
+            batches.append([(edit, functions)])
+    return batches
 
 
-def main():
-    asked = argparse.ArgumentParser(description="tries must-fail edits, many in one check")
+def fits(batch: Batch, edit: Edit) -> bool:
+    """Whether an edit can be applied beside these."""
+    try:
+        texts_with([*(it for it, _ in batch), edit])
+    except Misfit:
+        return False
+    return True
+
+
+def try_edits(trial: Trial, edits: list[Edit], pool: ThreadPoolExecutor) -> Iterator[Verdict]:
+    """Tries the edits of a crate, and says what each came to."""
+    functions = {edit: trial.functions_of(edit) for edit in edits}
+    trial.find_controls()
+    batches = batches_of([(it, functions[it]) for it in edits if functions[it]], trial.calls)
+    left = [edit for edit in edits if not functions[edit]]
+    print(f"{trial.name}: {len(edits)} edits, {len(batches)} checks, {len(left)} alone", flush=True)
+    for found in pool.map(lambda batch: list(trial.try_batch(batch)), batches):
+        for it in found:
+            if isinstance(it, Verdict):
+                yield it
+            else:
+                left.append(it)
+    yield from pool.map(lambda edit: trial.try_alone(edit, functions[edit]), left)
+
+
+def edits_asked(crate: str, wanted: set[str], has_must_fail: bool) -> list[Edit]:
+    """The edits of a crate that are asked for: those with these names, or all of the folders."""
+    every = [edit for folder in FOLDERS for edit in check_edits.edits_of(crate, folder)]
+    faults = list(check_edits.faults_of_edits(every))
+    unknown = wanted - {edit.name for edit in every}
+    if faults or unknown:
+        sys.exit("\n".join([*faults, *(f"{crate} has no edit {it}" for it in sorted(unknown))]))
+    if wanted:
+        return [edit for edit in every if edit.name in wanted]
+    return [edit for edit in every if edit.folder == EDITS or has_must_fail]
+
+
+class Refusals:
+    """The edits that were refused in earlier tries of a crate and of all below it as they stand,
+    each by a checksum of these and the edit, with its reason. They are kept in the crate's out/."""
+
+    def __init__(self, rt: Any, crate: Any) -> None:
+        self.path = os.path.join(crate.folder, "out", "refused_edits")
+        self.stamp = rt.stamp_of(crate, {})
+        lines = read(self.path).splitlines() if os.path.isfile(self.path) else []
+        self.reasons = {key: why for key, _, why in (line.partition(" ") for line in lines)}
+
+    def key(self, edit: Edit) -> str:
+        return hashlib.sha256(repr((self.stamp, edit.changes)).encode()).hexdigest()
+
+    def reason(self, edit: Edit) -> str | None:
+        return self.reasons.get(self.key(edit))
+
+    def add(self, edit: Edit, why: str) -> None:
+        with open(self.path, "a", encoding="utf-8") as file:
+            file.write(f"{self.key(edit)} {why}\n")
+
+    def forget(self) -> None:
+        if os.path.exists(self.path):
+            os.remove(self.path)
+
+
+def try_crate(trial: Trial, edits: list[Edit], kept: Refusals,
+              pool: ThreadPoolExecutor) -> list[str]:
+    """Tries edits of a crate, and returns those that aren't refused by their reasons."""
+    if not trial.is_proved:
+        print(f"{trial.name}: it isn't proved as it stands: run rt check first")
+        return [trial.name]
+    seen: list[Edit] = []
+    missed: list[str] = []
+    try:
+        for verdict in try_edits(trial, edits, pool):
+            print(verdict, flush=True)
+            seen.append(verdict.edit)
+            if verdict.outcome is Outcome.REFUSED:
+                kept.add(verdict.edit, verdict.why)
+            else:
+                missed.append(str(verdict.edit))
+    except LostControl as why:
+        kept.forget()
+        print(f"{trial.name}: LOST CONTROL: {why}")
+        return [trial.name]
+    if sorted(map(str, seen)) != sorted(map(str, edits)):
+        print(f"{trial.name}: {len(edits)} edits, and {len(seen)} verdicts")
+        return [trial.name]
+    return missed
+
+
+def keep_record(crate: str, is_refused: bool) -> None:
+    """Writes that all edits of a crate's edits/ were refused, or removes what an earlier try
+    wrote."""
+    if is_refused and check_edits.edits_of(crate, EDITS):
+        check_edits.write_record(crate, datetime.date.today().isoformat())
+    else:
+        check_edits.remove_record(crate)
+
+
+def try_rest(rt: Any, crate: Any, edits: list[Edit], given: argparse.Namespace) -> list[str]:
+    """Tries those edits of a crate that an earlier try didn't refuse, and returns those that aren't
+    refused now either."""
+    kept, before = Refusals(rt, crate), check_edits.checksum_of(crate.name)
+    if given.anew:
+        kept.reasons.clear()
+    known = {edit: why for edit in edits if (why := kept.reason(edit))}
+    for edit, why in known.items():
+        print(Verdict(edit, Outcome.REFUSED, f"{why} (by an earlier try)"))
+    left = [edit for edit in edits if edit not in known]
+    if not left:
+        return []
+    with tempfile.TemporaryDirectory(prefix="try-edits-") as room:
+        with ThreadPoolExecutor(given.jobs) as pool:
+            missed = try_crate(Trial(rt, crate, room, given.logs), left, kept, pool)
+    if before != check_edits.checksum_of(crate.name):
+        kept.forget()
+        print(f"{crate.name}: it was changed meanwhile")
+        return [crate.name]
+    return missed
+
+
+def arguments() -> argparse.Namespace:
+    asked = argparse.ArgumentParser(description="tries the edits of crates, many in one check")
     asked.add_argument("--jobs", type=int, default=1)
-    asked.add_argument("--alone", action="store_true")
+    asked.add_argument("--must-fail", action="store_true", help=f"those of {MUST_FAIL}/ too")
+    asked.add_argument("--anew", action="store_true", help="those that were refused before too")
+    asked.add_argument("--logs", metavar="FOLDER")
     asked.add_argument("names", nargs="+", metavar="CRATE[/EDIT]")
     given = asked.parse_args()
+    os.makedirs(given.logs or TOP, exist_ok=True)
+    given.logs = given.logs and os.path.abspath(given.logs)
+    return given
+
+
+def main() -> int:
+    given = arguments()
     os.chdir(TOP)
     rt = kit()
     rt.rtlib.guarded()
     crates = {it.name: it for it in rt.crates_of(TOP)}
-    tried, missed = 0, []
-    with tempfile.TemporaryDirectory(prefix="try-edits-") as room:
-        with ThreadPoolExecutor(given.jobs) as pool:
-            for name in dict.fromkeys(it.partition("/")[0] for it in given.names):
-                wanted = {it.partition("/")[2] for it in given.names if it.startswith(f"{name}/")}
-                trial = Trial(rt, crates[name], room)
-                count, lost = try_crate(trial, wanted - {""}, given.alone, pool)
-                tried, missed = tried + count, missed + lost
-                shutil.rmtree(trial.seed)
+    tried = 0
+    missed: list[str] = []
+    for name in dict.fromkeys(it.partition("/")[0] for it in given.names):
+        wanted = {it.partition("/")[2] for it in given.names if it.startswith(f"{name}/")}
+        edits = edits_asked(name, wanted, given.must_fail)
+        lost = try_rest(rt, crates[name], edits, given)
+        if not wanted:
+            keep_record(name, not lost)
+        tried, missed = tried + len(edits), missed + lost
     print(f"{tried} edits tried, {len(missed)} not refused{''.join(f' {it}' for it in missed)}")
     return 1 if missed else 0
 

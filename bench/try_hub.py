@@ -1,166 +1,57 @@
 #!/usr/bin/env python3
-"""Tries examples/hub.py with the built program: clients, openings, its socket, damage, its end.
+"""Tries examples/hub.py, and the clients beside it, with the built program.
 
-try_hub.py PROGRAM [HUB]
+try_hub.py PROGRAM [FOLDER]
 
-PROGRAM is the built `sctd`; HUB is another hub than examples/hub.py. The status is 1 at the first
-thing that isn't as it has to be, and the last line then says what: a client that the hub hangs up
-on, one that gets no reply, a hub that doesn't end. It is 3 where the system doesn't allow so many
-open files. No hub is left running, however it ends. Standard library alone.
+PROGRAM is the built `sctd`; FOLDER is another folder of a hub and its clients than examples/. Tried
+are clients, openings, sockets and their rights, the socket for questions alone, lines in turns,
+damage, ends, the log, merges, copies, the unit, client.py and read_records.py. The status is 1 at
+the first thing that isn't as it has to be, and the last line then says what: a client that the hub
+hangs up on, one that gets no reply, a hub that doesn't end. A trial that can't be done on this
+machine says so in a line that begins with `skipped`. The status is 3 where the system doesn't allow
+so many open files. No hub is left running, however it ends. Standard library alone.
 """
 
+import contextlib
+import fcntl
 import os
 import resource
-import select
 import signal
 import socket
 import subprocess
 import sys
 import tempfile
+import termios
 import time
 
-ROOT = os.path.dirname(os.path.dirname(os.path.abspath(__file__)))
-RELEASES = os.path.join(ROOT, "docs", "releases")
-CLIENT = os.path.join(ROOT, "examples", "client.py")
+sys.path.insert(0, os.path.dirname(os.path.abspath(__file__)))
+import hub_duties  # noqa: E402
+import hub_readers  # noqa: E402
+from hub_harness import RECORDER, ROOT, Client, Hub, Place, Skipped, Wrong, same  # noqa: E402
+from hub_harness import until  # noqa: E402
+
 CLIENTS = 1_100
 SESSIONS = 1_023
-# How long a line, the end of a process, and all of it may take.
-SECONDS = 30
+# Clients that only ask leave so many sessions to the others.
+KEPT_SESSIONS = 23
+LINES_A_TURN = 32
+# How long all of it may take.
 ALL_SECONDS = 150
 CONCEPT = "ROW 1000004\t%s\t900000000000207008\t900000000000074008"
 AS_IN_2020 = CONCEPT % "20200131\t1"
 AS_IN_2021 = CONCEPT % "20210131\t0"
-TERM = "ROW 1000015\t%s\t1\t900000000000207008\t1000004\tde\t900000000000013009\t%s\t900000000000448009"
+TERM = ("ROW 1000015\t%s\t1\t900000000000207008\t1000004\tde\t900000000000013009\t%s"
+        "\t900000000000448009")
 TERM_IN_2020 = TERM % ("20200131", "Straße")
 TERM_IN_2021 = TERM % ("20210131", "Weg")
 # The first import answers it otherwise than the first two.
 QUESTION = "GET C 1000004 20210131"
+STATUS = ["OK 2 10 2 -"]
 
 
-class Wrong(Exception):
-    pass
-
-
-def same(what, found, wanted):
-    if found != wanted:
-        raise Wrong("%s: %r, not %r" % (what, found, wanted))
-
-
-class Hub:
-    """A hub on a store in a folder. It runs no longer than its `with` block."""
-
-    def __init__(self, script, program, folder, store, path=None):
-        self.socket = path or os.path.join(folder, "hub")
-        words = ["--program", program, "--store", store, "--releases", RELEASES]
-        with open(os.path.join(folder, "faults"), "wb") as faults:
-            self.process = subprocess.Popen(
-                [sys.executable, script, *words, "--socket", self.socket], stdout=subprocess.PIPE,
-                stderr=faults)
-        self.faults = faults.name
-        try:
-            if not select.select([self.process.stdout], [], [], SECONDS)[0]:
-                raise Wrong("a hub says nothing for %d seconds after its start" % SECONDS)
-            self.first_line = self.process.stdout.readline().decode("utf-8", "replace").rstrip("\n")
-        except BaseException:
-            self.close()
-            raise
-
-    def __enter__(self):
-        return self
-
-    def __exit__(self, *_):
-        self.close()
-
-    def programs(self):
-        """The processes that it has started."""
-        children = "/proc/%d/task/%d/children" % (self.process.pid, self.process.pid)
-        try:
-            with open(children, encoding="ascii") as file:
-                return [int(word) for word in file.read().split()]
-        except OSError:
-            return []
-
-    def close(self):
-        """Ends it and its program, whatever they do."""
-        started = self.programs()
-        if self.process.poll() is None:
-            self.process.kill()
-            self.process.wait()
-            for number in started:
-                try:
-                    os.kill(number, signal.SIGKILL)
-                except ProcessLookupError:
-                    pass  # Its input ended.
-        self.process.stdout.close()
-
-    def end(self, what):
-        """Its status, once it has ended."""
-        try:
-            return self.process.wait(SECONDS)
-        except subprocess.TimeoutExpired:
-            raise Wrong("%s: it hasn't ended after %d seconds" % (what, SECONDS)) from None
-
-    def stop(self, what):
-        self.process.send_signal(signal.SIGTERM)
-        return self.end(what)
-
-    def told(self):
-        """What it and its program have written to standard error."""
-        with open(self.faults, encoding="utf-8", errors="backslashreplace") as file:
-            return file.read()
-
-
-class Client:
-    def __init__(self, hub):
-        self.sent = b""
-        self.connection = socket.socket(socket.AF_UNIX)
-        self.connection.settimeout(SECONDS)
-        try:
-            self.connection.connect(hub.socket)
-        except OSError as why:
-            raise Wrong("a client can't reach the hub: %s" % why) from None
-        self.lines = self.connection.makefile("rb")
-
-    def send(self, data):
-        self.sent = data[-60:]
-        try:
-            self.connection.sendall(data)
-        except ConnectionError:
-            pass  # What the hub said before it hung up is read next.
-        except OSError as why:
-            raise Wrong("a client can't send %r: %s" % (self.sent, why)) from None
-
-    def line(self):
-        """The next line, and none where the hub hung up."""
-        try:
-            return self.lines.readline()
-        except ConnectionError:
-            return b""
-        except OSError:
-            raise Wrong("no reply to %r within %d seconds" % (self.sent, SECONDS)) from None
-
-    def read(self):
-        reply = []
-        while not reply or reply[-1].split(" ")[0] not in ("OK", "ERR", "END"):
-            line = self.line()
-            if not line.endswith(b"\n"):
-                raise Wrong("the hub hangs up on a client that sent %r, after %r"
-                            % (self.sent, reply + [line] if line else reply))
-            reply.append(line.decode("utf-8", "backslashreplace")[:-1])
-        return reply
-
-    def ask(self, line):
-        self.send(line.encode() + b"\n")
-        return self.read()
-
-    def leave(self):
-        self.lines.close()
-        self.connection.close()
-
-
-def two_clients(hub):
+def two_clients(place, hub):
     """Two clients have two sessions: a pin is that of one."""
-    first, second = Client(hub), Client(hub)
+    first, second = Client(hub.socket), Client(hub.socket)
     same("an import", first.ask("IMPORT r1"), ["OK 1 6 0"])
     same("a pin", second.ask("PIN"), ["OK 1"])
     same("another import", first.ask("IMPORT r2"), ["OK 2 4 0"])
@@ -171,61 +62,61 @@ def two_clients(hub):
     same("its terms with a pin", second.ask(about), [TERM_IN_2020, "END 1"])
     same("a receipt behind a pin", second.ask("RECEIPT 2"), ["ERR 44 PinRange"])
     second.leave()
-    later = Client(hub)
+    later = Client(hub.socket)
     same("a session that another had", later.ask(QUESTION), [AS_IN_2021, "END 1"])
     lines = "STATUS\n%s\nTERMS 20200131 10 Straße\n" % QUESTION
-    try:
-        # In a locale that isn't UTF-8, its lines and replies are the same bytes.
-        done = subprocess.run(
-            [sys.executable, CLIENT, hub.socket], input=lines.encode(), stdout=subprocess.PIPE,
-            env={**os.environ, "PYTHONIOENCODING": "latin-1"}, timeout=SECONDS, check=False)
-    except subprocess.TimeoutExpired:
-        raise Wrong("examples/client.py hasn't ended after %d seconds" % SECONDS) from None
+    # In a locale that isn't UTF-8, its lines and replies are the same bytes.
+    done = place.run("client.py", hub.socket, given=lines.encode(), PYTHONIOENCODING="latin-1")
     wanted = "OK 2 10 2 -\n%s\nEND 1\n%s\nEND 1\n" % (AS_IN_2021, TERM_IN_2020)
-    same("examples/client.py", (done.stdout, done.returncode), (wanted.encode(), 0))
+    same("client.py", (done.stdout, done.returncode), (wanted.encode(), 0))
     later.leave()
     first.leave()
 
 
-def bad_clients(hub):
+def bad_clients(_, hub):
     """Half a line, a line without an end, and bytes that are no text: the others are answered."""
-    half = Client(hub)
+    half = Client(hub.socket)
     half.send(b"IMPORT r3")
     half.leave()
-    endless = Client(hub)
+    endless = Client(hub.socket)
     endless.send(b"a" * 1_000_000)
-    other = Client(hub)
-    same("beside them", other.ask("STATUS"), ["OK 2 10 2 -"])
+    other = Client(hub.socket)
+    same("beside them", other.ask("STATUS"), STATUS)
     endless.send(b"\nSTATUS\n")
     same("a million bytes", endless.read(), ["ERR 40 Long"])
-    same("the line behind them", endless.read(), ["OK 2 10 2 -"])
+    same("the line behind them", endless.read(), STATUS)
     same("no text", other.ask("\0\ufffd"), ["ERR 42 Command"])
     same("no line", other.ask(""), ["ERR 42 Command"])
+    # The session has one digit, which counts with its space for the program's limit of 4,096. A CR
+    # at the end doesn't.
+    for end in ("", "\r"):
+        same("a line at the limit", other.ask("x" * 4_094 + end), ["ERR 42 Command"])
+        same("a line above it", other.ask("x" * 4_095 + end), ["ERR 40 Long"])
     endless.leave()
     other.leave()
 
 
-def many_clients(hub):
+def many_clients(_, hub):
     """More clients than sessions: so many are answered, and the others are told."""
-    clients = [served(hub) for _ in range(SESSIONS)]
+    clients = [served(hub.socket) for _ in range(SESSIONS)]
     for _ in range(CLIENTS - SESSIONS):
-        one_more = Client(hub)
+        one_more = Client(hub.socket)
         same("one client more", one_more.read(), ["ERR 41 Session"])
         one_more.leave()
     for client in clients:
         # A pin that one of the clients before them left would show.
         same("one of many", client.ask(QUESTION), [AS_IN_2021, "END 1"])
         client.leave()
-    served(hub).leave()
+    served(hub.socket).leave()
 
 
-def served(hub):
+def served(path):
     """A client that has a session, once those that left have given theirs back."""
     for _ in range(200):
-        client = Client(hub)
+        client = Client(path)
         client.send(b"STATUS\n")
         reply = client.read()
-        if reply == ["OK 2 10 2 -"]:
+        if reply == STATUS:
             return client
         same("a client", reply, ["ERR 41 Session"])
         client.leave()
@@ -233,118 +124,291 @@ def served(hub):
     raise Wrong("no session is given back")
 
 
-def openings(script, program, folder, store):
+def kept_sessions(place, store):
+    """Clients that only ask leave sessions to those that import."""
+    with Hub(place, store, "--questions", place.path("questions")) as hub:
+        asking = [served(hub.questions) for _ in range(SESSIONS - KEPT_SESSIONS)]
+        one_more = Client(hub.questions)
+        same("one more that asks", one_more.read(), ["ERR 41 Session"])
+        served(hub.socket).leave()
+        for client in [one_more, *asking]:
+            client.leave()
+
+
+def turns(place, store):
+    """The lines of a client that have come already go to the program together, 32 at most; the
+    replies come in their order, and a refusal of the hub's own among them."""
+    recording = place.wrapped(RECORDER)
+    with Hub(recording, store) as hub:
+        client = Client(hub.socket)
+        # (The hub's own lines come first.)
+        same("its state", client.ask("STATUS"), STATUS)
+        asked = ["RECEIPT %d" % (1 + number % 2) for number in range(100)]
+        asked[40] = "x" * 5_000
+        client.send("".join(line + "\n" for line in asked).encode())
+        wanted = {"RECEIPT 1": ["OK 1 6 20200131"], "RECEIPT 2": ["OK 2 4 20210131"]}
+        for number, line in enumerate(asked):
+            same("line %d of many" % number, client.read(), wanted.get(line, ["ERR 40 Long"]))
+        client.leave()
+        same("the end of the hub", hub.stop("a hub that is stopped"), 0)
+    with open(recording.path("parts"), encoding="ascii") as parts:
+        counts = [int(part) for part in parts]
+    same("the most lines of a turn", max(counts), LINES_A_TURN)
+    # Of the 100 lines, and some of the hub's and of the client's.
+    if len(counts) > 20:
+        raise Wrong("lines that came together are asked in %d turns: %r" % (len(counts), counts))
+
+
+def openings(place, store):
     """A store in use, and one that is none, are refused; a hub that is stopped leaves the store."""
-    with Hub(script, program, folder, store) as hub:
+    with Hub(place, store) as hub:
         same("an opening", hub.first_line, "OK ready")
-        other = os.path.join(folder, "other")
-        os.mkdir(other)
-        with Hub(script, program, other, store) as second:
+        other = place.below("other")
+        with Hub(other, store) as second:
             same("a second hub", second.first_line, "ERR 2 DiskFault")
             same("the end of a second hub", second.end("a second hub"), 1)
         same("the end of a hub", hub.stop("a hub that is stopped"), 0)
         same("its socket", os.path.exists(hub.socket), False)
-    none = os.path.join(folder, "none")
+    none = place.path("none")
     with open(none, "wb") as file:
         file.write(b"no store")
-    with Hub(script, program, folder, none) as third:
+    with Hub(place, none) as third:
         same("no store", third.first_line.split(" ")[0], "ERR")
         same("the end of a hub without a store", third.end("a hub without a store"), 1)
 
 
-def refused_path(script, program, folder, store, path, why):
+def refused_path(place, store, path, why):
     """A hub that is given the path of something else for its socket ends, and leaves that alone."""
-    with Hub(script, program, folder, store, path) as hub:
+    with Hub(place, store, path=path) as hub:
         same("a hub on the path of %s" % why, hub.first_line, "")
         same("its end", hub.end("a hub on the path of %s" % why), 1)
-        if why not in hub.told():
+        if why not in hub.told() or "Traceback" in hub.told():
             raise Wrong("a hub on the path of %s says %r" % (why, hub.told()))
 
 
-def sockets(script, program, folder, store):
+def sockets(place, store):
     """A file, or the socket of another program, is never replaced by a hub's socket."""
     with open(store, "rb") as file:
         content = file.read()
-    refused_path(script, program, folder, store, store, "something that is no socket")
+    refused_path(place, store, store, "something that is no socket")
+    refused_path(place, store, place.path("no", "folder"), "No such file or directory")
     with open(store, "rb") as file:
         same("the store", file.read() == content, True)
-    another_store = os.path.join(folder, "another")
-    make_store(program, another_store)
-    with Hub(script, program, folder, store) as hub:
-        other = os.path.join(folder, "beside")
-        os.mkdir(other)
-        refused_path(script, program, other, another_store, hub.socket, "another program listens")
-        client = Client(hub)
-        same("the first hub", client.ask("STATUS"), ["OK 2 10 2 -"])
+    another_store = place.make_store("another")
+    with Hub(place, store) as hub:
+        refused_path(place.below("beside"), another_store, hub.socket, "another program listens")
+        client = Client(hub.socket)
+        same("the first hub", client.ask("STATUS"), STATUS)
         client.leave()
         hub.process.kill()
         hub.end("a hub that is killed")
         same("the socket of a hub that was killed", os.path.exists(hub.socket), True)
-    with Hub(script, program, folder, another_store) as hub:
+    with Hub(place, another_store) as hub:
         same("a hub where one was killed", hub.first_line, "OK ready")
         os.unlink(hub.socket)
         with socket.socket(socket.AF_UNIX) as later:
             later.bind(hub.socket)
             same("the end of a hub", hub.stop("a hub that is stopped"), 0)
             same("a socket in the place of its own", os.path.exists(hub.socket), True)
+    os.unlink(hub.socket)
 
 
-def damage(script, program, folder, store):
+def damage(place, store):
     """A store that is changed while it is served: standard error says that it is damaged."""
-    with Hub(script, program, folder, store) as hub:
+    with Hub(place, store) as hub:
         same("an opening", hub.first_line, "OK ready")
         with open(store, "r+b") as file:
             # The first byte of the first segment, which begins with its first row.
             file.seek(4 * 4096)
             file.write(b"\xff")
-        client = Client(hub)
+        client = Client(hub.socket)
         same("a damaged row", client.ask("GET C 1000004 20200131"), ["ERR 8 Damaged"])
+        # No reply is lost behind one, or comes to another client.
+        client.send(b"RECEIPT 1\nGET C 1000004 20200131\nRECEIPT 2\nSTATUS\n")
+        for wanted in ("OK 1 6 20200131", "ERR 8 Damaged", "OK 2 4 20210131", *STATUS):
+            same("lines around a damaged row", client.read(), [wanted])
+        other = Client(hub.socket)
+        same("another client", other.ask("RECEIPT 1"), ["OK 1 6 20200131"])
+        other.leave()
         client.leave()
         same("the end of the hub", hub.stop("a hub that is stopped"), 0)
-        same("what it told", hub.told(), "hub: the store is damaged: restore your copy\n")
+        same("what it told", hub.told(), "hub: the store is damaged: restore your copy\n" * 2)
 
 
-def kill_program(hub):
-    """Where the program ends, the hub ends, so that what started it starts it again."""
-    programs = hub.programs()
-    same("the programs of a hub", len(programs), 1)
-    os.kill(programs[0], signal.SIGKILL)
-    client = Client(hub)
-    client.send(b"STATUS\n")
-    same("the hub's end", hub.end("a hub whose program was killed"), 1)
-    client.leave()
+def kill_program(place, store):
+    """Where the program ends, the hub ends, so that what started it starts it again: also where
+    nobody asks."""
+    for asks in (False, True):
+        with Hub(place, store) as hub:
+            same("the programs of a hub", len(hub.programs()), 1)
+            idle = Client(hub.socket)
+            same("its state", idle.ask("STATUS"), STATUS)
+            os.kill(hub.programs()[0], signal.SIGKILL)
+            if asks:
+                idle.send(b"STATUS\n")
+            same("the hub's end", hub.end("a hub whose program was killed"), 1)
+            same("what it told", hub.told(), "hub: the program has ended\n")
+            idle.leave()
 
 
-def make_store(program, store):
-    made = subprocess.run([program, "init", "--store", store], stdout=subprocess.PIPE,
-                          timeout=SECONDS, check=False)
-    same("init", (made.stdout, made.returncode), (b"OK\n", 0))
+def disk_fault(place, store):
+    """After an ERR 2 the hub ends, and nobody is answered by that program any more."""
+    failing = place.wrapped("""
+import os, subprocess, sys, time
+real = subprocess.Popen([PROGRAM, *sys.argv[1:]], stdin=subprocess.PIPE)
+for line in sys.stdin.buffer:
+    if b"RECEIPT 2" in line:
+        break
+    real.stdin.write(line)
+    real.stdin.flush()
+open(FOLDER + "/begun", "w").close()
+time.sleep(1)
+os.write(1, b"ERR 2 DiskFault\\n")
+for line in sys.stdin.buffer:
+    os.write(1, b"ERR 3 ReopenNeeded\\n")
+real.stdin.close()
+sys.exit(real.wait())
+""")
+    with Hub(failing, store) as hub:
+        others = [Client(hub.socket) for _ in range(10)]
+        for other in others:
+            same("before the fault", other.ask("STATUS"), STATUS)
+        client = Client(hub.socket)
+        client.send(b"RECEIPT 2\n")
+        until("the line comes to the program", lambda: os.path.exists(failing.path("begun")))
+        for other in others:
+            other.send(b"STATUS\n")
+        same("the fault", client.read(), ["ERR 2 DiskFault"])
+        for other in others:
+            same("another client", other.line(), b"")
+            other.leave()
+        client.leave()
+        same("the hub's end", hub.end("a hub whose disk failed"), 1)
 
 
-def all_trials(script, program, folder):
-    """How many trials there were."""
-    store = os.path.join(folder, "store")
-    make_store(program, store)
-    tries = [two_clients, bad_clients, many_clients]
-    with Hub(script, program, folder, store) as hub:
-        same("an opening", hub.first_line, "OK ready")
-        for each in tries:
-            each(hub)
+def ends(place, store):
+    """A hub that is stopped ends all of its clients, and says nothing of them."""
+    with Hub(place, store, "--questions", place.path("questions")) as hub:
+        clients = [served(path) for path in (hub.socket, hub.questions) for _ in range(20)]
+        for client in clients[::2]:
+            same("a pin", client.ask("PIN 1"), ["OK 1"])
+        # This one doesn't read what it is answered, until the hub can send it nothing more.
+        clients[0].connection.settimeout(0.5)
+        with contextlib.suppress(OSError):
+            clients[0].connection.sendall(b"HISTORY C 1000004\n" * 50_000)
+        same("the other clients", clients[1].ask("STATUS"), STATUS)
         same("the end of the hub", hub.stop("a hub that is stopped"), 0)
-    openings(script, program, folder, store)
-    with Hub(script, program, folder, store) as hub:
-        kill_program(hub)
-    sockets(script, program, folder, store)
-    damage(script, program, folder, store)
-    return len(tries) + 4
+        same("what it told", hub.told(), "")
+        same("a client's end", clients[5].line(), b"")
+        for client in clients:
+            client.leave()
+
+
+def unread(place, store):
+    """Where replies aren't read, the hub hangs up before they fill its memory."""
+    small = place.changed("hub.py", "UNREAD_LIMIT = 256 << 20", "UNREAD_LIMIT = 1 << 10")
+    with Hub(small, store) as hub:
+        silent = Client(hub.socket)
+        silent.connection.settimeout(0.2)
+        ended = []
+
+        def hangs_up():
+            try:
+                silent.connection.sendall(b"PAGE C 20210131 - 1000\n" * 1_000)
+            except ConnectionError:
+                ended.append(True)
+            except OSError:
+                pass  # The hub takes no more of it for now.
+            return ended
+
+        until("a client that reads nothing is hung up on", hangs_up)
+        served(hub.socket).leave()
+        silent.leave()
+        same("the end of the hub", hub.stop("a hub that is stopped"), 0)
+
+
+def waiting(client):
+    """How many bytes of replies the system keeps for a client that doesn't read."""
+    number = fcntl.ioctl(client.connection, termios.FIONREAD, b"\0" * 4)
+    return int.from_bytes(number, sys.byteorder)
+
+
+def is_told_more(client, before):
+    """Whether more than so many bytes wait for a client within a second."""
+    end = time.monotonic() + 1
+    while waiting(client) <= before and time.monotonic() < end:
+        time.sleep(0.005)
+    return waiting(client) > before
+
+
+def left_unread(place, store):
+    """A client that says no more and doesn't read has its session until it has read all, so that
+    such clients can't take more of the hub than others."""
+    small = place.changed("hub.py", "range(1, 1024)", "range(1, %d)" % (KEPT_SESSIONS + 3))
+    with Hub(small, store, "--questions", small.path("questions")) as hub:
+        asking, asked = [Client(hub.questions) for _ in range(2)], [0, 0]
+        for number, client in enumerate(asking):
+            before = -1
+            while is_told_more(client, before):
+                before = waiting(client)
+                client.send(b"PAGE C 20210131 - 1000\n" * LINES_A_TURN)
+                asked[number] += LINES_A_TURN
+            client.connection.shutdown(socket.SHUT_WR)
+        time.sleep(0.2)
+        one_more = Client(hub.questions)
+        one_more.send(b"STATUS\n")
+        same("one more that asks", one_more.read(), ["ERR 41 Session"])
+        one_more.leave()
+        for client, count in zip(asking, asked):
+            for _ in range(count):
+                same("the end of a reply", client.read()[-1], "END 3")
+            same("a client's end", client.line(), b"")
+            client.leave()
+        served(hub.questions).leave()
+        same("the end of the hub", hub.stop("a hub that is stopped"), 0)
+
+
+def words(place, store):
+    """What isn't understood of the words is said, with status 2."""
+    rest = ["--program", place.program, "--store", store, "--releases", place.folder]
+    for wrong in ([], ["--socket", "s", "--questions", "s"], ["--socket", "s", "--group", "root"],
+                  ["--socket", "s", "--merge-above", "0"],
+                  ["--questions", "s", "--group", "no such group"]):
+        done = place.run("hub.py", *rest, *wrong)
+        same("the words %r" % wrong, (done.returncode, done.stdout), (2, b""))
+
+
+def all_trials(place, skipped):
+    """How many trials there were."""
+    store = place.make_store()
+    on_one_hub = [two_clients, bad_clients, many_clients]
+    with Hub(place, store) as hub:
+        same("an opening", hub.first_line, "OK ready")
+        for each in on_one_hub:
+            each(place, hub)
+        same("the end of the hub", hub.stop("a hub that is stopped"), 0)
+    tries = [openings, kept_sessions, turns, disk_fault, ends, unread, left_unread, kill_program]
+    tries += [words, sockets]
+    tries += hub_duties.TRIALS + hub_readers.TRIALS + [damage]
+    count = len(on_one_hub)
+    for each in tries:
+        begun = time.monotonic()
+        try:
+            each(place.below(each.__name__), store)
+            count += 1
+        except Skipped as why:
+            skipped.append("%s: %s" % (each.__name__, why))
+        if "TIMES" in os.environ:
+            print("%s %.1f s" % (each.__name__, time.monotonic() - begun), flush=True)
+    return count
 
 
 def late(*_):
     raise Wrong("the trials haven't ended after %d seconds" % ALL_SECONDS)
 
 
-def main(words):
-    if len(words) not in (1, 2):
+def main(words_given):
+    if len(words_given) not in (1, 2):
         print(__doc__.strip(), file=sys.stderr)
         return 2
     most_files = resource.getrlimit(resource.RLIMIT_NOFILE)[1]
@@ -352,18 +416,23 @@ def main(words):
         print("not run: it takes %d open files" % (CLIENTS + 100))
         return 3
     resource.setrlimit(resource.RLIMIT_NOFILE, (most_files, most_files))
-    program = os.path.abspath(words[0])
-    script = words[1] if len(words) == 2 else os.path.join(ROOT, "examples", "hub.py")
+    program = os.path.abspath(words_given[0])
+    examples = os.path.abspath((words_given[1:] or [os.path.join(ROOT, "examples")])[0])
     # The hubs are ended on the way out, so that is taken at a signal too.
     signal.signal(signal.SIGTERM, lambda *_: sys.exit(1))
     signal.signal(signal.SIGALRM, late)
     signal.alarm(ALL_SECONDS)
+    skipped = []
     with tempfile.TemporaryDirectory() as folder:
+        # Another user may reach the sockets in it.
+        os.chmod(folder, 0o711)
         try:
-            count = all_trials(script, program, folder)
+            count = all_trials(Place(program, examples, folder), skipped)
         except (Wrong, OSError, subprocess.TimeoutExpired) as wrong:
             print("WRONG: %s" % wrong)
             return 1
+    for why in skipped:
+        print("skipped: %s" % why)
     print("hub: %d trials" % count)
     return 0
 

@@ -1,6 +1,6 @@
 -- What lines of a merge leave of a store.
 use Rattle.std.proofs.Common.{◌≡◌, ℕ, ◌+◌, List, [], ◌∷◌, ◌++◌, length, codes, true, false, slice_set, min, Option, Some, None, Result, Ok, Err, IsOk, IsErr, refl, ap, sym, subst, ◌∙◌, arith, inl, inr, ◌<◌, ◌≤◌, ◌-◌}
-use Rattle.line_server.specs.DeviceView.{DeviceView}
+use Rattle.store_life.specs.DeviceView.{DeviceView}
 use Rattle.std.specs.Prelude.{◌≢◌, unwrap_or, option_map}
 use Rattle.std.specs.Fmt.{digits}
 use Rattle.std.specs.List.{AllByRecursion}
@@ -25,8 +25,8 @@ use Rattle.line_server.specs.Sources.{Releases, no_releases}
 use Rattle.line_server.specs.ReplyValue.{Answer, ReplyValue, reply_value}
 use Rattle.line_server.specs.Pins.{unpinned}
 use Rattle.line_server.specs.Replies.{Server, Replies, IsAnswer, IsRefusal, IsOutOfRange, server}
-use Rattle.line_server.specs.Turns.{Turn, IsTurn, IsAskedFor, Run, imported}
-use Rattle.line_server.proofs.Imported.{run_imported}
+use Rattle.store_life.specs.Life.{Call, Imported, Failed, Other, taken, TakesAll}
+use Rattle.line_server.specs.Turns.{Turn, IsTurn, IsOfAsked, Run}
 use Rattle.command_line.specs.Merging.{IsMergeTurn, IsMergeLine, IsHalt, IsHaltedBy, IsMergedTo, IsMergedAndAsked, TellsMerge, segments_of, trim_line}
 use Rattle.command_line.specs.Private.{IsAsked, IsAtRest, IsMerging, HasMerged, IsStopped, IsHalted, HaveMerged, IsOneLess, IsTrimmedTo, rows_left}
 use Rattle.command_line.specs.Endings.{Report, Tells}
@@ -300,19 +300,17 @@ module _ {D : Type 0} (view : DeviceView D) where
 
   -- ---- the history
 
-  none_imported : (turn : Turn) (releases : List Release) → AllByRecursion (IsAskedFor (λ _. None) turn.line) releases → releases ≡ []
-  none_imported turn [] all = refl
-  none_imported turn (r ∷ rs) all = let no : None ≡ Some (files_of r) = all.0.3 in cc
-
-  none_taken : (old new : Server D) (turns : List Turn) → Runs old turns new → imported turns ≡ []
-  none_taken old new [] run = refl
-  none_taken old new (turn ∷ turns) run =
-      rw (none_imported turn turn.releases (run.1.own tt).imported) (none_taken run.0 new turns run.2)
+  none_imported : (line : List ℕ) (call : Call) → IsOfAsked (λ _. None) line call → taken call ≡ []
+  none_imported line (Imported r) asked = let no : None ≡ Some (files_of r) = asked.3 in cc
+  none_imported line (Failed r) asked = refl
+  none_imported line Other asked = refl
 
   run_keeps : (old new : Server D) (turns : List Turn) → Runs old turns new → view.is_honest old.store.disk → new.store.history ≡ old.store.history
-  run_keeps old new turns run lie =
-      let all = (run_imported view no_releases old new turns run).history lie in
-      rw (none_taken old new turns run) at all
+  run_keeps old new [] run up = ap (λ (s : Server D). s.store.history) run
+  run_keeps old new (turn ∷ turns) run up =
+      let none = none_imported turn.line turn.call (run.1.own tt).asked in
+      run_keeps run.0 new turns run.2 (run.1.call.honesty.0 up)
+      ∙ subst (λ (rs : List Release). TakesAll old.store.history rs run.0.store.history) none (run.1.call.history up)
 
   pub halted_keeps : (most : ℕ) (old new : Server D) (last : Turn) → IsHaltedBy view most last old new → view.is_honest old.store.disk → new.store.history ≡ old.store.history
   halted_keeps most old new last h lie =

@@ -1,7 +1,7 @@
 pub use Rattle.line_server.specs.ReplyValue
 pub use Rattle.line_server.specs.Turns
 pub use Rattle.line_server.specs.Serving
-pub use Rattle.line_server.specs.Imports
+pub use Rattle.store_life.specs.Life
 pub use Rattle.history_store.specs.StoreValue
 pub use Rattle.history_store.specs.Answers
 pub mod Endings

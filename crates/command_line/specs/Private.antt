@@ -2,7 +2,7 @@
 -- No public clause cites them.
 use Rattle.std.specs.Prelude.{◌≡◌, ℕ, ◌+◌, ◌<◌, ◌≤◌, List, Result, Ok, Err, IsOk, IsErr, [], ◌∷◌}
 use Rattle.line_server.specs.Sources.{no_releases}
-use Rattle.line_server.specs.DeviceView.{DeviceView}
+use Rattle.store_life.specs.DeviceView.{DeviceView}
 use Rattle.std.specs.Prelude.{codes, decimal, false, unwrap_or, option_map}
 use Rattle.std.specs.List.{AllByRecursion}
 use Rattle.history_store.specs.Merging.{GoesOn, IsFinished}

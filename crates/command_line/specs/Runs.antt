@@ -2,7 +2,7 @@
 use Rattle.std.specs.Prelude.{◌≡◌, ◌≢◌, ◌⊎◌, ◌≤◌, ℕ, List, [], Option, Some, None, Result, Ok, Err}
 use Rattle.std.specs.Prelude.{⊤}
 use Rattle.std.specs.Io.KnownBytes.{Keeps}
-use Rattle.line_server.specs.DeviceView.{DeviceView, device_view}
+use Rattle.store_life.specs.DeviceView.{DeviceView, device_view}
 use Rattle.disk_model.specs.Change.{made}
 use Rattle.disk_model.specs.MemDisk.{memory_moments, failure_count, bytes_read_of}
 use Rattle.disk_model.specs.declared.memory.MemDisk.{MemDisk}

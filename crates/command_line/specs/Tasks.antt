@@ -1,6 +1,6 @@
 -- What each task does.
 use Rattle.std.specs.Prelude.{◌≡◌, ◌⊎◌, ℕ, List, [], ◌++◌, codes, Option, Result, Ok, Err}
-use Rattle.line_server.specs.DeviceView.{DeviceView}
+use Rattle.store_life.specs.DeviceView.{DeviceView}
 use Rattle.history_store.specs.declared.refusal.Refusal.TheVariants.{OutOfMemory}
 use Rattle.history_store.specs.StoreValue.{StoreValue}
 use Rattle.history_store.specs.Answers.{StoreOr, device_of}

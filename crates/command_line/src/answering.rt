@@ -3,7 +3,7 @@
 ghost use Rattle.command_line.specs.Tasks.{IsLineTold};
 ghost use Rattle.command_line.specs.Endings.{report};
 ghost use Rattle.line_server.specs.Sources.{source_view};
-ghost use Rattle.line_server.specs.DeviceView.{device_view};
+ghost use Rattle.store_life.specs.DeviceView.{device_view};
 
 use crate::endings::{Ending, tell};
 use crate::telling::Told;

@@ -3,7 +3,7 @@
 ghost use Rattle.std.specs.Prelude.{◌≡◌, IfOk, string_bytes};
 ghost use Rattle.command_line.specs.Endings.{report};
 ghost use Rattle.line_server.specs.Sources.{source_view};
-ghost use Rattle.line_server.specs.DeviceView.{device_view};
+ghost use Rattle.store_life.specs.DeviceView.{device_view};
 ghost use Rattle.command_line.specs.Tasks.{Imports, IsImport, import_line};
 
 use crate::answering::answer_line;

@@ -2,7 +2,7 @@
 
 ghost use Rattle.std.specs.Prelude.{◌≡◌, ⊤, None};
 ghost use Rattle.command_line.specs.Endings.{report};
-ghost use Rattle.line_server.specs.DeviceView.{device_view};
+ghost use Rattle.store_life.specs.DeviceView.{device_view};
 ghost use Rattle.command_line.specs.Tasks.{IsStatus};
 
 use crate::answering::answer_line;

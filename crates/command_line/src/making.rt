@@ -2,7 +2,7 @@
 
 ghost use Rattle.command_line.specs.Tasks.{IsMade};
 ghost use Rattle.command_line.specs.Endings.{report};
-ghost use Rattle.line_server.specs.DeviceView.{device_view};
+ghost use Rattle.store_life.specs.DeviceView.{device_view};
 
 use crate::endings::{Ending, refuse, tell_done};
 use crate::telling::Told;

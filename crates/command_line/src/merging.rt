@@ -2,7 +2,7 @@
 
 ghost use Rattle.line_server.specs.Pins.{AreWithin, unpinned};
 ghost use Rattle.command_line.specs.Endings.{report};
-ghost use Rattle.line_server.specs.DeviceView.{device_view};
+ghost use Rattle.store_life.specs.DeviceView.{device_view};
 ghost use Rattle.line_server.specs.Replies.{server};
 ghost use Rattle.command_line.specs.Merging.{IsMergedOnDisk, TellsMerge};
 ghost use Rattle.command_line.specs.Private.{IsAsked, IsAtRest, IsMerging, IsOneLess, IsTrimmedTo};

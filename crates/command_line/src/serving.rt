@@ -3,7 +3,7 @@
 ghost use Rattle.std.specs.Prelude.{Ok};
 ghost use Rattle.line_server.specs.Streams.{streams};
 ghost use Rattle.line_server.specs.Sources.{source_view};
-ghost use Rattle.line_server.specs.DeviceView.{device_view};
+ghost use Rattle.store_life.specs.DeviceView.{device_view};
 ghost use Rattle.command_line.specs.Tasks.{Serves, IsServing, IsServingNew};
 
 use crate::endings::{Ending, refuse};

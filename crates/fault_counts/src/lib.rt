@@ -16,17 +16,3 @@ pub fn raised(count: u64) -> u64
 {
     count.saturating_add(1)
 }
-
-#[cfg(test)]
-mod tests {
-    use super::raised;
-    use std::test::Fail;
-
-    #[test]
-    fn a_count_goes_up_and_stays_at_its_last_value(rt: HostRuntime) -> Result<(), Fail> {
-        assert_eq!(rt; raised(0), 1);
-        assert_eq!(rt; raised(u64::MAX - 1), u64::MAX);
-        assert_eq!(rt; raised(u64::MAX), u64::MAX);
-        Ok(())
-    }
-}

@@ -1,16 +1,16 @@
 -- Lines that are too long are answered alike.
-use Rattle.std.proofs.Common.{◌≡◌, ℕ, ◌<◌, List, [], ◌∷◌, length, Option, Some, None, IfSome, Result, subst, arith, inl, inr}
-use Rattle.line_server.specs.DeviceView.{DeviceView}
-use Rattle.std.specs.List.{AllByRecursion}
+use Rattle.std.proofs.Common.{◌≡◌, ℕ, ◌<◌, List, [], ◌∷◌, length, Result, subst, arith, inl, inr}
+use Rattle.store_life.specs.DeviceView.{DeviceView}
 use Rattle.import_check.specs.declared.release.Release.{Release}
 use Rattle.line_commands.specs.declared.unread.Unread.{Unread}
 use Rattle.line_commands.specs.declared.unread.Unread.TheVariants as unread
 use Rattle.line_commands.specs.Requests.{IsUnread}
 use Rattle.line_server.specs.declared.refusal.LineRefusal.{LineRefusal}
-use Rattle.line_server.specs.Sources.{Releases, SourceView}
+use Rattle.line_server.specs.Sources.{Releases, SourceView, source_view}
 use Rattle.line_server.specs.ReplyValue.{Answer}
 use Rattle.line_server.specs.Replies.{Server, Replies}
-use Rattle.line_server.specs.Turns.{Turn, GoesBy, IsTurn, IsAskedFor}
+use Rattle.store_life.specs.Life.{Call, Imported, Failed, Other}
+use Rattle.line_server.specs.Turns.{Turn, GoesBy, IsTurn, IsAskedFor, IsOfAsked, Run}
 
 unread_alike : (x y : List ℕ) (reason : Unread) → 4096 < length x → 4096 < length y → IsUnread x reason → IsUnread y reason
 unread_alike x y unread.Long long other h = other
@@ -21,17 +21,14 @@ unread_alike x y unread.Arguments long other h = let short = h.0 in absurd (omeg
 none_asked_for : (releases : Releases) (x : List ℕ) (release : Release) → 4096 < length x → IsAskedFor releases x release → ⊥
 none_asked_for releases x release long h = let short = h.2.short in absurd (omega arith)
 
-all_asked_for : (releases : Releases) (x y : List ℕ) (taken : List Release) → 4096 < length x → AllByRecursion (IsAskedFor releases x) taken → AllByRecursion (IsAskedFor releases y) taken
-all_asked_for releases x y [] long h = tt
-all_asked_for releases x y (release ∷ taken) long h = absurd (none_asked_for releases x release long h.0)
+asked_alike : (releases : Releases) (x y : List ℕ) (call : Call) → 4096 < length x → IsOfAsked releases x call → IsOfAsked releases y call
+asked_alike releases x y (Imported release) long h = absurd (none_asked_for releases x release long h)
+asked_alike releases x y (Failed release) long h = absurd (none_asked_for releases x release long h)
+asked_alike releases x y Other long h = tt
 
-some_asked_for : (releases : Releases) (x y : List ℕ) (failed : Option Release) → 4096 < length x → IfSome failed (IsAskedFor releases x) → IfSome failed (IsAskedFor releases y)
-some_asked_for releases x y None long h = tt
-some_asked_for releases x y (Some release) long h = absurd (none_asked_for releases x release long h)
-
-module _ {D : Type 0} (outcome : Result Answer LineRefusal) (taken : List Release) (failed : Option Release) (old new : Server D) where
+module _ {D : Type 0} (outcome : Result Answer LineRefusal) (call : Call) (old new : Server D) where
   abbrev pub turn_of : List ℕ → Turn
-  turn_of line = record { line = line; outcome = outcome; releases = taken; failed = failed }
+  turn_of line = record { line = line; outcome = outcome; call = call }
 
   replies_alike : (honest : Type 0) (releases : Releases) (x y : List ℕ) → 4096 < length x → 4096 < length y → Replies honest releases x outcome old new → Replies honest releases y outcome old new
   replies_alike honest releases x y long other (inl h) = let short = h.2.short in absurd (omega arith)
@@ -40,8 +37,7 @@ module _ {D : Type 0} (outcome : Result Answer LineRefusal) (taken : List Releas
   goes_alike : (honest : Type 0) (releases : Releases) (x y : List ℕ) → 4096 < length x → 4096 < length y → GoesBy honest releases old (turn_of x) new → GoesBy honest releases old (turn_of y) new
   goes_alike honest releases x y long other g = record {
     replies = replies_alike honest releases x y long other g.replies;
-    imported = all_asked_for releases x y taken long g.imported;
-    failed = some_asked_for releases x y failed long g.failed;
+    asked = asked_alike releases x y call long g.asked;
   }
 
   module _ (source : SourceView) (view : DeviceView D) where
@@ -50,8 +46,7 @@ module _ {D : Type 0} (outcome : Result Answer LineRefusal) (taken : List Releas
       releases = t.releases;
       goes = goes_alike (view.is_honest old.store.disk) t.releases x y long other t.goes;
       own = λ h. goes_alike (view.is_honest old.store.disk) source.releases x y long other (t.own h);
-      imports = t.imports;
-      one = t.one;
+      call = t.call;
       counts = t.counts;
       disk = λ session command asks. let short = asks.short in absurd (omega (arith, short, other));
     }
@@ -63,13 +58,23 @@ module _ {D : Type 0} (outcome : Result Answer LineRefusal) (taken : List Releas
       releases = t.releases;
       goes = t.goes;
       own = λ h. subst (λ (r : Releases). GoesBy (view.is_honest old.store.disk) r old (turn_of line) new) (same h).1 (t.own (same h).0);
-      imports = t.imports;
-      one = t.one;
+      call = t.call;
       counts = t.counts;
       disk = t.disk;
     }
 
 -- a turn on a line, as a turn on the same line under another name
 pub turn_on : {D : Type 0} (source : SourceView) (view : DeviceView D) (old new : Server D) (turn : Turn) (line : List ℕ) → turn.line ≡ line → IsTurn source view old turn new
-    → IsTurn source view old (turn_of turn.outcome turn.releases turn.failed old new line) new
-turn_on source view old new turn line same t = subst (λ (l : List ℕ). IsTurn source view old (turn_of turn.outcome turn.releases turn.failed old new l) new) same t
+    → IsTurn source view old (turn_of turn.outcome turn.call old new line) new
+turn_on source view old new turn line same t = subst (λ (l : List ℕ). IsTurn source view old (turn_of turn.outcome turn.call old new l) new) same t
+
+-- ---- what is told of a source is told of none
+
+turn_of_none : {D : Type 0} (source : SourceView) (has : Releases) (view : DeviceView D) (old : Server D) (turn : Turn) (new : Server D) → IsTurn source view old turn new → IsTurn (source_view ⊥ has) view old turn new
+turn_of_none source has view old turn new t =
+    record { releases = t.releases; goes = t.goes; own = λ none. absurd none; call = t.call; counts = t.counts; disk = t.disk }
+
+pub run_of_none : {D : Type 0} (source : SourceView) (has : Releases) (view : DeviceView D) (turns : List Turn) (old new : Server D) → Run source view old turns new → Run (source_view ⊥ has) view old turns new
+run_of_none source has view [] old new run = run
+run_of_none source has view (turn ∷ turns) old new run =
+    (run.0, turn_of_none source has view old turn run.0 run.1, run_of_none source has view turns run.0 new run.2)

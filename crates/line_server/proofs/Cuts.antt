@@ -9,9 +9,8 @@ use Rattle.bstr.proofs.lemmas.LineLemmas.{EndsLine, lines-nil, lines-append}
 use Rattle.rf2_rows.specs.File.{lines_in}
 use Rattle.rf2_rows.proofs.Splits.{IsFree}
 use Rattle.rf2_rows.proofs.Lines.{last_pushed, feed_off, no_feed, lines_ended, lines_unended}
-use Rattle.line_server.specs.Imports.{IsFront}
 use Rattle.line_server.specs.Steps.{kept, room}
-use Rattle.line_server.specs.Feeding.{IsUnended, AreCut}
+use Rattle.line_server.specs.Feeding.{IsFront, IsUnended, AreCut}
 
 one_ended : (xs : List ℕ) → IsFree 10 xs → lines_of (xs ++ 10 ∷ []) ≡ (xs ++ 10 ∷ []) ∷ []
 one_ended xs free = lines_ended xs [] free ∙ ap (λ (ls : List (List ℕ)). (xs ++ 10 ∷ []) ∷ ls) lines-nil

@@ -20,10 +20,11 @@ use Rattle.line_server.specs.Sources.{Releases}
 use Rattle.import_check.specs.Release.{files_of}
 use Rattle.line_server.specs.ReplyValue.{Answer, Rows, Ids, Done}
 use Rattle.line_server.specs.Replies.{Server, Same, found, shown, left_of, IsFinding, IsAnswer, IsImported, IsUnfound, IsClosed, IsLacking, IsStoreRefusal, IsOutcome, Replies}
-use Rattle.line_server.specs.Laws.{OneReply, IsSure, IsSureImport}
-use Rattle.line_server.proofs.AlikeReleases.{import_alike}
+use Rattle.store_life.specs.Laws.{IsSureImport}
+use Rattle.line_server.specs.Laws.{OneReply, IsSure}
+use Rattle.store_life.proofs.AlikeReleases.{import_alike}
 use Rattle.line_server.proofs.Received.{is_receipt, receipt_out, one_receipt}
-use Rattle.line_server.proofs.OneImports.{one_import}
+use Rattle.store_life.proofs.OneImports.{one_import}
 use Rattle.line_server.proofs.MergesAlike.{refused, of_store, stepping, publishing, abandoning, catalog_after, Fares, step_fares, no_step_fares, publish_fares, no_publish_fares, abandon_fares, no_abandon_fares, trim_fares, no_trim_fares, one_beginning}
 
 abbrev is_fault : Refusal → Bool

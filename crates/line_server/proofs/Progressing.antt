@@ -1,6 +1,6 @@
 -- How far serving has come.
 use Rattle.std.proofs.lemmas.Bool.{false≢true}
-use Rattle.line_server.specs.DeviceView.{DeviceView}
+use Rattle.store_life.specs.DeviceView.{DeviceView}
 use Rattle.std.proofs.Common.{◌≡◌, ℕ, Bool, ◌==◌, false, eqb, cond, ◌*◌, ◌<◌, ◌≤◌, ◌+◌, ◌-◌, ◌^◌, List, [], ◌∷◌, ◌++◌, length, length-append, append-nil, append_assoc, take, drop, get_or, take-append-drop, min, All, Option, Some, None, IfSome, refl, sym, ap, subst, ◌∙◌, arith, Result, Ok, Err}
 use Rattle.std.specs.Io.KnownBytes.{Appends, Consumes, IsAtEnd}
 use Rattle.std.proofs.KnownBytes.{Appends-nil, Appends-trans, Consumes-nil, Consumes-trans}
@@ -9,7 +9,6 @@ use Rattle.std.proofs.lemmas.List.Sums.{count_by_more_no, count_by_more_yes, sum
 use Rattle.std.proofs.lemmas.List.Elements.{All-head, All-tail}
 use Rattle.std.proofs.lemmas.Grind.{flat_map-append}
 use Rattle.bstr.specs.Text.{no_cr}
-use Rattle.import_check.specs.declared.release.Release.{Release}
 use Rattle.rf2_rows.specs.File.{lines_in}
 use Rattle.history_store.specs.StoreValue.{StoreValue}
 use Rattle.line_server.specs.declared.refusal.LineRefusal.{LineRefusal}
@@ -19,16 +18,15 @@ use Rattle.line_server.specs.Sources.{SourceView}
 use Rattle.line_server.specs.ReplyValue.{Answer, reply_value, bytes_of}
 use Rattle.line_server.specs.Pins.{unpinned}
 use Rattle.line_server.specs.Replies.{Server, server}
-use Rattle.line_server.specs.Imports.{IsFront}
+use Rattle.store_life.specs.Life.{Call}
 use Rattle.line_server.specs.Turns.{Turn, Run, IsTurn, lines_asked, replies}
 use Rattle.line_server.specs.Streams.{ends_in, AppendsSome, streams, with_reads}
 use Rattle.line_server.specs.Reads.{Reading, Gave, Failed, came_of, all_of, IsPiece, Makes}
 use Rattle.line_server.specs.Serving.{IsServed, AreLines, IsRead, IsWritten, IsCount, AreReads}
 use Rattle.line_server.specs.Steps.{kept, room}
-use Rattle.line_server.specs.Feeding.{IsUnended, AreCut, IsFed, Intake, intake}
+use Rattle.line_server.specs.Feeding.{IsFront, IsUnended, AreCut, IsFed, Intake, intake}
 use Rattle.line_server.proofs.Alike.{turn_of, turn_alike, turn_now}
 use Rattle.line_server.proofs.Cuts.{cut_none, cut_part, cut_more, cut_byte, cut_line, cut_end, cut_rest, cut_front, kept_more, kept_none, kept_some, kept_ended, kept_unended}
-use Rattle.line_server.proofs.Imported.{run_imported}
 
 -- ---- how many lines end in what came
 
@@ -176,9 +174,9 @@ module _ {D : Type 0} (source : SourceView) (view : DeviceView D) where
 
   -- ---- a line's end, and what comes of it
 
-  module _ (outcome : Result Answer LineRefusal) (taken : List Release) (failed : Option Release) (now after : Server D) where
+  module _ (outcome : Result Answer LineRefusal) (call : Call) (now after : Server D) where
     abbrev pub turn : List ℕ → Turn
-    turn line = turn_of outcome taken failed now after line
+    turn line = turn_of outcome call now after line
 
     -- the line as it was kept was answered so
     abbrev pub Gives : List ℕ → Type 0
@@ -186,11 +184,11 @@ module _ {D : Type 0} (source : SourceView) (view : DeviceView D) where
 
     gives_ended : (part buffer : List ℕ) → buffer ≡ kept part → Gives (no_cr buffer) → Gives (no_cr part)
     gives_ended part buffer e g =
-        kept_ended Gives (λ x y long other. turn_alike outcome taken failed now after source view x y long other) part (subst (λ (l : List ℕ). Gives (no_cr l)) e g)
+        kept_ended Gives (λ x y long other. turn_alike outcome call now after source view x y long other) part (subst (λ (l : List ℕ). Gives (no_cr l)) e g)
 
     gives_unended : (part buffer : List ℕ) → buffer ≡ kept part → Gives buffer → Gives part
     gives_unended part buffer e g =
-        kept_unended Gives (λ x y long other. turn_alike outcome taken failed now after source view x y long other) part (subst Gives e g)
+        kept_unended Gives (λ x y long other. turn_alike outcome call now after source view x y long other) part (subst Gives e g)
 
     pub line_more : (old mid new : Option (List ℕ)) (before : Server D) (seen buffer : List ℕ) (served : ℕ) → Progress old mid before now seen buffer served
         → Gives (no_cr buffer) → Appends mid new (bytes_of (reply_value outcome))
@@ -230,17 +228,16 @@ module _ {D : Type 0} (source : SourceView) (view : DeviceView D) where
       kept_is = h.buffer_is;
       replied = h.written;
       count = h.count;
-      imports = run_imported view source before now h.turns h.run;
     }
 
     -- the reply to a line wasn't written whole
-    pub not_replied : {E : Type 0} (fault : E) (new : Option (List ℕ)) (after : Server D) (taken more buffer later : List ℕ) (answered : ℕ) (outcome : Result Answer LineRefusal) (releases : List Release) (failed : Option Release)
+    pub not_replied : {E : Type 0} (fault : E) (new : Option (List ℕ)) (after : Server D) (taken more buffer later : List ℕ) (answered : ℕ) (outcome : Result Answer LineRefusal) (call : Call)
         → Progress old mid before now (part ++ taken) buffer answered → piece ≡ (taken ++ 10 ∷ []) ++ more
-        → Gives outcome releases failed now after (no_cr buffer) → AppendsSome mid new (bytes_of (reply_value outcome))
+        → Gives outcome call now after (no_cr buffer) → AppendsSome mid new (bytes_of (reply_value outcome))
         → IsFed (Err fault) source view (intake part piece later old new) before after
-    not_replied fault new after taken more buffer later answered outcome releases failed h is g w =
-        let t = turn outcome releases failed now after (no_cr h.part) in
-        let run = run_more before now after h.turns t h.run (gives_ended outcome releases failed now after h.part buffer h.buffer_is g) in
+    not_replied fault new after taken more buffer later answered outcome call h is g w =
+        let t = turn outcome call now after (no_cr h.part) in
+        let run = run_more before now after h.turns t h.run (gives_ended outcome call now after h.part buffer h.buffer_is g) in
         record {
           turns = h.turns ++ t ∷ [];
           run = run;
@@ -255,7 +252,6 @@ module _ {D : Type 0} (source : SourceView) (view : DeviceView D) where
           kept_is = tt;
           replied = (h.turns, t, mid, refl, h.written, w);
           count = tt;
-          imports = run_imported view source before after (h.turns ++ t ∷ []) run;
         }
 
   -- what holds for the source as it is now holds for the source as it was
@@ -263,7 +259,7 @@ module _ {D : Type 0} (source : SourceView) (view : DeviceView D) where
     run_now : (turns : List Turn) (old new : Server D) → Run now view old turns new → Run source view old turns new
     run_now [] old new run = run
     run_now (turn ∷ turns) old new run =
-        (run.0, turn_now turn.outcome turn.releases turn.failed old run.0 source view now turn.line same run.1, run_now turns run.0 new run.2)
+        (run.0, turn_now turn.outcome turn.call old run.0 source view now turn.line same run.1, run_now turns run.0 new run.2)
 
     pub fed_now : {E : Type 0} (result : Result ℕ E) (taken : Intake) (before after : Server D) → IsFed result now view taken before after → IsFed result source view taken before after
     fed_now result taken before after f = record {
@@ -278,7 +274,6 @@ module _ {D : Type 0} (source : SourceView) (view : DeviceView D) where
       kept_is = f.kept_is;
       replied = f.replied;
       count = f.count;
-      imports = f.imports;
     }
 
   -- several lines more
@@ -331,7 +326,6 @@ module _ {D : Type 0} (source : SourceView) (view : DeviceView D) where
       read = (came, consumed, read, few);
       written = written;
       count = count;
-      imports = run_imported view source start (server pins after) turns run;
       reads = reads;
       made = makes;
       few = within;
@@ -363,13 +357,13 @@ module _ {D : Type 0} (source : SourceView) (view : DeviceView D) where
             (pieces ++ Gave [] ∷ []) makes (one_more pieces (Gave []) most lt) (came_none pieces (Gave []) seen refl all) (pieces, each, refl)
 
         -- it ended within a line, which was answered so
-        module _ (outcome : Result Answer LineRefusal) (taken : List Release) (failed : Option Release) (new : Option (List ℕ)) (later : List (Option ℕ)) (after : StoreValue D) (some : 0 < length buffer)
-            (g : Gives outcome taken failed (server pins now) (server later after) buffer) where
+        module _ (outcome : Result Answer LineRefusal) (call : Call) (new : Option (List ℕ)) (later : List (Option ℕ)) (after : StoreValue D) (some : 0 < length buffer)
+            (g : Gives outcome call (server pins now) (server later after) buffer) where
           abbrev last : Turn
-          last = turn outcome taken failed (server pins now) (server later after) h.part
+          last = turn outcome call (server pins now) (server later after) h.part
 
           last_run : Run source view start (h.turns ++ last ∷ []) (server later after)
-          last_run = run_more start (server pins now) (server later after) h.turns last h.run (gives_unended outcome taken failed (server pins now) (server later after) h.part buffer h.buffer_is g)
+          last_run = run_more start (server pins now) (server later after) h.turns last h.run (gives_unended outcome call (server pins now) (server later after) h.part buffer h.buffer_is g)
 
           last_lines : IfSome input (AreLines (Ok 0) (lines_asked (h.turns ++ last ∷ [])))
           last_lines =

@@ -1,18 +1,9 @@
 -- What a RECEIPT is answered.
 use Rattle.std.proofs.Common.{◌≡◌, ◌⊎◌, ℕ, ◌≤◌, ◌<◌, Bool, true, false, List, length, Option, Result, Ok, Err, inl, inr, refl, sym, ap, subst, ◌∙◌, arith}
-use Rattle.std.specs.Prelude.{◌==◌}
-use Rattle.std.specs.List.{filter}
 use Rattle.std.proofs.lemmas.Bool.{false≢true}
-use Rattle.std.proofs.lemmas.Bool.Decides.{nat_tests}
-use Rattle.rf2_values.specs.Row.{RowValue}
 use Rattle.history_model.specs.declared.stamped.StampedRow.{StampedRow}
-use Rattle.history_model.specs.History.{History, IsHistory, stamped_cmp, after_release}
-use Rattle.history_model.specs.Brought.{brought_by, IsLatestDay, ImportReceiptOf}
-use Rattle.history_model.proofs.InOrder.{same_ascending}
-use Rattle.history_model.proofs.Keys.{stamped_total}
-use Rattle.history_model.proofs.Filtered.{Has-filter, Has-filter_from, IsAscending-filter}
-use Rattle.history_model.proofs.Releases.{then_is_history}
-use Rattle.history_model.proofs.Receipts.{after_cases, after_old}
+use Rattle.history_model.specs.History.{History}
+use Rattle.history_model.specs.Brought.{IsLatestDay, ImportReceiptOf}
 use Rattle.history_model.proofs.Brought.{one_receipt_for_an_import}
 use Rattle.history_store.specs.declared.refusal.Refusal.{Refusal}
 use Rattle.history_store.specs.declared.refusal.Refusal.TheVariants as store
@@ -22,7 +13,8 @@ use Rattle.line_server.specs.declared.refusal.LineRefusal.TheVariants as refusal
 use Rattle.line_server.specs.Sources.{Releases}
 use Rattle.line_server.specs.ReplyValue.{Answer, Done}
 use Rattle.line_server.specs.Replies.{Server, IsOutcome, imports_seen, receipt_of}
-use Rattle.line_server.specs.Laws.{PinnedReceiptIsUndisturbed, BroughtAlike}
+use Rattle.line_server.specs.Laws.{PinnedReceiptIsUndisturbed}
+use Rattle.store_life.specs.Laws.{BroughtAlike}
 use Rattle.line_server.proofs.Pinned.{asked_outcome}
 
 abbrev pub is_receipt : Command → Bool
@@ -93,24 +85,3 @@ receipt_undisturbed D honest releases others a b after next line session pin num
     one_receipt session number one two a b (pa ∙ sym pb) needs (λ within. alike)
     (receipt_out (honest a.store.disk) releases session number one a after (asked_outcome (honest a.store.disk) releases a after line session (Receipt number) one asks ra)).1
     (receipt_out (honest b.store.disk) others session number two b next (asked_outcome (honest b.store.disk) others b next line session (Receipt number) two asks rb)).1
-
--- ---- imports that come later
-
--- another release changes nothing of what an import brought
-pub brought_stays : (h : History) (release : List RowValue) (number : ℕ) → IsHistory h → number ≤ h.imports → BroughtAlike number (after_release h release) h
-unfolding brought_by
-brought_stays h release number is within =
-    let of_import : StampedRow → Bool = λ s. s.import == number in
-    let after = after_release h release in
-    same_ascending stamped_total (filter of_import after.rows) (filter of_import h.rows)
-    (IsAscending-filter of_import stamped_cmp after.rows (then_is_history h release is).ascending)
-    (IsAscending-filter of_import stamped_cmp h.rows is.ascending)
-    (λ s there.
-    let f = Has-filter of_import after.rows s there in
-    elim (after_cases h release s is f.0).origin [
-      | inl late ↦ absurd (let own : s.import ≡ number = grind (arith, nat_tests, f.1) in let last = late.0 in omega (arith, own, last, within))
-      | inr known ↦ Has-filter_from of_import h.rows s known.1 f.1
-    ])
-    (λ s there.
-    let f = Has-filter of_import h.rows s there in
-    Has-filter_from of_import after.rows s (after_old h release s f.0) f.1)

@@ -1,6 +1,6 @@
 -- Commands that ask for no rows, as responses.
 use Rattle.std.proofs.Common.{◌≡◌, ◌≢◌, ◌⊎◌, ℕ, ◌≤◌, ◌<◌, length, Bool, true, false, List, [], ◌∷◌, refl, sym, ap, subst, ◌∙◌, get_or, IfSome, Result, Ok, Err, inl, inr, Option, Some, None, arith}
-use Rattle.line_server.specs.DeviceView.{DeviceView}
+use Rattle.store_life.specs.DeviceView.{DeviceView}
 use Rattle.std.specs.Prelude.{decimal, slice_set, unwrap_or}
 use Rattle.std.proofs.lemmas.Bool.{false≢true}
 use Rattle.std.proofs.lemmas.List.Elements.{All-set}
@@ -21,10 +21,11 @@ use Rattle.line_server.specs.Pins.{AreWithin, pin_of}
 use Rattle.line_server.specs.Sources.{Releases, SourceView, source_view}
 use Rattle.line_server.specs.ReplyValue.{Ids, Done, ReplyValue, reply_value}
 use Rattle.line_server.specs.Replies.{Server, IsAnswer, IsClosed, IsLacking, receipt_of, status_of, server}
+use Rattle.store_life.specs.Life.{Other}
 use Rattle.line_server.specs.Turns.{IsAnswered}
 use Rattle.line_server.specs.Private.{IsResponse, IsQueried, IsCarriedOut}
 use Rattle.line_server.proofs.Alike.{turn_of}
-use Rattle.line_server.proofs.Imported.{none_imported}
+use Rattle.store_life.proofs.Made.{unmade}
 use Rattle.line_server.proofs.Queried.{responded}
 
 abbrev is_fault : Refusal → Bool
@@ -43,13 +44,13 @@ module _ {D : Type 0} (view : DeviceView D) (concept date pin : ℕ) (s : StoreV
   children_found ids reply still is told has session pins at =
       let seen = is ∙ ap (λ (k : ℕ). children concept date (rows_at k s.history.rows)) (sym at) in
       responded view (Ok reply) has session (Children concept date) (Ok (Ids ids)) (server pins s) (server pins s) told
-      (still, record { pins = refl; store = record { history = refl; catalog = refl; needs_reopen = refl } }, ap Ids seen) (none_imported view s) refl refl (omega arith)
+      (still, record { pins = refl; store = record { history = refl; catalog = refl; needs_reopen = refl } }, ap Ids seen) (unmade view s) refl refl (omega arith)
 
   pub children_unfound : (refusal : Refusal) → ((refusal ≡ store.ReopenNeeded) × (s.needs_reopen ≡ true)) ⊎ ((refusal ≡ store.OutOfMemory) × (s.needs_reopen ≡ false))
       → IsQueried (Err (refusals.Store refusal)) view (Children concept date) pin s s
   children_unfound refusal why has session pins at =
       responded view (Err (refusals.Store refusal)) has session (Children concept date) (Err (refusals.Store refusal)) (server pins s) (server pins s) refl
-      (cause pins why) (none_imported view s) (counted refusal why) refl (omega arith) where
+      (cause pins why) (unmade view s) (counted refusal why) refl (omega arith) where
         cause : (pins : List (Option ℕ)) → ((refusal ≡ store.ReopenNeeded) × (s.needs_reopen ≡ true)) ⊎ ((refusal ≡ store.OutOfMemory) × (s.needs_reopen ≡ false)) → IsClosed refusal (server pins s) (server pins s) ⊎ IsLacking refusal (server pins s) (server pins s)
         cause pins (inl w) = inl (w.0, w.1, refl)
         cause pins (inr w) = inr (w.0, w.1, record { pins = refl; store = record { history = refl; catalog = refl; needs_reopen = refl } })
@@ -66,12 +67,12 @@ module _ {D : Type 0} (view : DeviceView D) (concept date pin : ℕ) (s : StoreV
 module _ {D : Type 0} (view : DeviceView D) (s : StoreValue D) where
   pub status_told : (reply : ReplyValue) → s.needs_reopen ≡ false → reply ≡ reply_value (Ok (Done (status_of s))) → IsCarriedOut (Ok reply) view Status s s
   status_told reply still told has session pins =
-      responded view (Ok reply) has session Status (Ok (Done (status_of s))) (server pins s) (server pins s) told (still, refl, refl) (none_imported view s) refl refl (omega arith)
+      responded view (Ok reply) has session Status (Ok (Done (status_of s))) (server pins s) (server pins s) told (still, refl, refl) (unmade view s) refl refl (omega arith)
 
   pub status_closed : s.needs_reopen ≡ true → IsCarriedOut (Err (refusals.Store store.ReopenNeeded)) view Status s s
   status_closed needs has session pins =
       responded view (Err (refusals.Store store.ReopenNeeded)) has session Status (Err (refusals.Store store.ReopenNeeded)) (server pins s) (server pins s) refl
-      (refl, needs, refl) (none_imported view s) refl refl (omega arith)
+      (refl, needs, refl) (unmade view s) refl refl (omega arith)
 
 -- ---- whatever the source has
 
@@ -80,7 +81,7 @@ pub any_source : {D : Type 0} (source : SourceView) (view : DeviceView D) (resul
 any_source source view result session command old new r = record {
   turned = λ line asks.
       let t = r.turned line asks in
-      (t.0, t.1, record { releases = t.2.releases; goes = t.2.goes; own = λ h. t.2.own tt; imports = t.2.imports; one = t.2.one; counts = t.2.counts; disk = t.2.disk }, t.3);
+      (t.0, t.1, record { releases = t.2.releases; goes = t.2.goes; own = λ h. t.2.own tt; call = t.2.call; counts = t.2.counts; disk = t.2.disk }, t.3);
   grows = r.grows;
 }
 
@@ -89,7 +90,7 @@ any_source source view result session command old new r = record {
 module _ {D : Type 0} (source : SourceView) (view : DeviceView D) (session : ℕ) (pins : List (Option ℕ)) (s : StoreValue D) where
   pub unpinned : (reply : ReplyValue) → reply ≡ reply_value (Ok (Done [])) → IsResponse (Ok reply) source view session Unpin (server pins s) (server (slice_set pins session None) s)
   unpinned reply told = any_source source view (Ok reply) session Unpin (server pins s) (server (slice_set pins session None) s)
-      (responded view (Ok reply) source.releases session Unpin (Ok (Done [])) (server pins s) (server (slice_set pins session None) s) told (refl, refl) (none_imported view s) refl refl (omega arith))
+      (responded view (Ok reply) source.releases session Unpin (Ok (Done [])) (server pins s) (server (slice_set pins session None) s) told (refl, refl) (unmade view s) refl refl (omega arith))
 
 -- ---- PIN
 
@@ -98,7 +99,7 @@ module _ {D : Type 0} (view : DeviceView D) (session : ℕ) (pins : List (Option
       → IsResponse (Ok reply) (source_view (Unit {0}) has) view session (Pin number) (server pins s) (server (slice_set pins session (Some pin)) s)
   pinned pin reply h told =
       responded view (Ok reply) has session (Pin number) (Ok (Done (decimal pin ∷ []))) (server pins s) (server (slice_set pins session (Some pin)) s) told
-      (answered_so number h) (none_imported view s) refl refl (omega arith) where
+      (answered_so number h) (unmade view s) refl refl (omega arith) where
         answered_so : (number : Option ℕ) → (pin ≤ s.history.imports) × (pin ≡ unwrap_or number s.history.imports)
             → IsAnswer (view.is_honest s.disk) has session (Pin number) (Done (decimal pin ∷ [])) (server pins s) (server (slice_set pins session (Some pin)) s)
         answered_so None h = (ap (λ (k : ℕ). server (slice_set pins session (Some k)) s) h.1, ap (λ (k : ℕ). Done (decimal k ∷ [])) h.1)
@@ -107,7 +108,7 @@ module _ {D : Type 0} (view : DeviceView D) (session : ℕ) (pins : List (Option
   pub out_of_range : (n : ℕ) × (number ≡ Some n) × (s.history.imports < n) → IsResponse (Err refusals.PinRange) (source_view (Unit {0}) has) view session (Pin number) (server pins s) (server pins s)
   out_of_range h =
       responded view (Err refusals.PinRange) has session (Pin number) (Err refusals.PinRange) (server pins s) (server pins s) refl
-      ((h.0, inl (ap Pin h.1, h.2)), refl) (none_imported view s) refl refl (omega arith)
+      ((h.0, inl (ap Pin h.1, h.2)), refl) (unmade view s) refl refl (omega arith)
 
 -- ---- RECEIPT
 
@@ -117,18 +118,18 @@ module _ {D : Type 0} (view : DeviceView D) (number pin : ℕ) (s : StoreValue D
   import_told brought latest reply within still receipt told has session pins at =
       responded view (Ok reply) has session (AskReceipt number) (Ok (Done (receipt_of number brought latest))) (server pins s) (server pins s) told
       (record { open_still = still; seen = subst (λ (k : ℕ). number ≤ k) (sym at) within; brought = brought; latest = latest; receipt = receipt; answer_is = refl; unchanged = refl })
-      (none_imported view s) refl refl (omega arith)
+      (unmade view s) refl refl (omega arith)
 
   pub import_closed : (refusal : Refusal) → number ≤ pin → (refusal ≡ store.ReopenNeeded) × (s.needs_reopen ≡ true) → IsQueried (Err (refusals.Store refusal)) view (AskReceipt number) pin s s
   import_closed refusal within why has session pins at =
       responded view (Err (refusals.Store refusal)) has session (AskReceipt number) (Err (refusals.Store refusal)) (server pins s) (server pins s) refl
-      (subst (λ (k : ℕ). number ≤ k) (sym at) within, (why.0, why.1, refl)) (none_imported view s)
+      (subst (λ (k : ℕ). number ≤ k) (sym at) within, (why.0, why.1, refl)) (unmade view s)
       (subst (λ (r : Refusal). CountsRefusal r (view.failures s.disk) (view.failures s.disk)) (sym why.0) refl) refl (omega arith)
 
   pub import_unseen : pin < number → IsQueried (Err refusals.PinRange) view (AskReceipt number) pin s s
   import_unseen above has session pins at =
       responded view (Err refusals.PinRange) has session (AskReceipt number) (Err refusals.PinRange) (server pins s) (server pins s) refl
-      ((number, inr (refl, subst (λ (k : ℕ). k < number) (sym at) above)), refl) (none_imported view s) refl refl (omega arith)
+      ((number, inr (refl, subst (λ (k : ℕ). k < number) (sym at) above)), refl) (unmade view s) refl refl (omega arith)
 
 -- ---- pins
 
@@ -164,14 +165,13 @@ module _ {D : Type 0} (source : SourceView) (view : DeviceView D) (line : List �
   -- the line asks nothing
   pub nothing_asked : (reply : ReplyValue) (reason : Unread) (s : Server D) → IsUnread line reason → reply ≡ reply_value (Err (refusals.Unread reason)) → IsAnswered source view line reply s s
   nothing_asked reply reason s is told = (
-    turn_of (Err (refusals.Unread reason)) [] None s s line,
+    turn_of (Err (refusals.Unread reason)) Other s s line,
     refl,
     record {
       releases = source.releases;
-      goes = record { replies = inr (reason, is, refl, refl); imported = tt; failed = tt };
-      own = λ h. record { replies = inr (reason, is, refl, refl); imported = tt; failed = tt };
-      imports = none_imported view s.store;
-      one = omega arith;
+      goes = record { replies = inr (reason, is, refl, refl); asked = tt };
+      own = λ h. record { replies = inr (reason, is, refl, refl); asked = tt };
+      call = unmade view s.store;
       counts = refl;
       disk = λ session command asks. absurd (asked_is_read line session command reason asks is);
     },

@@ -1,16 +1,19 @@
 -- What taking a piece of the input does.
 use Rattle.std.specs.Prelude.{◌≡◌, ◌⊎◌, ◌==◌, ◌^◌, ◌-◌, false, ℕ, List, [], ◌∷◌, ◌++◌, length, min}
 use Rattle.std.specs.Prelude.{All, Option, Result, Ok, Err, IfOk, OnOk}
-use Rattle.line_server.specs.DeviceView.{DeviceView}
+use Rattle.store_life.specs.DeviceView.{DeviceView}
 use Rattle.std.specs.Io.KnownBytes.{Appends}
 use Rattle.rf2_rows.specs.File.{lines_in}
 use Rattle.line_server.specs.Sources.{SourceView}
 use Rattle.line_server.specs.ReplyValue.{reply_value, bytes_of}
 use Rattle.line_server.specs.Replies.{Server}
-use Rattle.line_server.specs.Imports.{IsFront, Imports}
-use Rattle.line_server.specs.Turns.{Turn, Run, lines_asked, replies, imported, failed_in}
+use Rattle.line_server.specs.Turns.{Turn, Run, lines_asked, replies}
 use Rattle.line_server.specs.Streams.{ends_in, AppendsSome}
 use Rattle.line_server.specs.Steps.{kept}
+
+-- the first list is a front part of the second
+abbrev pub IsFront : {X : Type 0} → List X → List X → Type 0
+IsFront {X} front whole = (rest : List X) × (whole ≡ front ++ rest)
 
 -- no line ends in the bytes
 abbrev pub IsUnended : List ℕ → Type 0
@@ -66,6 +69,3 @@ pub record IsFed {D E : Type 0} (result : Result ℕ E) (source : SourceView) (v
   pub kept_is : OnOk result (intake.buffer ≡ kept rest)
   pub replied : AreReplied result intake.old intake.new turns
   pub count : IfOk result (λ n. n ≡ min (length turns) (2 ^ 64 - 1))
-  -- a stop at any moment leaves the history from before with
-  -- the first so many of the releases that the lines imported
-  pub imports : Imports view before.store after.store (imported turns) (failed_in turns)

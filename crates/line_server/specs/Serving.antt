@@ -1,7 +1,7 @@
 -- What serving lines does.
 use Rattle.std.specs.Prelude.{◌≡◌, ◌^◌, ◌*◌, ◌-◌, ◌<◌, ◌≤◌, ℕ, List, [], ◌∷◌, ◌++◌, length, min}
 use Rattle.std.specs.Prelude.{All, Option, IfSome, Result, Ok, Err}
-use Rattle.line_server.specs.DeviceView.{DeviceView}
+use Rattle.store_life.specs.DeviceView.{DeviceView}
 use Rattle.std.specs.Io.KnownBytes.{Appends, Consumes, IsAtEnd}
 use Rattle.rf2_rows.specs.File.{lines_in}
 use Rattle.history_store.specs.StoreValue.{StoreValue}
@@ -10,10 +10,9 @@ use Rattle.line_server.specs.declared.serving.ServeFault.TheVariants as faults
 use Rattle.line_server.specs.Sources.{SourceView}
 use Rattle.line_server.specs.Pins.{unpinned}
 use Rattle.line_server.specs.Replies.{server}
-use Rattle.line_server.specs.Imports.{IsFront, Imports}
-use Rattle.line_server.specs.Turns.{Turn, Run, lines_asked, replies, imported, failed_in}
+use Rattle.line_server.specs.Turns.{Turn, Run, lines_asked, replies}
 use Rattle.line_server.specs.Streams.{Streams, ends_in}
-use Rattle.line_server.specs.Feeding.{LacksLastReply}
+use Rattle.line_server.specs.Feeding.{IsFront, LacksLastReply}
 use Rattle.line_server.specs.Reads.{Reading, Gave, Failed, all_of, IsPiece, Makes}
 
 -- after Ok the lines of the input, and after a fault the first of them
@@ -88,9 +87,6 @@ pub record IsServed {D : Type 0} (result : Result ℕ ServeFault) (most : ℕ) (
       × IsRead result most came streams.rest (length turns) × (length came ≤ most * 4096)
   pub written : IsWritten result streams.old streams.new turns
   pub count : IsCount result (length turns)
-  -- a stop at any moment leaves the history from before with
-  -- the first so many of the releases that the lines imported
-  pub imports : Imports view before after (imported turns) (failed_in turns)
   -- the reads that were made, which gave the bytes that came of the input
   pub reads : List Reading
   pub made : Makes streams.reads streams.reads_after reads

@@ -1,9 +1,8 @@
 -- Lines that are answered one after the other.
-use Rattle.std.specs.Prelude.{◌≡◌, ℕ, ◌≤◌, List, [], ◌∷◌, length, map, take, Option, Some, None}
-use Rattle.std.specs.Prelude.{IfSome, Result, Ok, Err, OnOk, sum_by, ◌+◌}
-use Rattle.line_server.specs.DeviceView.{DeviceView}
-use Rattle.std.specs.List.{flat_map, AllByRecursion}
-use Rattle.std.specs.Option.{option_or}
+use Rattle.std.specs.Prelude.{◌≡◌, ℕ, ◌≤◌, List, [], ◌∷◌, map, take, Some}
+use Rattle.std.specs.Prelude.{Result, Ok, Err, OnOk, sum_by, ◌+◌}
+use Rattle.store_life.specs.DeviceView.{DeviceView}
+use Rattle.std.specs.List.{flat_map}
 use Rattle.import_check.specs.declared.release.Release.{Release}
 use Rattle.import_check.specs.Release.{files_of}
 use Rattle.history_store.specs.declared.refusal.Refusal.TheVariants as store
@@ -20,27 +19,30 @@ use Rattle.line_server.specs.declared.refusal.LineRefusal.TheVariants as refusal
 use Rattle.line_server.specs.Sources.{Releases, SourceView}
 use Rattle.line_server.specs.ReplyValue.{Answer, Rows, ReplyValue, reply_value, bytes_of}
 use Rattle.line_server.specs.Replies.{Server, Replies}
-use Rattle.line_server.specs.Imports.{Imports}
+use Rattle.store_life.specs.Life.{Call, Imported, Failed, Other, IsCall}
 
--- a line, how it is answered, the release that it imported,
--- if it did, and the one in whose import the device failed
+-- a line, how it is answered, and what that did to the store's history
 pub record Turn : Type 0 where
   pub line : List ℕ
   pub outcome : Result Answer LineRefusal
-  pub releases : List Release
-  pub failed : Option Release
+  pub call : Call
 
 -- the release is the one that the line asks to import
 abbrev pub IsAskedFor : Releases → List ℕ → Release → Type 0
 IsAskedFor releases line release = (session : ℕ) × (name : List ℕ) × Asks line session (Import name)
     × (releases name ≡ Some (files_of release))
 
+-- the release that was imported, or in whose import the device failed, is the one that is asked for
+abbrev pub IsOfAsked : Releases → List ℕ → Call → Type 0
+IsOfAsked releases line (Imported release) = IsAskedFor releases line release
+IsOfAsked releases line (Failed release) = IsAskedFor releases line release
+IsOfAsked releases line Other = Unit {0}
+
 -- the turn is one of a server whose source has these releases
 pub record GoesBy {D : Type 0} (honest : Type 0) (releases : Releases) (old : Server D)
     (turn : Turn) (new : Server D) : Type 0 where
   pub replies : Replies honest releases turn.line turn.outcome old new
-  pub imported : AllByRecursion (IsAskedFor releases turn.line) turn.releases
-  pub failed : IfSome turn.failed (IsAskedFor releases turn.line)
+  pub asked : IsOfAsked releases turn.line turn.call
 
 -- the count of the device's failures: risen where `ERR 2` is said, and else as before
 abbrev pub CountsOutcome : Result Answer LineRefusal → ℕ → ℕ → Type 0
@@ -106,8 +108,7 @@ pub record IsTurn {D : Type 0} (source : SourceView) (view : DeviceView D) (old 
   pub releases : Releases
   pub goes : GoesBy (view.is_honest old.store.disk) releases old turn new
   pub own : source.is_honest → GoesBy (view.is_honest old.store.disk) source.releases old turn new
-  pub imports : Imports view old.store new.store turn.releases turn.failed
-  pub one : length turn.releases ≤ 1
+  pub call : IsCall view old.store turn.call new.store
   pub counts : CountsOutcome turn.outcome (view.failures old.store.disk)
       (view.failures new.store.disk)
   pub disk : (session : ℕ) (command : Command) → Asks turn.line session command
@@ -137,12 +138,3 @@ lines_asked turns = map (λ turn. turn.line) turns
 
 abbrev pub replies : List Turn → List ℕ
 replies turns = flat_map (λ turn. bytes_of (reply_value turn.outcome)) turns
-
--- the releases that lines imported, in order
-abbrev pub imported : List Turn → List Release
-imported turns = flat_map (λ turn. turn.releases) turns
-
--- the release in whose import the device failed, if it did
-abbrev pub failed_in : List Turn → Option Release
-failed_in [] = None
-failed_in (turn ∷ turns) = option_or turn.failed (failed_in turns)

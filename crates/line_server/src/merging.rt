@@ -1,7 +1,7 @@
 //! The commands of a merge, and trimming: what the store says, as a reply.
 
 ghost use Rattle.line_commands.specs.Commands.{Merge, Step, Publish, Abandon, Trim};
-ghost use Rattle.line_server.specs.DeviceView.{device_view};
+ghost use Rattle.store_life.specs.DeviceView.{device_view};
 ghost use Rattle.line_server.specs.Private.{IsCarriedOut};
 
 use crate::refusal::LineRefusal;

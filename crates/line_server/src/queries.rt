@@ -1,7 +1,7 @@
 //! Queries: what the store finds, as a reply.
 
 ghost use Rattle.std.specs.Prelude.{◌≤◌};
-ghost use Rattle.line_server.specs.DeviceView.{device_view};
+ghost use Rattle.store_life.specs.DeviceView.{device_view};
 ghost use Rattle.line_commands.specs.Commands.{Get, History, Children, Terms, Search, Replaced};
 ghost use Rattle.line_commands.specs.Commands.{About, Page, Receipt};
 ghost use Rattle.line_server.specs.Private.{IsQueried};

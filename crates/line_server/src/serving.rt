@@ -2,7 +2,7 @@
 
 ghost use Rattle.std.specs.Prelude.{◌≡◌, IsErrOf};
 ghost use Rattle.line_server.specs.Sources.{source_view};
-ghost use Rattle.line_server.specs.DeviceView.{device_view};
+ghost use Rattle.store_life.specs.DeviceView.{device_view};
 ghost use Rattle.line_server.specs.declared.serving.ServeFault.TheVariants.{OutOfMemory};
 ghost use Rattle.line_server.specs.Serving.{IsServed};
 ghost use Rattle.line_server.specs.Streams.{streams, with_reads};

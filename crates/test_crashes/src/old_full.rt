@@ -45,8 +45,8 @@ fn known_rows_lead_to_version_2_and_then_it_takes_more(rt: HostRuntime) -> Resul
 fn a_merge_leads_to_version_2_and_then_it_takes_more(rt: HostRuntime) -> Result<(), Fail> {
     let alloc = rt.alloc();
     let mut store = Example::opened(alloc, Old::Full.disk(alloc)?)?;
-    store.merge_begin()?;
-    store.merge_step(2)?;
+    assert_eq!(rt; store.merge_begin()?, 2);
+    assert_eq!(rt; store.merge_step(2)?, 0);
     store.merge_publish()?;
     assert_eq!(rt; (store.version(), store.segments()), (2, 127));
     let further = root_years(alloc, 2_029, 1)?;

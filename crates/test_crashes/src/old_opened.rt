@@ -10,10 +10,10 @@ use std::test::Fail;
 use test_support::{Example, line, one_file, put};
 
 /// Where the version stands in the mark of either directory.
-const VERSIONS: [usize; 2] = [4_111, 12_303];
+pub const VERSIONS: [usize; 2] = [4_111, 12_303];
 
 /// The disk of these bytes with other versions in both marks.
-fn of_version(alloc: Global, bytes: &[u8], version: &[u8]) -> Result<MemDisk, Refusal> {
+pub fn of_version(alloc: Global, bytes: &[u8], version: &[u8]) -> Result<MemDisk, Refusal> {
     let mut image = bytes.to_vec(alloc)?;
     for place in VERSIONS {
         put(&mut image, place, version);

@@ -2,13 +2,11 @@
 
 ghost use Rattle.std.specs.Prelude.{◌<◌, ◌≤◌};
 
-use crate::lists::{
-    Indexed, index_all, index_imports, index_of, index_release, links_of, post_links, reader_of,
-};
+use crate::lists::{Indexed, index_all, index_imports, index_of, links_of, post_links, reader_of};
 use crate::releases::{rows_after, three_lists};
 use crate::rows::{
-    FINDING_SITE, IS_A, LAST_DAY, MEMBER, OTHER, REPLACED_BY, ROOT, SAME_AS, STREET, THIRD,
-    association, concept_id, day, is_same, relationship, relationship_id, sctid,
+    FINDING_SITE, IS_A, LAST_DAY, OTHER, REPLACED_BY, ROOT, SAME_AS, STREET, THIRD, association,
+    concept_id, day, is_same, relationship, relationship_id, sctid,
 };
 use as_of_index::{Index, ReadFault, RowReader};
 use history_model::{StampedRow, plain};
@@ -55,114 +53,6 @@ pub(crate) fn replacements_of<R: RowReader>(
     asked: &Asked,
 ) -> Result<Vec<Row>, ReadFault> {
     replacements(alloc, links, index, reader, asked.id, asked.time, asked.pin)
-}
-
-/// This concept and no other is a child of a concept, or none is.
-fn check_child(
-    rt: &impl Abort,
-    alloc: Global,
-    links: &Links,
-    index: &Index,
-    (concept, date, pin): (u64, u32, u32),
-    want: Option<u64>,
-) -> Result<(), Fail> {
-    let found = children_of(alloc, links, index, &Asked::of(concept, date, pin)?)?;
-    assert_eq!(rt;
-        found.first().copied(),
-        want,
-        "of {concept} at {date}, pin {pin}"
-    );
-    assert!(rt; found.len() <= 1);
-    Ok(())
-}
-
-#[test]
-fn a_street_is_a_child_while_a_relationship_says_so(rt: HostRuntime) -> Result<(), Fail> {
-    let alloc = rt.alloc();
-    let lists = three_lists(alloc)?;
-    let index = index_of(alloc, &lists)?;
-    let posted = links_of(alloc, &lists)?;
-    let first = links_of(alloc, &lists[..1])?;
-    let none = Links::new(alloc)?;
-    for (links, pin, date, concept, want) in [
-        (&posted, 0, 20_200_131, ROOT, None),
-        (&posted, 1, 20_200_131, ROOT, Some(STREET)),
-        (&first, 1, 20_200_131, ROOT, Some(STREET)),
-        (&none, 1, 20_200_131, ROOT, None),
-        (&posted, 1, 20_200_130, ROOT, None),
-        (&posted, 1, 20_200_131, STREET, None),
-        (&posted, 2, 20_210_131, ROOT, Some(STREET)),
-        (&posted, 3, 20_210_131, ROOT, None),
-        (&posted, 3, 20_210_130, ROOT, Some(STREET)),
-        (&posted, 2, LAST_DAY, ROOT, Some(STREET)),
-        (&first, 3, LAST_DAY, ROOT, None),
-    ] {
-        check_child(&rt, alloc, links, &index, (concept, date, pin), want)?;
-    }
-    Ok(())
-}
-
-/// The members that stand in the place of a component.
-fn members(
-    alloc: Global,
-    links: &Links,
-    index: &Index,
-    lists: &[Vec<StampedRow>],
-    asked: &Asked,
-) -> Result<Vec<u128>, Fail> {
-    let found = replacements_of(alloc, links, index, &mut reader_of(lists), asked)?;
-    Ok(found.iter().map(|row| row.id).collect(alloc)?)
-}
-
-#[test]
-fn a_street_is_replaced_once_an_association_says_so(rt: HostRuntime) -> Result<(), Fail> {
-    let alloc = rt.alloc();
-    let lists = three_lists(alloc)?;
-    let index = index_of(alloc, &lists)?;
-    let posted = links_of(alloc, &lists)?;
-    let none = Links::new(alloc)?;
-    for (links, component, date, pin, want) in [
-        (&posted, STREET, 20_210_131, 2, Some(MEMBER)),
-        (&posted, STREET, 20_210_130, 2, None),
-        (&posted, STREET, LAST_DAY, 1, None),
-        (&posted, STREET, LAST_DAY, 3, Some(MEMBER)),
-        (&posted, OTHER, LAST_DAY, 3, None),
-        (&none, STREET, 20_210_131, 2, None),
-    ] {
-        let asked = Asked::of(component, date, pin)?;
-        let found = members(alloc, links, &index, &lists, &asked)?;
-        assert_eq!(rt; found.first().copied(), want);
-        assert!(rt; found.len() <= 1);
-    }
-    Ok(())
-}
-
-/// Associations of the street, one that is inactive, and one of another concept.
-fn street_associations(alloc: Global) -> Result<Vec<Row>, Fail> {
-    let mut release = Vec::new(alloc);
-    for (member, refset, target) in [
-        (1, SAME_AS, OTHER),
-        (2, REPLACED_BY, THIRD),
-        (5, REPLACED_BY, THIRD),
-        (6, REPLACED_BY, OTHER),
-        (7, SAME_AS, ROOT),
-        (9, REPLACED_BY, ROOT),
-    ] {
-        release.push(association(member, 20_210_131, true, refset, (STREET, target))?)?;
-    }
-    release.push(association(3, 20_210_131, false, SAME_AS, (STREET, OTHER))?)?;
-    release.push(association(4, 20_210_131, true, SAME_AS, (OTHER, STREET))?)?;
-    Ok(release)
-}
-
-#[test]
-fn replacements_stand_by_refset_then_target_then_member(rt: HostRuntime) -> Result<(), Fail> {
-    let alloc = rt.alloc();
-    let made = index_release(alloc, street_associations(alloc)?)?;
-    let asked = Asked::of(STREET, LAST_DAY, 1)?;
-    let found = members(alloc, &made.links, &made.index, &made.lists, &asked)?;
-    assert!(rt; found == vec![in alloc; 6, 2, 5, 9, 1, 7]?);
-    Ok(())
 }
 
 pub(crate) const DAYS: [u32; 4] = [20_200_131, 20_200_731, 20_210_131, 20_210_731];
@@ -354,6 +244,18 @@ pub(crate) fn post_twice(alloc: Global, rows: &[StampedRow]) -> Result<Links, Fa
     let mut links = Links::new(alloc)?;
     links.add(postings.seal());
     Ok(links)
+}
+
+/// The members that stand in the place of a component.
+fn members(
+    alloc: Global,
+    links: &Links,
+    index: &Index,
+    lists: &[Vec<StampedRow>],
+    asked: &Asked,
+) -> Result<Vec<u128>, Fail> {
+    let found = replacements_of(alloc, links, index, &mut reader_of(lists), asked)?;
+    Ok(found.iter().map(|row| row.id).collect(alloc)?)
 }
 
 /// Two lists of links give a concept the same children and members.

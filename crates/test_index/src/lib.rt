@@ -1,4 +1,4 @@
-//! Worked examples of what an index of places answers, and searches of the postings beside it, over
+//! What an index of places answers, and searches of the postings beside it, over
 //! rows in memory; made histories beside the plain program; readers that fail. It has no code of
 //! its own.
 #![tactic(auto)]
@@ -15,6 +15,8 @@ mod lists;
 mod merging;
 #[cfg(test)]
 mod picks;
+#[cfg(test)]
+mod places_in_turns;
 #[cfg(test)]
 mod releases;
 #[cfg(test)]

@@ -3,14 +3,11 @@
 ghost use Rattle.std.specs.Prelude.{◌<◌};
 
 use crate::edges::{Asked, CONCEPTS, DAYS, pick_concept, pick_day, post_twice};
-use crate::lists::{
-    Indexed, index_imports, index_of, index_release, index_with, links_of, reader_of,
-};
-use crate::releases::{example, rows_after, three_lists};
+use crate::lists::{Indexed, index_imports, index_of, index_with, links_of, reader_of};
+use crate::releases::{rows_after, three_lists};
 use crate::rows::{
-    FINDING_SITE, IS_A, LAST_DAY, MEMBER, OTHER, REPLACED_BY, ROOT, STREET, STREET_NAME, THIRD,
-    association, concept, concrete, description_id, description_of, is_same, relationship,
-    relationship_id,
+    IS_A, LAST_DAY, REPLACED_BY, STREET, association, concrete, description_id, description_of,
+    is_same, relationship, relationship_id,
 };
 use as_of_index::{Index, ReadFault, RowReader};
 use history_model::{StampedRow, plain};
@@ -50,148 +47,6 @@ fn rows_by<R: RowReader>(
     about(
         alloc, links, index, reader, kind, asked.id, asked.time, asked.pin,
     )
-}
-
-/// The rows of a kind that are about a component have these ids, and no other rows are read.
-fn check_about(
-    rt: &impl Abort,
-    alloc: Global,
-    made: &Indexed,
-    kind: Kind,
-    (id, date, pin): (u64, u32, u32),
-    want: &[u128],
-) -> Result<(), Fail> {
-    let asked = Asked::of(id, date, pin)?;
-    let mut reader = reader_of(&made.lists);
-    let found = rows_about(alloc, made, &mut reader, kind, &asked)?;
-    let ids: Vec<u128> = found.iter().map(|row| row.id).collect(alloc)?;
-    assert_eq!(rt;
-        ids.as_slice(),
-        want,
-        "{kind:?} of {id} at {date}, pin {pin}"
-    );
-    assert_eq!(rt; reader.reads, want.len() as u64);
-    Ok(())
-}
-
-#[test]
-fn what_is_about_a_street(rt: HostRuntime) -> Result<(), Fail> {
-    let alloc = rt.alloc();
-    let rows = example(alloc)?;
-    let site = relationship_id(100)?;
-    let made = index_imports(alloc, &rows, &[(1, 1), (2, 2), (3, 3)])?;
-    let one = index_imports(alloc, &rows, &[(1, 3)])?;
-    let both = [1_000_027, 2_000_029];
-    for (kind, id, date, pin, want) in [
-        (
-            Kind::Description,
-            STREET,
-            20_200_131,
-            1,
-            [STREET_NAME].as_slice(),
-        ),
-        (
-            Kind::Description,
-            STREET,
-            20_210_131,
-            2,
-            [STREET_NAME].as_slice(),
-        ),
-        (Kind::Description, STREET, 20_200_130, 1, [].as_slice()),
-        (Kind::Description, STREET, LAST_DAY, 0, [].as_slice()),
-        (Kind::Description, ROOT, LAST_DAY, 3, [].as_slice()),
-        (Kind::Relationship, STREET, 20_200_131, 1, both.as_slice()),
-        (Kind::Relationship, STREET, 20_210_130, 3, both.as_slice()),
-        (Kind::Relationship, STREET, 20_210_131, 1, both.as_slice()),
-        (
-            Kind::Relationship,
-            STREET,
-            20_210_131,
-            2,
-            [1_000_027].as_slice(),
-        ),
-        (Kind::Relationship, STREET, 20_210_131, 3, [].as_slice()),
-        (Kind::Relationship, ROOT, LAST_DAY, 3, [].as_slice()),
-        (Kind::Relationship, OTHER, LAST_DAY, 3, [site].as_slice()),
-        (Kind::Relationship, OTHER, LAST_DAY, 2, [].as_slice()),
-        (
-            Kind::Association,
-            STREET,
-            20_210_131,
-            2,
-            [MEMBER].as_slice(),
-        ),
-        (Kind::Association, STREET, 20_210_130, 2, [].as_slice()),
-        (Kind::Association, STREET, LAST_DAY, 1, [].as_slice()),
-        (Kind::Association, OTHER, LAST_DAY, 3, [].as_slice()),
-        (Kind::Concept, STREET, 20_200_131, 1, [].as_slice()),
-        (Kind::Concrete, STREET, LAST_DAY, 3, [].as_slice()),
-    ] {
-        for made in [&made, &one] {
-            check_about(&rt, alloc, made, kind, (id, date, pin), want)?;
-        }
-    }
-    Ok(())
-}
-
-/// One row of each kind about the first concept, and two that are about another.
-fn kinds_release(alloc: Global) -> Result<Vec<Row>, Fail> {
-    let name = description_id(100)?;
-    let other_name = description_id(101)?;
-    let of_street = relationship_id(100)?;
-    let of_other = relationship_id(101)?;
-    let number = relationship_id(102)?;
-    let mut rows = Vec::new(alloc);
-    rows.push(concept(STREET, 20_200_131, true)?)?;
-    rows.push(description_of(alloc, STREET, name, 20_200_131, true, "Straße")?)?;
-    rows.push(description_of(alloc, OTHER, other_name, 20_200_131, true, "Weg")?)?;
-    rows.push(relationship(of_street, 20_200_131, true, (STREET, OTHER), FINDING_SITE)?)?;
-    rows.push(relationship(of_other, 20_200_131, true, (OTHER, STREET), IS_A)?)?;
-    rows.push(concrete(alloc, number, 20_200_131, true, STREET)?)?;
-    rows.push(association(MEMBER, 20_200_131, true, REPLACED_BY, (STREET, OTHER))?)?;
-    Ok(rows)
-}
-
-/// This row of a kind is about a component and no other one is, or none is.
-fn check_only(
-    rt: &impl Abort,
-    alloc: Global,
-    made: &Indexed,
-    kind: Kind,
-    id: u64,
-    want: Option<u128>,
-) -> Result<(), Fail> {
-    let asked = Asked::of(id, LAST_DAY, 1)?;
-    let found = rows_about(alloc, made, &mut reader_of(&made.lists), kind, &asked)?;
-    assert_eq!(rt; found.first().map(|row| row.id), want, "{kind:?} of {id}");
-    assert!(rt; found.len() <= 1 && found.iter().all(|row| row.kind() as u8 == kind as u8));
-    Ok(())
-}
-
-#[test]
-fn each_kind_but_a_concept_is_about_one_component(rt: HostRuntime) -> Result<(), Fail> {
-    let alloc = rt.alloc();
-    let made = index_release(alloc, kinds_release(alloc)?)?;
-    for (kind, street, other) in [
-        (Kind::Concept, None, None),
-        (
-            Kind::Description,
-            Some(description_id(100)?),
-            Some(description_id(101)?),
-        ),
-        (
-            Kind::Relationship,
-            Some(relationship_id(100)?),
-            Some(relationship_id(101)?),
-        ),
-        (Kind::Association, Some(MEMBER), None),
-        (Kind::Concrete, Some(relationship_id(102)?), None),
-    ] {
-        for (id, want) in [(STREET, street), (OTHER, other), (THIRD, None)] {
-            check_only(&rt, alloc, &made, kind, id, want)?;
-        }
-    }
-    Ok(())
 }
 
 /// A row of an import, by a number below 40.

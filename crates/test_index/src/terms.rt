@@ -3,11 +3,11 @@
 ghost use Rattle.std.specs.Prelude.{◌<◌};
 
 use crate::lists::{Indexed, index_all, index_imports, index_of, post_terms, reader_of, terms_of};
-use crate::releases::{example, lists_of, rows_after, three_lists};
-use crate::rows::{LAST_DAY, STREET_NAME, day, description, description_id, is_same};
+use crate::releases::{example, lists_of, rows_after};
+use crate::rows::{LAST_DAY, day, description, description_id, is_same};
 use as_of_index::{Index, ReadFault, RowReader};
 use history_model::{StampedRow, plain};
-use rf2_values::{Body, EffectiveTime, Row};
+use rf2_values::{EffectiveTime, Row};
 use std::alloc::Global;
 use std::process::Abort;
 use std::test::Fail;
@@ -45,75 +45,6 @@ pub(crate) fn find_rows<R: RowReader>(
         limit,
     };
     find(alloc, terms, index, reader, prefix, &asked)
-}
-
-/// The time of a description, and its term.
-fn version(row: &Row) -> (u32, &[u8]) {
-    match &row.body {
-        Body::Description(description) => (row.time.value(), description.term.as_bytes()),
-        _ => (row.time.value(), b""),
-    }
-}
-
-/// How many streets are found: none but the one that is wanted.
-fn check_street(
-    rt: &impl Abort,
-    alloc: Global,
-    terms: &Terms,
-    index: &Index,
-    lists: &[Vec<StampedRow>],
-    (pin, date, prefix): (u32, u32, &str),
-    want: Option<(u32, &[u8])>,
-) -> Result<usize, Fail> {
-    let asked = Search {
-        prefix,
-        time: day(date)?,
-        after: None,
-        limit: 10,
-        pin,
-    };
-    let found = find_rows(alloc, terms, index, &mut reader_of(lists), asked)?;
-    assert_eq!(rt;
-        found.first().map(version),
-        want,
-        "{prefix} at {date}, pin {pin}"
-    );
-    assert!(rt; found.len() <= 1 && found.iter().all(|row| row.id == STREET_NAME));
-    Ok(found.len())
-}
-
-#[test]
-fn streets_by_the_beginning_of_their_names(rt: HostRuntime) -> Result<(), Fail> {
-    let alloc = rt.alloc();
-    let rows = example(alloc)?;
-    let lists = three_lists(alloc)?;
-    let index = index_of(alloc, &lists)?;
-    let posted = terms_of(alloc, &lists)?;
-    let none = Terms::new(alloc)?;
-    let street = Some((20_200_131, "Straße".as_bytes()));
-    let way = Some((20_210_131, b"Weg".as_slice()));
-    for (terms, pin, date, prefix, want) in [
-        (&posted, 1, 20_200_131, "straß", street),
-        (&posted, 1, 20_200_131, "STRASSE", street),
-        (&posted, 1, 20_200_131, "STRASS", street),
-        (&none, 1, 20_200_131, "STRASS", None),
-        (&posted, 1, 20_200_131, "", street),
-        (&posted, 1, 20_200_131, "ss", None),
-        (&posted, 1, 20_200_131, "strassen", None),
-        (&posted, 1, 20_200_130, "straß", None),
-        (&posted, 1, LAST_DAY, "we", None),
-        (&posted, 1, LAST_DAY, "straß", street),
-        (&posted, 2, 20_210_131, "we", way),
-        (&posted, 2, 20_210_130, "STRASS", street),
-        (&posted, 2, 20_210_131, "STRASS", None),
-        (&posted, 0, LAST_DAY, "", None),
-    ] {
-        let found = check_street(&rt, alloc, terms, &index, &lists, (pin, date, prefix), want)?;
-        let shown = plain::rows_at(alloc, pin, &rows)?;
-        let plainly = plain::terms(alloc, &shown, prefix, day(date)?, 10)?;
-        assert!(rt; terms.lists() == 0 || plainly.len() == found);
-    }
-    Ok(())
 }
 
 const DAYS: [u32; 5] = [20_200_131, 20_200_731, 20_210_131, 20_210_731, 20_220_131];
@@ -356,77 +287,6 @@ fn searches_that_go_on_find_all(rt: HostRuntime) -> Result<(), Fail> {
         assert_eq!(rt; full, Some(searches.saturating_sub(1)), "{limit}");
     }
     Ok(())
-}
-
-/// A search finds rows with these ids, and no other rows are read.
-fn check_ids(
-    rt: &impl Abort,
-    alloc: Global,
-    made: &Indexed,
-    (prefix, after, limit): (&str, Option<u128>, u32),
-    want: &[u128],
-) -> Result<(), Fail> {
-    let asked = Search {
-        prefix,
-        time: day(LAST_DAY)?,
-        after,
-        limit,
-        pin: 1,
-    };
-    let mut reader = reader_of(&made.lists);
-    let found = find_rows(alloc, &made.terms, &made.index, &mut reader, asked)?;
-    let ids: Vec<u128> = found.iter().map(|row| row.id).collect(alloc)?;
-    assert_eq!(rt; ids.as_slice(), want, "{prefix} after {after:?}");
-    assert_eq!(rt; reader.reads, want.len() as u64);
-    Ok(())
-}
-
-#[test]
-fn a_search_goes_on_above_an_id(rt: HostRuntime) -> Result<(), Fail> {
-    let alloc = rt.alloc();
-    let made = index_all(alloc, vec![in alloc; named_rows(alloc)?]?)?;
-    let [first, second, third, last] = [
-        description_id(100)?,
-        description_id(101)?,
-        description_id(102)?,
-        description_id(104)?,
-    ];
-    for (prefix, after, limit, want) in [
-        ("STRASS", None, 2, [first, second].as_slice()),
-        ("STRASS", Some(0), 2, [first, second].as_slice()),
-        ("STRASS", Some(first), 2, [second, third].as_slice()),
-        (
-            "STRASS",
-            Some(first.saturating_sub(1)),
-            1,
-            [first].as_slice(),
-        ),
-        ("STRASS", Some(second), 2, [third, last].as_slice()),
-        ("STRASS", Some(third), 2, [last].as_slice()),
-        ("STRASS", Some(last), 2, [].as_slice()),
-        ("STRASS", Some(first), 0, [].as_slice()),
-        ("weg", Some(first), 2, [].as_slice()),
-    ] {
-        check_ids(&rt, alloc, &made, (prefix, after, limit), want)?;
-    }
-    Ok(())
-}
-
-/// Four descriptions with one name, and one that is inactive.
-fn named_rows(alloc: Global) -> Result<Vec<StampedRow>, Fail> {
-    let mut rows = Vec::new(alloc);
-    for (number, active) in [
-        (100, true),
-        (101, true),
-        (102, true),
-        (103, false),
-        (104, true),
-    ] {
-        let id = description_id(number)?;
-        let row = description(alloc, id, 20_200_131, active, "Straße")?;
-        rows.push(StampedRow { row, import: 1 })?;
-    }
-    Ok(rows)
 }
 
 /// The ids of what is found at the last day.

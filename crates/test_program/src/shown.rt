@@ -2,7 +2,6 @@
 
 use command_line::run;
 use std::alloc::{AllocError, Global};
-use std::io::Write;
 use std::test::Fail;
 use test_support::Scarcity;
 
@@ -38,31 +37,19 @@ pub fn words_of(alloc: Global, line: &str) -> Result<Vec<String>, AllocError> {
     Ok(words)
 }
 
-/// Runs the program on the words of a line and an input, with this output.
-/// Its status, and what it writes of faults.
-pub fn run_into<O: Write>(
-    rt: &HostRuntime,
-    line: &str,
-    mut input: &[u8],
-    output: &mut O,
-) -> Result<(u8, Vec<u8>), Fail> {
+/// Runs the program on the words of a line and an input.
+pub fn run_line(rt: &HostRuntime, line: &str, mut input: &[u8]) -> Result<Shown, Fail> {
     let words = words_of(rt.alloc(), line)?;
+    let mut output = Vec::new(rt.alloc());
     let mut faults = Vec::new(rt.alloc());
     let (status, _) = run(
         rt,
         rt.alloc(),
         words.as_slice(),
         &mut input,
-        output,
+        &mut output,
         &mut faults,
     );
-    Ok((status, faults))
-}
-
-/// Runs the program on the words of a line and an input.
-pub fn run_line(rt: &HostRuntime, line: &str, input: &[u8]) -> Result<Shown, Fail> {
-    let mut output = Vec::new(rt.alloc());
-    let (status, faults) = run_into(rt, line, input, &mut output)?;
     Ok(Shown {
         status,
         output,

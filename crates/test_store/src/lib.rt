@@ -1,38 +1,15 @@
-//! Calls of a store by worked examples: imports, and which of them are refused; questions;
-//! merges beside both, and trims. It has no code of its own.
+//! Calls of a store one by one: questions between the steps of a merge, stops inside a merge, what
+//! is asked of the disk twice, and releases that are checked in two ways. It has no code of its own.
+//! The tables of calls and answers are cases of `store_cases`.
 #![tactic(auto)]
 
 #[cfg(test)]
-mod answers;
-#[cfg(test)]
 mod both_ways;
-#[cfg(test)]
-mod calls;
-#[cfg(test)]
-mod children_and_replacements;
-#[cfg(test)]
-mod components;
-#[cfg(test)]
-mod contents;
-#[cfg(test)]
-mod imported;
-#[cfg(test)]
-mod line_limits;
 #[cfg(test)]
 mod merge_beside;
 #[cfg(test)]
-mod merge_choice;
-#[cfg(test)]
 mod merge_devices;
 #[cfg(test)]
-mod merge_order;
-#[cfg(test)]
-mod refused_releases;
+mod refusals;
 #[cfg(test)]
 mod repeated_lookups;
-#[cfg(test)]
-mod subjects;
-#[cfg(test)]
-mod terms;
-#[cfg(test)]
-mod trims;

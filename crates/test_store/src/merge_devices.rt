@@ -1,13 +1,21 @@
-//! Stops inside a merge, its calls on the device, and what the cache spares it.
+//! Stops inside a merge, and what the cache spares it.
 
-use crate::answers::is_line;
-use crate::calls::{MERGED, TAKEN, play_new};
 use crate::repeated_lookups::root_of;
 use disk_model::{Choice, MemDisk};
+use history_store::Refusal;
 use std::alloc::Global;
-use std::process::Abort;
 use std::test::Fail;
-use test_support::{CHOICES, Example, UNPUBLISHED, holds, image_before_end};
+use test_support::{CHOICES, Example, UNPUBLISHED, holds, image_before_end, line, merged_disk};
+
+/// The disk after two releases, a merge of them beside a third one, and all of it taken.
+fn taken_disk(alloc: Global) -> Result<MemDisk, Refusal> {
+    let mut store = Example::after(alloc, &["r1", "r2"])?;
+    store.merge_begin()?;
+    store.merge_step(1)?;
+    store.import_sample("r3")?;
+    store.merge_step(100)?;
+    Ok(store.close())
+}
 
 /// How many segments a store lists after a stop with so many changing calls of the disk still to
 /// come; none unless it has the rows of three imports, as each pin shows them, and no merge.
@@ -27,7 +35,7 @@ fn segments_left(
 
 #[test]
 fn a_publication_that_stops_loses_nothing(rt: HostRuntime) -> Result<(), Fail> {
-    let disk = play_new(&rt, rt.alloc(), MERGED)?.close();
+    let disk = merged_disk(rt.alloc())?;
     for left in 0..8u64 {
         for (choice, unpublished) in &UNPUBLISHED {
             let want = if left < *unpublished { 2 } else { 3 };
@@ -40,55 +48,12 @@ fn a_publication_that_stops_loses_nothing(rt: HostRuntime) -> Result<(), Fail> {
 
 #[test]
 fn a_step_that_stops_loses_nothing(rt: HostRuntime) -> Result<(), Fail> {
-    let disk = play_new(&rt, rt.alloc(), TAKEN)?.close();
+    let disk = taken_disk(rt.alloc())?;
     for left in 0..2 {
         for choice in &CHOICES {
             let segments = segments_left(rt.alloc(), &disk, left, *choice)?;
             assert!(rt; segments == Some(3), "{left} calls before the end");
         }
-    }
-    Ok(())
-}
-
-/// The calls of two merges and two trims beside three imports,
-/// with how many changing calls on the device each makes.
-const CALLS: [(&str, u64); 16] = [
-    ("r1: 6", 8),
-    ("r2: 4", 8),
-    ("begin: 10", 0),
-    ("step 0: 10", 0),
-    ("step 1: 9", 1),
-    ("r3: 2", 8),
-    ("step 100: 0", 1),
-    ("step 100: 0", 0),
-    ("publish: 0", 7),
-    ("trim: 0", 0),
-    ("begin: 12", 0),
-    ("step 100: 0", 1),
-    ("publish: 0", 7),
-    ("trim: 8284", 2),
-    ("trim: 0", 0),
-    ("begin: no 9", 0),
-];
-
-/// How often the device was changed after such calls on a new store.
-fn changes_after(rt: &impl Abort, alloc: Global, calls: &str) -> Result<u64, Fail> {
-    Ok(play_new(rt, alloc, calls)?.close().changes())
-}
-
-#[test]
-fn each_call_changes_the_device_so_often(rt: HostRuntime) -> Result<(), Fail> {
-    let mut want = Example::new(rt.alloc())?.close().changes();
-    assert_eq!(rt; want, 9);
-    let mut calls = String::new(rt.alloc());
-    for (call, changes) in &CALLS {
-        if !calls.is_empty() {
-            calls.push(';')?;
-        }
-        calls.push_str(*call)?;
-        let got = changes_after(&rt, rt.alloc(), calls.as_str())?;
-        want = want.saturating_add(*changes);
-        assert!(rt; got == want, "{calls}");
     }
     Ok(())
 }
@@ -109,11 +74,11 @@ fn ask_again(alloc: Global, bytes: &[u8], calls: u64) -> Result<Option<Vec<u8>>,
 
 #[test]
 fn a_row_that_was_read_is_kept(rt: HostRuntime) -> Result<(), Fail> {
-    let disk = play_new(&rt, rt.alloc(), MERGED)?.close();
+    let disk = merged_disk(rt.alloc())?;
     for calls in 0..1_000 {
         if let Some(again) = ask_again(rt.alloc(), disk.bytes(), calls)? {
-            let row = "138875005|20200131|1|CORE|PRIM";
-            assert!(rt; is_line(rt.alloc(), Ok(again), row)?, "after {calls} calls");
+            let row = line(rt.alloc(), "138875005|20200131|1|CORE|PRIM")?;
+            assert!(rt; again.as_slice() == row.as_bytes(), "after {calls} calls");
             return Ok(());
         }
     }

@@ -131,14 +131,6 @@ impl Example {
     }
 }
 
-/// The front of the newer content block of `merged_disk`, of epoch 5: the mark, three imports, a
-/// segment of 638 bytes and 10 rows at block 6, and one of 92 bytes and 2 rows at block 7.
-pub const MERGED_CONTENT: [u8; 64] = [
-    0, 0, 0, 0, 0, 0, 0, 5, 0x53, 0x43, 0x54, 0x48, 0x49, 0x53, 0x54, 0x32, 0, 0, 0, 3, 0, 0, 0, 2,
-    0, 0, 0, 0, 0, 0, 0, 0, 0, 0, 0, 6, 0, 0, 0x02, 0x7e, 0, 0, 0, 0x0a, 0, 0, 0, 0, 0, 0, 0, 7, 0,
-    0, 0, 0x5c, 0, 0, 0, 2, 0, 0, 0, 0,
-];
-
 /// The disk after the sample releases and a merge of the first two segments.
 pub fn merged_disk(alloc: Global) -> Result<MemDisk, Refusal> {
     let mut example = Example::after(alloc, &["r1", "r2"])?;

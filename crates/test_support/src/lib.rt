@@ -13,7 +13,7 @@ mod scarcity;
 mod text;
 
 pub use disks::{CHOICES, UNPUBLISHED, image_after, image_before_end, patch, put};
-pub use example::{Example, MERGED_CONTENT, merged_disk, root_disk};
+pub use example::{Example, merged_disk, root_disk};
 pub use releases::{
     MISUSED, copy_of, of_bytes, of_files, one_file, root_release, root_years, sample_named,
 };

@@ -1,5 +1,5 @@
 use Rattle.std.proofs.Common.{ap, ◌∙◌}
-use Rattle.line_server.specs.DeviceView.{device_view}
+use Rattle.store_life.specs.DeviceView.{device_view}
 use Rattle.line_server.specs.Replies.{server}
 use Rattle.command_line.proofs.Merged.{asked_status, told_refusal}
 use Rattle.command_line.proofs.merging.merge_all.Goals.{in-Ok, in-Err}

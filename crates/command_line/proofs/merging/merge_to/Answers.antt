@@ -1,5 +1,5 @@
 use Rattle.std.proofs.Common.{arith}
-use Rattle.line_server.specs.DeviceView.{device_view}
+use Rattle.store_life.specs.DeviceView.{device_view}
 use Rattle.std.proofs.lemmas.Result.{err_from_is_err_and}
 use Rattle.command_line.proofs.Merged.{have_none, have_both, stopped_after, halted_so, trimmed_to}
 use Rattle.command_line.proofs.merging.merge_to.Goals as goal

@@ -1,5 +1,5 @@
 use Rattle.std.proofs.Common.{◌≡◌, ◌+◌}
-use Rattle.line_server.specs.DeviceView.{device_view}
+use Rattle.store_life.specs.DeviceView.{device_view}
 use Rattle.line_server.specs.Pins.{AreWithin}
 use Rattle.line_server.specs.Replies.{server}
 use Rattle.command_line.specs.Merging.{segments_of}

@@ -1,5 +1,5 @@
 use Rattle.std.proofs.Common.{arith, inl}
-use Rattle.line_server.specs.DeviceView.{device_view}
+use Rattle.store_life.specs.DeviceView.{device_view}
 use Rattle.std.proofs.lemmas.Result.{err_from_is_err_and}
 use Rattle.command_line.proofs.Merged.{begun_one, merge_stops, stopped_first, stopped_after, one_less}
 use Rattle.command_line.proofs.merging.merge_two.Goals as goal

@@ -1,5 +1,5 @@
 use Rattle.line_server.specs.Sources.{source_view}
-use Rattle.line_server.specs.DeviceView.{device_view}
+use Rattle.store_life.specs.DeviceView.{device_view}
 use Rattle.line_commands.specs.Requests.{command_of}
 use Rattle.line_server.specs.Replies.{server}
 use Rattle.line_server.proofs.Responding.{answered_ok, answered_err, nothing_asked}

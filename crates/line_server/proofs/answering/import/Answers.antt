@@ -1,6 +1,6 @@
 use Rattle.line_server.proofs.Importing.{lacking, missing, taking, refusing}
 use Rattle.line_server.specs.Sources.{source_view}
-use Rattle.line_server.specs.DeviceView.{device_view}
+use Rattle.store_life.specs.DeviceView.{device_view}
 use Rattle.line_server.proofs.answering.import.Goals as goal
 
 pub returns-in-Err-OutOfMemory-clause-response : goal.returns-in-Err-OutOfMemory-clause-response

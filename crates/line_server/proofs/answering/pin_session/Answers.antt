@@ -1,5 +1,5 @@
 use Rattle.std.proofs.Common.{ℕ, [], ◌∷◌, Ok, ap, ◌∙◌}
-use Rattle.line_server.specs.DeviceView.{device_view}
+use Rattle.store_life.specs.DeviceView.{device_view}
 use Rattle.std.specs.Prelude.{decimal}
 use Rattle.line_server.specs.ReplyValue.{Done, reply_value}
 use Rattle.line_server.proofs.Responding.{pinned, out_of_range}

@@ -1,6 +1,6 @@
 use Rattle.std.proofs.Common.{ℕ, sym, ap, ◌∙◌}
 use Rattle.line_server.specs.Sources.{source_view}
-use Rattle.line_server.specs.DeviceView.{device_view}
+use Rattle.store_life.specs.DeviceView.{device_view}
 use Rattle.line_commands.specs.Commands.{Get, History, Children, Terms, Search, Replaced, About, Page, Receipt, Pin, Merge, Step, Publish, Abandon, Trim, Status}
 use Rattle.line_server.specs.Pins.{pin_of}
 use Rattle.line_server.specs.Replies.{server}

@@ -1,5 +1,5 @@
 use Rattle.std.proofs.Common.{sym, ◌∙◌}
-use Rattle.line_server.specs.DeviceView.{device_view}
+use Rattle.store_life.specs.DeviceView.{device_view}
 use Rattle.line_server.proofs.Responding.{status_told, status_closed}
 use Rattle.line_server.proofs.answering.status.Goals as goal
 

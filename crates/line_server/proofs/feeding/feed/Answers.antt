@@ -1,6 +1,6 @@
 use Rattle.std.proofs.Common.{refl, get_or, drop, ◌+◌, [], ◌++◌, take, sym, ◌∙◌, append-nil}
 use Rattle.line_server.specs.Sources.{source_view}
-use Rattle.line_server.specs.DeviceView.{device_view}
+use Rattle.store_life.specs.DeviceView.{device_view}
 use Rattle.std.proofs.lemmas.Bool.{ne_eqb}
 use Rattle.std.proofs.lemmas.List.{take_all}
 use Rattle.line_server.proofs.Alike.{turn_now, turn_on}
@@ -25,9 +25,9 @@ returns-in-Err-clause-fed g c =
     let step = c.answer_line.ensures.served in
     let line_is = rw c.ended.ensures at step.1 in
     let turn = turn_on _ _ _ _ step.0 _ line_is step.2 in
-    let gives = turn_now step.0.outcome step.0.releases step.0.failed _ _ source (device_view g.D.Disk.is_honest g.D.Disk.moments g.D.Disk.failures g.D.Disk.bytes_read) _ _ i.2 turn in
+    let gives = turn_now step.0.outcome step.0.call _ _ source (device_view g.D.Disk.is_honest g.D.Disk.moments g.D.Disk.failures g.D.Disk.bytes_read) _ _ i.2 turn in
     λ part free is.
-    not_replied source (device_view g.D.Disk.is_honest g.D.Disk.moments g.D.Disk.failures g.D.Disk.bytes_read) _ _ _ _ part piece free _ _ _ (take at piece) (drop (at + 1) piece) _ _ _ step.0.outcome step.0.releases step.0.failed
+    not_replied source (device_view g.D.Disk.is_honest g.D.Disk.moments g.D.Disk.failures g.D.Disk.bytes_read) _ _ _ _ part piece free _ _ _ (take at piece) (drop (at + 1) piece) _ _ _ step.0.outcome step.0.call
     (i.0 part free is)
     (sym (all_seen [] piece at 10 c.loop-byte-test.true c.if-byte-eq10.true))
     gives
@@ -50,9 +50,9 @@ loop-byte-preserved g c =
           let step = w.answer_line.ensures in
           let line_is = rw w.ended.ensures at step.served.1 in
           let turn = turn_on _ _ _ _ step.served.0 _ line_is step.served.2 in
-          let gives = turn_now step.served.0.outcome step.served.0.releases step.served.0.failed _ _ source (device_view g.D.Disk.is_honest g.D.Disk.moments g.D.Disk.failures g.D.Disk.bytes_read) _ _ i.2 turn in (
+          let gives = turn_now step.served.0.outcome step.served.0.call _ _ source (device_view g.D.Disk.is_honest g.D.Disk.moments g.D.Disk.failures g.D.Disk.bytes_read) _ _ i.2 turn in (
             λ part free is. rw (w.writer-is, w.pins-is, w.store-is, w.line-is, w.clear.ensures, w.answered-is, w.saturating_add-answered.ensures, ← next_seen part piece at 10 c.loop-byte-test.true w.if-byte-eq10.true)
-                (line_more source (device_view g.D.Disk.is_honest g.D.Disk.moments g.D.Disk.failures g.D.Disk.bytes_read) step.served.0.outcome step.served.0.releases step.served.0.failed _ _ _ _ _ _ (part ++ take at piece) _ _ (i.0 part free is) gives (rw w.in-Ok.is at step.served.3)),
+                (line_more source (device_view g.D.Disk.is_honest g.D.Disk.moments g.D.Disk.failures g.D.Disk.bytes_read) step.served.0.outcome step.served.0.call _ _ _ _ _ _ (part ++ take at piece) _ _ (i.0 part free is) gives (rw w.in-Ok.is at step.served.3)),
             rw (w.pins-is, w.store-is) step.pins,
             λ h. rw w.source-is (step.source (i.2 h).0, step.stays (i.2 h).0 ∙ (i.2 h).1),
           )

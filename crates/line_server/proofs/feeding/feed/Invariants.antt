@@ -1,6 +1,6 @@
 use Rattle.std.proofs.Common.{◌≡◌, List, ℕ, ◌++◌, take}
 use Rattle.line_server.specs.Sources.{source_view}
-use Rattle.line_server.specs.DeviceView.{device_view}
+use Rattle.store_life.specs.DeviceView.{device_view}
 use Rattle.line_server.specs.Pins.{AreWithin}
 use Rattle.line_server.specs.Replies.{server}
 use Rattle.line_server.specs.Steps.{kept}

@@ -1,5 +1,5 @@
 use Rattle.line_server.proofs.Undisturbed.{receipts_undisturbed}
-use Rattle.line_server.specs.DeviceView.{device_view}
+use Rattle.store_life.specs.DeviceView.{device_view}
 use Rattle.line_server.proofs.laws.pinned_receipts_are_undisturbed.Goals as goal
 
 pub returns : goal.returns

@@ -1,5 +1,5 @@
 use Rattle.line_server.proofs.Undisturbed.{pinned_sees_receipts}
-use Rattle.line_server.specs.DeviceView.{device_view}
+use Rattle.store_life.specs.DeviceView.{device_view}
 use Rattle.line_server.proofs.laws.pinned_sees_its_receipts.Goals as goal
 
 pub returns : goal.returns

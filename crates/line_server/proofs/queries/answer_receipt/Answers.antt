@@ -1,4 +1,4 @@
-use Rattle.line_server.specs.DeviceView.{device_view}
+use Rattle.store_life.specs.DeviceView.{device_view}
 use Rattle.std.proofs.lemmas.Result.{err_from_is_err_and}
 use Rattle.line_server.proofs.Responding.{import_told, import_closed, import_unseen}
 use Rattle.line_server.proofs.queries.answer_receipt.Goals as goal

@@ -1,6 +1,6 @@
 use Rattle.std.proofs.Common.{refl, ◌≡◌, ◌<◌, ℕ, List, [], ◌∷◌, ◌++◌, length, length-append, take, sym, ap, subst, ◌∙◌, arith}
 use Rattle.line_server.specs.Sources.{source_view}
-use Rattle.line_server.specs.DeviceView.{device_view}
+use Rattle.store_life.specs.DeviceView.{device_view}
 use Rattle.std.proofs.KnownBytes.{Consumes-nil, Consumes-trans, Consumes-kept}
 use Rattle.line_server.proofs.Alike.{turn_now, turn_on}
 use Rattle.std.proofs.lemmas.List.Elements.{All-nil, All-push}
@@ -49,12 +49,12 @@ returns-then-n-eq0-clause-served g c =
     let some : 0 < length c.loop-reads.line = subst (λ (l : List ℕ). 0 < length l) c.as_bytes.ensures (not_none c.as_bytes.result.now c.is_empty.result c.is_empty.ensures c.if-is_empty.false) in
     let line_is = rw c.as_bytes-then-n-eq0.ensures at step.1 in
     let turn = turn_on _ _ _ _ step.0 _ line_is step.2 in
-    let gives = turn_now step.0.outcome step.0.releases step.0.failed _ _ source (device_view g.D.Disk.is_honest g.D.Disk.moments g.D.Disk.failures g.D.Disk.bytes_read) _ _ i.7 turn in
+    let gives = turn_now step.0.outcome step.0.call _ _ source (device_view g.D.Disk.is_honest g.D.Disk.moments g.D.Disk.failures g.D.Disk.bytes_read) _ _ i.7 turn in
     elim c.match-answer_line.branch [
       | in-Ok-answer_line w ↦ rw (w.result-is, w.saturating_add.ensures)
-          (ended_within source (device_view g.D.Disk.is_honest g.D.Disk.moments g.D.Disk.failures g.D.Disk.bytes_read) _ _ _ _ _ _ _ _ _ _ i.0 _ _ i.3 e.0 (few_before _ _ _ i.8 c.loop-reads-test.true) i.1 i.11 i.12 e.1 makes lt step.0.outcome step.0.releases step.0.failed _ _ _ some gives (rw w.in-Ok-answer_line.is at step.3))
+          (ended_within source (device_view g.D.Disk.is_honest g.D.Disk.moments g.D.Disk.failures g.D.Disk.bytes_read) _ _ _ _ _ _ _ _ _ _ i.0 _ _ i.3 e.0 (few_before _ _ _ i.8 c.loop-reads-test.true) i.1 i.11 i.12 e.1 makes lt step.0.outcome step.0.call _ _ _ some gives (rw w.in-Ok-answer_line.is at step.3))
       | in-Err-answer_line w ↦ rw w.result-is
-          (unwritten_within source (device_view g.D.Disk.is_honest g.D.Disk.moments g.D.Disk.failures g.D.Disk.bytes_read) _ _ _ _ _ _ _ _ _ _ i.0 _ _ i.3 e.0 (few_before _ _ _ i.8 c.loop-reads-test.true) i.1 i.11 i.12 e.1 makes lt step.0.outcome step.0.releases step.0.failed _ _ _ some gives (rw w.in-Err-answer_line.is at step.3))
+          (unwritten_within source (device_view g.D.Disk.is_honest g.D.Disk.moments g.D.Disk.failures g.D.Disk.bytes_read) _ _ _ _ _ _ _ _ _ _ i.0 _ _ i.3 e.0 (few_before _ _ _ i.8 c.loop-reads-test.true) i.1 i.11 i.12 e.1 makes lt step.0.outcome step.0.call _ _ _ some gives (rw w.in-Err-answer_line.is at step.3))
     ]
 
 pub returns-in_default-clause-served : goal.returns-in_default-clause-served

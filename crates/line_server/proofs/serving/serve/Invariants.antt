@@ -1,6 +1,6 @@
 use Rattle.std.proofs.Common.{◌≡◌, List, ℕ, ◌≤◌, ◌*◌, length, All}
 use Rattle.line_server.specs.Sources.{source_view}
-use Rattle.line_server.specs.DeviceView.{device_view}
+use Rattle.store_life.specs.DeviceView.{device_view}
 use Rattle.std.specs.Io.KnownBytes.{Consumes}
 use Rattle.line_server.specs.Pins.{AreWithin, unpinned}
 use Rattle.line_server.specs.Replies.{server}

@@ -1,0 +1,189 @@
+#!/usr/bin/env python3
+"""Counts what a reader of a contract has to trust, and how large the house is.
+
+count_reach.py [CRATE::PATH ..]
+
+For each function or law that is named, such as `store_life::laws::each_life_is_opened` or
+`history_store::Store::open`, it prints how many words of specs/ the contract cites, itself or
+through other words, and how many lines their definitions have. Without a name it prints the table
+that ARCHITECTURE has: the reach of the contracts in CONTRACTS, the words and lines of specs/, the
+clauses that are meters, and the lines of sources and proofs.
+
+A word is reached as `check_private.py` says, and for a function that is no law also by what the
+traits in its head ensure. Lines of a definition are those that have text besides a comment. A
+clause is a meter if it counts reads, calls or failures, or says what becomes of the blocks in
+memory, and hands none of that on to a word that says more. Crates of tests and of measurements
+count for specs and proofs alone. Nothing is built. Standard library alone.
+"""
+
+import glob
+import os
+import re
+import sys
+from typing import Any, Iterator, List, NamedTuple, Optional, Tuple
+
+import check_private
+from check_private import Item, Project, RustModule
+
+ROOT = check_private.ROOT
+
+# What README promises, and the calls through which it is kept.
+CONTRACTS = (
+    ("promise 1 of README", ("store_life::laws::each_life_is_opened",
+                             "store_life::laws::kept_are_acknowledged")),
+    ("`line_server::answer`", ("line_server::answer",)),
+    ("`line_server::serve`", ("line_server::serve",)),
+    ("`Store::open`", ("history_store::Store::open",)),
+    ("`Store::import`", ("history_store::Store::import",)),
+)
+
+METERS = re.compile(r"\b(?:bytes_read|other_calls|failures|failure_count|disk_faults|damages|work"
+                    r"|call_count|raised_by|cap|faults)(?:_of)?\b|\w*Makes\w*Calls\b|\bCounts\w*"
+                    r"|\w*ThroughCache\b|\bLooksUp\w*|\bForgets\w*|\bKeepsAll\b")
+METER_NAMES = re.compile(r"ensures (?:cache|same_cache|keeps|capacity|looked_up|forgets)$")
+# A clause that hands on what a disk is, or a system, to a word that says more than counts.
+HANDS_ON = re.compile(r"device_view|\.moments \w+(?:\.\w+)*\.failures|\bP\.stands")
+
+NO_PRODUCT = re.compile(r"(?:test|bench)_|line_support$|folder_run$")
+
+
+class Found(NamedTuple):
+    """A function, the module in which it stands, and the trait or impl around it."""
+
+    item: Item
+    module: RustModule
+    holders: List[Item]
+
+
+class Reach(Project):
+    """The words that some contracts reach."""
+
+    def __init__(self, names: Tuple[str, ...]) -> None:
+        self.names = names
+        super().__init__()
+
+    def reach_public(self) -> None:
+        """Reaches what the functions of these names cite."""
+        for name in self.names:
+            found = self.function(name)
+            if found is None:
+                raise LookupError("no public function is called %s" % name)
+            self.reach_function(found.item, found.module, found.holders, name)
+            heads = " ".join(item.head for item in [found.item] + found.holders)
+            for named in set(self.types_in(found.module, heads)):
+                if named.sort in ("struct", "enum"):
+                    self.reach(("type", named.module.crate, named), name)
+                elif named.sort == "trait" and not is_law(found.item):
+                    self.reach_members(named, named.module, name, lambda member: True)
+
+    def function(self, name: str) -> Optional[Found]:
+        """The public function, or the method of a public type, with this path."""
+        crate, *path = name.split("::")
+        if crate not in self.crates or not path:
+            return None
+        item = self.resolve(self.crates[crate].root, path)
+        if isinstance(item, Item) and item.sort == "fn":
+            return Found(item, item.module, [])
+        owner = self.resolve(self.crates[crate].root, path[:-1]) if path[1:] else None
+        return self.method(owner, path[-1]) if isinstance(owner, Item) else None
+
+    def method(self, owner: Item, name: str) -> Optional[Found]:
+        """The method of a type, in an impl without a trait."""
+        for module, impl in self.impls:
+            trait, made = check_private.parts_of_impl(impl.head)
+            if not trait and owner in self.types_in(module, made.split("<")[0]):
+                for item in impl.items:
+                    if item.sort == "fn" and item.name == name:
+                        return Found(item, module, [impl])
+        return None
+
+
+def is_law(item: Item) -> bool:
+    """Whether a function takes nothing and answers nothing, and so calls nothing of a trait."""
+    return str(item.head).rstrip().endswith("()")
+
+
+def line_count(text: str) -> int:
+    """How many lines have text besides a comment."""
+    return sum(1 for line in check_private.without_comments(text).split("\n") if line.strip())
+
+
+def reach_of(project: Project) -> Tuple[int, int]:
+    """How many words are reached, and how many lines their definitions have."""
+    reached = [word for word in project.words.values() if word.key in project.why]
+    return len(reached), sum(line_count(word.text) for word in reached)
+
+
+def functions_in(items: List[Item]) -> Iterator[Item]:
+    """The functions among items, and those of traits, impls and modules in them."""
+    for item in items:
+        if item.sort == "fn" and not item.is_test:
+            yield item
+        elif item.sort in ("trait", "impl"):
+            yield from functions_in(item.items)
+
+
+def clauses_of(project: Project) -> Iterator[Tuple[str, str]]:
+    """The clauses of functions of product crates: the head of each, and its term."""
+    for name, crate in project.crates.items():
+        if not NO_PRODUCT.match(name):
+            for module in crate.root.all():
+                for item in functions_in(module.items):
+                    yield from item.clauses
+
+
+def is_meter(head: str, term: str) -> bool:
+    """Whether a clause is a meter."""
+    named = METER_NAMES.match(head) or (METERS.search(term) and not HANDS_ON.search(term))
+    return head.startswith("ensures") and bool(named)
+
+
+def lines_in(folder: str, is_product: bool) -> int:
+    """How many lines the files of a folder of all crates have, or of all product crates."""
+    total = 0
+    for path in glob.glob(os.path.join(ROOT, "crates", "*", folder, "**"), recursive=True):
+        crate = os.path.relpath(path, os.path.join(ROOT, "crates")).split(os.sep)[0]
+        if path.endswith((".rt", ".antt")) and not (is_product and NO_PRODUCT.match(crate)):
+            total += check_private.text_of(path).count("\n")
+    return total
+
+
+def rows() -> Iterator[Tuple[str, Any]]:
+    """The rows of the table: what is counted, and its number or numbers."""
+    for title, names in CONTRACTS:
+        yield "words and lines that %s reaches" % title, reach_of(Reach(names))
+    project = Project()
+    yield "public words, and their lines", reach_of(project)
+    yield "lines of specs/ in all", lines_in("specs", False)
+    clauses = list(clauses_of(project))
+    meters = sum(1 for clause in clauses if is_meter(*clause))
+    yield "clauses that are meters, and clauses in all", (meters, len(clauses))
+    yield "lines of src/ in product crates", lines_in("src", True)
+    yield "lines of proofs/ in all crates", lines_in("proofs", False)
+
+
+def shown(counted: Any) -> str:
+    """A number, or numbers, as a cell of the table has them."""
+    numbers = counted if isinstance(counted, tuple) else (counted,)
+    return ", ".join("{:,}".format(number) for number in numbers)
+
+
+def main(names: List[str]) -> int:
+    if any(name.startswith("-") for name in names):
+        print((__doc__ or "").strip(), file=sys.stderr)
+        return 2
+    try:
+        for name in names:
+            print("%s: %d words, %d lines" % ((name,) + reach_of(Reach((name,)))))
+        if names[1:]:
+            print("together: %d words, %d lines" % reach_of(Reach(tuple(names))))
+        for title, counted in () if names else rows():
+            print("| %s | %s |" % (title, shown(counted)))
+    except LookupError as error:
+        print(error, file=sys.stderr)
+        return 1
+    return 0
+
+
+if __name__ == "__main__":
+    sys.exit(main(sys.argv[1:]))

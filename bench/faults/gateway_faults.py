@@ -1,0 +1,413 @@
+#!/usr/bin/env python3
+"""Puts faults into a copy of the gateway, one at a time, and says which of its tests fail.
+
+gateway_faults.py PROGRAM [NUMBER ..]
+
+PROGRAM is the built `sctd`. Each fault is a text of a file that is exchanged, and the tests that
+are run with it. One that no test fails for is said to be NOT SEEN, and the status is 1 then. It
+takes some minutes. Standard library alone; the gateway needs h11.
+"""
+
+import os
+import re
+import shutil
+import subprocess
+import sys
+import tempfile
+from collections import namedtuple
+
+ROOT = os.path.dirname(os.path.dirname(os.path.dirname(os.path.abspath(__file__))))
+sys.path.insert(0, os.path.join(ROOT, "bench"))
+from try_gateway import python_with_h11  # noqa: E402
+
+SECONDS = 300
+PAGE = "try_page.py"
+# What is wrong, the file below sctd_gateway, its text, what stands there instead, and the tests.
+Fault = namedtuple("Fault", "what file old new tests")
+
+FAULTS = [
+    Fault(
+        "every relationship leads to a parent",
+        "store.py",
+        "if row.type == IS_A]",
+        "]",
+        "test_validation test_releases",
+    ),
+    Fault(
+        "a walk upwards ends after one step",
+        "store.py",
+        "            level = sorted(above - seen)\n",
+        "            level = []\n",
+        "test_validation",
+    ),
+    Fault(
+        "replies stay when another hub comes",
+        "pool.py",
+        "        self.memory.clear()\n",
+        "",
+        "test_hub",
+    ),
+    Fault(
+        "a reply is remembered whatever its pin was",
+        "pool.py",
+        "        found = self.kept.get((pin, line))\n",
+        "        pin = next((key[0] for key in self.kept if key[1] == line), pin)\n"
+        "        found = self.kept.get((pin, line))\n",
+        "test_page",
+    ),
+    Fault(
+        "subtrees stay when another hub comes",
+        "pool.py",
+        "self.subtrees, self.receipts = Subtrees(), []",
+        "self.receipts = []",
+        "test_hub",
+    ),
+    Fault(
+        "another hub's socket isn't told from the first",
+        "pool.py",
+        "found.st_ino, found.st_ctime_ns)",
+        "0, 0)",
+        "test_hub",
+    ),
+    Fault(
+        "it isn't asked whether there is a newer import",
+        "pool.py",
+        "        self.sure = pin is not None\n",
+        "        self.sure = True\n",
+        "test_hub",
+    ),
+    Fault(
+        "a refusal isn't of the present imports",
+        "pool.py",
+        "        if not self.sure and self.connection.whole:\n",
+        "        if False:\n",
+        "test_hub",
+    ),
+    Fault(
+        "a pin in the address is passed over",
+        "pool.py",
+        "        self.pin = len(pool.receipts) if pin is None else pin\n",
+        "        self.pin = len(pool.receipts)\n",
+        "test_lookup",
+    ),
+    Fault(
+        "releases after the pin are told",
+        "store.py",
+        "receipts = self.session.receipts[: self.pin]",
+        "receipts = self.session.receipts",
+        "test_value_sets",
+    ),
+    Fault(
+        "a version after the latest release is answered",
+        "fhir/versions.py",
+        "        if day > latest:\n",
+        "        if False:\n",
+        "test_lookup",
+    ),
+    Fault(
+        "another edition is answered",
+        "fhir/versions.py",
+        "if module is not None and module != self.module:",
+        "if False:",
+        "test_lookup",
+    ),
+    Fault(
+        "a date that isn't that of the version is passed over",
+        "fhir/versions.py",
+        "            if days - {recorded}:\n",
+        "            if False:\n",
+        "test_lookup",
+    ),
+    Fault(
+        "a version beside a coding is passed over",
+        "fhir/lookup.py",
+        'request.moment(coding.version, query.text("version"))',
+        "request.moment(coding.version)",
+        "test_lookup",
+    ),
+    Fault(
+        "unknown parameters are passed over",
+        "fhir/inputs.py",
+        "            if name not in known:\n",
+        "            if False:\n",
+        "test_requests",
+    ),
+    Fault(
+        "the check digit isn't checked",
+        "snomed.py",
+        "    return check == 0\n",
+        "    return True\n",
+        "test_lookup test_recorded",
+    ),
+    Fault(
+        "a filter may have control characters",
+        "snomed.py",
+        "[^\\x00-\\x1f\\x7f-\\x9f\\u2028\\u2029",
+        "[^\\u2028\\u2029",
+        "test_value_sets",
+    ),
+    Fault(
+        "a line that can be read as two is sent",
+        "hub.py",
+        "    if not all(LINE.match(line) for line in lines) or max(",
+        "    if max(",
+        "test_lines",
+    ),
+    Fault(
+        "a number loses its digits",
+        "fhir/outputs.py",
+        "WITH_ITS_DIGITS + value[1:]",
+        "float(value[1:])",
+        "test_lookup",
+    ),
+    Fault(
+        "inactive members aren't marked",
+        "fhir/expansion.py",
+        "    if not member.is_active:\n",
+        "    if False:\n",
+        "test_value_sets test_releases",
+    ),
+    Fault(
+        "$translate answers all associations",
+        "fhir/translation.py",
+        " if row.refset == refset]",
+        "]",
+        "test_value_sets test_releases",
+    ),
+    Fault(
+        "the case of a display never counts",
+        "snomed.py",
+        "    return row.term == text\n",
+        "    return row.term.casefold() == text.casefold()\n",
+        "test_lines",
+    ),
+    Fault(
+        "a head is read as h11 reads it",
+        "http.py",
+        "        check_head(head)\n",
+        "",
+        "test_heads test_requests",
+    ),
+    Fault(
+        "bytes behind a body are lost",
+        "http.py",
+        "        self.rest = parser.trailing_data[0]\n",
+        "",
+        "test_requests test_heads",
+    ),
+    Fault(
+        "a body may come in any number of chunks",
+        "http.py",
+        " or chunks > limits.BODY_CHUNKS:",
+        ":",
+        "test_requests",
+    ),
+    Fault(
+        "there is no limit for a head's time",
+        "http.py",
+        "asyncio.timeout(limits.HEAD_SECONDS)",
+        "asyncio.timeout(None)",
+        "test_waits",
+    ),
+    Fault(
+        "there is no limit for an answer that isn't taken",
+        "http.py",
+        "asyncio.timeout(limits.TAKE_SECONDS)",
+        "asyncio.timeout(None)",
+        "test_limits",
+    ),
+    Fault(
+        "no connection makes room",
+        "http.py",
+        "            oldest.writer.transport.abort()\n",
+        "            self.open[oldest] = None\n",
+        "test_load",
+    ),
+    Fault(
+        "requests that one client sends together are answered in one go",
+        "http.py",
+        "            await asyncio.sleep(0)\n",
+        "            pass\n",
+        "test_requests",
+    ),
+    Fault(
+        "a page is made for a client that has left",
+        "app.py",
+        "                if waits and request.has_left():\n",
+        "                if False:\n",
+        "test_requests",
+    ),
+    Fault(
+        "any number of walks go on at once",
+        "app.py",
+        "asyncio.Semaphore(limits.WALKS)",
+        "asyncio.Semaphore(1000)",
+        "test_requests",
+    ),
+    Fault(
+        "the last of several codings counts",
+        "fhir/validation.py",
+        "        if not wrong:\n            break\n",
+        "",
+        "test_validation",
+    ),
+    Fault(
+        "a value that is null is passed over",
+        "fhir/inputs.py",
+        " or None in values or",
+        " or",
+        "test_requests",
+    ),
+    Fault(
+        "the version of another code system is read as one of SNOMED CT",
+        "fhir/validation.py",
+        "coding.version if is_own else None",
+        "coding.version",
+        "test_validation",
+    ),
+    Fault(
+        "an answer may have any length",
+        "app.py",
+        "if len(response.body) > limits.ANSWER_BYTES:",
+        "if False:",
+        "test_large_answers",
+    ),
+    Fault(
+        "any number of answers may wait to be taken",
+        "http.py",
+        "if self.untaken + len(response.body) > limits.UNTAKEN_BYTES:",
+        "if False:",
+        "test_large_answers",
+    ),
+    Fault(
+        "a filter that finds as many terms as it may is refused",
+        "store.py",
+        "            if count > limits.FILTER_TERMS:\n",
+        "            if count >= limits.FILTER_TERMS:\n",
+        "test_large_answers",
+    ),
+    Fault(
+        "a walk has no end",
+        "store.py",
+        "            if len(seen | below) > limits.WALK_CONCEPTS:\n",
+        "            if False:\n",
+        "test_large_answers",
+    ),
+    Fault(
+        "a hub that is silent is waited for",
+        "app.py",
+        "asyncio.timeout(limits.SCTD_SECONDS)",
+        "asyncio.timeout(None)",
+        "test_silent_hub",
+    ),
+    Fault(
+        "texts aren't escaped",
+        "markup.py",
+        "else escape(visible(part)) for",
+        "else visible(part) for",
+        "test_page " + PAGE,
+    ),
+    Fault(
+        "characters that turn a text are shown",
+        "markup.py",
+        'UNSEEN = ("Cc", "Cf",',
+        'UNSEEN = ("Cc",',
+        "test_page",
+    ),
+    Fault(
+        "a style that the policy forbids",
+        "page.html",
+        "<header>",
+        '<header style="margin: 0">',
+        PAGE,
+    ),
+    Fault("pale text", "page.css", "--soft: #55626e", "--soft: #9aa5ae", PAGE),
+    Fault(
+        "a table that is wider than a phone",
+        "page.css",
+        "table { width: 100%;",
+        "table { width: 60rem;",
+        PAGE,
+    ),
+    Fault(
+        "a field without a label",
+        "page.html",
+        '<label for="other">',
+        '<label for="others">',
+        "test_page " + PAGE,
+    ),
+]
+
+
+def failed(root, python, program, tests):
+    """The tests that fail, or what the browser's trial says."""
+    found = []
+    for test in tests.split():
+        if test == PAGE:
+            words, folder = [sys.executable, os.path.join(root, "bench", PAGE), program], root
+        else:
+            hub = os.path.join(root, "examples", "hub.py")
+            words, folder = [python, "-m", "tests", program, hub, test], os.path.join(
+                root, "gateway"
+            )
+        try:
+            done = subprocess.run(
+                words,
+                cwd=folder,
+                stdin=subprocess.DEVNULL,
+                stdout=subprocess.PIPE,
+                stderr=subprocess.STDOUT,
+                timeout=SECONDS,
+                text=True,
+                check=False,
+            )
+            said = done.stdout
+        except subprocess.TimeoutExpired:
+            said = "FAIL: %s takes too long" % test
+        found += re.findall(r"^(?:FAIL|ERROR): (\w+)", said, re.M) + re.findall(
+            r"^WRONG: (.{1,90})", said, re.M
+        )
+    return list(dict.fromkeys(found))
+
+
+def tried(number, fault, python, program):
+    """Whether a test fails with the fault."""
+    with tempfile.TemporaryDirectory() as root:
+        for name in ("gateway", "bench", "examples", "docs"):
+            shutil.copytree(
+                os.path.join(ROOT, name),
+                os.path.join(root, name),
+                ignore=shutil.ignore_patterns("__pycache__"),
+            )
+        path = os.path.join(root, "gateway", "sctd_gateway", fault.file)
+        with open(path, encoding="utf-8") as file:
+            text = file.read()
+        if text.count(fault.old) != 1:
+            print(
+                "%d: %s: NO FAULT: the text stands there %d times"
+                % (number, fault.what, text.count(fault.old))
+            )
+            return False
+        with open(path, "w", encoding="utf-8") as file:
+            file.write(text.replace(fault.old, fault.new))
+        found = failed(root, python, program, fault.tests)
+    print("%d: %s: %s" % (number, fault.what, "; ".join(found) or "NOT SEEN"), flush=True)
+    return bool(found)
+
+
+def main(words):
+    if not words:
+        print(__doc__.strip(), file=sys.stderr)
+        return 2
+    python, program = python_with_h11(), os.path.abspath(words[0])
+    if python is None:
+        print("not run: h11 is missing")
+        return 3
+    chosen = [int(word) for word in words[1:]] or range(len(FAULTS))
+    seen = [tried(number, FAULTS[number], python, program) for number in chosen]
+    print("%d faults, %d not seen" % (len(seen), seen.count(False)))
+    return 0 if all(seen) else 1
+
+
+if __name__ == "__main__":
+    sys.exit(main(sys.argv[1:]))

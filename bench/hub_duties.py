@@ -1,0 +1,498 @@
+"""Trials of examples/hub.py for try_hub.py: its socket for questions, the rights of its sockets,
+its log, its merges and copies, and the unit."""
+
+import grp
+import os
+import re
+import resource
+import shutil
+import signal
+import stat
+import subprocess
+import sys
+import threading
+import time
+
+from hub_harness import RECORDER, ROOT, SECONDS, Client, Hub, Skipped, Wrong, concept, concept_id
+from hub_harness import same, until, write_release
+
+NOT_A_QUESTION = ["ERR hub NotAQuestion"]
+STATUS = ["OK 2 10 2 -"]
+# More imports than a store may have segments.
+NIGHTS = 260
+MERGE_ABOVE = 100
+TIME = re.compile(r"[0-9]{4}-[0-9]{2}-[0-9]{2}T[0-9]{2}:[0-9]{2}:[0-9]{2}Z ")
+# The greatest exposure that `systemd-analyze security` may find, in tenths; it was 87 once.
+MOST_EXPOSED = 10
+# Another user and group than the hub's.
+NOBODY = 65534
+
+
+def content(path):
+    with open(path, "rb") as file:
+        return file.read()
+
+
+def logged(hub):
+    """The lines of the log, without their times."""
+    lines = hub.told().splitlines()
+    for line in lines:
+        if not TIME.match(line):
+            raise Wrong("a line of the log without a time: %r" % line)
+    return [TIME.sub("", line) for line in lines]
+
+
+CHANGES = ["IMPORT r3", "MERGE", "STEP 1", "PUBLISH", "ABANDON", "TRIM", "BACKUP /no folder/copy"]
+# Lines that only look like questions, or like nothing.
+ODD = [
+    "IMPORT r3\r", "IMPORT", " IMPORT r3", "IMPORT\tr3", "import r3", "\0IMPORT r3", "GETIMPORT r3",
+    "GET\rIMPORT r3", "\rIMPORT r3", "0 IMPORT r3", "1 UNPIN", "STATUS\0", " STATUS", "status",
+    "STATUS\tx", "STATUS\r\r", "", "\r", " ", "\v", "CHECK r3", "STATUS\u2028IMPORT r3", "ŠTATUS"]
+# Questions that are refused, which the program does itself.
+FAULTY = {"STATUS ": 43, "STATUS  ": 43, "GET  C 1000004 20200131": 43, "GET": 43, "PIN 9": 44,
+          "UNPIN IMPORT r3": 43, "GET C 1000004 20200131\0": 43}
+
+
+def questions_alone(place, store):
+    """On the socket for questions nothing can be changed; the replies come in their order."""
+    before = content(store)
+    with Hub(place, store, "--questions", place.path("questions")) as hub:
+        client = Client(hub.questions)
+        asked = [(line, NOT_A_QUESTION) for line in CHANGES + ODD]
+        asked += [("STATUS", STATUS), ("STATUS\r", STATUS), ("x" * 5_000, ["ERR 40 Long"])]
+        asked += [("RECEIPT 1", ["OK 1 6 20200131"]), ("PIN 1", ["OK 1"]), ("UNPIN", ["OK"])]
+        for line, wanted in asked:
+            same("%r on the socket for questions" % line[:40], client.ask(line), wanted)
+        for line, number in FAULTY.items():
+            same("%r" % line, client.ask(line)[0].split(" ")[:2], ["ERR", str(number)])
+        mixed = [asked[place * 7 % len(asked)] for place in range(200)]
+        client.send(b"".join(line.encode() + b"\n" for line, _ in mixed))
+        for line, wanted in mixed:
+            same("%r among others" % line[:40], client.read(), wanted)
+        same("its state", client.ask("STATUS"), STATUS)
+        client.leave()
+        same("the end of the hub", hub.stop("a hub that is stopped"), 0)
+        same("its log", hub.told(), "")
+    same("the store", content(store) == before, True)
+    with Hub(place, store, "--questions", place.path("questions"), has_own=False) as hub:
+        client = Client(hub.questions)
+        same("a hub for questions alone", client.ask("STATUS"), STATUS)
+        same("its other socket", os.path.exists(hub.socket), False)
+        client.leave()
+
+
+def what_arrives(place, store):
+    """What comes to the program from the socket for questions is questions, each of its session."""
+    recording = place.wrapped(RECORDER)
+    with Hub(recording, store, "--questions", recording.path("questions")) as hub:
+        client = Client(hub.questions)
+        for line in CHANGES + ODD + list(FAULTY):
+            client.ask(line)
+        client.leave()
+        same("the end of the hub", hub.stop("a hub that is stopped"), 0)
+    arrived = content(recording.path("lines")).decode().split("\n")
+    wanted = {"1 " + line for line in FAULTY} | {"0 STATUS", "1 UNPIN", ""}
+    same("what arrives", set(arrived), wanted)
+    same("lines of UNPIN", arrived.count("1 UNPIN"), 1)
+
+
+def pins_apart(place, store):
+    """No client can touch the pin of another one, on whichever sockets they are."""
+    with Hub(place, store, "--questions", place.path("questions")) as hub:
+        clients = [Client(path) for path in (hub.questions, hub.questions, hub.socket, hub.socket)]
+        same("a pin", clients[0].ask("PIN 1"), ["OK 1"])
+        same("the owner's pin", clients[2].ask("PIN 1"), ["OK 1"])
+        for line in ("UNPIN", "PIN 2", "PIN", "1 UNPIN", "2 UNPIN", "3 UNPIN", "0 UNPIN",
+                     "UNPIN 1"):
+            clients[1].ask(line)
+            clients[3].ask(line)
+        for client in clients[::2]:
+            same("a pin that others would undo", client.ask("RECEIPT 2"), ["ERR 44 PinRange"])
+        for client in clients[1::2]:
+            same("no pin", client.ask("RECEIPT 2"), ["OK 2 4 20210131"])
+        for client in clients:
+            client.leave()
+
+
+# strace beside what it traces, which keeps its place as the trial's child.
+TRACE = ["strace", "-D", "-f", "-qq"]
+
+
+def has_strace():
+    if shutil.which("strace") is None:
+        return False
+    return subprocess.run(["strace", "-qq", "-o", "/dev/null", "true"], stderr=subprocess.DEVNULL,
+                          timeout=SECONDS, check=False).returncode == 0
+
+
+def mode(path):
+    return oct(stat.S_IMODE(os.lstat(path).st_mode))
+
+
+def rights(place, store):
+    """The sockets are their owner's alone, that for questions also a group's where one is named,
+    whatever the umask, from the moment at which they are there."""
+    own = grp.getgrgid(os.getegid()).gr_name
+    # Where there is strace, these calls take their time, so that no moment is missed.
+    calls = "chmod,fchmodat,chown,fchownat,lchown,listen"
+    slowly = [*TRACE, "-o", "/dev/null", "-e", "inject=%s:delay_enter=100000" % calls]
+    slowly = slowly if has_strace() else []
+    for words, wanted in (([], "0o600"), (["--group", own], "0o660")):
+        part = place.below("group" if words else "alone")
+        seen = Watched([part.path("hub"), part.path("questions")])
+        with seen, Hub(part, store, "--questions", part.path("questions"), *words, umask=0,
+                       before=slowly) as hub:
+            same("an opening", hub.first_line, "OK ready")
+            same("the rights of a socket", mode(hub.socket), "0o600")
+            same("those of the one for questions", mode(hub.questions), wanted)
+            same("its group", os.lstat(hub.questions).st_gid, os.getegid())
+        for path, allowed in ((hub.socket, {"0o600"}), (hub.questions, {"0o600", wanted})):
+            if seen.modes[path] - allowed:
+                raise Wrong("for a moment a socket has the rights %s" % seen.modes[path])
+
+
+class Watched:
+    """Looks at the rights of some paths all the time."""
+
+    def __init__(self, paths):
+        self.modes = {path: set() for path in paths}
+        self.is_over = False
+        self.thread = threading.Thread(target=self.watch)
+
+    def watch(self):
+        while not self.is_over:
+            for path, modes in self.modes.items():
+                try:
+                    modes.add(mode(path))
+                except FileNotFoundError:
+                    pass
+
+    def __enter__(self):
+        self.thread.start()
+
+    def __exit__(self, *_):
+        self.is_over = True
+        self.thread.join()
+
+
+def other_users(place, store):
+    """Another user can't connect; one of the group can ask."""
+    if os.geteuid() != 0:
+        raise Skipped("it takes root to be another user")
+    group = next(one for one in grp.getgrall() if one.gr_gid not in (0, NOBODY))
+    words = ["--questions", place.path("questions"), "--group", group.gr_name]
+    with Hub(place, store, *words) as hub:
+        for path, groups, wanted in (
+                (hub.socket, [], 1), (hub.socket, [group.gr_gid], 1), (hub.questions, [], 1),
+                (hub.questions, [group.gr_gid], 0)):
+            same("another user, of the groups %r" % groups, asks_as_nobody(path, groups), wanted)
+
+
+def asks_as_nobody(path, groups):
+    """0 if a user with these groups alone is answered, 1 if it may not connect."""
+    child = os.fork()
+    if child == 0:
+        status = 2
+        try:
+            os.setgroups(groups)
+            os.setgid(NOBODY)
+            os.setuid(NOBODY)
+            same("its state", Client(path).ask("STATUS"), STATUS)
+            status = 0
+        except Wrong as wrong:
+            status = 1 if "Permission denied" in str(wrong) else 2
+        finally:
+            os._exit(status)
+    return os.waitstatus_to_exitcode(os.waitpid(child, 0)[1])
+
+
+def the_log(place, store):
+    """The log tells of imports, published merges and copies, and of what is refused; nothing from
+    outside can look like another line of it."""
+    own = place.make_store("own")
+    with Hub(place, own) as hub:
+        client = Client(hub.socket)
+        for line in ("IMPORT r1", "IMPORT r2", "STATUS", "GET C 1 2", "x", "IMPORT r9", "STEP 1",
+                     "MERGE", "STEP 10", "PUBLISH", "TRIM", "IMPORT r\x1b[31m",
+                     "IMPORT a\rb\u2028c\\n", "BACKUP " + place.path("copy")):
+            client.ask(line)
+        client.send(b"IMPORT \xff\x00\x7f\n")
+        same("an import of no text", client.read(), ["ERR 43 Arguments"])
+        client.leave()
+        same("the end of the hub", hub.stop("a hub that is stopped"), 0)
+        told = hub.told()
+        lines = [line for line in logged_beside(told)]
+    same("the log", lines, [
+        "IMPORT r1: OK 1 6 0", "IMPORT r2: OK 2 4 0", "IMPORT r9: ERR 45 NoFolder",
+        "STEP 1: ERR 11 NoMerge", "PUBLISH: OK", "IMPORT r\\x1b[31m: ERR 43 Arguments",
+        "IMPORT a\\rb\\u2028c\\\\n: ERR 43 Arguments",
+        "BACKUP %s: OK 2 10 1" % place.path("copy"), "IMPORT \\xff\\x00\\x7f: ERR 43 Arguments"])
+    if any(not sign.isprintable() for sign in told.replace("\n", "")):
+        raise Wrong("a control character in the log: %r" % told)
+    if "sctd: %s: no such folder" % os.path.join(ROOT, "docs", "releases", "r9") not in told:
+        raise Wrong("the log doesn't say why an import was refused: %r" % told)
+
+
+def logged_beside(told):
+    """The lines of the hub's log, beside those of the program."""
+    return [TIME.sub("", line) for line in told.splitlines() if TIME.match(line)]
+
+
+def nights(place, store):
+    """The hub merges in time, so that no import meets too many segments, and answers meanwhile."""
+    own = place.make_store("own")
+    for number in range(1, NIGHTS + 1):
+        write_release(place.path("releases"), "n%d" % number, {"C": [concept(number)]})
+    with Hub(place, own, releases=place.path("releases")) as hub:
+        client, other = Client(hub.socket), Client(hub.socket)
+        for number in range(1, NIGHTS + 1):
+            same("an import", client.ask("IMPORT n%d" % number), ["OK %d 1 0" % number])
+        until("the segments are merged",
+              lambda: int(other.ask("STATUS")[0].split(" ")[3]) <= MERGE_ABOVE)
+        same("the rows", other.ask("STATUS")[0].split(" ")[:3], ["OK", str(NIGHTS), str(NIGHTS)])
+        for number in (1, 100, NIGHTS):
+            same("a row", client.ask("HISTORY C %d" % concept_id(number)),
+                 ["ROW " + concept(number), "END 1"])
+            same("a receipt", client.ask("RECEIPT %d" % number), ["OK %d 1 20250131" % number])
+        same("the end of the hub", hub.stop("a hub that is stopped"), 0)
+        merges = [line for line in logged(hub) if line == "PUBLISH: OK"]
+        same("merges", len(merges) >= NIGHTS - MERGE_ABOVE, True)
+
+
+def steps(place, store):
+    """Merges go in steps of 1,000 rows, and clients are answered between them. A merge that a
+    client has begun is left to that."""
+    recording = place.wrapped(RECORDER)
+    own = place.make_store("own")
+    for name, numbers in (("big", range(1, 6_001)), ("other", range(6_001, 12_001)),
+                          ("third", range(12_001, 14_001)), ("fourth", [20_000])):
+        write_release(place.path("releases"), name, {"C": [concept(one) for one in numbers]})
+    with Hub(place, own, "--merge-above", "250", releases=place.path("releases")) as hub:
+        client = Client(hub.socket)
+        same("an import", client.ask("IMPORT big"), ["OK 1 6000 0"])
+        same("another one", client.ask("IMPORT other"), ["OK 2 6000 0"])
+        client.leave()
+        same("the end of the hub", hub.stop("a hub that is stopped"), 0)
+    with Hub(recording, own, "--merge-above", "2", releases=place.path("releases")) as hub:
+        client = Client(hub.socket)
+        client.send(b"IMPORT third\n" + b"STATUS\n" * 2_000)
+        same("a third one", client.read(), ["OK 3 2000 0"])
+        for _ in range(2_000):
+            same("its state", client.read()[0].split(" ")[:3], ["OK", "3", "14000"])
+        until("two segments", lambda: client.ask("STATUS") == ["OK 3 14000 2 -"])
+        leaving = Client(hub.socket)
+        same("a client's merge", leaving.ask("MERGE"), ["OK 14000"])
+        same("one step of it", leaving.ask("STEP 5"), ["OK 13995"])
+        # While that client is there, the merge is its own; then it is the hub's.
+        same("a fourth one", client.ask("IMPORT fourth"), ["OK 4 1 0"])
+        time.sleep(0.2)
+        same("its state", client.ask("STATUS"), ["OK 4 14001 3 13995"])
+        leaving.leave()
+        until("two segments", lambda: client.ask("STATUS") == ["OK 4 14001 2 -"])
+        client.leave()
+        same("the end of the hub", hub.stop("a hub that is stopped"), 0)
+    lines = content(recording.path("lines")).split(b"\n")
+    at = [place for place, line in enumerate(lines) if line == b"0 STEP 1000"]
+    # Of 8,000 rows and of 13,995.
+    same("steps of the hub", len(at), 22)
+    if any(b"1 STATUS" not in lines[one:other] for one, other in zip(at[:8], at[1:8])):
+        raise Wrong("nothing is answered between two steps of a merge")
+
+
+BAD_COPIES = [
+    ("relative", "the path doesn't begin with /"), ("", "the path doesn't begin with /"),
+    ("/no folder/a\x1bb", "the name isn't printable"),
+    ("/no folder/a\rb", "the name isn't printable"),
+    ("/no folder/a\u202eb", "the name isn't printable"),
+    ("/no folder/copy", "No such file or directory"), ("/", "File exists"),
+    ("/dev/full", "File exists"), ("/" + "x" * 300, "File name too long"),
+]
+
+
+def copies(place, store):
+    """BACKUP makes a new file that has what the store has, or says why not and leaves none."""
+    path = place.path("a copy")
+    with Hub(place, store, "--questions", place.path("questions")) as hub:
+        client = Client(hub.socket)
+        same("a copy", client.ask("BACKUP " + path), ["OK 2 10 2"])
+        same("its content", content(path) == content(store), True)
+        same("its rights", mode(path), "0o600")
+        same("a copy with a CR", client.ask("BACKUP %s2\r" % path), ["OK 2 10 2"])
+        for name, why in BAD_COPIES + [(path, "File exists"), (store, "File exists")]:
+            same("a copy to %r" % name, client.ask("BACKUP " + name), ["ERR hub Backup " + why])
+        os.symlink(place.path("nowhere"), place.path("link"))
+        same("a copy to a link", client.ask("BACKUP " + place.path("link")),
+             ["ERR hub Backup File exists"])
+        client.send(b"BACKUP /no folder/\xff\n")
+        same("a name that is no text", client.read(), ["ERR hub Backup the name isn't UTF-8"])
+        same("the copy", content(path) == content(store), True)
+        same("where the link leads", os.path.exists(place.path("nowhere")), False)
+        # From here on the hub can't write so much.
+        resource.prlimit(hub.process.pid, resource.RLIMIT_FSIZE, (8_192, 8_192))
+        same("a copy that is too large", client.ask("BACKUP %s3" % path),
+             ["ERR hub Backup File too large"])
+        same("what is left of it", os.path.exists(path + "3"), False)
+        client.leave()
+    done = subprocess.run([place.program, "status", "--store", path], stdout=subprocess.PIPE,
+                          stderr=subprocess.DEVNULL, timeout=SECONDS, check=False)
+    same("the state of the copy", (done.returncode, done.stdout), (0, b"OK 2 10 2 -\n"))
+
+
+def bad_copies(place, store):
+    """A copy that isn't what the store shows is refused, and removed."""
+    own = place.path("own")
+    shutil.copy(store, own)
+    path = place.path("copy")
+    with Hub(place, own) as hub:
+        client = Client(hub.socket)
+        with open(own, "r+b") as file:
+            file.seek(4 * 4096)
+            file.write(b"\xff")
+        reply = client.ask("BACKUP " + path)[0]
+        if not reply.startswith("ERR hub Backup the copy is answered ERR 8 Damaged"):
+            raise Wrong("a copy of a damaged store: %r" % reply)
+        # Another store has taken the file's place.
+        os.unlink(own)
+        place.make_store("own")
+        reply = client.ask("BACKUP " + path)[0]
+        if not reply.startswith("ERR hub Backup the copy is answered OK 0 0 0"):
+            raise Wrong("a copy of another store: %r" % reply)
+        same("what is left of them", os.path.exists(path), False)
+        client.leave()
+
+
+# Before each part of a copy the hub waits until there is a file.
+COPYING = "                        self.go_on()\n"
+WAITING = """\
+                        while not (self.is_stopped.is_set() or os.path.exists(%r)):
+                            time.sleep(0.01)
+"""
+
+
+def slow_copy(place, store):
+    """While a copy is made, questions are answered, and imports and merges wait."""
+    go_on = place.path("go on")
+    slow = place.changed("hub_store.py", COPYING, WAITING % go_on + COPYING)
+    own = place.make_store("own")
+    write_release(place.path("releases"), "big", {"C": [concept(one) for one in range(1, 10_001)]})
+    write_release(place.path("releases"), "next", {"C": [concept(20_000)]})
+    with Hub(slow, own, "--questions", slow.path("questions"), "--merge-above", "1",
+             releases=place.path("releases")) as hub:
+        owner, importer = Client(hub.socket), Client(hub.socket)
+        same("an import", owner.ask("IMPORT big"), ["OK 1 10000 0"])
+        asking = [Client(hub.questions) for _ in range(50)]
+        path = slow.path("copy")
+        owner.send(b"BACKUP %s\n" % path.encode())
+        until("the copy is begun", lambda: os.path.exists(path))
+        importer.send(b"IMPORT next\n")
+        for client in asking:
+            same("a question beside a copy", client.ask("STATUS"), ["OK 1 10000 1 -"])
+        same("whether the copy is made", owner.has_reply() or importer.has_reply(), False)
+        with open(go_on, "wb"):
+            same("the import", importer.read(), ["OK 2 1 0"])
+            same("the copy", owner.read(), ["OK 1 10000 1"])
+        # A hub that is stopped leaves no copy that isn't whole.
+        os.unlink(go_on)
+        other = slow.path("other")
+        owner.send(b"BACKUP %s\n" % other.encode())
+        until("the copy is begun", lambda: os.path.exists(other))
+        same("the end of the hub", hub.stop("a hub that copies"), 0)
+        same("a copy that isn't made", owner.read(), ["ERR hub Backup the hub ends"])
+        same("what is left of it", os.path.exists(other), False)
+        for client in [owner, importer, *asking]:
+            client.leave()
+
+
+UNIT = "sctd.service"
+
+
+def unit(place, store):
+    """The unit is as hardened as it can be, gives questions to a group and imports to the owner."""
+    text = content(place.script(UNIT)).decode()
+    dropping = "ExecStartPre=/usr/bin/dd if=/dev/null of=/var/lib/sctd/terms.store oflag=nocache"
+    for line in ("Environment=GLIBC_TUNABLES=glibc.malloc.hugetlb=1", "UMask=0077",
+                 "SupplementaryGroups=sctd-ask", dropping + " \\"):
+        same("how often the unit has %r" % line, text.count("\n%s\n" % line), 1)
+    analysing = shutil.which("systemd-analyze")
+    if analysing is None:
+        raise Skipped("there is no systemd-analyze")
+    done = subprocess.run(
+        [analysing, "security", "--offline=true", "--threshold=%d" % MOST_EXPOSED,
+         place.script(UNIT)], stdout=subprocess.PIPE, stderr=subprocess.STDOUT, timeout=SECONDS,
+        check=False)
+    if b"unrecognized option" in done.stdout:
+        raise Skipped("this systemd-analyze can't look at a file")
+    same("how exposed the unit is", (done.returncode, done.stdout.splitlines()[-1:]),
+         (0, done.stdout.splitlines()[-1:]))
+
+
+def allowed_calls(lists):
+    """The system calls that the unit allows."""
+    def calls(name):
+        if not name.startswith("@"):
+            return {name}
+        done = subprocess.run(["systemd-analyze", "syscall-filter", name], stdout=subprocess.PIPE,
+                              timeout=SECONDS, check=True)
+        words = [line.strip() for line in done.stdout.decode().splitlines()[1:]]
+        names = [word for word in words if word and not word.startswith("#")]
+        return set().union(*map(calls, names))
+
+    allowed = set()
+    for words in lists:
+        found = set().union(*map(calls, words.lstrip("~").split(" ")))
+        allowed = allowed - found if words.startswith("~") else allowed | found
+    return allowed
+
+
+def system_calls(place, store):
+    """What the hub, the program and the unit's first command ask of the system, the unit allows. A
+    copy and its folder are synced before it is checked."""
+    if shutil.which("systemd-analyze") is None or not has_strace():
+        raise Skipped("it takes systemd-analyze and strace")
+    text = content(place.script(UNIT)).decode()
+    allowed = allowed_calls(re.findall(r"^SystemCallFilter=(.*)$", text, re.M))
+    trace = place.path("trace")
+    own = place.make_store("own")
+    tracing = [*TRACE, "-o", trace, "-e", "signal=none"]
+    group = grp.getgrgid(os.getegid()).gr_name
+    with Hub(place, own, "--questions", place.path("questions"), "--group", group,
+             "--merge-above", "1", before=tracing) as hub:
+        client = Client(hub.socket)
+        for line in ("IMPORT r1", "IMPORT r2", "BACKUP " + place.path("copy"), "TRIM"):
+            same(line, client.ask(line)[0].split(" ")[0], "OK")
+        client.leave()
+        same("the end of the hub", hub.stop("a hub that is stopped"), 0)
+    first = re.search(r"^ExecStartPre=(.*?[^\\])$", text, re.M | re.S)[1].replace("\\\n", " ")
+    first = first.replace("/var/lib/sctd/terms.store", own).split()
+    done = subprocess.run(["strace", "-A", "-f", "-qq", "-o", trace, "-e", "signal=none", *first],
+                          timeout=SECONDS, check=False)
+    same("the unit's first command", done.returncode, 0)
+    until("the trace has its end", lambda: b"exit_group" in content(trace)[-200:])
+    lines = content(trace).decode("utf-8", "backslashreplace")
+    called = set(re.findall(r"^[0-9]+ +([a-z_0-9]+)\(", lines, re.M))
+    if not {"chown", "fadvise64", "fdatasync", "flock", "bind"} <= called:
+        raise Wrong("the trace hasn't all calls: %r" % sorted(called))
+    same("calls that the unit forbids", sorted(called - allowed), [])
+    for forbidden in (
+            r"PROT_WRITE\|PROT_EXEC", r"mprotect\([^)]*PROT_EXEC", r"socket\(AF_(?!UNIX)"):
+        same("what the unit forbids", re.findall(forbidden, lines), [])
+    copying = lines[lines.index('copy", O_WRONLY|O_CREAT|O_EXCL') :]
+    copying = copying[: copying.index('"status", "--store"')]
+    at = copying.rindex("write(")
+    same("syncs of a copy and its folder", copying.count(" fsync(", at), 2)
+
+
+def types(place, store):
+    """The types of the hub and its clients are right."""
+    if shutil.which("mypy") is None:
+        raise Skipped("there is no mypy")
+    files = sorted(name for name in os.listdir(place.examples) if name.endswith(".py"))
+    done = subprocess.run(["mypy", "--strict", "--cache-dir=/dev/null", *files], cwd=place.examples,
+                          stdout=subprocess.PIPE, stderr=subprocess.STDOUT, timeout=SECONDS * 2,
+                          check=False)
+    same("mypy", (done.returncode, done.stdout.decode()),
+         (0, "Success: no issues found in %d source files\n" % len(files)))
+
+
+TRIALS = [questions_alone, what_arrives, pins_apart, rights, other_users, the_log, nights, steps,
+          copies, bad_copies, slow_copy, unit, system_calls, types]

@@ -1,0 +1,249 @@
+"""What the trials of examples/hub.py share: a hub on a store, a client, small releases."""
+
+import contextlib
+import os
+import select
+import shutil
+import signal
+import socket
+import subprocess
+import sys
+import time
+
+import make_release as rf2
+
+ROOT = os.path.dirname(os.path.dirname(os.path.abspath(__file__)))
+RELEASES = os.path.join(ROOT, "docs", "releases")
+# What is around the scripts: Python keeps their output until they flush it, as it mostly does.
+AROUND = {name: value for name, value in os.environ.items() if name != "PYTHONUNBUFFERED"}
+# How long a line, the start and the end of a process may take.
+SECONDS = 30
+# Stands before the program, and writes down what comes, and how many lines at once.
+RECORDER = """
+import os, subprocess, sys
+real = subprocess.Popen([PROGRAM, *sys.argv[1:]], stdin=subprocess.PIPE)
+while part := os.read(0, 1 << 20):
+    with open(FOLDER + "/parts", "a") as file:
+        file.write("%d\\n" % part.count(b"\\n"))
+    with open(FOLDER + "/lines", "ab") as file:
+        file.write(part)
+    real.stdin.write(part)
+    real.stdin.flush()
+real.stdin.close()
+sys.exit(real.wait())
+"""
+
+
+class Wrong(Exception):
+    """Something isn't as it has to be."""
+
+
+class Skipped(Exception):
+    """Something can't be tried on this machine."""
+
+
+def same(what, found, wanted):
+    if found != wanted:
+        raise Wrong("%s: %r, not %r" % (what, found, wanted))
+
+
+class Place:
+    """What is tried: the program, and the folder of the hub; and a folder to do it in."""
+
+    def __init__(self, program, examples, folder):
+        self.program, self.examples, self.folder = program, examples, folder
+
+    def path(self, *names):
+        return os.path.join(self.folder, *names)
+
+    def below(self, name):
+        """The same in a new folder of its own."""
+        os.mkdir(self.path(name), 0o755)
+        return Place(self.program, self.examples, self.path(name))
+
+    def changed(self, file, old, new):
+        """The same with a file of the hub in which one text is another one."""
+        place = self.below("changed")
+        place.examples = place.path("examples")
+        shutil.copytree(self.examples, place.examples)
+        path = os.path.join(place.examples, file)
+        with open(path, encoding="utf-8") as text:
+            before = text.read()
+        same("how often %s has %r" % (file, old), before.count(old), 1)
+        with open(path, "w", encoding="utf-8") as text:
+            text.write(before.replace(old, new))
+        return place
+
+    def wrapped(self, script):
+        """The same with a program that a Python script stands before; PROGRAM is the real one."""
+        place = self.below("wrapped")
+        place.program = place.path("program")
+        with open(place.program, "w", encoding="utf-8") as text:
+            text.write("#!%s\nPROGRAM = %r\nFOLDER = %r\n%s" % (
+                sys.executable, self.program, place.folder, script))
+        os.chmod(place.program, 0o755)
+        return place
+
+    def script(self, name):
+        return os.path.join(self.examples, name)
+
+    def make_store(self, name="store"):
+        path = self.path(name)
+        made = subprocess.run([self.program, "init", "--store", path], stdout=subprocess.PIPE,
+                              timeout=SECONDS, check=False)
+        same("init", (made.stdout, made.returncode), (b"OK\n", 0))
+        return path
+
+    def run(self, name, *words, given=b"", **around):
+        """Runs a script of the hub's folder to its end, with more words around it."""
+        try:
+            return subprocess.run(
+                [sys.executable, self.script(name), *words], input=given, stdout=subprocess.PIPE,
+                stderr=subprocess.PIPE, timeout=SECONDS, check=False, env=AROUND | around)
+        except subprocess.TimeoutExpired:
+            raise Wrong("%s hasn't ended after %d seconds" % (name, SECONDS)) from None
+
+
+class Hub:
+    """A hub on a store. It runs no longer than its `with` block."""
+
+    def __init__(self, place, store, *words, path=None, releases=RELEASES, before=(), umask=-1,
+                 has_own=True):
+        self.socket = path or place.path("hub")
+        self.questions = place.path("questions")
+        self.faults = place.path("faults")
+        command = [*before, sys.executable, place.script("hub.py"), "--program", place.program,
+                   "--store", store, "--releases", releases, *words]
+        if has_own:
+            command += ["--socket", self.socket]
+        with open(self.faults, "wb") as faults:
+            self.process = subprocess.Popen(
+                command, stdout=subprocess.PIPE, stderr=faults, umask=umask)
+        try:
+            if not select.select([self.process.stdout], [], [], SECONDS)[0]:
+                raise Wrong("a hub says nothing for %d seconds after its start" % SECONDS)
+            self.first_line = self.process.stdout.readline().decode("utf-8", "replace").rstrip("\n")
+        except BaseException:
+            self.close()
+            raise
+
+    def __enter__(self):
+        return self
+
+    def __exit__(self, *_):
+        self.close()
+
+    def programs(self):
+        """The processes that it has started."""
+        children = "/proc/%d/task/%d/children" % (self.process.pid, self.process.pid)
+        try:
+            with open(children, encoding="ascii") as file:
+                return [int(word) for word in file.read().split()]
+        except OSError:
+            return []
+
+    def close(self):
+        """Ends it and its program, whatever they do."""
+        started = self.programs()
+        if self.process.poll() is None:
+            self.process.kill()
+            self.process.wait()
+            for number in started:
+                with contextlib.suppress(ProcessLookupError):  # Its input ended.
+                    os.kill(number, signal.SIGKILL)
+        self.process.stdout.close()
+
+    def end(self, what):
+        """Its status, once it has ended."""
+        try:
+            return self.process.wait(SECONDS)
+        except subprocess.TimeoutExpired:
+            raise Wrong("%s: it hasn't ended after %d seconds" % (what, SECONDS)) from None
+
+    def stop(self, what):
+        self.process.send_signal(signal.SIGTERM)
+        return self.end(what)
+
+    def told(self):
+        """What it and its program have written to standard error."""
+        with open(self.faults, encoding="utf-8", errors="backslashreplace") as file:
+            return file.read()
+
+
+class Client:
+    """A connection to a hub."""
+
+    def __init__(self, path):
+        self.sent = b""
+        self.connection = socket.socket(socket.AF_UNIX)
+        self.connection.settimeout(SECONDS)
+        try:
+            self.connection.connect(path)
+        except OSError as why:
+            raise Wrong("a client can't reach the hub: %s" % why) from None
+        self.lines = self.connection.makefile("rb")
+
+    def send(self, data):
+        self.sent = data[-60:]
+        try:
+            self.connection.sendall(data)
+        except ConnectionError:
+            pass  # What the hub said before it hung up is read next.
+        except OSError as why:
+            raise Wrong("a client can't send %r: %s" % (self.sent, why)) from None
+
+    def line(self):
+        """The next line, and none where the hub hung up."""
+        try:
+            return self.lines.readline()
+        except ConnectionError:
+            return b""
+        except OSError:
+            raise Wrong("no reply to %r within %d seconds" % (self.sent, SECONDS)) from None
+
+    def read(self):
+        reply = []
+        while not reply or reply[-1].split(" ")[0] not in ("OK", "ERR", "END"):
+            line = self.line()
+            if not line.endswith(b"\n"):
+                raise Wrong("the hub hangs up on a client that sent %r, after %r"
+                            % (self.sent, reply + [line] if line else reply))
+            reply.append(line.decode("utf-8", "backslashreplace")[:-1])
+        return reply
+
+    def ask(self, line):
+        self.send(line.encode() + b"\n")
+        return self.read()
+
+    def has_reply(self, seconds=0.0):
+        """Whether something more can be read."""
+        return bool(select.select([self.connection], [], [], seconds)[0])
+
+    def leave(self):
+        self.lines.close()
+        self.connection.close()
+
+
+def until(what, is_so):
+    """Waits until something is so."""
+    end = time.monotonic() + SECONDS
+    while not is_so():
+        if time.monotonic() > end:
+            raise Wrong("%s: not after %d seconds" % (what, SECONDS))
+        time.sleep(0.02)
+
+
+def write_release(folder, name, rows, date="20250131"):
+    """Writes a Delta; the rows of each kind are texts with tabs, and a kind may lack."""
+    texts = {kind: rows.get(kind, []) for kind in rf2.KINDS}
+    rf2.write(os.path.join(folder, name), "Delta", date, texts)
+
+
+def concept_id(number):
+    """The SCTID of a made concept."""
+    return rf2.sctid(1_000 + number, "00")
+
+
+def concept(number, date="20250131", active=1):
+    """The row of a made concept."""
+    return "\t".join(map(str, [concept_id(number), date, active, rf2.CORE, rf2.PRIMITIVE]))

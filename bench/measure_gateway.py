@@ -1,0 +1,248 @@
+#!/usr/bin/env python3
+"""Measures the gateway, the hub and the program below them while clients ask.
+
+measure_gateway.py PROGRAM [--rows N] [--seconds N] [--hub PATH] [--raw-only]
+
+A release of about N rows (2,350,000 if not said) is made and imported, which takes a minute or two.
+Then $lookup is asked by 1 and by 16 clients, of random codes on random days, and of 200 codes on
+one day, whose replies are remembered; and the hub alone is asked the questions of a $lookup by 8
+clients, one by one and four in one write. Each takes some seconds (5 if not said). It prints a
+table: how many a second, the median, and the microseconds of the processor a request in gateway,
+hub and program. --hub takes another hub than examples/hub.py. Clients are two processes, which need
+a processor of their own.
+"""
+
+import argparse
+import functools
+import multiprocessing
+import os
+import random
+import select
+import socket
+import statistics
+import subprocess
+import sys
+import tempfile
+import time
+
+from try_gateway import GATEWAY, ROOT, python_with_h11
+
+PROCESSES = 2
+FEW_CODES = 200
+YEARS = range(2016, 2026)
+READ_BYTES = 1 << 18
+VERSION = "http://snomed.info/sct/900000000000207008/version/"
+LAST_LINES = (b"OK", b"END", b"ERR")
+HEAD = """| Asked | Clients | a second | median ms | processor us: gateway / hub / program |
+|---|---|---|---|---|"""
+
+
+class Connection:
+    """One client: a question at a time, and when it was asked."""
+
+    def __init__(self, path, make):
+        self.socket, self.make = socket.socket(socket.AF_UNIX), make
+        self.socket.connect(path)
+        self.got, self.asked, self.waits, self.wrong = b"", 0.0, [], 0
+
+    def ask(self):
+        self.got, self.asked = b"", time.perf_counter()
+        self.socket.sendall(self.make())
+
+    def is_done(self):
+        """Reads what has come. Whether it is all of the answer."""
+        self.got += self.socket.recv(READ_BYTES)
+        if not self.whole():
+            return False
+        self.waits.append(time.perf_counter() - self.asked)
+        return True
+
+
+class HttpClient(Connection):
+    def whole(self):
+        end = self.got.find(b"\r\n\r\n")
+        if end < 0:
+            return False
+        head = self.got[:end]
+        length = int(head.split(b"Content-Length: ")[1].split(b"\r\n")[0])
+        if len(self.got) < end + 4 + length:
+            return False
+        self.wrong += head[9:12] not in (b"200", b"404")
+        return True
+
+
+class HubClient(Connection):
+    """Four questions in one write."""
+
+    questions = 4
+
+    def whole(self):
+        if not self.got.endswith(b"\n"):
+            return False
+        last = [line for line in self.got.split(b"\n") if line.startswith(LAST_LINES)]
+        return len(last) == self.questions
+
+
+class SlowHubClient(HubClient):
+    """One question in one write."""
+
+    questions = 1
+
+
+def lookup(codes, days):
+    code, day = random.choice(codes), random.choice(days)
+    target = "/fhir/CodeSystem/$lookup?system=http://snomed.info/sct&code=%s&version=%s%s" % (
+        code,
+        VERSION,
+        day,
+    )
+    return b"GET %s HTTP/1.1\r\nHost: x\r\nAccept: application/fhir+json\r\n\r\n" % target.encode()
+
+
+def questions(codes, days):
+    code, day = random.choice(codes), random.choice(days)
+    return "".join(
+        "%s %s %s\n" % (question, code, day)
+        for question in ("GET C", "ABOUT D", "ABOUT R", "ABOUT V")
+    ).encode()
+
+
+def question(codes, days):
+    line = random.choice(("GET C", "ABOUT D", "ABOUT R", "ABOUT V"))
+    return ("%s %s %s\n" % (line, random.choice(codes), random.choice(days))).encode()
+
+
+def run(client, path, make, clients, seconds, seed, out):
+    """One process of clients. It puts the waits of all of them, and how many were refused."""
+    random.seed(seed)
+    connections = {}
+    for _ in range(clients):
+        one = client(path, make)
+        connections[one.socket] = one
+        one.ask()
+    end = time.perf_counter() + seconds
+    while time.perf_counter() < end:
+        for ready in select.select(list(connections), [], [], 1)[0]:
+            if connections[ready].is_done():
+                connections[ready].ask()
+    every = connections.values()
+    out.put(([wait for one in every for wait in one.waits], sum(one.wrong for one in every)))
+
+
+def processor(pid):
+    """Seconds of the processor that a process has taken."""
+    with open("/proc/%d/stat" % pid, encoding="ascii") as file:
+        words = file.read().rsplit(")", 1)[1].split()
+    return (int(words[11]) + int(words[12])) / os.sysconf("SC_CLK_TCK")
+
+
+def measured(name, pids, client, path, make, clients, seconds):
+    """Asks for some seconds, and prints a line of the table."""
+    out, processes = multiprocessing.Queue(), min(PROCESSES, clients)
+    before = [processor(pid) for pid in pids]
+    runs = []
+    for seed in range(processes):
+        words = (client, path, make, clients // processes, seconds, seed, out)
+        runs.append(multiprocessing.Process(target=run, args=words))
+        runs[-1].start()
+    told = [out.get() for _ in runs]
+    for one in runs:
+        one.join()
+    waits, wrong = [wait for one, _ in told for wait in one], sum(count for _, count in told)
+    used = [processor(pid) - first for pid, first in zip(pids, before)]
+    spent = " / ".join("%.0f" % (seconds_used / len(waits) * 1e6) for seconds_used in used)
+    median = statistics.median(waits) * 1e3
+    refused = " %d refused" % wrong if wrong else ""
+    line = "| %s | %d | %.0f | %.2f | %s |%s"
+    print(line % (name, clients, len(waits) / seconds, median, spent, refused), flush=True)
+
+
+def begun(words, **more):
+    process = subprocess.Popen(words, stdout=subprocess.PIPE, **more)
+    said = process.stdout.readline()
+    if said != b"OK ready\n":
+        raise SystemExit("%s says %r" % (words[1], said))
+    return process
+
+
+def child_of(pid):
+    with open("/proc/%d/task/%d/children" % (pid, pid), encoding="ascii") as file:
+        return int(file.read().split()[0])
+
+
+def concepts(folder):
+    path = os.path.join(folder, "full", "Terminology", "sct2_Concept_Full_INT_20250731.txt")
+    with open(path, encoding="ascii") as file:
+        next(file)
+        return sorted({line.split("\t", 1)[0] for line in file})
+
+
+def make_store(options, folder, store):
+    """A store with a made release."""
+    make = [sys.executable, os.path.join(ROOT, "bench", "make_release.py"), folder]
+    release = os.path.join(folder, "full")
+    for words in (
+        [*make, str(options.rows)],
+        [options.program, "init", "--store", store],
+        [options.program, "import", "--quiet", "--store", store, release],
+    ):
+        subprocess.run(words, check=True, stdout=subprocess.DEVNULL)
+
+
+def begin_hub(options, folder, store, python, path):
+    words = ["--program", options.program, "--store", store, "--releases", folder]
+    return begun([python, options.hub, *words, "--socket", path])
+
+
+def begin_gateway(python, hub, path):
+    words = ["--socket", hub, "--edition", "900000000000207008", "--listen", path]
+    return begun([python, "-m", "sctd_gateway", *words], cwd=GATEWAY)
+
+
+def tried(options, folder, python):
+    store, hub_socket, http = (os.path.join(folder, name) for name in ("store", "hub", "http"))
+    make_store(options, folder, store)
+    codes, days = concepts(folder), ["%d0731" % year for year in YEARS]
+    hub = begin_hub(options, folder, store, python, hub_socket)
+    gateway = begin_gateway(python, hub_socket, http)
+    try:
+        below, seconds = [hub.pid, child_of(hub.pid)], options.seconds
+        every = [gateway.pid, *below]
+        print(HEAD)
+        if not options.raw_only:
+            any_code = functools.partial(lookup, codes, days)
+            few = random.Random(1).sample(codes, FEW_CODES)
+            one_day = functools.partial(lookup, few, days[-1:])
+            measured("$lookup", every, HttpClient, http, any_code, 1, seconds)
+            measured("$lookup", every, HttpClient, http, any_code, 16, seconds)
+            measured("$lookup, remembered", every, HttpClient, http, one_day, 16, seconds)
+        one, four = (functools.partial(make, codes, days) for make in (question, questions))
+        measured("the hub, one question", below, SlowHubClient, hub_socket, one, 8, seconds)
+        measured("the hub, four at once", below, HubClient, hub_socket, four, 8, seconds)
+    finally:
+        for process in (gateway, hub):
+            process.terminate()
+            process.wait()
+
+
+def main():
+    words = argparse.ArgumentParser(description="Measures the gateway, the hub and the program.")
+    words.add_argument("program", type=os.path.abspath)
+    words.add_argument("--rows", type=int, default=2_350_000)
+    words.add_argument("--seconds", type=int, default=5)
+    words.add_argument(
+        "--hub", type=os.path.abspath, default=os.path.join(ROOT, "examples", "hub.py")
+    )
+    words.add_argument("--raw-only", action="store_true")
+    options = words.parse_args()
+    python = python_with_h11()
+    if python is None:
+        print("not run: h11 is missing")
+        return 3
+    with tempfile.TemporaryDirectory() as folder:
+        tried(options, folder, python)
+    return 0
+
+
+if __name__ == "__main__":
+    sys.exit(main())

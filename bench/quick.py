@@ -1,0 +1,380 @@
+#!/usr/bin/env python3
+"""Runs every test and the trials of the program on this tree, and proves nothing.
+
+quick.py [--only WORD]
+
+The tests, the programs of the crates and `sctd` itself are built by the kit's `rt try`
+(bench/unproved.py says how), two at a time and never more, or one where this process may use one
+processor alone (`taskset`). A line tells when each part begins, and one what came of it and how
+many seconds it took; below it stands what failed. The parts are:
+
+- the checks of the documents, with which `.ci/run` begins;
+- `sctd`, and the trials of it: a soak of 20 seconds, the guide's examples, mistakes, syncs, the
+  hub, the gateway, and a failed sync. A trial that needs what this machine lacks says so, and is
+  skipped;
+- the tests of the crates that no other crate uses, built as one crate;
+- the tests of each other crate that has any;
+- each program with a file `stdin`, `stdout` or `args`: what it writes has to be its file `stdout`.
+
+The last line is `N passed, M failed`, and `, K skipped` where there are any: of tests, scripts and
+programs. The status is 0 where nothing failed. WORD takes the parts with this text in their name.
+It needs the kit's `rt` on the path, and ten minutes of two processors. Standard library alone.
+"""
+
+from __future__ import annotations
+
+import argparse
+import os
+import re
+import shutil
+import subprocess
+import sys
+import tempfile
+import threading
+import time
+from concurrent.futures import ThreadPoolExecutor
+from itertools import zip_longest
+from pathlib import Path
+from typing import Callable, Iterator, NamedTuple, Sequence
+
+from try_program import SCRIPTS
+from unproved import FAST_BUILD, FAST_RUN, Builder, bytes_of, kit_folder, run_program, status_of
+
+TOP = Path(__file__).resolve().parent.parent
+PROGRAM = "sctd"
+
+PROGRAM_OF = "program of "
+
+# How many parts may go on at a time.
+MOST_AT_ONCE = 2
+# How long a test, a program of a crate and a script of bench/ may take.
+TEST_SECONDS = 120
+PROGRAM_SECONDS = 120
+SCRIPT_SECONDS = 300
+# The status of a script that can't be run on this machine.
+NOT_RUN = 3
+# How much of what a part says is printed where it fails.
+LINES_TOLD = 40
+
+# A check of the documents, as .ci/run has it: a script of bench/ and its words, and then what is
+# done where it fails.
+DOCUMENT_CHECK = re.compile(r"^python3 bench/([^|\n]+) \|\| \{", re.MULTILINE)
+# The folder that such a check may write to, as it is called there.
+WRITTEN = '"$faults/crate"'
+SOAK = "soak.py"
+# A soak of so many seconds, with a seed; those of .ci/run are shorter, and two.
+LONG_SOAK = (SOAK, "20", "1")
+# Trials that .ci/run doesn't make, or makes by themselves.
+OTHER_TRIALS = (("try_gateway.py",), ("try_failed_sync.py",))
+# The last line of a script that counts what it tried.
+COUNTED = re.compile(r"(\d+) passed, (\d+) failed(?:, (\d+) skipped)?$")
+# What of a crate is built and run.
+TAKEN = ("src", "c", "data", "stdin", "stdout", "args", "status")
+
+
+class Outcome(NamedTuple):
+    """How many tests, scripts or programs passed, failed and were skipped, and what to tell."""
+
+    passed: int
+    failed: int
+    skipped: int = 0
+    told: str = ""
+
+
+class Part(NamedTuple):
+    """What is run, and whether it needs the built program."""
+
+    name: str
+    run: Callable[[], Outcome]
+    is_trial: bool = False
+
+
+def text_of(data: bytes) -> str:
+    return data.decode("utf-8", "backslashreplace")
+
+
+def last_lines(text: str) -> str:
+    return "\n".join(text.rstrip("\n").split("\n")[-LINES_TOLD:])
+
+
+class Crates:
+    """The crates of a copy of this tree, as far as building needs them."""
+
+    def __init__(self, top: Path) -> None:
+        self.top = top
+        self.uses: dict[str, list[str]] = {}
+        for line in (TOP / "crates.txt").read_text(encoding="utf-8").splitlines():
+            name, colon, uses = line.partition(":")
+            if colon and not name.startswith("#"):
+                self.uses[name.split()[0]] = uses.split()
+        shutil.copy(TOP / "crates.txt", top / "crates.txt")
+        for name in self.uses:
+            for taken in TAKEN:
+                self.take(TOP / "crates" / name / taken, self.folder(name) / taken)
+
+    def take(self, path: Path, to: Path) -> None:
+        to.parent.mkdir(parents=True, exist_ok=True)
+        if path.is_dir():
+            shutil.copytree(path, to)
+        elif path.exists():
+            shutil.copy(path, to)
+
+    def folder(self, name: str) -> Path:
+        return self.top / "crates" / name
+
+    def sources(self, name: str) -> Iterator[Path]:
+        yield from sorted((self.folder(name) / "src").rglob("*.rt"))
+
+    def count_tests(self, name: str) -> int:
+        texts = (path.read_text(encoding="utf-8") for path in self.sources(name))
+        return sum(len(re.findall(r"^ *#\[test\]", text, re.MULTILINE)) for text in texts)
+
+    def is_program(self, name: str) -> bool:
+        return (self.folder(name) / "src" / "main.rt").exists()
+
+    def is_used(self, name: str) -> bool:
+        return any(name in uses for uses in self.uses.values())
+
+    def is_run(self, name: str) -> bool:
+        """Whether it is a program that says what it is run on, or what it has to write."""
+        files = ("stdin", "stdout", "args")
+        return self.is_program(name) and any((self.folder(name) / f).exists() for f in files)
+
+
+class Together:
+    """One crate with the tests of some libraries that no crate uses, each as a module of it."""
+
+    NAME = "tests_together"
+
+    def __init__(self, crates: Crates, names: list[str]) -> None:
+        self.crates = crates
+        self.source = crates.folder(self.NAME) / "src"
+        self.source.mkdir(parents=True)
+        self.folder = crates.folder(self.NAME)
+        modules = "".join("#[cfg(test)]\nmod %s;\n" % name for name in names)
+        text = "//! The tests of some crates.\n#![tactic(auto)]\n\n" + modules
+        (self.source / "lib.rt").write_text(text, encoding="utf-8")
+        for name in names:
+            self.add(name)
+        uses = sorted({use for name in names for use in crates.uses[name]})
+        with open(crates.top / "crates.txt", "a", encoding="utf-8") as file:
+            file.write("%s: %s\n" % (self.NAME, " ".join(uses)))
+
+    def add(self, name: str) -> None:
+        """Adds a crate's sources as a module: what they call `crate` is that module then."""
+        own = self.crates.folder(name) / "src"
+        for path in self.crates.sources(name):
+            text = path.read_text(encoding="utf-8").replace("crate::", "crate::%s::" % name)
+            to = self.source / name / path.relative_to(own)
+            if path == own / "lib.rt":
+                to = self.source / (name + ".rt")
+                text = re.sub(r"^#!\[.*\]\n", "", text, flags=re.MULTILINE)
+            to.parent.mkdir(parents=True, exist_ok=True)
+            to.write_text(text, encoding="utf-8")
+
+
+class Tree:
+    """What is run of this tree, in a folder."""
+
+    def __init__(self, place: Path) -> None:
+        self.place, self.kit = place, kit_folder()
+        self.crates = Crates(place)
+        self.program = place / PROGRAM
+        self.is_built = threading.Event()
+
+    def builder(self, name: str, is_run: bool) -> Builder:
+        folder = self.place / ("kit_of_" + name)
+        folder.mkdir()
+        # The trials of it are mostly spent with waiting.
+        level = FAST_BUILD if name == PROGRAM else FAST_RUN
+        return Builder(self.kit, folder, is_run, level)
+
+    def parts(self) -> list[Part]:
+        """The parts in their order: what takes longest, and what others wait for, comes first."""
+        uses = self.crates.uses
+        tested = {name: self.crates.count_tests(name) for name in uses}
+        joined = [n for n in uses if tested[n] and not self.crates.is_used(n)
+                  and not self.crates.is_program(n)]
+        apart = [name for name in uses if tested[name] and name not in joined]
+        run = [name for name in uses if self.crates.is_run(name)]
+        count = sum(tested[name] for name in joined)
+        parts = [self.part_of_program(name) for name in run if name == PROGRAM]
+        if joined:
+            folder = Together(self.crates, joined).folder
+            parts.append(self.part_of_tests("tests of %d crates" % len(joined), folder, count))
+        trials = [script for script in SCRIPTS if script[0] != SOAK]
+        parts += [self.part_of_trial(words) for words in (LONG_SOAK, *trials, *OTHER_TRIALS)]
+        parts += [self.part_of_program(name) for name in run if name != PROGRAM]
+        parts += [self.part_of_tests("tests of " + name, self.crates.folder(name), tested[name])
+                  for name in apart]
+        text = (TOP / ".ci" / "run").read_text(encoding="utf-8")
+        return parts + [self.part_of_check(words) for words in DOCUMENT_CHECK.findall(text)]
+
+    def part_of_tests(self, name: str, folder: Path, count: int) -> Part:
+        return Part(name, lambda: self.run_tests(folder, count))
+
+    def part_of_program(self, name: str) -> Part:
+        return Part(PROGRAM_OF + name, lambda: self.run_program(name))
+
+    def part_of_trial(self, words: tuple[str, ...]) -> Part:
+        name = "bench/" + " ".join(words)
+        return Part(name, lambda: self.run_trial(words), is_trial=True)
+
+    def part_of_check(self, text: str) -> Part:
+        words = text.replace(WRITTEN, str(self.place / "written")).split()
+        return Part("bench/" + words[0], lambda: run_script(words))
+
+    def run_tests(self, folder: Path, count: int) -> Outcome:
+        """Runs the tests of a crate, which has to have so many."""
+        words = ["--test", "--seconds", str(TEST_SECONDS)]
+        done = self.builder(folder.name, is_run=True).run(folder, words)
+        printed = text_of(done.stdout + done.stderr)
+        ends = re.findall(r"^test (\S+) \.\.\. (\w+)((?:\n .*)*)", printed, re.MULTILINE)
+        passed = sum(end == "ok" for _, end, _ in ends)
+        told = "".join("test %s ... %s%s\n" % end for end in ends if end[1] != "ok")
+        if passed == count and done.returncode == 0:
+            return Outcome(passed, 0)
+        if len(ends) != count:
+            told += "%d of its %d tests were run\n%s" % (len(ends), count, last_lines(printed))
+        return Outcome(passed, max(count - passed, 1), 0, told)
+
+    def run_program(self, name: str) -> Outcome:
+        """Builds a crate's program and runs it on its files; the trials wait for that of sctd."""
+        try:
+            built = self.built(name)
+            if isinstance(built, Path) and name == PROGRAM:
+                shutil.copy(built, self.program)
+        finally:
+            if name == PROGRAM:
+                self.is_built.set()
+        if isinstance(built, str):
+            return Outcome(0, 1, 0, "it wasn't built\n" + last_lines(built))
+        return compared(built, self.crates.folder(name))
+
+    def built(self, name: str) -> Path | str:
+        """The program of a crate, or what was said where it can't be built."""
+        builder = self.builder(name, is_run=False)
+        done = builder.run(self.crates.folder(name), [])
+        is_there = builder.program.exists()
+        return builder.program if is_there else text_of(done.stdout + done.stderr)
+
+    def run_trial(self, words: tuple[str, ...]) -> Outcome:
+        """Runs a script of bench/ on the built program, its first word."""
+        self.is_built.wait()
+        if not self.program.exists():
+            return Outcome(0, 1, 0, "%s wasn't built" % PROGRAM)
+        return run_script([words[0], str(self.program), *words[1:]])
+
+
+def run_script(words: Sequence[str]) -> Outcome:
+    """Runs a script of bench/ with its words."""
+    try:
+        done = subprocess.run(
+            [sys.executable, str(TOP / "bench" / words[0]), *words[1:]],
+            cwd=TOP,
+            stdin=subprocess.DEVNULL,
+            stdout=subprocess.PIPE,
+            stderr=subprocess.STDOUT,
+            timeout=SCRIPT_SECONDS,
+            check=False,
+        )
+    except subprocess.TimeoutExpired:
+        return Outcome(0, 1, 0, "it hasn't ended after %d seconds" % SCRIPT_SECONDS)
+    printed = last_lines(text_of(done.stdout))
+    last = printed.split("\n")[-1]
+    if done.returncode == NOT_RUN:
+        return Outcome(0, 0, 1, printed if COUNTED.match(last) else last)
+    found = COUNTED.match(last)
+    passed, failed, skipped = (int(n or 0) for n in found.groups()) if found else (1, 0, 0)
+    if done.returncode == 0:
+        return Outcome(passed, failed, skipped)
+    return Outcome(passed if found else 0, max(failed, 1), skipped, printed)
+
+
+def compared(program: Path, crate: Path) -> Outcome:
+    """Whether a crate's program writes its file `stdout` and ends with its status."""
+    try:
+        done = run_program(program, crate, PROGRAM_SECONDS)
+    except subprocess.TimeoutExpired:
+        return Outcome(0, 1, 0, "it hasn't ended after %d seconds" % PROGRAM_SECONDS)
+    wanted, status = bytes_of(crate / "stdout"), status_of(crate)
+    if done.stdout == wanted and done.returncode == status:
+        return Outcome(1, 0)
+    told = first_difference(text_of(done.stdout), text_of(wanted))
+    if done.returncode != status:
+        told += "status %d, and %d was wanted\n" % (done.returncode, status)
+    return Outcome(0, 1, 0, told + last_lines(text_of(done.stderr)))
+
+
+def first_difference(written: str, wanted: str) -> str:
+    """The first line in which two texts differ, with its number."""
+    pairs = zip_longest(written.split("\n"), wanted.split("\n"), fillvalue="")
+    for number, (one, other) in enumerate(pairs, 1):
+        if one != other:
+            return "line %d: %r, and %r was wanted\n" % (number, one, other)
+    return ""
+
+
+class Progress:
+    """Prints a line as each part begins, and one as it ends."""
+
+    def __init__(self) -> None:
+        self.begun = time.monotonic()
+        self.lock = threading.Lock()
+
+    def say(self, text: str) -> None:
+        seconds = int(time.monotonic() - self.begun)
+        with self.lock:
+            print("[%d:%02d] %s" % (seconds // 60, seconds % 60, text), flush=True)
+
+    def run(self, part: Part) -> Outcome:
+        begun = time.monotonic()
+        self.say("begins: %s" % part.name)
+        try:
+            outcome = part.run()
+        except Exception as why:  # A part that can't be run has failed, and the others go on.
+            outcome = Outcome(0, 1, 0, "%s: %s" % (type(why).__name__, why))
+        took = time.monotonic() - begun
+        self.say("%s: %s (%.0f s)" % (counts(outcome), part.name, took) + indented(outcome.told))
+        return outcome
+
+
+def chosen(parts: list[Part], word: str) -> list[Part]:
+    """The parts with a word in their name, and what they need."""
+    taken = [part for part in parts if word in part.name]
+    needed = [part for part in parts if part.name == PROGRAM_OF + PROGRAM and part not in taken]
+    return needed + taken if any(part.is_trial for part in taken) else taken
+
+
+def counts(outcome: Outcome) -> str:
+    words = "%d passed, %d failed" % (outcome.passed, outcome.failed)
+    return words + (", %d skipped" % outcome.skipped if outcome.skipped else "")
+
+
+def indented(text: str) -> str:
+    return "".join("\n    " + line for line in text.rstrip("\n").split("\n") if text)
+
+
+def main() -> int:
+    assert __doc__
+    parser = argparse.ArgumentParser(description=__doc__.strip().split("\n", maxsplit=1)[0])
+    parser.add_argument("--only", default="", help="the parts with this word in their name")
+    asked = parser.parse_args()
+    if shutil.which("rt") is None:
+        print("there is no `rt` of the Rattle kit on the path", file=sys.stderr)
+        return 2
+    at_once = min(MOST_AT_ONCE, len(os.sched_getaffinity(0)))
+    progress = Progress()
+    with tempfile.TemporaryDirectory(prefix="sctd-quick-") as place:
+        tree = Tree(Path(place))
+        parts = chosen(tree.parts(), asked.only)
+        with ThreadPoolExecutor(at_once) as workers:
+            outcomes = list(workers.map(progress.run, parts))
+    sums = (sum(numbers) for numbers in list(zip(*outcomes))[:3])
+    total = Outcome(*sums)
+    print(counts(total))
+    return 0 if total.passed and not total.failed else 1
+
+
+if __name__ == "__main__":
+    sys.exit(main())

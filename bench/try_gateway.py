@@ -1,0 +1,138 @@
+#!/usr/bin/env python3
+"""Tries the gateway with the built program and the hub: its own tests, in gateway/tests.
+
+try_gateway.py PROGRAM [HUB]
+
+PROGRAM is the built `sctd`; HUB is another hub than examples/hub.py. The tests that mostly wait for
+a limit of time run beside the others. They need h11, which is looked for in this Python and then in
+the system's; where neither has it, that is said and the status is 3, so that it counts as skipped.
+Where mypy is installed it checks the types too, and where there is a Chromium try_page.py looks at
+the page. The last line is `N passed, M failed`, with `, K skipped` where something was. The status
+is 1 where something failed.
+"""
+
+import os
+import subprocess
+import sys
+
+ROOT = os.path.dirname(os.path.dirname(os.path.abspath(__file__)))
+GATEWAY = os.path.join(ROOT, "gateway")
+SYSTEM_PYTHON = "/usr/bin/python3"
+SECONDS = 170
+NOT_RUN = 3
+# The order of those of one run matters: the last of them reads what all before it have asked.
+RUNS = [
+    ("test_waits",),
+    ("test_silent_hub", "test_limits"),
+    (
+        "test_lookup",
+        "test_validation",
+        "test_value_sets",
+        "test_requests",
+        "test_page",
+        "test_load",
+        "test_heads",
+        "test_lines",
+        "test_recorded",
+    ),
+    ("test_hub", "test_releases", "test_large_answers"),
+]
+
+
+def python_with_h11():
+    """A Python of at least the version that the gateway needs, with h11; None where there is
+    none."""
+    check = "import sys, h11; sys.exit(sys.version_info < (3, 11))"
+    for python in (sys.executable, SYSTEM_PYTHON):
+        try:
+            done = subprocess.run([python, "-c", check], stderr=subprocess.DEVNULL, check=False)
+        except OSError:
+            continue
+        if done.returncode == 0:
+            return python
+    return None
+
+
+def begun(python, program, hub, modules):
+    return subprocess.Popen(
+        [python, "-m", "tests", program, hub, *modules],
+        cwd=GATEWAY,
+        stdin=subprocess.DEVNULL,
+        stdout=subprocess.PIPE,
+        stderr=subprocess.STDOUT,
+        start_new_session=True,
+    )
+
+
+def ended(run, modules):
+    """How many tests of a run passed and failed."""
+    try:
+        printed = run.communicate(timeout=SECONDS)[0].decode("utf-8", "backslashreplace")
+    except subprocess.TimeoutExpired:
+        os.killpg(run.pid, 9)
+        printed = run.communicate()[0].decode("utf-8", "backslashreplace") + "\nit takes too long"
+    lines = printed.rstrip("\n").split("\n")
+    words = lines[-1].replace(",", "").split(" ")
+    if len(words) != 4 or words[1::2] != ["passed", "failed"]:
+        words = ["0", "passed", "1", "failed"]
+    if run.returncode or words[2] != "0":
+        print("\n".join(["%s:" % " ".join(modules)] + lines[-60:]), flush=True)
+    return int(words[0]), max(int(words[2]), int(run.returncode != 0))
+
+
+def types():
+    """Whether the types are right: 1 passed, 1 failed, or 1 skipped."""
+    if subprocess.run(
+        ["sh", "-c", "command -v mypy"], stdout=subprocess.DEVNULL, check=False
+    ).returncode:
+        print("mypy isn't installed: the types weren't checked")
+        return 0, 0, 1
+    done = subprocess.run(
+        ["mypy", "--strict", "-p", "sctd_gateway", "-p", "tests"],
+        cwd=GATEWAY,
+        text=True,
+        capture_output=True,
+        check=False,
+    )
+    if done.returncode:
+        print(done.stdout + done.stderr)
+    return (0, 1, 0) if done.returncode else (1, 0, 0)
+
+
+def page(program):
+    """Whether the page is as it has to be: 1 passed, 1 failed, or 1 skipped."""
+    done = subprocess.run(
+        [sys.executable, os.path.join(ROOT, "bench", "try_page.py"), program],
+        stdin=subprocess.DEVNULL,
+        capture_output=True,
+        text=True,
+        check=False,
+    )
+    if done.returncode:
+        print("try_page.py: " + (done.stdout + done.stderr).rstrip("\n"))
+    return (
+        int(done.returncode == 0),
+        int(done.returncode not in (0, NOT_RUN)),
+        int(done.returncode == NOT_RUN),
+    )
+
+
+def main(words):
+    if len(words) not in (1, 2):
+        print(__doc__.strip(), file=sys.stderr)
+        return 2
+    python = python_with_h11()
+    if python is None:
+        print("h11 is missing: the gateway wasn't tried\n0 passed, 0 failed, 1 skipped")
+        return NOT_RUN
+    program = os.path.abspath(words[0])
+    hub = os.path.abspath(words[1]) if len(words) == 2 else os.path.join(ROOT, "examples", "hub.py")
+    runs = [(begun(python, program, hub, modules), modules) for modules in RUNS]
+    counts = [types(), page(program), *((*ended(run, modules), 0) for run, modules in runs)]
+    passed, failed, skipped = map(sum, zip(*counts))
+    print("%d passed, %d failed" % (passed, failed) + (", %d skipped" % skipped if skipped else ""))
+    return 1 if failed else 0
+
+
+if __name__ == "__main__":
+    sys.exit(main(sys.argv[1:]))

@@ -1,0 +1,187 @@
+//! Cases that are questions, each with its answer.
+//!
+//! A line is a question and its answer, as in `time "20201301" -> none`, where the answer may go on
+//! in lines below that begin with `= `. A case ends with `asked 8`, the number of its questions.
+
+use crate::fault::Fault;
+use crate::running::{Block, Subject};
+use crate::shown::Shown;
+use crate::words::number;
+use std::alloc::{AllocError, AllocFailed, Global};
+use std::mem;
+
+/// Why a question has no answer.
+#[derive(Clone, Copy, Debug, PartialEq, Eq)]
+pub enum NoAnswer {
+    /// It is none: an unknown word, a word too many or too few, or no number.
+    NoQuestion,
+    OutOfMemory,
+}
+
+impl From<AllocError> for NoAnswer {
+    fn from(_e: AllocError) -> NoAnswer {
+        NoAnswer::OutOfMemory
+    }
+}
+
+impl<T: Drop> From<AllocFailed<T>> for NoAnswer {
+    fn from(_e: AllocFailed<T>) -> NoAnswer {
+        NoAnswer::OutOfMemory
+    }
+}
+
+impl From<NoAnswer> for Fault {
+    fn from(why: NoAnswer) -> Fault {
+        match why {
+            NoAnswer::NoQuestion => Fault::Line("it asks nothing that is known"),
+            NoAnswer::OutOfMemory => Fault::Memory,
+        }
+    }
+}
+
+/// What is answered to a question: a line, or some with an LF between two.
+pub type Answer = Result<String, NoAnswer>;
+
+/// What answers questions.
+pub trait Answers {
+    /// A case begins.
+    fn begin(&mut self);
+
+    /// Takes a line of a part with this name.
+    fn give(&mut self, part: &str, word: &str, rest: &str) -> Result<(), NoAnswer>;
+
+    /// Answers a question: its first word, and what stands behind that.
+    fn answer(&mut self, word: &str, rest: &str) -> Answer;
+}
+
+/// What stands behind the first word of a question, and what stands behind the arrow.
+fn split_answer(text: &str) -> Result<(&str, &str), Fault> {
+    if let Some(wanted) = text.strip_prefix("->") {
+        return Ok(("", wanted));
+    }
+    text.split_once(" ->")
+        .ok_or(Fault::Line("its answer lacks"))
+}
+
+/// What answers questions, and what came of those that were asked.
+#[derive(Drop)]
+pub struct Asked<A: Answers + Drop> {
+    alloc: Global,
+    answers: A,
+    /// The part whose lines come, if it is one.
+    part: Option<String>,
+    /// The last question with its answer, and what is wanted there; both are empty before one.
+    got: String,
+    wanted: String,
+    /// How many questions were asked, and whether that was told.
+    count: u64,
+    is_told: bool,
+    shown: Shown,
+}
+
+impl<A: Answers + Drop> Asked<A> {
+    /// Nothing was asked yet.
+    pub fn new(alloc: Global, answers: A) -> Asked<A> {
+        Asked {
+            alloc,
+            answers,
+            part: None,
+            got: String::new(alloc),
+            wanted: String::new(alloc),
+            count: 0,
+            is_told: false,
+            shown: Shown::new(alloc),
+        }
+    }
+
+    /// Compares the last answer with what is wanted.
+    fn settle(&mut self) -> Result<(), Fault> {
+        let got = mem::replace(&mut self.got, String::new(self.alloc));
+        let wanted = mem::replace(&mut self.wanted, String::new(self.alloc));
+        self.shown.compare(wanted.as_bytes(), got.as_bytes())
+    }
+
+    /// Asks a question.
+    fn ask(&mut self, word: &str, rest: &str) -> Result<(), Fault> {
+        let (rest, wanted) = split_answer(rest)?;
+        self.count = self.count.saturating_add(1);
+        self.is_told = false;
+        let answer = self.answers.answer(word, rest)?;
+        self.got = format!(in self.alloc; "{word} {rest} ->\n{answer}")?;
+        self.wanted = format!(in self.alloc; "{word} {rest} ->")?;
+        match wanted.strip_prefix(' ') {
+            Some(wanted) => self.go_on(wanted),
+            None => Ok(()),
+        }
+    }
+
+    /// Takes one more line of an answer.
+    fn go_on(&mut self, line: &str) -> Result<(), Fault> {
+        if self.wanted.is_empty() {
+            return Err(Fault::Line("it stands behind no question"));
+        }
+        self.wanted.push('\n')?;
+        self.wanted.push_str(line)?;
+        Ok(())
+    }
+
+    /// Whether so many questions were asked.
+    fn tell(&mut self, word: &str) -> Result<(), Fault> {
+        self.is_told = true;
+        if number(word)? != self.count {
+            return Err(Fault::Line("it isn't the number of questions above"));
+        }
+        Ok(())
+    }
+
+    /// Takes a line of a case.
+    fn take_line(&mut self, word: &str, rest: &str) -> Result<(), Fault> {
+        if word == "=" {
+            return self.go_on(rest);
+        }
+        self.settle()?;
+        match word {
+            "asked" => self.tell(rest),
+            _ => self.ask(word, rest),
+        }
+    }
+}
+
+impl<A: Answers + Drop> Subject for Asked<A> {
+    fn begin(&mut self, block: Block, name: &str) -> Result<(), Fault> {
+        self.got.clear();
+        self.wanted.clear();
+        self.part = match block {
+            Block::Part => Some(String::from_str(self.alloc, name)?),
+            Block::Case => None,
+        };
+        self.count = 0;
+        self.is_told = false;
+        self.answers.begin();
+        Ok(())
+    }
+
+    fn take(&mut self, word: &str, rest: &str) -> Result<(), Fault> {
+        if let Some(part) = &self.part {
+            self.answers.give(part.as_str(), word, rest)?;
+            return Ok(());
+        }
+        self.take_line(word, rest)
+    }
+
+    fn end(&mut self) -> Result<(), Fault> {
+        self.settle()?;
+        if self.part.is_none() && (self.count == 0 || !self.is_told) {
+            return Err(Fault::Line("the case doesn't end with the number of its questions"));
+        }
+        Ok(())
+    }
+
+    fn end_file(&mut self) -> Result<(), Fault> {
+        Ok(())
+    }
+
+    fn shown(&self) -> &Shown {
+        &self.shown
+    }
+}

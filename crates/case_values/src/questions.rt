@@ -1,0 +1,88 @@
+//! What is asked of the rows that the first so many imports show: `at`, their number, and one of
+//! these.
+//!
+//! `get KIND ID DATE` asks for the component's row at the date, `versions KIND ID`, `replacements
+//! ID DATE`, `about KIND ID DATE`, `page KIND DATE AFTER LIMIT`, `terms DATE LIMIT "PREFIX"` and
+//! `search DATE AFTER LIMIT "PREFIX"` ask for rows, and `children ID DATE` for identifiers. AFTER
+//! is a number or `-`.
+
+use crate::words::{above, day_of, first_word, kind_of, number, sctid_of};
+use case_files::NoAnswer;
+use rf2_rows::{EffectiveTime, Kind, Sctid};
+use std::alloc::Global;
+
+/// A question, without the prefix that is asked for.
+#[derive(Clone, Copy)]
+pub enum Question {
+    Get(Kind, u128, EffectiveTime),
+    Versions(Kind, u128),
+    Replacements(Sctid, EffectiveTime),
+    About(Kind, Sctid, EffectiveTime),
+    Page(Kind, EffectiveTime, Option<u128>, u32),
+    Terms(EffectiveTime, u32),
+    Search(EffectiveTime, Option<u128>, u32),
+    Children(Sctid, EffectiveTime),
+}
+
+/// A question about a component at a date.
+fn ask_of_component(word: &str, words: &[&str]) -> Result<Question, NoAnswer> {
+    let [id, date] = words else {
+        return Err(NoAnswer::NoQuestion);
+    };
+    let (id, date) = (sctid_of(*id)?, day_of(*date)?);
+    match word {
+        "replacements" => Ok(Question::Replacements(id, date)),
+        _ => Ok(Question::Children(id, date)),
+    }
+}
+
+/// A question about a component of a kind, at a date or at all dates.
+fn ask_of_kind(word: &str, words: &[&str]) -> Result<Question, NoAnswer> {
+    match (word, words) {
+        ("get", [kind, id, date]) => {
+            Ok(Question::Get(kind_of(*kind)?, number(*id)?, day_of(*date)?))
+        }
+        ("about", [kind, id, date]) => {
+            Ok(Question::About(kind_of(*kind)?, sctid_of(*id)?, day_of(*date)?))
+        }
+        ("versions", [kind, id]) => Ok(Question::Versions(kind_of(*kind)?, number(*id)?)),
+        _ => Err(NoAnswer::NoQuestion),
+    }
+}
+
+/// A question for the first rows of a kind.
+fn ask_for_page(words: &[&str]) -> Result<Question, NoAnswer> {
+    let [kind, date, after, limit] = words else {
+        return Err(NoAnswer::NoQuestion);
+    };
+    let (kind, date) = (kind_of(*kind)?, day_of(*date)?);
+    Ok(Question::Page(kind, date, above(*after)?, number(*limit)?))
+}
+
+/// A question for descriptions.
+fn ask_for_terms(words: &[&str]) -> Result<Question, NoAnswer> {
+    match words {
+        [date, limit] => Ok(Question::Terms(day_of(*date)?, number(*limit)?)),
+        [date, after, limit] => {
+            Ok(Question::Search(day_of(*date)?, above(*after)?, number(*limit)?))
+        }
+        _ => Err(NoAnswer::NoQuestion),
+    }
+}
+
+/// The question that words ask.
+fn question_of(word: &str, words: &[&str]) -> Result<Question, NoAnswer> {
+    match (word, words.len()) {
+        ("replacements" | "children", _) => ask_of_component(word, words),
+        ("page", _) => ask_for_page(words),
+        ("terms", 2) | ("search", 3) => ask_for_terms(words),
+        _ => ask_of_kind(word, words),
+    }
+}
+
+/// The question that a text asks.
+pub fn read_question(alloc: Global, text: &str) -> Result<Question, NoAnswer> {
+    let (word, text) = first_word(text)?;
+    let words: Vec<&str> = text.split(' ').collect(alloc)?;
+    question_of(word, words.as_slice())
+}

@@ -1,0 +1,18 @@
+//! What a history says, by worked examples, which are cases in files: the plain programs and an
+//! index of it have to answer the same.
+#![tactic(auto)]
+
+mod examples;
+mod index_questions;
+mod indexed;
+mod plain_questions;
+mod spelled;
+
+use case_files::Asked;
+use examples::Examples;
+use std::process::ExitCode;
+
+fn main(rt: HostRuntime) -> ExitCode {
+    let mut asked = Asked::new(rt.alloc(), Examples::new(rt.alloc()));
+    case_files::run(&rt, "cases", &mut asked)
+}

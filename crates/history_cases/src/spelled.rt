@@ -1,0 +1,50 @@
+//! How rows and identifiers that are found stand in an answer: one a line, or `none`.
+
+use case_files::Answer;
+use case_values::line_of;
+use rf2_values::Row;
+use std::alloc::{AllocError, Global};
+
+/// Adds a line to some.
+fn put_line(text: &mut String, line: &str) -> Result<(), AllocError> {
+    if !text.is_empty() {
+        text.push('\n')?;
+    }
+    text.push_str(line)
+}
+
+/// A text, or that there is nothing.
+fn or_none(mut text: String) -> Answer {
+    if text.is_empty() {
+        text.push_str("none")?;
+    }
+    Ok(text)
+}
+
+/// Rows.
+pub fn spell_rows(alloc: Global, rows: &[&Row]) -> Answer {
+    let mut text = String::new(alloc);
+    for row in rows {
+        let line = line_of(alloc, *row)?;
+        put_line(&mut text, line.as_str())?;
+    }
+    or_none(text)
+}
+
+/// Identifiers.
+pub fn spell_ids(alloc: Global, ids: &[u64]) -> Answer {
+    let mut text = String::new(alloc);
+    for id in ids {
+        let line = format!(in alloc; "{id}")?;
+        put_line(&mut text, line.as_str())?;
+    }
+    or_none(text)
+}
+
+/// A row, if there is one.
+pub fn spell_row(alloc: Global, row: Option<&Row>) -> Answer {
+    match row {
+        Some(row) => line_of(alloc, row),
+        None => Ok(String::from_str(alloc, "none")?),
+    }
+}

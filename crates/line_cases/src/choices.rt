@@ -1,0 +1,57 @@
+//! What a stop leaves of a disk.
+
+use case_files::{Fault, number, two_words};
+use disk_model::{Choice, MemDisk};
+use std::alloc::AllocError;
+use test_support::image_before_end;
+
+/// Which of the images of a moment is wanted, and of which moments: with these numbers of the
+/// disk's changing calls still to come.
+#[derive(Clone, Copy)]
+pub(crate) struct Stops<'a> {
+    pub(crate) choice: Choice,
+    pub(crate) first: u64,
+    pub(crate) last: u64,
+    /// What stands behind the numbers.
+    pub(crate) rest: &'a str,
+}
+
+impl<'a> Stops<'a> {
+    /// The choice, the first and the last number that a text begins with.
+    pub(crate) fn of(text: &'a str) -> Result<Stops<'a>, Fault> {
+        let (choice, rest) = two_words(text);
+        let (first, rest) = two_words(rest);
+        let (last, rest) = two_words(rest);
+        let (first, last) = (number(first)?, number(last)?);
+        if first > last {
+            return Err(Fault::Line("the first number is greater than the last"));
+        }
+        Ok(Stops {
+            choice: choice_of(choice)?,
+            first,
+            last,
+            rest,
+        })
+    }
+}
+
+/// What a stop leaves with so many changing calls still to come; with none, at the present moment.
+pub(crate) fn image_at(disk: &MemDisk, choice: Choice, left: u64) -> Result<Vec<u8>, AllocError> {
+    if left == 0 {
+        disk.image_now(choice)
+    } else {
+        image_before_end(disk, left, choice)
+    }
+}
+
+/// What is kept of what wasn't synced: all, nothing, or this byte in its place.
+pub(crate) fn choice_of(word: &str) -> Result<Choice, Fault> {
+    match word {
+        "kept" => Ok(Choice::Kept),
+        "lost" => Ok(Choice::Lost),
+        _ => match word.parse::<u8>() {
+            Ok(byte) => Ok(Choice::Filled(byte)),
+            Err(_) => Err(Fault::Line("kept, lost or a byte is wanted")),
+        },
+    }
+}

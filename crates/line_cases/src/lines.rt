@@ -1,0 +1,197 @@
+//! The words of a case.
+
+use crate::choices::{Stops, image_at};
+use crate::disks::CaseStore;
+use crate::saying::{says, says_in};
+use crate::turns::Turns;
+use crate::ways::Way;
+use case_files::{Block, Fault, Shown, Subject};
+use line_support::Server;
+use std::alloc::Global;
+use std::mem;
+
+/// Lines that cases name.
+#[derive(Drop)]
+struct Part {
+    name: String,
+    turns: Turns,
+    is_asked: bool,
+}
+
+/// A case, or a part, up to one of its lines.
+#[derive(Drop)]
+pub(crate) struct Lines {
+    alloc: Global,
+    store: CaseStore,
+    /// The lines that aren't sent yet.
+    turns: Turns,
+    /// The parts of the file.
+    parts: Vec<Part>,
+    /// The name of the part that isn't whole.
+    part: Option<String>,
+    /// Whether the case has sent anything, and whether it did so in ways of its own.
+    has_sent: bool,
+    has_ways: bool,
+    shown: Shown,
+}
+
+impl Lines {
+    /// No case.
+    pub(crate) fn new(alloc: Global) -> Lines {
+        Lines {
+            alloc,
+            store: CaseStore::none(alloc),
+            turns: Turns::new(alloc),
+            parts: Vec::new(alloc),
+            part: None,
+            has_sent: false,
+            has_ways: false,
+            shown: Shown::new(alloc),
+        }
+    }
+
+    /// Sends the lines to the store, and compares its replies.
+    fn send(&mut self) -> Result<(), Fault> {
+        if self.turns.is_empty() {
+            return Ok(());
+        }
+        let turns = mem::replace(&mut self.turns, Turns::new(self.alloc));
+        self.has_sent = true;
+        match &mut self.store.server {
+            Some(server) => says(self.alloc, server, &turns, &mut self.shown),
+            None => Err(Fault::Line("the store is closed")),
+        }
+    }
+
+    /// Sends the lines to a new store in a way of reading and writing.
+    fn send_in(&mut self, rest: &str) -> Result<(), Fault> {
+        let way = Way::of(rest)?;
+        (self.has_sent, self.has_ways) = (true, true);
+        match Server::new(self.alloc) {
+            Ok(mut server) => says_in(self.alloc, &mut server, &self.turns, way, &mut self.shown),
+            Err(_) => Err(Fault::Memory),
+        }
+    }
+
+    /// Keeps the lines as the part of this name.
+    fn keep(&mut self, name: String) -> Result<(), Fault> {
+        if self.turns.is_due || self.turns.is_empty() {
+            return Err(Fault::Line("the part has no lines, or no whole reply to its last one"));
+        }
+        let part = Part {
+            name,
+            turns: mem::replace(&mut self.turns, Turns::new(self.alloc)),
+            is_asked: false,
+        };
+        match self.parts.push(part) {
+            Ok(()) => Ok(()),
+            Err(_) => Err(Fault::Memory),
+        }
+    }
+
+    /// Notes that a part is asked for, and answers its place.
+    fn place_of(&mut self, name: &str) -> Result<usize, Fault> {
+        for (place, part) in self.parts.iter_mut().enumerate() {
+            if part.name.as_str() == name {
+                part.is_asked = true;
+                return Ok(place);
+            }
+        }
+        Err(Fault::Line("there is no part of this name"))
+    }
+
+    /// Sends the lines of a part to the store.
+    fn ask(&mut self, name: &str) -> Result<(), Fault> {
+        let place = self.place_of(name)?;
+        self.has_sent = true;
+        match (&mut self.store.server, self.parts.get(place)) {
+            (Some(server), Some(part)) => says(self.alloc, server, &part.turns, &mut self.shown),
+            _ => Err(Fault::Line("the store is closed")),
+        }
+    }
+
+    /// Sends the lines of a part to the stores that stops leave.
+    fn ask_stopped(&mut self, rest: &str) -> Result<(), Fault> {
+        let stops = Stops::of(rest)?;
+        let place = self.place_of(stops.rest)?;
+        self.has_sent = true;
+        for left in stops.first..=stops.last {
+            self.ask_after(stops, left, place)?;
+        }
+        Ok(())
+    }
+
+    /// Sends the lines of the part at a place to the store that a stop leaves.
+    fn ask_after(&mut self, stops: Stops<'_>, left: u64, place: usize) -> Result<(), Fault> {
+        let (Some(disk), Some(part)) = (&self.store.disk, self.parts.get(place)) else {
+            return Err(Fault::Line("the store is open"));
+        };
+        let image = image_at(disk, stops.choice, left)?;
+        match Server::of_bytes(self.alloc, image.as_slice()) {
+            Ok(mut server) => says(self.alloc, &mut server, &part.turns, &mut self.shown),
+            Err(_) => Err(Fault::Line("the store is refused")),
+        }
+    }
+
+    /// Carries out a word behind lines.
+    fn take_behind(&mut self, word: &str, rest: &str) -> Result<(), Fault> {
+        self.send()?;
+        match word {
+            "ask" => self.ask(rest),
+            "stops" => self.ask_stopped(rest),
+            _ => self.store.take(word, rest, &mut self.shown),
+        }
+    }
+}
+
+impl Subject for Lines {
+    fn begin(&mut self, block: Block, name: &str) -> Result<(), Fault> {
+        self.turns = Turns::new(self.alloc);
+        (self.has_sent, self.has_ways) = (false, false);
+        self.part = match block {
+            Block::Case => None,
+            Block::Part => Some(String::from_str(self.alloc, name)?),
+        };
+        self.store.begin()
+    }
+
+    fn take(&mut self, word: &str, rest: &str) -> Result<(), Fault> {
+        if let Some(done) = self.turns.take(word, rest) {
+            return done;
+        }
+        match word {
+            _ if self.part.is_some() => Err(Fault::Line("no word of a part")),
+            "way" => self.send_in(rest),
+            _ if self.has_ways => Err(Fault::Line("no word of a case that has ways")),
+            _ => self.take_behind(word, rest),
+        }
+    }
+
+    fn end(&mut self) -> Result<(), Fault> {
+        if let Some(name) = self.part.take() {
+            return self.keep(name);
+        }
+        if !self.has_ways {
+            self.send()?;
+        }
+        if self.has_sent {
+            Ok(())
+        } else {
+            Err(Fault::Line("the case sends nothing"))
+        }
+    }
+
+    fn end_file(&mut self) -> Result<(), Fault> {
+        let all_asked = self.parts.iter().all(|part| part.is_asked);
+        self.parts.clear();
+        if all_asked {
+            Ok(())
+        } else {
+            Err(Fault::Line("no case asks for one of its parts"))
+        }
+    }
+
+    fn shown(&self) -> &Shown {
+        &self.shown
+    }
+}

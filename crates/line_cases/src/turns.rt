@@ -1,0 +1,132 @@
+//! Lines that are sent, and the replies that are wanted.
+
+use case_files::{Fault, number, two_words};
+use line_support::{SCRIPT, input_of, replies_of};
+use std::alloc::Global;
+use test_support::line;
+
+/// Lines that are sent one after the other, and the replies to them.
+#[derive(Drop)]
+pub(crate) struct Turns {
+    alloc: Global,
+    /// The lines, each with its end if it has one.
+    pub(crate) sent: Vec<u8>,
+    /// The lines of the replies, each with an LF.
+    pub(crate) replies: Vec<u8>,
+    /// How many whole replies there are.
+    pub(crate) count: u64,
+    /// Whether the reply to the last line isn't whole.
+    pub(crate) is_due: bool,
+}
+
+impl Turns {
+    /// No lines.
+    pub(crate) fn new(alloc: Global) -> Turns {
+        Turns {
+            alloc,
+            sent: Vec::new(alloc),
+            replies: Vec::new(alloc),
+            count: 0,
+            is_due: false,
+        }
+    }
+
+    /// Takes a line of a file that says what is sent or replied. `None` if it says something else.
+    pub(crate) fn take(&mut self, word: &str, rest: &str) -> Option<Result<(), Fault>> {
+        match word {
+            ">" => Some(self.send(rest, b"\n")),
+            ">-" => Some(self.send(rest, b"")),
+            "<" => Some(self.reply(rest)),
+            "raw" => Some(self.send_bytes(rest)),
+            "fill" => Some(self.fill(rest)),
+            "script" => Some(self.send_script(rest)),
+            "years" => Some(self.send_years(rest)),
+            _ => None,
+        }
+    }
+
+    /// Whether nothing is sent.
+    pub(crate) fn is_empty(&self) -> bool {
+        self.sent.is_empty()
+    }
+
+    /// Sends a line with this end.
+    fn send(&mut self, text: &str, end: &[u8]) -> Result<(), Fault> {
+        if self.is_due {
+            return Err(Fault::Line("the line before has no whole reply"));
+        }
+        self.is_due = true;
+        self.sent.extend_from_slice(text.as_bytes())?;
+        self.sent.extend_from_slice(end)?;
+        Ok(())
+    }
+
+    /// Wants a line of a reply, which `OK`, `END` or `ERR` ends.
+    fn reply(&mut self, text: &str) -> Result<(), Fault> {
+        if !self.is_due {
+            return Err(Fault::Line("the reply stands behind no line"));
+        }
+        let row = line(self.alloc, text)?;
+        self.replies.extend_from_slice(row.as_bytes())?;
+        self.replies.extend_from_slice(b"\n")?;
+        let (word, _) = two_words(text);
+        if matches!(word, "OK" | "END" | "ERR") {
+            self.is_due = false;
+            self.count = self.count.saturating_add(1);
+        }
+        Ok(())
+    }
+
+    /// Sends bytes, which are written with two digits of base 16 each.
+    fn send_bytes(&mut self, digits: &str) -> Result<(), Fault> {
+        for word in digits.split(' ') {
+            let Ok(byte) = u8::from_str_radix(word, 16) else {
+                return Err(Fault::Line("bytes are two digits of base 16 each"));
+            };
+            self.sent.extend_from_slice(&[byte])?;
+        }
+        Ok(())
+    }
+
+    /// Sends a letter until all that is sent has so many bytes.
+    fn fill(&mut self, rest: &str) -> Result<(), Fault> {
+        let (length, letter) = two_words(rest);
+        let length = number(length)? as usize;
+        match letter.as_bytes() {
+            [byte] if self.sent.len() < length => Ok(self.sent.resize(length, *byte)?),
+            _ => Err(Fault::Line("it wants a greater length, and one letter")),
+        }
+    }
+
+    /// Sends so many lines of the script that tests share, and wants their replies.
+    fn send_script(&mut self, count: &str) -> Result<(), Fault> {
+        let count = number(count)?;
+        let Some(turns) = SCRIPT.get(..count as usize) else {
+            return Err(Fault::Line("the script isn't as long"));
+        };
+        let sent = input_of(self.alloc, turns)?;
+        self.sent.extend_from_slice(sent.as_slice())?;
+        let replies = replies_of(self.alloc, turns)?;
+        self.replies.extend_from_slice(replies.as_slice())?;
+        self.count = self.count.saturating_add(count);
+        Ok(())
+    }
+
+    /// Sends an import of a new row for each year of some, and wants that each brings it.
+    fn send_years(&mut self, rest: &str) -> Result<(), Fault> {
+        let (first, last) = two_words(rest);
+        let (first, last) = (number(first)?, number(last)?);
+        for year in first..=last {
+            self.send_year(year, year.saturating_sub(first).saturating_add(1))?;
+        }
+        Ok(())
+    }
+
+    /// Sends the import of this number, which brings the row of a year.
+    fn send_year(&mut self, year: u64, import: u64) -> Result<(), Fault> {
+        let sent = format!(in self.alloc; "0 IMPORT new-in-{year}")?;
+        self.send(&sent, b"\n")?;
+        let reply = format!(in self.alloc; "OK {import} 1 0")?;
+        self.reply(&reply)
+    }
+}

@@ -1,0 +1,70 @@
+//! How lines come in and replies go out.
+
+use case_files::{Fault, number};
+use std::io::ErrorKind;
+
+/// How many bytes a read gives at most, how the reader fails at its end if it does, how many reads
+/// are allowed, how many bytes a write takes at most, and how many all writes take; and what the
+/// server is to answer.
+#[derive(Clone, Copy)]
+pub(crate) struct Way<'a> {
+    pub(crate) pieces: usize,
+    pub(crate) failure: Option<ErrorKind>,
+    pub(crate) reads: u32,
+    pub(crate) width: usize,
+    pub(crate) room: usize,
+    pub(crate) gives: &'a str,
+}
+
+impl<'a> Way<'a> {
+    /// With no limit that matters, to the answer.
+    pub(crate) fn ample(gives: &'a str) -> Way<'a> {
+        Way {
+            pieces: 4_096,
+            failure: None,
+            reads: 1_000_000,
+            width: 4_096,
+            room: 1_000_000,
+            gives,
+        }
+    }
+
+    /// The way that words say, of which each stands before its value.
+    pub(crate) fn of(words: &'a str) -> Result<Way<'a>, Fault> {
+        let mut way = Way::ample("");
+        let mut before = None;
+        for word in words.split(' ') {
+            match before.take() {
+                Some(name) => way.set(name, word)?,
+                None => before = Some(word),
+            }
+        }
+        match before {
+            Some(_) => Err(Fault::Line("the last word has no value")),
+            None => Ok(way),
+        }
+    }
+
+    /// Sets what a word says.
+    fn set(&mut self, word: &str, value: &'a str) -> Result<(), Fault> {
+        match word {
+            "pieces" => self.pieces = number(value)? as usize,
+            "fails" => self.failure = Some(failure(value)?),
+            "reads" => self.reads = number(value)?.min(1_000_000) as u32,
+            "width" => self.width = number(value)? as usize,
+            "room" => self.room = number(value)? as usize,
+            "gives" => self.gives = value,
+            _ => return Err(Fault::Line("no word of a way")),
+        }
+        Ok(())
+    }
+}
+
+/// The failure of a reader.
+fn failure(word: &str) -> Result<ErrorKind, Fault> {
+    match word {
+        "Interrupted" => Ok(ErrorKind::Interrupted),
+        "Other" => Ok(ErrorKind::Other),
+        _ => Err(Fault::Line("no failure of a reader")),
+    }
+}

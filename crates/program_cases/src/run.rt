@@ -1,0 +1,202 @@
+//! A run of the program: what it is given, what is wanted of it, and what came.
+
+use crate::words::words_of;
+use case_files::{Fault, Shown, number};
+use line_support::Pieces;
+use std::alloc::{AllocError, Global};
+use std::io::{self, ErrorKind, Write};
+use std::rt::HostRuntime;
+
+/// Output that takes so many bytes, and goes out or doesn't.
+#[derive(Drop)]
+struct Narrow {
+    taken: Vec<u8>,
+    room: usize,
+    goes_out: bool,
+}
+
+impl Write for Narrow {
+    fn write(&mut self, buf: &[u8]) -> io::Result<usize> {
+        let n = buf.len().min(self.room);
+        self.taken.extend_from_slice(&buf[..n])?;
+        self.room -= n;
+        Ok(n)
+    }
+
+    fn flush(&mut self) -> io::Result<()> {
+        if self.goes_out {
+            Ok(())
+        } else {
+            Err(io::Error::from(ErrorKind::Other))
+        }
+    }
+}
+
+/// How a run ends, and what it writes to each stream.
+#[derive(Drop)]
+pub(crate) struct Outcome {
+    pub(crate) status: u64,
+    pub(crate) output: Vec<u8>,
+    pub(crate) faults: Vec<u8>,
+}
+
+impl Outcome {
+    /// A run that ends well and writes nothing.
+    fn silent(alloc: Global) -> Outcome {
+        Outcome {
+            status: 0,
+            output: Vec::new(alloc),
+            faults: Vec::new(alloc),
+        }
+    }
+
+    /// All of it as a text.
+    fn text(&self, alloc: Global) -> Result<Vec<u8>, AllocError> {
+        let status = format!(in alloc; "status {}\n", self.status)?;
+        let mut text = status.as_bytes().to_vec(alloc)?;
+        text.extend_from_slice(self.output.as_slice())?;
+        text.extend_from_slice(b"standard error:\n")?;
+        text.extend_from_slice(self.faults.as_slice())?;
+        Ok(text)
+    }
+}
+
+/// A run that is carried out once it is known what it is given.
+#[derive(Drop)]
+pub(crate) struct Run {
+    words: Vec<String>,
+    input: Vec<u8>,
+    /// How the input fails at its end, if it does.
+    failure: Option<ErrorKind>,
+    /// How many bytes of output there is room for, and whether it goes out.
+    room: usize,
+    goes_out: bool,
+    wanted: Outcome,
+    /// Whether the output is only to begin as is wanted.
+    begins: bool,
+    pub(crate) came: Option<Outcome>,
+}
+
+impl Run {
+    /// A run with these words.
+    pub(crate) fn new(rt: &HostRuntime, line: &str) -> Result<Run, Fault> {
+        let Ok(words) = words_of(rt, line) else {
+            return Err(Fault::Line("its words can't be told"));
+        };
+        Ok(Run {
+            words,
+            input: Vec::new(rt.alloc()),
+            failure: None,
+            room: 65_536,
+            goes_out: true,
+            wanted: Outcome::silent(rt.alloc()),
+            begins: false,
+            came: None,
+        })
+    }
+
+    /// Takes a line that says what the run is given. `None` if it says something else.
+    pub(crate) fn take_given(&mut self, word: &str, rest: &str) -> Option<Result<(), Fault>> {
+        match word {
+            ">" | ">-" | "fails" | "stays" | "room" if self.came.is_some() => {
+                Some(Err(Fault::Line("the run is given it too late")))
+            }
+            ">" => Some(add(&mut self.input, rest, b"\n")),
+            ">-" => Some(add(&mut self.input, rest, b"")),
+            "fails" => {
+                self.failure = Some(ErrorKind::Interrupted);
+                Some(Ok(()))
+            }
+            "stays" => {
+                self.goes_out = false;
+                Some(Ok(()))
+            }
+            "room" => Some(self.set_room(rest)),
+            _ => None,
+        }
+    }
+
+    /// Sets how many bytes of output there is room for.
+    fn set_room(&mut self, word: &str) -> Result<(), Fault> {
+        self.room = number(word)? as usize;
+        Ok(())
+    }
+
+    /// Takes a line that says what is wanted of it.
+    pub(crate) fn take_wanted(&mut self, word: &str, rest: &str) -> Result<(), Fault> {
+        match word {
+            "<" => add(&mut self.wanted.output, rest, b"\n"),
+            "!" => add(&mut self.wanted.faults, rest, b"\n"),
+            "status" => {
+                self.wanted.status = number(rest)?;
+                Ok(())
+            }
+            "begins" if !self.wanted.output.is_empty() => {
+                self.begins = true;
+                Ok(())
+            }
+            _ => Err(Fault::Line("no word of a run")),
+        }
+    }
+
+    /// Carries it out, if that isn't done.
+    pub(crate) fn carry_out(&mut self, rt: &HostRuntime) {
+        if self.came.is_none() {
+            let mut input = Pieces {
+                rest: self.input.as_slice(),
+                length: 4_096,
+                failure: self.failure,
+            };
+            let mut output = Narrow {
+                taken: Vec::new(rt.alloc()),
+                room: self.room,
+                goes_out: self.goes_out,
+            };
+            let mut faults = Vec::new(rt.alloc());
+            let (status, _) = command_line::run(
+                rt,
+                rt.alloc(),
+                self.words.as_slice(),
+                &mut input,
+                &mut output,
+                &mut faults,
+            );
+            self.came = Some(Outcome {
+                status: u64::from(status),
+                output: output.taken,
+                faults,
+            });
+        }
+    }
+
+    /// Carries it out, if that isn't done, and compares what came with what is wanted: standard
+    /// error too, unless it was looked at otherwise.
+    pub(crate) fn finish(
+        mut self,
+        rt: &HostRuntime,
+        is_told: bool,
+        shown: &mut Shown,
+    ) -> Result<(), Fault> {
+        self.carry_out(rt);
+        let Some(mut came) = self.came.take() else {
+            return Ok(());
+        };
+        if self.begins {
+            came.output.truncate(self.wanted.output.len());
+        }
+        self.wanted.output.truncate(self.room);
+        if is_told {
+            came.faults.clear();
+        }
+        let wanted = self.wanted.text(rt.alloc())?;
+        let got = came.text(rt.alloc())?;
+        shown.compare(wanted.as_slice(), got.as_slice())
+    }
+}
+
+/// Adds a line with this end to a text.
+fn add(text: &mut Vec<u8>, line: &str, end: &[u8]) -> Result<(), Fault> {
+    text.extend_from_slice(line.as_bytes())?;
+    text.extend_from_slice(end)?;
+    Ok(())
+}

@@ -1,0 +1,45 @@
+//! Rows, and the segments that are made of them.
+
+ghost use Rattle.std.specs.Prelude.{IsTrue, ◌≤◌};
+ghost use Rattle.std.specs.List.{AllByRecursion};
+ghost use Rattle.history_model.specs.InOrder.{IsAscending};
+ghost use Rattle.history_model.specs.History.{stamped_cmp};
+
+use case_files::NoAnswer;
+use history_model::StampedRow;
+use segment::{comes_after, encode};
+use std::alloc::Global;
+
+/// Whether the rows may be encoded.
+fn are_in_order(rows: &[StampedRow]) -> bool
+    ensures ascending { IsTrue result → IsAscending stamped_cmp rows.now }
+    ensures from_one { IsTrue result → AllByRecursion (λ s. 1 ≤ s.import) rows.now }
+{
+    for (i, row) in rows.iter().enumerate() {
+        if row.import == 0 || !comes_after(&rows[..i], row) {
+            return false;
+        }
+    }
+    true
+}
+
+/// The segment of rows, which have to be in key order.
+pub fn segment_of(alloc: Global, rows: &[StampedRow]) -> Result<Vec<u8>, NoAnswer> {
+    if !are_in_order(rows) {
+        return Err(NoAnswer::NoQuestion);
+    }
+    Ok(encode(alloc, rows)?)
+}
+
+/// Whether these are the same rows.
+pub fn are_same(a: &[StampedRow], b: &[StampedRow]) -> bool {
+    if a.len() != b.len() {
+        return false;
+    }
+    for (a, b) in a.iter().zip(b) {
+        if a.import != b.import || !a.row.is_same(&b.row) {
+            return false;
+        }
+    }
+    true
+}

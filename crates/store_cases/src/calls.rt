@@ -1,0 +1,113 @@
+//! Calls of a store, and what it shows.
+//!
+//! - `begin`, `step ROWS`, `publish`, `abandon` and `trim` answer what the call does: a number, or
+//!   `done`;
+//! - `imports`, `rows`, `segments`, `blocks`, `left`, `closed` and `latest` answer what the store
+//!   shows: `blocks` is how many blocks of the disk it needs, `left` how many rows of a merge are
+//!   left, `closed` whether it has to be opened again, and `latest` its latest day;
+//! - `receipt NUMBER` answers what an import brought.
+//!
+//! A refusal is answered by its number and by what Rust prints of it.
+
+use case_files::{Answer, NoAnswer};
+use case_values::number;
+use history_store::{ImportReceipt, Receipt, Refusal};
+use std::alloc::Global;
+use test_support::Example;
+
+/// A store, where it is made or opened.
+pub fn store_of(made: Result<Example, Refusal>) -> Result<Example, NoAnswer> {
+    match made {
+        Ok(store) => Ok(store),
+        Err(Refusal::OutOfMemory) => Err(NoAnswer::OutOfMemory),
+        Err(_) => Err(NoAnswer::NoQuestion),
+    }
+}
+
+/// A refusal.
+pub fn spell_refusal(alloc: Global, refusal: Refusal) -> Answer {
+    let code = refusal.code();
+    Ok(format!(in alloc; "refused {code} {refusal:?}")?)
+}
+
+/// A number, or a refusal.
+fn spell_count(alloc: Global, answer: Result<u64, Refusal>) -> Answer {
+    match answer {
+        Ok(count) => Ok(format!(in alloc; "{count}")?),
+        Err(refusal) => spell_refusal(alloc, refusal),
+    }
+}
+
+/// That a call is done, or a refusal.
+fn spell_done(alloc: Global, answer: Result<(), Refusal>) -> Answer {
+    match answer {
+        Ok(()) => Ok(String::from_str(alloc, "done")?),
+        Err(refusal) => spell_refusal(alloc, refusal),
+    }
+}
+
+/// The receipt of an import, or a refusal.
+pub fn spell_receipt(alloc: Global, answer: Result<Receipt, Refusal>) -> Answer {
+    match answer {
+        Ok(
+            Receipt {
+                number,
+                new,
+                repeated,
+            },
+        ) => Ok(format!(in alloc; "{number}: {new} new, {repeated} repeated")?),
+        Err(refusal) => spell_refusal(alloc, refusal),
+    }
+}
+
+/// What an import brought.
+fn spell_brought(alloc: Global, brought: ImportReceipt) -> Answer {
+    let new = brought.new;
+    match brought.latest {
+        Some(day) => {
+            let day = day.value();
+            Ok(format!(in alloc; "{new} new, the latest of {day}")?)
+        }
+        None => Ok(format!(in alloc; "{new} new")?),
+    }
+}
+
+/// A number, or that there is none.
+fn spell_some(alloc: Global, number: Option<u64>) -> Answer {
+    match number {
+        Some(number) => Ok(format!(in alloc; "{number}")?),
+        None => Ok(String::from_str(alloc, "none")?),
+    }
+}
+
+/// What a store shows.
+fn show(alloc: Global, store: &Example, word: &str) -> Answer {
+    let number = match word {
+        "imports" => Some(u64::from(store.imports())),
+        "rows" => Some(store.row_count()),
+        "segments" => Some(u64::from(store.segments())),
+        "blocks" => Some(store.blocks_in_use()),
+        "left" => store.merge_left(),
+        "closed" => Some(u64::from(store.needs_reopen())),
+        "latest" => store.latest_time().map(|day| u64::from(day)),
+        _ => return Err(NoAnswer::NoQuestion),
+    };
+    spell_some(alloc, number)
+}
+
+/// Makes a call, or says what the store shows.
+pub fn call(alloc: Global, store: &mut Example, word: &str, words: &str) -> Answer {
+    match (word, words) {
+        ("step", rows) => spell_count(alloc, store.merge_step(number(rows)?)),
+        ("receipt", import) => match store.receipt(number(import)?) {
+            Ok(brought) => spell_brought(alloc, brought),
+            Err(refusal) => spell_refusal(alloc, refusal),
+        },
+        ("begin", "") => spell_count(alloc, store.merge_begin()),
+        ("publish", "") => spell_done(alloc, store.merge_publish()),
+        ("abandon", "") => spell_done(alloc, store.merge_abandon()),
+        ("trim", "") => spell_count(alloc, store.trim()),
+        (_, "") => show(alloc, store, word),
+        _ => Err(NoAnswer::NoQuestion),
+    }
+}

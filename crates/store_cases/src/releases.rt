@@ -1,0 +1,162 @@
+//! The releases that cases import, by their names or by words.
+//!
+//! A part is a release: its lines, each behind the kind of the file that it stands in, as in
+//! `concept 138875005|20200131|1|CORE|PRIM`. A file has the lines of one kind that follow each
+//! other. Besides there are
+//! - `r1`, `r2` and `r3`, the samples, and `cut BYTES`, the first file of `r1` without so many
+//!   bytes at its end;
+//! - `years FIRST COUNT`, of the versions of the root concept of so many years, and `term BYTES`,
+//!   of a description whose term has so many bytes;
+//! - `file KIND TEXT`, of a file of this text, and `below KIND TEXT`, of one that has the column
+//!   names in its first line.
+
+use case_files::NoAnswer;
+use case_values::{first_word, kind_of, number, row_bytes, row_text};
+use history_store::Refusal;
+use import_check::{Release, ReleaseFile};
+use rf2_rows::{Kind, column_names};
+use std::alloc::{AllocError, Global};
+use test_support::{of_bytes, one_file, root_years, sample_named};
+
+/// A line of a release.
+#[derive(Drop)]
+struct Given {
+    release: String,
+    kind: Kind,
+    line: String,
+}
+
+/// The lines of all releases that were given.
+#[derive(Drop)]
+pub struct Releases {
+    alloc: Global,
+    given: Vec<Given>,
+}
+
+/// A file of column names.
+fn empty_file(alloc: Global, kind: Kind) -> Result<ReleaseFile, AllocError> {
+    let mut bytes = column_names(kind).to_vec(alloc)?;
+    bytes.extend_from_slice(b"\r\n")?;
+    Ok(ReleaseFile {
+        name: String::from_str(alloc, "example.txt")?,
+        kind,
+        bytes,
+    })
+}
+
+/// Adds a line to the last file, or to a new one of its kind.
+fn put_line(alloc: Global, files: &mut Vec<ReleaseFile>, given: &Given) -> Result<(), NoAnswer> {
+    let is_next = match files.last() {
+        Some(file) => file.kind == given.kind,
+        None => false,
+    };
+    if !is_next {
+        files.push(empty_file(alloc, given.kind)?)?;
+    }
+    if let Some(file) = files.last_mut() {
+        file.bytes.extend_from_slice(given.line.as_bytes())?;
+        file.bytes.extend_from_slice(b"\r\n")?;
+    }
+    Ok(())
+}
+
+/// A release that the samples or the tests' own have.
+fn known(release: Result<Release, Refusal>) -> Result<Release, NoAnswer> {
+    match release {
+        Ok(release) => Ok(release),
+        Err(Refusal::OutOfMemory) => Err(NoAnswer::OutOfMemory),
+        Err(_) => Err(NoAnswer::NoQuestion),
+    }
+}
+
+/// The first sample's concept file alone, with so many bytes less at its end.
+fn cut_concepts(alloc: Global, less: usize) -> Result<Release, NoAnswer> {
+    let mut release = known(sample_named(alloc, "r1"))?;
+    release.files.truncate(1);
+    for file in &mut release.files {
+        let left = file.bytes.len().saturating_sub(less);
+        file.bytes.truncate(left);
+    }
+    Ok(release)
+}
+
+/// A release of a description whose term has so many bytes.
+fn long_term(alloc: Global, bytes: usize) -> Result<Release, AllocError> {
+    let term = "a".repeat(alloc, bytes)?;
+    let line = format!(in alloc; "1000015|20200131|1|CORE|1000004|de|SYN|{term}|ECI")?;
+    one_file(alloc, Kind::Description, &[line.as_str()])
+}
+
+/// A release of one file: a text, below the column names or by itself.
+fn text_file(alloc: Global, is_below: bool, words: &str) -> Result<Release, NoAnswer> {
+    let (kind, text) = first_word(words)?;
+    let kind = kind_of(kind)?;
+    let mut bytes = Vec::new(alloc);
+    if is_below {
+        bytes.extend_from_slice(column_names(kind))?;
+        bytes.extend_from_slice(b"\r\n")?;
+    }
+    bytes.extend_from_slice(row_bytes(alloc, text)?.as_slice())?;
+    Ok(of_bytes(alloc, kind, bytes.as_slice())?)
+}
+
+/// A release that words describe.
+fn described(alloc: Global, word: &str, words: &str) -> Result<Release, NoAnswer> {
+    match word {
+        "cut" => cut_concepts(alloc, number(words)?),
+        "years" => {
+            let (first, count) = first_word(words)?;
+            Ok(root_years(alloc, number(first)?, number(count)?)?)
+        }
+        "term" => Ok(long_term(alloc, number(words)?)?),
+        "file" => text_file(alloc, false, words),
+        "below" => text_file(alloc, true, words),
+        _ => Err(NoAnswer::NoQuestion),
+    }
+}
+
+impl Releases {
+    /// None.
+    pub fn new(alloc: Global) -> Releases {
+        Releases {
+            alloc,
+            given: Vec::new(alloc),
+        }
+    }
+
+    /// Takes a line of a release.
+    pub fn give(&mut self, release: &str, kind: &str, line: &str) -> Result<(), NoAnswer> {
+        let kind = kind_of(kind)?;
+        let release = String::from_str(self.alloc, release)?;
+        let line = row_text(self.alloc, line)?;
+        self.given.push(Given {
+            release,
+            kind,
+            line,
+        })?;
+        Ok(())
+    }
+
+    /// The files of the release with this name, none if there is no such.
+    fn files_of(&self, name: &str) -> Result<Vec<ReleaseFile>, NoAnswer> {
+        let mut files = Vec::new(self.alloc);
+        for given in &self.given {
+            if given.release.as_str() == name {
+                put_line(self.alloc, &mut files, given)?;
+            }
+        }
+        Ok(files)
+    }
+
+    /// The release with this name, or that the words describe.
+    pub fn find(&self, words: &str) -> Result<Release, NoAnswer> {
+        if let Some((word, words)) = words.split_once(' ') {
+            return described(self.alloc, word, words);
+        }
+        let files = self.files_of(words)?;
+        if files.is_empty() {
+            return known(sample_named(self.alloc, words));
+        }
+        Ok(Release { files })
+    }
+}

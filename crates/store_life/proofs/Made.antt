@@ -1,0 +1,161 @@
+-- Calls on a store, as calls of a life.
+use Rattle.std.proofs.Common.{◌≡◌, ◌↔◌, ◌⊎◌, ℕ, Bool, true, false, List, refl, sym, ap, subst, ◌∙◌, Result, Ok, Err, inl, inr}
+use Rattle.std.proofs.lemmas.Bool.{false≢true}
+use Rattle.disk_model.specs.Disk.{EachImage, LeavesOnly}
+use Rattle.disk_model.proofs.MomentSteps.{stayed, weaker}
+use Rattle.history_model.specs.declared.receipt.Receipt.{Receipt}
+use Rattle.import_check.specs.declared.release.Release.{Release}
+use Rattle.directory.specs.declared.layout.Layout.TheVariants as layouts
+use Rattle.store_image.specs.Images.{RepresentsAs, RepresentsHistory}
+use Rattle.history_store.specs.declared.refusal.Refusal.{Refusal}
+use Rattle.history_store.specs.declared.refusal.Refusal.TheVariants as store
+use Rattle.history_store.specs.StoreValue.{StoreValue, IsAcknowledged}
+use Rattle.history_store.specs.Answers.{IsRefused, IsImportOf, IsImportOnAnyDisk, IsRefusalOnAnyDisk, IsBeforeOrAfter, IsReadingOf, RepresentsWith}
+use Rattle.history_store.specs.MergeAnswers.{IsBeginningOf, IsSteppingOf, IsAbandoningOf, IsTrimmingOf}
+use Rattle.store_life.specs.DeviceView.{DeviceView}
+use Rattle.store_life.specs.Life.{Imported, Failed, Other, RepresentsAround, IsCall}
+use Rattle.store_life.specs.Calls.{ImportIsACall, QueryIsACall, UnchangedIsACall, MergeBeginIsACall, MergeStepIsACall, MergePublishIsACall, MergeAbandonIsACall, TrimIsACall}
+
+-- ---- calls that leave the history
+
+-- what a stop leaves of an acknowledged store
+pub held : {D : Type 0} (view : DeviceView D) (s : StoreValue D) → IsAcknowledged view.moments s → EachImage (view.moments s.disk).state (RepresentsHistory s.history)
+held view s a c image = (s.catalog.layout, (s.catalog.epoch, s.catalog.entries, a.each c image))
+
+module _ {D : Type 0} (view : DeviceView D) (old new : StoreValue D) where
+  -- a stop at any moment leaves the history
+  kept : (view.is_honest old.disk → new.history ≡ old.history) → (old.needs_reopen ≡ true → new ≡ old) → (view.is_honest old.disk ↔ view.is_honest new.disk)
+      → (view.is_honest old.disk → IsAcknowledged view.moments old → LeavesOnly (view.moments old.disk) (view.moments new.disk) (RepresentsHistory old.history))
+      → (view.is_honest old.disk → IsAcknowledged view.moments old → new.needs_reopen ≡ false → IsAcknowledged view.moments new) → IsCall view old Other new
+  kept history closed honesty any ack = record {
+    history = history;
+    needs_reopen = tt;
+    closed = λ needs. (closed needs, refl);
+    honesty = honesty;
+    any_moment = any;
+    acknowledged = ack;
+  }
+
+  -- whatever a stop may leave stays
+  still : new.history ≡ old.history → (old.needs_reopen ≡ true → new ≡ old) → (view.is_honest old.disk ↔ view.is_honest new.disk)
+      → (view.is_honest old.disk → view.moments new.disk ≡ view.moments old.disk) → (view.is_honest old.disk → new.needs_reopen ≡ false → IsAcknowledged view.moments new) → IsCall view old Other new
+  still history closed honesty same ack =
+      kept (λ h. history) closed honesty
+      (λ h a. stayed (view.moments old.disk) (view.moments new.disk) (RepresentsHistory old.history) (same h) (held view old a))
+      (λ h a open_still. ack h open_still)
+
+  -- the disk isn't used
+  idle : new.history ≡ old.history → new.disk ≡ old.disk → (old.needs_reopen ≡ true → new ≡ old) → (view.is_honest old.disk → new.needs_reopen ≡ false → IsAcknowledged view.moments new) → IsCall view old Other new
+  idle history disk closed ack =
+      still history closed (λ h. subst view.is_honest (sym disk) h, λ h. subst view.is_honest disk h) (λ h. ap view.moments disk) ack
+
+  -- it is, and a stop leaves the history in the version from before
+  busy : new.history ≡ old.history → (view.is_honest old.disk → old.needs_reopen ≡ false → LeavesOnly (view.moments old.disk) (view.moments new.disk) (RepresentsAs old.catalog.layout old.history))
+      → (view.is_honest old.disk → new.needs_reopen ≡ false → IsAcknowledged view.moments new) → (old.needs_reopen ≡ true → new ≡ old) → (view.is_honest old.disk ↔ view.is_honest new.disk) → IsCall view old Other new
+  busy history any ack closed honesty =
+      kept (λ h. history) closed honesty
+      (λ h a. weaker (view.moments old.disk) (view.moments new.disk) (RepresentsAs old.catalog.layout old.history) (RepresentsHistory old.history) (λ c s. (old.catalog.layout, s)) (any h a.open_still))
+      (λ h a open_still. ack h open_still)
+
+-- no call at all
+pub unmade : {D : Type 0} (view : DeviceView D) (s : StoreValue D) → IsCall view s Other s
+unmade view s = kept view s s (λ h. refl) (λ needs. refl) (λ h. h, λ h. h) (λ h a. stayed (view.moments s.disk) (view.moments s.disk) (RepresentsHistory s.history) refl (held view s a)) (λ h a open_still. a)
+
+-- ---- imports
+
+abbrev is_fault : Refusal → Bool
+is_fault store.DiskFault = true
+is_fault _ = false
+
+-- a store that has to be opened again isn't blamed on the device
+open_at_fault : {D : Type 0} (e : Refusal) (s : StoreValue D) (release : Release) → e ≡ store.DiskFault → IsRefusalOnAnyDisk e s release → s.needs_reopen ≡ false
+open_at_fault e s release is cause = at_fault (subst (λ (r : Refusal). IsRefusalOnAnyDisk r s release) is cause) where
+  at_fault : IsRefusalOnAnyDisk store.DiskFault s release → s.needs_reopen ≡ false
+  at_fault h = h.0
+
+module _ {D : Type 0} (view : DeviceView D) (old new : StoreValue D) (release : Release) (any : view.is_honest old.disk → old.needs_reopen ≡ false → LeavesOnly (view.moments old.disk) (view.moments new.disk) (IsBeforeOrAfter old.catalog.layout old.history release)) (ack : view.is_honest old.disk → new.needs_reopen ≡ false → IsAcknowledged view.moments new) (honesty : view.is_honest old.disk ↔ view.is_honest new.disk) where
+  before_or_after : (c : List ℕ) → IsBeforeOrAfter old.catalog.layout old.history release c → RepresentsHistory old.history c ⊎ RepresentsWith old.history release c
+  before_or_after c (inl s) = inl (old.catalog.layout, s)
+  before_or_after c (inr w) = inr w
+
+  -- the store took it
+  imported : (receipt : Receipt) → IsImportOnAnyDisk (Ok receipt) old new release → (view.is_honest old.disk → IsImportOf (Ok receipt) old new release) → IsCall view old (Imported release) new
+  imported receipt at_all answer = record {
+    history = λ h. let t = (answer h).0 in (t.rows, t.is_release, t.accepted, t.history);
+    needs_reopen = at_all.3;
+    closed = λ needs. absurd (false≢true (sym at_all.2 ∙ needs));
+    honesty = honesty;
+    any_moment = λ h a. weaker (view.moments old.disk) (view.moments new.disk) (IsBeforeOrAfter old.catalog.layout old.history release) (RepresentsAround old.history (Imported release)) before_or_after (any h at_all.2);
+    acknowledged = λ h a open_still. ack h open_still;
+  }
+
+  -- the device failed
+  failed : (e : Refusal) → e ≡ store.DiskFault → IsRefusalOnAnyDisk e old release → IsRefused e old new → IsCall view old (Failed release) new
+  failed e is_fault cause r =
+      let open_before = open_at_fault e old release is_fault cause in
+      record {
+        history = λ h. r.history;
+        needs_reopen = r.closed is_fault;
+        closed = λ needs. absurd (false≢true (sym open_before ∙ needs));
+        honesty = honesty;
+        any_moment = λ h a. weaker (view.moments old.disk) (view.moments new.disk) (IsBeforeOrAfter old.catalog.layout old.history release) (RepresentsAround old.history (Failed release)) before_or_after (any h open_before);
+        acknowledged = λ h a open_still. ack h open_still;
+      }
+
+module _ {D : Type 0} (view : DeviceView D) where
+  pub import_made : ImportIsACall D view
+  import_made old new release (Ok receipt) answer at_all any ack same closed honesty = imported view old new release any ack honesty receipt at_all answer
+  import_made old new release (Err store.DiskFault) answer at_all any ack same closed honesty = failed view old new release any ack honesty store.DiskFault refl at_all.0 at_all.1
+  import_made old new release (Err e) answer at_all any ack same closed honesty =
+      still view old new at_all.1.history closed honesty (λ h. same h (λ is. false≢true (ap is_fault is))) ack
+
+  -- ---- questions
+
+  same_read : {T : Type 0} (result : Result T Refusal) (old new : StoreValue D) → IsReadingOf result old new → new.history ≡ old.history
+  same_read (Ok x) old new read = read.history
+  same_read (Err e) old new read = read.1.history
+
+  pub query_made : (T : Type 0) → QueryIsACall T D view
+  query_made T result old new q = still view old new (same_read result old new q.read) q.closed q.honesty q.moments q.acknowledged
+
+  pub unchanged_made : UnchangedIsACall D view
+  unchanged_made old new same = subst (λ (s : StoreValue D). IsCall view old Other s) (sym same) (unmade view old)
+
+  -- ---- merges
+
+  same_begun : (result : Result ℕ Refusal) (old new : StoreValue D) → IsBeginningOf result old new → new.history ≡ old.history
+  same_begun (Ok left) old new a = a.1.history
+  same_begun (Err e) old new a = a.1.history
+
+  pub begin_made : MergeBeginIsACall D view
+  begin_made result old new a disk closed ack = idle view old new (same_begun result old new a) disk closed ack
+
+  same_stepped : (result : Result ℕ Refusal) (rows : ℕ) (old new : StoreValue D) → IsSteppingOf result old new rows → new.history ≡ old.history
+  same_stepped (Ok left) rows old new a = a.1.history
+  same_stepped (Err e) rows old new a = a.1.history
+
+  pub step_made : MergeStepIsACall D view
+  step_made result rows old new a any ack closed honesty = busy view old new (same_stepped result rows old new a) any ack closed honesty
+
+  pub publish_made : MergePublishIsACall D view
+  publish_made old new history any ack closed honesty =
+      kept view old new (λ h. history) closed honesty
+      (λ h a. weaker (view.moments old.disk) (view.moments new.disk) (λ c. RepresentsAs old.catalog.layout old.history c ⊎ RepresentsAs layouts.Two old.history c) (RepresentsHistory old.history) either (any h a.open_still))
+      (λ h a open_still. ack h open_still) where
+        either : (c : List ℕ) → RepresentsAs old.catalog.layout old.history c ⊎ RepresentsAs layouts.Two old.history c → RepresentsHistory old.history c
+        either c (inl s) = (old.catalog.layout, s)
+        either c (inr s) = (layouts.Two, s)
+
+  same_abandoned : (result : Result (Unit {0}) Refusal) (old new : StoreValue D) → IsAbandoningOf result old new → new.history ≡ old.history
+  same_abandoned (Ok done) old new a = a.2.history
+  same_abandoned (Err e) old new a = a.1.history
+
+  pub abandon_made : MergeAbandonIsACall D view
+  abandon_made result old new a disk closed ack = idle view old new (same_abandoned result old new a) disk closed ack
+
+  same_trimmed : (result : Result ℕ Refusal) (old new : StoreValue D) → IsTrimmingOf result old new → new.history ≡ old.history
+  same_trimmed (Ok bytes) old new a = a.1.history
+  same_trimmed (Err e) old new a = a.1.history
+
+  pub trim_made : TrimIsACall D view
+  trim_made result old new a any ack closed honesty = busy view old new (same_trimmed result old new a) any ack closed honesty

@@ -1,0 +1,103 @@
+-- Which call of a life each call of `Store` is, by what it ensures: the premises are its clauses.
+use Rattle.std.specs.Prelude.{◌≡◌, ◌⊎◌, ◌↔◌, true, false, ℕ, Result, Ok, Err}
+use Rattle.disk_model.specs.Disk.{LeavesOnly}
+use Rattle.history_model.specs.declared.receipt.Receipt.{Receipt}
+use Rattle.import_check.specs.declared.release.Release.{Release}
+use Rattle.directory.specs.declared.layout.Layout.TheVariants as layouts
+use Rattle.store_image.specs.Images.{RepresentsAs}
+use Rattle.history_store.specs.declared.refusal.Refusal.{Refusal}
+use Rattle.history_store.specs.declared.refusal.Refusal.TheVariants as refusals
+use Rattle.history_store.specs.StoreValue.{StoreValue, IsAcknowledged}
+use Rattle.history_store.specs.Answers.{IsImportOf, IsImportOnAnyDisk, IsBeforeOrAfter}
+use Rattle.history_store.specs.Answers.{KeepsMoments}
+use Rattle.history_store.specs.MergeAnswers.{IsBeginningOf, IsSteppingOf, IsAbandoningOf}
+use Rattle.history_store.specs.MergeAnswers.{IsTrimmingOf}
+use Rattle.history_store.specs.Queries.{IsQuery}
+use Rattle.store_life.specs.DeviceView.{DeviceView}
+use Rattle.store_life.specs.Life.{Call, Imported, Failed, Other, IsCall}
+
+-- which call an import is, by its answer
+abbrev pub call_of : Result Receipt Refusal → Release → Call
+call_of (Ok receipt) release = Imported release
+call_of (Err refusals.DiskFault) release = Failed release
+call_of (Err refusal) release = Other
+
+-- by `Store::import · answer, kept, any_moment, acknowledged, refused, closed, honesty`
+abbrev pub ImportIsACall : (D : Type 0) → DeviceView D → Type 0
+ImportIsACall D view =
+    (old new : StoreValue D) (release : Release) (result : Result Receipt Refusal)
+    → (view.is_honest old.disk → IsImportOf result old new release)
+    → IsImportOnAnyDisk result old new release
+    → (view.is_honest old.disk → old.needs_reopen ≡ false
+    → LeavesOnly (view.moments old.disk) (view.moments new.disk)
+    (IsBeforeOrAfter old.catalog.layout old.history release))
+    → (view.is_honest old.disk → new.needs_reopen ≡ false → IsAcknowledged view.moments new)
+    → (view.is_honest old.disk → KeepsMoments view.moments result old new)
+    → (old.needs_reopen ≡ true → new ≡ old)
+    → (view.is_honest old.disk ↔ view.is_honest new.disk)
+    → IsCall view old (call_of result release) new
+
+-- by the clause `query` of `get`, `history`, `page`, `about`, `search`, `terms` and `replacements`
+abbrev pub QueryIsACall : (T D : Type 0) → DeviceView D → Type 0
+QueryIsACall T D view = (result : Result T Refusal) (old new : StoreValue D)
+    → IsQuery result view.is_honest view.moments view.failures old new
+    → IsCall view old Other new
+
+-- by `Store::children · unchanged`, and where a call only borrows the store
+abbrev pub UnchangedIsACall : (D : Type 0) → DeviceView D → Type 0
+UnchangedIsACall D view = (old new : StoreValue D) → new ≡ old → IsCall view old Other new
+
+-- by `Store::merge_begin · answer, disk, closed, acknowledged`
+abbrev pub MergeBeginIsACall : (D : Type 0) → DeviceView D → Type 0
+MergeBeginIsACall D view = (result : Result ℕ Refusal) (old new : StoreValue D)
+    → IsBeginningOf result old new
+    → new.disk ≡ old.disk
+    → (old.needs_reopen ≡ true → new ≡ old)
+    → (view.is_honest old.disk → new.needs_reopen ≡ false → IsAcknowledged view.moments new)
+    → IsCall view old Other new
+
+-- by `Store::merge_step · answer, any_moment, acknowledged, closed, honesty`
+abbrev pub MergeStepIsACall : (D : Type 0) → DeviceView D → Type 0
+MergeStepIsACall D view = (result : Result ℕ Refusal) (rows : ℕ) (old new : StoreValue D)
+    → IsSteppingOf result old new rows
+    → (view.is_honest old.disk → old.needs_reopen ≡ false
+    → LeavesOnly (view.moments old.disk) (view.moments new.disk)
+    (RepresentsAs old.catalog.layout old.history))
+    → (view.is_honest old.disk → new.needs_reopen ≡ false → IsAcknowledged view.moments new)
+    → (old.needs_reopen ≡ true → new ≡ old)
+    → (view.is_honest old.disk ↔ view.is_honest new.disk)
+    → IsCall view old Other new
+
+-- by `Store::merge_publish · history, any_moment, acknowledged, closed, honesty`
+abbrev pub MergePublishIsACall : (D : Type 0) → DeviceView D → Type 0
+MergePublishIsACall D view = (old new : StoreValue D)
+    → new.history ≡ old.history
+    → (view.is_honest old.disk → old.needs_reopen ≡ false
+    → LeavesOnly (view.moments old.disk) (view.moments new.disk)
+    (λ c. RepresentsAs old.catalog.layout old.history c
+    ⊎ RepresentsAs layouts.Two old.history c))
+    → (view.is_honest old.disk → new.needs_reopen ≡ false → IsAcknowledged view.moments new)
+    → (old.needs_reopen ≡ true → new ≡ old)
+    → (view.is_honest old.disk ↔ view.is_honest new.disk)
+    → IsCall view old Other new
+
+-- by `Store::merge_abandon · answer, disk, closed, acknowledged`
+abbrev pub MergeAbandonIsACall : (D : Type 0) → DeviceView D → Type 0
+MergeAbandonIsACall D view = (result : Result (Unit {0}) Refusal) (old new : StoreValue D)
+    → IsAbandoningOf result old new
+    → new.disk ≡ old.disk
+    → (old.needs_reopen ≡ true → new ≡ old)
+    → (view.is_honest old.disk → new.needs_reopen ≡ false → IsAcknowledged view.moments new)
+    → IsCall view old Other new
+
+-- by `Store::trim · answer, any_moment, acknowledged, closed, honesty`
+abbrev pub TrimIsACall : (D : Type 0) → DeviceView D → Type 0
+TrimIsACall D view = (result : Result ℕ Refusal) (old new : StoreValue D)
+    → IsTrimmingOf result old new
+    → (view.is_honest old.disk → old.needs_reopen ≡ false
+    → LeavesOnly (view.moments old.disk) (view.moments new.disk)
+    (RepresentsAs old.catalog.layout old.history))
+    → (view.is_honest old.disk → new.needs_reopen ≡ false → IsAcknowledged view.moments new)
+    → (old.needs_reopen ≡ true → new ≡ old)
+    → (view.is_honest old.disk ↔ view.is_honest new.disk)
+    → IsCall view old Other new

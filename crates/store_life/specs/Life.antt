@@ -1,0 +1,179 @@
+-- The life of a store: calls on it, and stops after which it is opened again.
+use Rattle.std.specs.Prelude.{◌≡◌, ◌↔◌, ◌⊎◌, true, false, Bool, ℕ, ◌+◌, List, [], ◌∷◌, ◌++◌}
+use Rattle.std.specs.Prelude.{Option, Some, None, Ok}
+use Rattle.std.specs.List.{Contains}
+use Rattle.std.specs.Option.{option_or}
+use Rattle.disk_model.specs.Disk.{DiskState, IsImage, EachImage, Moments, LeavesOnly}
+use Rattle.rf2_values.specs.Row.{RowValue}
+use Rattle.history_model.specs.History.{History, Accepts, after_release}
+use Rattle.import_check.specs.declared.release.Release.{Release}
+use Rattle.import_check.specs.Release.{IsReleaseOf}
+use Rattle.store_image.specs.Images.{RepresentsHistory}
+use Rattle.history_store.specs.StoreValue.{StoreValue, IsAcknowledged}
+use Rattle.history_store.specs.Answers.{IsOpeningOf, RepresentsWith}
+use Rattle.store_life.specs.DeviceView.{DeviceView}
+
+-- ---- calls
+
+-- What a call on a store did to its history: it imported a release, or the device
+-- failed in the import of one. Every other call leaves the history as it was.
+pub data Call : Type 0 where
+  Imported : Release → Call
+  Failed : Release → Call
+  Other : Call
+
+-- the releases that the call imported
+abbrev pub taken : Call → List Release
+taken (Imported release) = release ∷ []
+taken (Failed release) = []
+taken Other = []
+
+-- the release in whose import the device failed
+abbrev pub failing : Call → Option Release
+failing (Imported release) = None
+failing (Failed release) = Some release
+failing Other = None
+
+-- the releases are accepted one after the other, and this is the history after them
+abbrev pub TakesAll : History → List Release → History → Type 0
+TakesAll h [] after = after ≡ h
+TakesAll h (release ∷ releases) after = (rows : List RowValue) × IsReleaseOf release rows
+    × Accepts h rows × TakesAll (after_release h rows) releases after
+
+-- whether the store has to be opened again after the call:
+-- not after an import, and always once the device has failed in one
+abbrev pub NeedsReopenAfter : Call → Bool → Type 0
+NeedsReopenAfter (Imported release) needs_reopen = needs_reopen ≡ false
+NeedsReopenAfter (Failed release) needs_reopen = needs_reopen ≡ true
+NeedsReopenAfter Other needs_reopen = Unit {0}
+
+-- what a stop before, within or after the call may leave: the
+-- history from before, or that with the release of an import
+abbrev pub RepresentsAround : History → Call → List ℕ → Type 0
+RepresentsAround h (Imported release) c = RepresentsHistory h c ⊎ RepresentsWith h release c
+RepresentsAround h (Failed release) c = RepresentsHistory h c ⊎ RepresentsWith h release c
+RepresentsAround h Other c = RepresentsHistory h c
+
+-- The call was made on the store.
+pub record IsCall {D : Type 0} (view : DeviceView D)
+    (old : StoreValue D) (call : Call) (new : StoreValue D) : Type 0 where
+  pub history : view.is_honest old.disk → TakesAll old.history (taken call) new.history
+  pub needs_reopen : NeedsReopenAfter call new.needs_reopen
+  -- a store that has to be opened again stays as it is, and so does its disk
+  pub closed : old.needs_reopen ≡ true → (new ≡ old) × (call ≡ Other)
+  pub honesty : view.is_honest old.disk ↔ view.is_honest new.disk
+  pub any_moment : view.is_honest old.disk → IsAcknowledged view.moments old
+      → LeavesOnly (view.moments old.disk) (view.moments new.disk)
+      (RepresentsAround old.history call)
+  -- as long as no call has failed, a stop after this one leaves what the store holds
+  pub acknowledged : view.is_honest old.disk → IsAcknowledged view.moments old
+      → new.needs_reopen ≡ false → IsAcknowledged view.moments new
+
+-- ---- stops
+
+-- a stop at some moment from the old ones to the new ones may leave these bytes
+pub record StopLeaves (old new : Moments) (bytes : List ℕ) : Type 0 where
+  -- the states of the disk since old, the newest first
+  pub since : List DiskState
+  pub grows : new.state ∷ new.past ≡ since ++ old.state ∷ old.past
+  -- the one at the moment of the stop, of which the bytes are an image
+  pub state : DiskState
+  pub is_one : Contains (old.state ∷ since) state
+  pub image : IsImage state bytes
+
+-- A stop between two calls may leave these bytes, or a stop before, within or after the call.
+-- That call is named as it would have been answered.
+abbrev pub IsStopped : {D : Type 0} → DeviceView D → StoreValue D → Option Call → List ℕ → Type 0
+IsStopped view s None bytes = StopLeaves (view.moments s.disk) (view.moments s.disk) bytes
+IsStopped {D} view s (Some call) bytes = (end : StoreValue D) × IsCall view s call end
+    × StopLeaves (view.moments s.disk) (view.moments end.disk) bytes
+
+-- ---- openings
+
+-- the store was opened from an honest device, of which a read gave these bytes
+pub record IsOpenedFrom {D : Type 0} (view : DeviceView D) (bytes : List ℕ)
+    (device : D) (s : StoreValue D) : Type 0 where
+  pub is_honest : view.is_honest device
+  pub read : (view.moments device).state.now ≡ bytes
+  pub exact : IsOpeningOf (Ok s) (view.moments device).state.now
+  pub acknowledged : IsAcknowledged view.moments s
+  pub honesty : view.is_honest s.disk
+
+-- An opening of a device that holds these bytes, for a read and for a stop alike, was refused
+-- or ended by a stop, and left the others: at each moment of an opening a stop leaves what
+-- it might have left before.
+pub record OpeningLeaves {D : Type 0} (view : DeviceView D)
+    (bytes : List ℕ) (device after : D) (left : List ℕ) : Type 0 where
+  pub is_honest : view.is_honest device
+  pub read : (view.moments device).state.now ≡ bytes
+  pub stop : EachImage (view.moments device).state (λ c. c ≡ bytes)
+  pub any_moment : LeavesOnly (view.moments device) (view.moments after)
+      (IsImage (view.moments device).state)
+  pub is_left : StopLeaves (view.moments device) (view.moments after) left
+
+-- A store was opened from the bytes, perhaps after openings that were refused or that
+-- a stop ended. Of each of those the device is named as it was before and after.
+abbrev pub IsReopened : {D : Type 0} → DeviceView D → List ℕ → List (D × D)
+    → StoreValue D → Type 0
+IsReopened {D} view bytes [] s =
+    (device : D) × IsOpenedFrom view bytes device s
+IsReopened {D} view bytes (opening ∷ more) s =
+    (left : List ℕ) × OpeningLeaves view bytes opening.0 opening.1 left
+    × IsReopened view left more s
+
+-- ---- lives
+
+-- one event of a store's life: a call on it, or a stop, which came
+-- between two calls or cut one off, and then an opening
+pub data Event : Type 0 where
+  Called : Call → Event
+  Stopped : Option Call → Event
+
+abbrev pub IsEvent : {D : Type 0} → DeviceView D → StoreValue D → Event → StoreValue D → Type 0
+IsEvent view old (Called call) new = IsCall view old call new
+IsEvent {D} view old (Stopped within) new = (bytes : List ℕ) × (openings : List (D × D))
+    × IsStopped view old within bytes × IsReopened view bytes openings new
+
+-- events come one after the other
+abbrev pub IsLife : {D : Type 0} → DeviceView D → StoreValue D → List Event → StoreValue D
+    → Type 0
+IsLife view first [] last = last ≡ first
+IsLife {D} view first (event ∷ events) last =
+    (mid : StoreValue D) × IsEvent view first event mid × IsLife view mid events last
+
+-- the device failed in the import of the release, or the stop cut off the call that imports it
+abbrev pub IsUnacknowledged : Option Release → Option Call → Release → Type 0
+IsUnacknowledged failed within release = (failed ≡ Some release)
+    ⊎ (within ≡ Some (Imported release)) ⊎ (within ≡ Some (Failed release))
+
+-- no release, or one whose import wasn't acknowledged
+abbrev pub MayRemain : Option Release → Option Call → List Release → Type 0
+MayRemain failed within releases = (releases ≡ [])
+    ⊎ ((release : Release) × (releases ≡ release ∷ []) × IsUnacknowledged failed within release)
+
+-- The releases that these events add to a history, in order: all that were imported, and at each
+-- stop perhaps one more. The first argument is the release in whose import the device has failed
+-- since the last stop, if it did.
+abbrev pub AreKept : Option Release → List Event → List Release → Type 0
+AreKept failed [] releases = releases ≡ []
+AreKept failed (Called call ∷ events) releases = (more : List Release)
+    × (releases ≡ taken call ++ more) × AreKept (option_or failed (failing call)) events more
+AreKept failed (Stopped within ∷ events) releases = (other : List Release) × (more : List Release)
+    × (releases ≡ other ++ more) × MayRemain failed within other × AreKept None events more
+
+-- the releases whose import was acknowledged, in order
+abbrev pub acknowledged : List Event → List Release
+acknowledged [] = []
+acknowledged (Called call ∷ events) = taken call ++ acknowledged events
+acknowledged (Stopped within ∷ events) = acknowledged events
+
+abbrev pub stops : List Event → ℕ
+stops [] = 0
+stops (Called call ∷ events) = stops events
+stops (Stopped within ∷ events) = stops events + 1
+
+-- the second list without some of its elements is the first
+abbrev pub IsSubsequence : {X : Type 0} → List X → List X → Type 0
+IsSubsequence [] whole = Unit {0}
+IsSubsequence (x ∷ xs) [] = ⊥
+IsSubsequence (x ∷ xs) (y ∷ ys) = ((x ≡ y) × IsSubsequence xs ys) ⊎ IsSubsequence (x ∷ xs) ys

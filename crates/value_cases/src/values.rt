@@ -1,0 +1,142 @@
+//! Identifiers, days, members, keys, and rows made of columns.
+//!
+//! - `sctid TEXT` answers the class of the identifier that the text spells, `sctid_of NUMBER` the
+//!   identifier with a number, `time TEXT` the number of the day, `member TEXT` that of the member,
+//!   in base 16, and each of them `none` where there is none;
+//! - `below KIND ID DAY < KIND ID DAY` answers whether the first key is less, by `compare`, by `<`
+//!   and by `==`, and neither turned round nor of one with itself;
+//! - `bytes_of a key` answers how many bytes it takes in memory;
+//! - `term TEXT` answers whether there is a row of a description with this term, `concept_of ID
+//!   MODULE STATUS` whether there is one of a concept with these numbers.
+
+use case_files::{Answer, NoAnswer, unquoted};
+use case_values::{day_of, first_word, kind_of, number, sctid_of};
+use rf2_values::{Body, Concept, Description, EffectiveTime, Key, Member, Row, Sctid, Text};
+use std::alloc::Global;
+use std::cmp::Ordering;
+use std::mem::size_of;
+
+/// The class of the identifier that a text spells.
+fn class_of(alloc: Global, text: &[u8]) -> Answer {
+    let Some(id) = Sctid::parse(text) else {
+        return Ok(String::from_str(alloc, "none")?);
+    };
+    if Sctid::of(id.value()) != Some(id) {
+        return Ok(String::from_str(alloc, "not the one with its number")?);
+    }
+    match id.class() {
+        Some(class) => Ok(format!(in alloc; "{class:?}")?),
+        None => Ok(String::from_str(alloc, "of another class")?),
+    }
+}
+
+/// The number, or that there is none.
+fn spell_number(alloc: Global, number: Option<u64>) -> Answer {
+    match number {
+        Some(number) => Ok(format!(in alloc; "{number}")?),
+        None => Ok(String::from_str(alloc, "none")?),
+    }
+}
+
+/// The number of the day that a text spells.
+fn day_in(alloc: Global, text: &[u8]) -> Answer {
+    let day = EffectiveTime::parse(text);
+    if let Some(day) = day
+        && EffectiveTime::of(day.value()) != Some(day)
+    {
+        return Ok(String::from_str(alloc, "not the one with its number")?);
+    }
+    spell_number(alloc, day.map(|day| u64::from(day.value())))
+}
+
+/// The number of the member that a text spells.
+fn member_in(alloc: Global, text: &[u8]) -> Answer {
+    let Some(member) = Member::parse(text) else {
+        return Ok(String::from_str(alloc, "none")?);
+    };
+    if Member::of(member.value()) != member {
+        return Ok(String::from_str(alloc, "not the one with its number")?);
+    }
+    let number = member.value();
+    Ok(format!(in alloc; "{number:032x}")?)
+}
+
+/// The key of a kind, a number and a day.
+fn key_of(words: &str) -> Result<Key, NoAnswer> {
+    let (kind, words) = first_word(words)?;
+    let (id, day) = first_word(words)?;
+    Ok(Key {
+        id: number(id)?,
+        time: day_of(day)?,
+        kind: kind_of(kind)?,
+    })
+}
+
+/// Whether the first of two keys is less than the second, by each way to compare them.
+fn is_below(a: &Key, b: &Key) -> bool {
+    let compared = (a.compare(b), b.compare(a), a.compare(a));
+    compared == (Ordering::Less, Ordering::Greater, Ordering::Equal)
+        && *a < *b
+        && !(*b < *a)
+        && *a != *b
+        && *a == *a
+}
+
+/// Whether the first of two keys is less.
+fn compare(alloc: Global, words: &str) -> Answer {
+    let (a, b) = words.split_once(" < ").ok_or(NoAnswer::NoQuestion)?;
+    let is_so = is_below(&key_of(a)?, &key_of(b)?);
+    Ok(String::from_str(alloc, if is_so { "yes" } else { "no" })?)
+}
+
+/// Whether there is a row.
+fn spell_row(alloc: Global, row: Option<Row>) -> Answer {
+    Ok(String::from_str(alloc, if row.is_some() { "a row" } else { "none" })?)
+}
+
+/// A row of a description with a term: its other columns fit.
+fn with_term(alloc: Global, term: &[u8]) -> Answer {
+    let (concept, day) = (sctid_of("138875005")?, day_of("20200131")?);
+    let Some(language_code) = Text::of(alloc, b"de")? else {
+        return Err(NoAnswer::NoQuestion);
+    };
+    let Some(term) = Text::of(alloc, term)? else {
+        return spell_row(alloc, None);
+    };
+    let body = Body::Description(Description {
+        concept,
+        language_code,
+        type_id: concept,
+        term,
+        case_significance: concept,
+    });
+    spell_row(alloc, Row::of(1_000_015, day, true, concept, body))
+}
+
+/// A row of a concept with these numbers.
+fn with_numbers(alloc: Global, words: &str) -> Answer {
+    let (id, words) = first_word(words)?;
+    let (module_id, status) = first_word(words)?;
+    let definition_status = sctid_of(status)?;
+    let body = Body::Concept(Concept { definition_status });
+    let day = day_of("20200131")?;
+    spell_row(
+        alloc,
+        Row::of(number(id)?, day, true, sctid_of(module_id)?, body),
+    )
+}
+
+/// The answer to a question about a value.
+pub fn answer(alloc: Global, word: &str, rest: &str) -> Answer {
+    match word {
+        "sctid" => class_of(alloc, unquoted(alloc, rest)?.as_slice()),
+        "sctid_of" => spell_number(alloc, Sctid::of(number(rest)?).map(|id| id.value())),
+        "time" => day_in(alloc, unquoted(alloc, rest)?.as_slice()),
+        "member" => member_in(alloc, unquoted(alloc, rest)?.as_slice()),
+        "below" => compare(alloc, rest),
+        "bytes_of" if rest == "a key" => spell_number(alloc, Some(size_of::<Key>() as u64)),
+        "term" => with_term(alloc, unquoted(alloc, rest)?.as_slice()),
+        "concept_of" => with_numbers(alloc, rest),
+        _ => Err(NoAnswer::NoQuestion),
+    }
+}

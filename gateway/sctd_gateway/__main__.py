@@ -1,0 +1,102 @@
+"""The gateway: `sctd`'s answers as FHIR R4 over HTTP, and a page for people. It only reads.
+
+    python3 -m sctd_gateway --socket /run/sctd/questions.sock --edition 900000000000207008
+
+It asks through a socket of `examples/hub.py` and listens on 127.0.0.1:8080, or where `--listen`
+says. It prints `OK ready` once it does. TLS, users and the log of who asked what are those of the
+house's own proxy in front of it.
+"""
+
+import argparse
+import asyncio
+import contextlib
+import os
+import signal
+import socket
+import stat
+import sys
+
+from . import http, limits
+from .app import App, refused_request
+from .fhir.versions import Edition
+from .pool import Pool
+from .snomed import is_concept_id
+
+
+def options() -> argparse.Namespace:
+    words = argparse.ArgumentParser(
+        prog="sctd_gateway", description="sctd as FHIR R4 over HTTP, and a page for people."
+    )
+    words.add_argument("--socket", required=True, help="the hub's socket")
+    words.add_argument(
+        "--edition", required=True, help="the module of the edition that the store holds"
+    )
+    words.add_argument(
+        "--listen", default="127.0.0.1:8080", help="HOST:PORT, or the path of a socket"
+    )
+    words.add_argument(
+        "--log", action="store_true", help="a line of each request to standard error"
+    )
+    found = words.parse_args()
+    if not is_concept_id(found.edition):
+        words.error("the edition is the SCTID of a module, such as 900000000000207008")
+    # (Without a host it would listen on every address of the machine.)
+    host, _, port = found.listen.rpartition(":")
+    if "/" not in found.listen and not (host and port.isdecimal() and int(port) < 1 << 16):
+        words.error("--listen is HOST:PORT, or the path of a socket with a slash in it")
+    return found
+
+
+async def listening(server: http.Server, place: str) -> asyncio.Server:
+    if "/" in place:
+        clear_path(place)
+        return await asyncio.start_unix_server(server.connected, place, backlog=limits.BACKLOG)
+    host, _, port = place.rpartition(":")
+    return await asyncio.start_server(
+        server.connected, host.strip("[]"), int(port), backlog=limits.BACKLOG
+    )
+
+
+def clear_path(path: str) -> None:
+    """Removes the socket that an earlier gateway left behind. Anything else stays."""
+    if not os.path.lexists(path):
+        return
+    if not stat.S_ISSOCK(os.lstat(path).st_mode):
+        raise OSError("there is something that is no socket")
+    with socket.socket(socket.AF_UNIX) as earlier:
+        try:
+            earlier.connect(path)
+        except ConnectionRefusedError:
+            os.unlink(path)
+            return
+    raise OSError("another program listens on it")
+
+
+async def serve(found: argparse.Namespace) -> int:
+    app = App(Pool(found.socket), Edition(found.edition))
+    server = http.Server(app.answer, refused_request, log=found.log)
+    try:
+        listens = await listening(server, found.listen)
+    except OSError as error:
+        print("sctd_gateway: %s: %s" % (found.listen, error), file=sys.stderr)
+        return 1
+    end = asyncio.Event()
+    for number in (signal.SIGTERM, signal.SIGINT):
+        asyncio.get_running_loop().add_signal_handler(number, end.set)
+    print("OK ready", flush=True)
+    await end.wait()
+    listens.close()
+    await server.stop()
+    if "/" in found.listen:
+        # (From 3.13 on Python has removed it already.)
+        with contextlib.suppress(FileNotFoundError):
+            os.unlink(found.listen)
+    return 0
+
+
+def main() -> int:
+    return asyncio.run(serve(options()))
+
+
+if __name__ == "__main__":
+    sys.exit(main())

@@ -1,0 +1,98 @@
+"""The history of a concept on the page: what its releases changed, by day."""
+
+from collections.abc import Iterable, Mapping
+
+from .markup import Html, aside, joined, tag, term, time
+from .snomed import (
+    DEFINED,
+    FULLY_SPECIFIED_NAME,
+    IS_A,
+    Association,
+    Concept,
+    Description,
+    Relationship,
+)
+from .store import AnyRow, Timeline, View
+
+ARROW = " \u2192 "
+NOT_WHOLE = "A term or a relationship that came and went within one month isn\u2019t listed."
+
+
+class Names:
+    """What codes are called: reference sets by the names of their associations, others by the
+    store."""
+
+    def __init__(self, names: Mapping[str, str], refsets: Mapping[str, str]) -> None:
+        self.names, self.refsets = names, refsets
+
+    def of(self, code: str) -> str:
+        """A concrete value is told as it is, without the sign that it is a number."""
+        return code.removeprefix("#") if code.startswith("#") else self.names.get(code, code)
+
+    def of_attribute(self, code: str) -> str:
+        return "Parent" if code == IS_A else self.of(code).removesuffix(" (attribute)")
+
+    def of_refset(self, code: str) -> str:
+        return self.refsets.get(code, code)
+
+
+async def history(
+    view: View, code: str, marks: Mapping[str, str], refsets: Mapping[str, str]
+) -> Html:
+    """The changes by day, oldest first, with the days that are marked among them."""
+    timeline = await view.timeline(code)
+    names = Names(await view.names(other_codes(timeline), view.latest), refsets)
+    events: dict[str, list[Html]] = {day: [tag("em", said)] for day, said in marks.items()}
+    for _, versions in timeline.components:
+        before: AnyRow | None = None
+        for row in versions:
+            events.setdefault(row.time, []).extend(changes(before, row, names))
+            before = row
+    # A row that changed nothing that is told, such as its module, makes no entry.
+    entries = [
+        tag("li", time(day), tag("ul", *(tag("li", said) for said in events[day])))
+        for day in sorted(events)
+        if events[day]
+    ]
+    note = [] if timeline.is_whole else [tag("p", aside(NOT_WHOLE))]
+    return joined(tag("ol", *entries, class_="timeline"), *note)
+
+
+def other_codes(timeline: Timeline) -> Iterable[str]:
+    """The concepts that the rows about the concept name."""
+    for _, versions in timeline.components:
+        for row in versions:
+            if isinstance(row, Relationship):
+                yield from (row.type, row.target)
+            elif isinstance(row, Association):
+                yield row.target
+
+
+def changes(before: AnyRow | None, row: AnyRow, names: Names) -> list[Html]:
+    """What a row changed against the one before it, in words."""
+    was, is_active = before is not None and before.active == "1", row.active == "1"
+    if isinstance(row, Concept):
+        return concept_changes(before, row)
+    if isinstance(row, Description):
+        what, shown = ("Name" if row.type == FULLY_SPECIFIED_NAME else "Synonym"), row.term
+        if was and is_active and isinstance(before, Description) and before.term != row.term:
+            return [joined(what, " changed: ", term(before.term), ARROW, term(row.term))]
+    elif isinstance(row, Association):
+        what, shown = names.of_refset(row.refset), names.of(row.target)
+    else:
+        what, shown = names.of_attribute(row.type), names.of(row.target)
+    if was == is_active:
+        return []
+    if isinstance(row, Association) and is_active:
+        return [joined(what, ": ", term(shown))]
+    return [joined(what, " added: " if is_active else " withdrawn: ", term(shown))]
+
+
+def concept_changes(before: AnyRow | None, row: Concept) -> list[Html]:
+    found = []
+    if before is None or before.active != row.active:
+        found.append(tag("b", "Concept ", "active" if row.is_active else "inactive"))
+    if isinstance(before, Concept) and before.definition_status != row.definition_status:
+        is_defined = row.definition_status == DEFINED
+        found.append(joined("Now fully defined" if is_defined else "Now primitive"))
+    return found

@@ -1,0 +1,290 @@
+"""Pinned sessions of the hub, and a bounded memory of its replies.
+
+What one request is told comes from one `Session`, which is pinned: all its answers are of the same
+imports. A reply is remembered by its pin and its question, and can't go stale, since under a pin a
+question has one answer for good. All that is remembered is forgotten when another hub takes the
+place of the one that said it: another store may answer from then on.
+"""
+
+import asyncio
+import os
+import re
+from collections import OrderedDict
+from collections.abc import AsyncIterator, Sequence
+from contextlib import asynccontextmanager
+from typing import NamedTuple
+
+from . import limits
+from .hub import Connection, HubGone, HubIdentity, Reply
+
+PINNED = re.compile(r"OK ([0-9]{1,10})\Z", re.ASCII)
+RECEIPT = re.compile(r"OK ([0-9]{1,10}) ([0-9]{1,10}) ([0-9]{8}|-)\Z", re.ASCII)
+# Roughly what Python takes for an entry of the memory, for a line, and for a letter.
+ENTRY_BYTES, LINE_BYTES, LETTER_BYTES = 400, 80, 2
+
+
+class NoSuchPin(Exception):
+    """There aren't so many imports."""
+
+
+class Moved(Exception):
+    """An import came in between: the request has to be answered anew, from its beginning."""
+
+
+class Receipt(NamedTuple):
+    """What an import brought: the number of its new rows, their latest day or `-`, and the latest
+    day of the store by then, which is empty where there was no row yet."""
+
+    rows: int
+    latest: str
+    store_latest: str
+
+
+class Memory:
+    """The replies that were used last, up to a number of bytes."""
+
+    def __init__(self, room: int) -> None:
+        self.room, self.used = room, 0
+        self.kept: OrderedDict[tuple[int, str], tuple[Reply, int]] = OrderedDict()
+
+    def get(self, pin: int, line: str) -> Reply | None:
+        found = self.kept.get((pin, line))
+        if found is None:
+            return None
+        self.kept.move_to_end((pin, line))
+        return found[0]
+
+    def put(self, pin: int, line: str, reply: Reply) -> None:
+        size = ENTRY_BYTES + sum(LINE_BYTES + LETTER_BYTES * len(part) for part in reply)
+        if size > min(self.room, limits.REMEMBERED_BYTES) or (pin, line) in self.kept:
+            return
+        self.kept[pin, line] = (reply, size)
+        self.used += size
+        while self.used > self.room:
+            self.used -= self.kept.popitem(last=False)[1][1]
+
+    def clear(self) -> None:
+        self.kept.clear()
+        self.used = 0
+
+
+class Member(NamedTuple):
+    """A concept of a value set."""
+
+    code: str
+    is_active: bool
+
+
+Members = tuple[Member, ...]
+# A subtree's pin, its day and its top.
+SubtreeKey = tuple[int, str, str]
+
+
+class Subtrees:
+    """The subtrees that were used last."""
+
+    def __init__(self) -> None:
+        self.kept: OrderedDict[SubtreeKey, Members] = OrderedDict()
+
+    def get(self, key: SubtreeKey) -> Members | None:
+        if key in self.kept:
+            self.kept.move_to_end(key)
+        return self.kept.get(key)
+
+    def put(self, key: SubtreeKey, members: Members) -> None:
+        self.kept[key] = members
+        while (
+            len(self.kept) > limits.SUBTREES
+            or sum(map(len, self.kept.values())) > limits.SUBTREE_CONCEPTS
+        ):
+            self.kept.popitem(last=False)
+
+
+class Pool:
+    """The connections to the hub, and what it has said."""
+
+    def __init__(self, socket: str, memory: int = limits.MEMORY_BYTES) -> None:
+        self.socket = socket
+        self.places = asyncio.Semaphore(limits.HUB_CONNECTIONS)
+        self.idle: list[Connection] = []
+        self.identity: HubIdentity | None = None
+        self.memory, self.subtrees = Memory(memory), Subtrees()
+        self.receipts: list[Receipt] = []
+
+    def is_of_this_hub(self, connection: Connection) -> bool:
+        return connection.identity == self.identity
+
+    def forget(self) -> None:
+        """What comes next may be told of another store."""
+        self.identity = None
+        self.memory.clear()
+        self.subtrees, self.receipts = Subtrees(), []
+        for connection in self.idle:
+            connection.close()
+        self.idle.clear()
+
+    async def connection(self) -> Connection:
+        while self.idle:
+            found = self.idle.pop()
+            if found.is_open() and self.is_of_this_hub(found):
+                found.received = 0
+                return found
+            found.close()
+            self.forget()
+        return await self.connected()
+
+    async def connected(self) -> Connection:
+        """A new connection. Whose it is tells the socket's file, which each hub makes anew."""
+        try:
+            before = identity_of(self.socket)
+            reader, writer = await asyncio.open_unix_connection(self.socket)
+        except OSError as error:
+            self.forget()
+            # (Clients aren't told the socket's path.)
+            raise HubGone(error.strerror or "the hub can't be reached", True) from error
+        if not is_identity(self.socket, before):
+            writer.close()
+            raise HubGone("a hub was started in between", False)
+        if before != self.identity:
+            self.forget()
+            self.identity = before
+        return Connection(reader, writer, before)
+
+    @asynccontextmanager
+    async def session(self, pin: int | None) -> AsyncIterator["Session"]:
+        """The store as its first `pin` imports left it, or as it is now."""
+        async with self.places:
+            connection = await self.connection()
+            try:
+                session = await self.opened(connection, pin)
+                try:
+                    yield session
+                except Exception:
+                    # Also a refusal has to be of the present imports.
+                    await session.make_sure()
+                    raise
+                await session.make_sure()
+            except Moved:
+                await self.look(connection)
+                raise
+            except HubGone as gone:
+                if not gone.fresh and self.is_of_this_hub(connection):
+                    self.forget()
+                raise
+            finally:
+                self.give_back(connection)
+
+    async def opened(self, connection: Connection, pin: int | None) -> "Session":
+        if not self.receipts or (pin is not None and pin > len(self.receipts)):
+            await self.look(connection)
+        if pin is not None and pin > len(self.receipts):
+            raise NoSuchPin
+        return Session(self, connection, pin)
+
+    async def look(self, connection: Connection) -> None:
+        """Pins the connection to the present imports, and reads the receipts of the new ones."""
+        present = number_of((await connection.ask(["UNPIN", "PIN"]))[1])
+        connection.pin = present
+        known = len(self.receipts)
+        if present <= known:
+            return
+        lines = ["RECEIPT %d" % number for number in range(known + 1, present + 1)]
+        replies = await connection.ask(lines)
+        # Another request may have read them in the meantime.
+        if len(self.receipts) == known and self.is_of_this_hub(connection):
+            for reply in replies:
+                before = self.receipts[-1].store_latest if self.receipts else ""
+                self.receipts.append(receipt_of(reply, before))
+
+    def give_back(self, connection: Connection) -> None:
+        if connection.whole and self.is_of_this_hub(connection):
+            self.idle.append(connection)
+        else:
+            connection.close()
+
+
+class Session:
+    """The store as its first `pin` imports left it.
+
+    Where the request named no pin it is that of the last request, until the hub has said together
+    with the first answers that there is no newer import: then the session is `sure`.
+    """
+
+    def __init__(self, pool: Pool, connection: Connection, pin: int | None) -> None:
+        self.pool, self.connection = pool, connection
+        self.pin = len(pool.receipts) if pin is None else pin
+        self.sure = pin is not None
+        # The list of another hub is another one, so this one only grows.
+        self.receipts = pool.receipts
+
+    async def make_sure(self) -> None:
+        if not self.sure and self.connection.whole:
+            await self.ask([])
+
+    async def ask(self, lines: Sequence[str], keep: bool = True) -> list[Reply]:
+        """The reply to each line, those that are remembered without asking."""
+        remembers = self.pool.is_of_this_hub(self.connection)
+        known = [self.pool.memory.get(self.pin, line) if remembers else None for line in lines]
+        missing = [line for line, reply in zip(lines, known) if reply is None]
+        if missing or not self.sure:
+            told = await self.told(missing)
+            if keep and self.pool.is_of_this_hub(self.connection):
+                for line, reply in zip(missing, told):
+                    self.pool.memory.put(self.pin, line, reply)
+            new = iter(told)
+            known = [next(new) if reply is None else reply for reply in known]
+        return [reply for reply in known if reply is not None]
+
+    def remembered_subtree(self, day: str, top: str) -> Members | None:
+        if not self.sure or not self.pool.is_of_this_hub(self.connection):
+            return None
+        return self.pool.subtrees.get((self.pin, day, top))
+
+    def remember_subtree(self, day: str, top: str, members: Members) -> None:
+        if self.pool.is_of_this_hub(self.connection):
+            self.pool.subtrees.put((self.pin, day, top), members)
+
+    async def told(self, lines: Sequence[str]) -> list[Reply]:
+        """What the hub replies under the pin, which is set in the same round trip."""
+        if not self.sure:
+            turn = ["UNPIN", "PIN"]
+        elif self.connection.pin != self.pin:
+            turn = ["UNPIN", "PIN %d" % self.pin]
+        else:
+            turn = []
+        replies = await self.connection.ask([*turn, *lines])
+        if turn:
+            self.connection.pin = number_of(replies[1])
+            if self.connection.pin != self.pin:
+                raise Moved
+        self.sure = True
+        return replies[len(turn) :]
+
+
+def identity_of(path: str) -> HubIdentity:
+    found = os.stat(path)
+    return HubIdentity(found.st_dev, found.st_ino, found.st_ctime_ns)
+
+
+def is_identity(path: str, identity: HubIdentity) -> bool:
+    try:
+        return identity_of(path) == identity
+    except OSError:
+        return False
+
+
+def number_of(reply: Reply) -> int:
+    found = PINNED.match(reply[-1])
+    if not found:
+        raise HubGone("the hub says what isn't the number of a pin", True)
+    return int(found[1])
+
+
+def receipt_of(reply: Reply, store_latest: str) -> Receipt:
+    found = RECEIPT.match(reply[-1])
+    if not found:
+        raise HubGone("the hub says what isn't a receipt", True)
+    latest = found[3]
+    return Receipt(
+        int(found[2]), latest, store_latest if latest == "-" else max(latest, store_latest)
+    )

@@ -1,0 +1,177 @@
+"""The words of SNOMED CT and of its release files: identifiers, days, rows and their columns."""
+
+import datetime
+import re
+from collections.abc import Iterable, Sequence
+from typing import NamedTuple
+
+from . import limits
+
+IS_A = "116680003"
+FULLY_SPECIFIED_NAME = "900000000000003001"
+SYNONYM = "900000000000013009"
+DEFINED = "900000000000073002"
+CASE_INSENSITIVE = "900000000000448009"
+INITIAL_CASE_INSENSITIVE = "900000000000020002"
+
+# The kinds of SCTID, by the last digit of the partition.
+CONCEPT_ID = "0"
+
+SCTID = re.compile(r"[1-9][0-9]{5,17}\Z", re.ASCII)
+DAY = re.compile(r"[0-9]{8}\Z", re.ASCII)
+# What may be looked for: no control character, line end or half of a character.
+SEARCHED = re.compile(
+    "[^\x00-\x1f\x7f-\x9f\u2028\u2029\ud800-\udfff]{1,%d}\\Z" % limits.FILTER_CHARACTERS
+)
+FIRST_YEAR = 1000
+
+
+class Concept(NamedTuple):
+    """A row of a concept file."""
+
+    id: str
+    time: str
+    active: str
+    module: str
+    definition_status: str
+
+    @property
+    def is_active(self) -> bool:
+        return self.active == "1"
+
+
+class Description(NamedTuple):
+    """A row of a description file."""
+
+    id: str
+    time: str
+    active: str
+    module: str
+    concept: str
+    language: str
+    type: str
+    term: str
+    case_significance: str
+
+
+class Relationship(NamedTuple):
+    """A row of a relationship file. With a concrete value the target is that value, such as
+    `#5`."""
+
+    id: str
+    time: str
+    active: str
+    module: str
+    source: str
+    target: str
+    group: str
+    type: str
+    characteristic: str
+    modifier: str
+
+
+class Association(NamedTuple):
+    """A row of an association reference set."""
+
+    id: str
+    time: str
+    active: str
+    module: str
+    refset: str
+    source: str
+    target: str
+
+
+class Facts(NamedTuple):
+    """What the store says of a concept on one day."""
+
+    concept: Concept
+    descriptions: list[Description]
+    relationships: list[Relationship]
+    values: list[Relationship]
+
+    @property
+    def parents(self) -> list[str]:
+        return distinct(row.target for row in self.relationships if row.type == IS_A)
+
+    @property
+    def attributes(self) -> list[Relationship]:
+        """The relationships that say what distinguishes the concept, those with values last."""
+        return [row for row in self.relationships if row.type != IS_A] + self.values
+
+
+# Verhoeff's scheme: the permutation of a digit at each place, and the product of two digits.
+PERMUTATIONS = [tuple(range(10))]
+for _ in range(7):
+    PERMUTATIONS.append(tuple((1, 5, 7, 6, 2, 8, 3, 0, 9, 4)[digit] for digit in PERMUTATIONS[-1]))
+
+
+def product(left: int, right: int) -> int:
+    """The product of two symmetries of a pentagon: 0 to 4 are rotations, 5 to 9 reflections."""
+    turned = (left + right) % 5 if left < 5 else (left - right) % 5
+    return turned if (left < 5) == (right < 5) else 5 + turned
+
+
+PRODUCTS = [[product(left, right) for right in range(10)] for left in range(10)]
+
+
+def is_sctid(text: str, kind: str) -> bool:
+    """Whether the text is an SCTID of this kind, with its check digit."""
+    if not SCTID.match(text) or text[-3] not in "01" or text[-2] != kind:
+        return False
+    check = 0
+    for place, digit in enumerate(reversed(text)):
+        check = PRODUCTS[check][PERMUTATIONS[place % 8][int(digit)]]
+    return check == 0
+
+
+def is_concept_id(text: str) -> bool:
+    return is_sctid(text, CONCEPT_ID)
+
+
+def is_day(text: str) -> bool:
+    """Whether the text is a day of the calendar in eight digits."""
+    if not DAY.match(text) or int(text[:4]) < FIRST_YEAR:
+        return False
+    try:
+        datetime.date(int(text[:4]), int(text[4:6]), int(text[6:]))
+    except ValueError:
+        return False
+    return True
+
+
+def with_hyphens(day: str) -> str:
+    return "%s-%s-%s" % (day[:4], day[4:6], day[6:])
+
+
+def display_of(code: str, descriptions: Sequence[Description], language: str = "") -> str:
+    """The fully specified name, of the wanted language where there is one in it. A concept without
+    one is shown by a synonym, or else by its code."""
+
+    def order(row: Description) -> tuple[bool, bool, int]:
+        other_language = row.language != (language or "en")
+        return row.type != FULLY_SPECIFIED_NAME, other_language, int(row.id)
+
+    ordered = sorted(descriptions, key=order)
+    wanted = [row for row in ordered if row.language == language]
+    shown = wanted or ordered
+    return shown[0].term if shown else code
+
+
+def is_display(text: str, descriptions: Iterable[Description]) -> bool:
+    """Whether it is a term of the concept, each with the case that its description allows."""
+    return any(is_written_as(text, row) for row in descriptions)
+
+
+def is_written_as(text: str, row: Description) -> bool:
+    if row.case_significance == CASE_INSENSITIVE:
+        return row.term.casefold() == text.casefold()
+    if row.case_significance == INITIAL_CASE_INSENSITIVE:
+        same_initial = row.term[:1].casefold() == text[:1].casefold()
+        return same_initial and row.term[1:] == text[1:]
+    return row.term == text
+
+
+def distinct(words: Iterable[str]) -> list[str]:
+    """Each word once, in their order."""
+    return list(dict.fromkeys(words))

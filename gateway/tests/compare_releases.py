@@ -1,0 +1,271 @@
+"""Compares the gateway's answers with what a reading of a release's own files says.
+
+    python3 -m tests.compare_releases PROGRAM HUB [ROWS [DAYS [SEED]]]
+
+A Full release of about ROWS rows is made and imported (20,000 if not said). Of each of DAYS days
+(12) 240 $lookup are compared, 36 $subsumes, 18 expansions, as many with a filter, and 28
+$translate. It ends with the number of each, or at the first that differs with status 1.
+"""
+
+import http.client
+import json
+import os
+import random
+import subprocess
+import sys
+import tempfile
+from collections import Counter
+from pathlib import Path
+from typing import Any
+from urllib.parse import urlencode
+
+from .house import PROGRAM_AND_HUB, SCT, SECONDS, Gateway, Json, parts_of, told, version
+from .release_files import DEFINED, FULLY_SPECIFIED, IS_A, Rows, Snapshot, read
+
+ROWS, DAYS, SEED = 20_000, 12, 1
+# Of each day.
+LOOKUPS, SUBSUMPTIONS, EXPANSIONS, TRANSLATIONS = 240, 36, 18, 28
+LARGEST_EXPANSION = 900
+SAME_AS, REPLACED_BY = "900000000000527005", "900000000000526001"
+
+
+class Differs(Exception):
+    """An answer that isn't that of the files."""
+
+
+class Comparison:
+    """One gateway, one release, and how many answers of each operation were alike."""
+
+    def __init__(self, gateway: Gateway, rows: Rows, seed: int) -> None:
+        self.rows, self.chance, self.counts = rows, random.Random(seed), Counter[str]()
+        self.connection = http.client.HTTPConnection("x", timeout=SECONDS)
+        self.connection.sock = gateway.connect()
+        self.concepts = rows.concepts()
+
+    def ask(self, path: str, **words: Any) -> tuple[int, Json]:
+        self.connection.request("GET", "/fhir/%s?%s" % (path, urlencode(words)))
+        answer = self.connection.getresponse()
+        # A number keeps the digits that it is written with.
+        found: Json = json.loads(answer.read(), parse_float=str, parse_int=str)
+        return answer.status, found
+
+    def alike(self, what: str, found: Any, wanted: Any, *about: Any) -> None:
+        if found != wanted:
+            raise Differs("%s %s: %r, not %r" % (what, about, found, wanted))
+
+    def day(self) -> str:
+        """A day of the later releases, or the one before it."""
+        days = self.rows.days()
+        day = self.chance.choice(days[len(days) // 2 :])
+        # All releases are of the 31st of a month.
+        return self.chance.choice([day, str(int(day) - 1)])
+
+    def compare(self, day: str) -> None:
+        snapshot = Snapshot(self.rows, day)
+        for _ in range(LOOKUPS):
+            self.lookup(snapshot, self.chance.choice(self.concepts))
+        known = sorted(snapshot.concepts)
+        for number in range(SUBSUMPTIONS if known else 0):
+            first = self.chance.choice(known)
+            near = sorted(snapshot.above[first] & snapshot.concepts.keys() - {first})
+            second = self.chance.choice(near if near and number % 3 else known)
+            self.subsumes(snapshot, *((first, second) if number % 4 < 2 else (second, first)))
+        tops = [code for code in known if 1 < len(snapshot.within(code)) < LARGEST_EXPANSION]
+        for top in self.chance.sample(tops, min(EXPANSIONS, len(tops))):
+            self.expand(snapshot, top)
+            self.expand_with_a_filter(snapshot, top)
+        retired = sorted(snapshot.about["A"].keys() & snapshot.concepts.keys())
+        for number, code in enumerate(self.chance.sample(retired, min(TRANSLATIONS, len(retired)))):
+            self.translate(snapshot, code, (SAME_AS, REPLACED_BY)[number % 2])
+
+    def lookup(self, snapshot: Snapshot, code: str) -> None:
+        status, said = self.ask(
+            "CodeSystem/$lookup", system=SCT, code=code, version=version(snapshot.day)
+        )
+        where = (code, snapshot.day)
+        if code not in snapshot.concepts:
+            self.alike("$lookup", status, 404, *where)
+            self.counts["$lookup of what isn't there"] += 1
+            return
+        self.alike("$lookup", status, 200, *where)
+        terms = [
+            (one["value"], one["language"], one["use"]["code"])
+            for one in parts_of(said, "designation")
+        ]
+        self.alike(
+            "designation",
+            sorted(terms),
+            sorted((row[7], row[5], row[6]) for row in snapshot.terms(code)),
+            *where,
+        )
+        self.alike("display", told(said, "display"), [display(snapshot, code)], *where)
+        found: dict[str, set[str]] = {}
+        for words in parts_of(said, "property"):
+            found.setdefault(words["code"], set()).add(str(words["value"]))
+        self.alike("property", found, properties(snapshot, code), *where)
+        self.counts["$lookup"] += 1
+
+    def subsumes(self, snapshot: Snapshot, first: str, second: str) -> None:
+        is_above, is_below = first in snapshot.above[second], second in snapshot.above[first]
+        if is_above and is_below:
+            wanted = "equivalent"
+        else:
+            wanted = "subsumes" if is_above else "subsumed-by" if is_below else "not-subsumed"
+        said = self.ask(
+            "CodeSystem/$subsumes",
+            system=SCT,
+            codeA=first,
+            codeB=second,
+            version=version(snapshot.day),
+        )[1]
+        self.alike("$subsumes", told(said, "outcome"), [wanted], first, second, snapshot.day)
+        self.counts["$subsumes " + wanted] += 1
+
+    def expand(self, snapshot: Snapshot, top: str) -> None:
+        said = self.ask("ValueSet/$expand", url="%s?fhir_vs=isa/%s" % (version(snapshot.day), top))[
+            1
+        ]["expansion"]
+        found = {one["code"]: one for one in said["contains"]}
+        members = snapshot.within(top) & snapshot.concepts.keys()
+        where = (top, snapshot.day)
+        self.alike("$expand", (set(found), said["total"]), (members, str(len(members))), *where)
+        self.alike(
+            "inactive",
+            {code for code, one in found.items() if one.get("inactive")},
+            {code for code in members if snapshot.concepts[code][2] == "0"},
+            *where,
+        )
+        self.alike(
+            "display",
+            {code: one["display"] for code, one in found.items()},
+            {code: display(snapshot, code) for code in members},
+            *where,
+        )
+        self.counts["$expand"] += 1
+
+    def expand_with_a_filter(self, snapshot: Snapshot, top: str) -> None:
+        members = snapshot.within(top) & snapshot.concepts.keys()
+        terms = [row[7] for code in sorted(members) for row in snapshot.terms(code)]
+        if not terms:
+            return
+        text = self.chance.choice(terms)[: self.chance.randint(3, 9)].strip()
+        status, said = self.ask(
+            "ValueSet/$expand",
+            filter=text,
+            count=1000,
+            url="%s?fhir_vs=isa/%s" % (version(snapshot.day), top),
+        )
+        if status == 422:
+            self.counts["$expand refused, too many terms"] += 1
+            return
+        self.alike(
+            "$expand filter",
+            {one["code"] for one in said["expansion"].get("contains", [])},
+            {code for code in members if snapshot.begins(code, text)},
+            top,
+            snapshot.day,
+            text,
+        )
+        self.counts["$expand with a filter"] += 1
+
+    def translate(self, snapshot: Snapshot, code: str, refset: str) -> None:
+        said = self.ask(
+            "ConceptMap/$translate",
+            url="%s?fhir_cm=%s" % (SCT, refset),
+            system=SCT,
+            code=code,
+            version=version(snapshot.day),
+        )[1]
+        self.alike(
+            "$translate",
+            sorted(one["concept"]["code"] for one in parts_of(said, "match")),
+            sorted(row[6] for row in snapshot.about["A"][code] if row[4] == refset),
+            code,
+            snapshot.day,
+        )
+        self.counts["$translate"] += 1
+
+
+def display(snapshot: Snapshot, code: str) -> str:
+    """The fully specified name of the least id, or else the synonym of the least id, or the
+    code."""
+    terms = sorted(snapshot.terms(code), key=lambda row: (row[6] != FULLY_SPECIFIED, int(row[0])))
+    return terms[0][7] if terms else code
+
+
+def properties(snapshot: Snapshot, code: str) -> dict[str, set[str]]:
+    concept = snapshot.concepts[code]
+    found = {
+        "inactive": {str(concept[2] == "0")},
+        "moduleId": {concept[3]},
+        "effectiveTime": {concept[1]},
+        "sufficientlyDefined": {str(concept[4] == DEFINED)},
+    }
+    for row in snapshot.about["R"].get(code, []):
+        found.setdefault("parent" if row[7] == IS_A else row[7], set()).add(row[5])
+    for row in snapshot.about["V"].get(code, []):
+        found.setdefault(row[7], set()).add(row[5].removeprefix("#"))
+    return found
+
+
+def compared(program: str, hub: str, rows: int, days: int, seed: int) -> Counter[str]:
+    """How many answers were alike, of a made release on so many days."""
+    make = Path(__file__).resolve().parents[2] / "bench" / "make_release.py"
+    with tempfile.TemporaryDirectory() as folder:
+        root = Path(folder)
+        store, questions = str(root / "store"), str(root / "questions")
+        run(sys.executable, str(make), folder, str(rows), str(seed))
+        run(program, "init", "--store", store)
+        run(program, "import", "--quiet", "--store", store, str(root / "full"))
+        serving = subprocess.Popen(
+            [
+                sys.executable,
+                hub,
+                "--program",
+                program,
+                "--store",
+                store,
+                "--releases",
+                folder,
+                "--questions",
+                questions,
+            ],
+            stdout=subprocess.PIPE,
+            text=True,
+        )
+        gateway: Gateway | None = None
+        try:
+            assert serving.stdout and serving.stdout.readline() == "OK ready\n"
+            gateway = Gateway(questions, root)
+            comparison = Comparison(gateway, read(root / "full"), seed)
+            for _ in range(days):
+                comparison.compare(comparison.day())
+            return comparison.counts
+        finally:
+            if gateway:
+                gateway.stop()
+            serving.terminate()
+            serving.communicate(timeout=SECONDS)
+
+
+def run(*words: str) -> None:
+    subprocess.run(words, check=True, capture_output=True, timeout=600)
+
+
+def main(words: list[str]) -> int:
+    if not 2 <= len(words) <= 5:
+        print((__doc__ or "").strip(), file=sys.stderr)
+        return 2
+    os.environ.update(zip(PROGRAM_AND_HUB, words))
+    rows, days, seed = [int(word) for word in words[2:]] + [ROWS, DAYS, SEED][len(words) - 2 :]
+    try:
+        counts = compared(words[0], words[1], rows, days, seed)
+    except Differs as differs:
+        print("DIFFERS: %s" % differs)
+        return 1
+    print(", ".join("%s: %d" % one for one in sorted(counts.items())) + "; 0 differ")
+    return 0
+
+
+if __name__ == "__main__":
+    sys.exit(main(sys.argv[1:]))

@@ -1,0 +1,89 @@
+"""A release's own files, read without the program: what they say of a day."""
+
+from collections.abc import Iterable
+from pathlib import Path
+from typing import NamedTuple
+
+IS_A, FULLY_SPECIFIED, DEFINED = "116680003", "900000000000003001", "900000000000073002"
+FILES = {
+    "C": "Terminology/sct2_Concept_*",
+    "D": "Terminology/sct2_Description_*",
+    "R": "Terminology/sct2_Relationship_*",
+    "V": "Terminology/sct2_RelationshipConcreteValues_*",
+    "A": "Refset/Content/der2_cRefset_Association*",
+}
+# The column that says which concept a row is about.
+ABOUT = {"D": 4, "R": 4, "V": 4, "A": 5}
+
+Row = list[str]
+
+
+class Rows(NamedTuple):
+    """The rows of a release by their kinds."""
+
+    by_kind: dict[str, list[Row]]
+
+    def days(self) -> list[str]:
+        return sorted({row[1] for rows in self.by_kind.values() for row in rows})
+
+    def concepts(self) -> list[str]:
+        return sorted({row[0] for row in self.by_kind["C"]})
+
+
+class Snapshot:
+    """Of each component the latest row by a day, and the active rows about each concept."""
+
+    def __init__(self, rows: Rows, day: str) -> None:
+        self.day = day
+        self.about: dict[str, dict[str, list[Row]]] = {kind: {} for kind in ABOUT}
+        for kind, column in ABOUT.items():
+            for row in latest(rows.by_kind[kind], day).values():
+                if row[2] == "1":
+                    self.about[kind].setdefault(row[column], []).append(row)
+        self.concepts = latest(rows.by_kind["C"], day)
+        self.above = self.all_above()
+        self.below: dict[str, set[str]] = {}
+        for code, above in self.above.items():
+            for one in above:
+                self.below.setdefault(one, set()).add(code)
+
+    def parents(self, code: str) -> set[str]:
+        return {row[5] for row in self.about["R"].get(code, []) if row[7] == IS_A}
+
+    def all_above(self) -> dict[str, set[str]]:
+        """Of each concept itself and all that can be reached upwards."""
+        found = {}
+        for code in self.concepts:
+            seen, turn = {code}, [code]
+            while turn:
+                new = self.parents(turn.pop()) - seen
+                seen |= new
+                turn += new
+            found[code] = seen
+        return found
+
+    def within(self, top: str) -> set[str]:
+        return self.below.get(top, set()) | {top}
+
+    def terms(self, code: str) -> list[Row]:
+        return self.about["D"].get(code, [])
+
+    def begins(self, code: str, text: str) -> bool:
+        return any(row[7].casefold().startswith(text.casefold()) for row in self.terms(code))
+
+
+def latest(rows: Iterable[Row], day: str) -> dict[str, Row]:
+    found: dict[str, Row] = {}
+    for row in rows:
+        if row[1] <= day and (row[0] not in found or found[row[0]][1] < row[1]):
+            found[row[0]] = row
+    return found
+
+
+def read(folder: Path) -> Rows:
+    found: dict[str, list[Row]] = {kind: [] for kind in FILES}
+    for kind, pattern in FILES.items():
+        for path in folder.glob(pattern):
+            lines = path.read_bytes().decode().split("\n")[1:]
+            found[kind] += [line.rstrip("\r").split("\t") for line in lines if line]
+    return Rows(found)

@@ -1,0 +1,29 @@
+"""The comparison with a release's own files."""
+
+import unittest
+
+from .compare_releases import compared
+from .house import program_and_hub
+
+ROWS, DAYS, SEED = 20_000, 12, 2
+SUBSUMPTIONS = 400
+# At least so many of each, so that no round passes in which nothing was compared.
+AT_LEAST = {
+    "$lookup": 2_000,
+    "$lookup of what isn't there": 200,
+    "$expand": 200,
+    "$expand with a filter": 200,
+    "$translate": 300,
+    "$subsumes subsumes": 50,
+    "$subsumes subsumed-by": 50,
+    "$subsumes not-subsumed": 200,
+}
+
+
+class Releases(unittest.TestCase):
+    def test_answers_are_those_of_the_files(self) -> None:
+        counts = compared(*program_and_hub(), ROWS, DAYS, SEED)
+        for what, least in AT_LEAST.items():
+            self.assertGreaterEqual(counts[what], least, counts)
+        subsumptions = [count for what, count in counts.items() if what.startswith("$subsumes")]
+        self.assertGreaterEqual(sum(subsumptions), SUBSUMPTIONS)

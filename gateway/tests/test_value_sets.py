@@ -1,0 +1,238 @@
+"""ValueSet/$expand, and ConceptMap/$translate."""
+
+import unittest
+from typing import Any
+
+from .house import SCT, Json, Shared, issue, parts_of, told, version
+
+
+class Expand(unittest.TestCase):
+    def setUp(self) -> None:
+        self.house = Shared.get()
+        self.codes = self.house.codes
+
+    def ask(self, what: str, **words: Any) -> tuple[int, Json]:
+        return self.house.gateway.fhir("ValueSet/$expand", url=SCT + "?fhir_vs" + what, **words)
+
+    def expanded(self, what: str = "", **words: Any) -> tuple[list[str], Json]:
+        status, said = self.ask(what, **words)
+        self.assertEqual(status, 200, said)
+        expansion: Json = said["expansion"]
+        return [one["code"] for one in expansion.get("contains", [])], expansion
+
+    def isa(self, name: str) -> str:
+        return "=isa/" + self.codes[name]
+
+    def test_isa(self) -> None:
+        found, said = self.expanded(self.isa("limb"))
+        names = ("limb", "radius", "carpal", "radius2")
+        self.assertEqual(found, sorted((self.codes[name] for name in names), key=int))
+        self.assertEqual(said["total"], 4)
+        inactive = [one["code"] for one in said["contains"] if one.get("inactive")]
+        self.assertEqual(inactive, [self.codes["radius"]])
+
+    def test_isa_in_the_version_of_the_url(self) -> None:
+        url = "%s?fhir_vs=isa/%s" % (version("20190131"), self.codes["limb"])
+        said = self.house.gateway.fhir("ValueSet/$expand", url=url)[1]["expansion"]
+        self.assertEqual(
+            {one["code"] for one in said["contains"]}, {self.codes["limb"], self.codes["wrist"]}
+        )
+        self.assertIn(
+            {"name": "version", "valueUri": "%s|%s" % (SCT, version("20190131"))}, said["parameter"]
+        )
+
+    def test_system_version(self) -> None:
+        found = self.expanded(self.isa("limb"), system_version=SCT + "|" + version("20180101"))[0]
+        self.assertEqual(found, [self.codes["limb"]])
+        for text, status in (
+            ("http://loinc.org|2.5", 404),
+            (version("20180101"), 400),
+            (SCT + "|", 400),
+        ):
+            self.assertEqual(self.ask(self.isa("limb"), system_version=text)[0], status, text)
+
+    def test_active_only_and_pages(self) -> None:
+        whole = self.expanded(self.isa("limb"), activeOnly="true")[0]
+        self.assertEqual(len(whole), 3)
+        pages = [
+            self.expanded(self.isa("limb"), activeOnly="true", offset=at, count=1)[0]
+            for at in range(4)
+        ]
+        self.assertEqual(pages, [[one] for one in whole] + [[]])
+
+    def test_count_0(self) -> None:
+        found, said = self.expanded(self.isa("limb"), count=0)
+        self.assertEqual((found, said["total"]), ([], 4))
+
+    def test_filter(self) -> None:
+        found = self.expanded(self.isa("injury"), filter="FRACTURE of d", activeOnly="true")[0]
+        self.assertEqual(found, [self.codes["radius2"]])
+        self.assertEqual(self.expanded(self.isa("drug"), filter="fracture")[0], [])
+        self.assertEqual(self.expanded("", filter="fracture of wrist j")[0], [self.codes["wrist"]])
+
+    def test_designations(self) -> None:
+        said = self.expanded(
+            "", filter="handgelenk", includeDesignations="true", displayLanguage="de"
+        )[1]
+        one = said["contains"][0]
+        self.assertEqual(one["display"], "Handgelenksfraktur")
+        self.assertEqual(
+            {term["value"] for term in one["designation"]},
+            {"Handgelenksfraktur", "Wrist fracture", "Fracture of wrist joint region (disorder)"},
+        )
+
+    def test_all(self) -> None:
+        found, said = self.expanded("", count=5)
+        self.assertEqual((len(found), "total" in said), (5, False))
+        self.assertEqual(self.expanded("", count=5, offset=3)[0][:2], found[3:])
+        self.assertEqual(set(self.expanded("")[0]), set(self.codes.values()))
+
+    def test_again_at_the_pin(self) -> None:
+        url = SCT + "?fhir_vs" + self.isa("limb")
+        answers = [
+            self.house.gateway.fhir("ValueSet/$expand", base, url=url)[1]
+            for base in ("/fhir/", "/pin/3/fhir/")
+        ]
+        for one in answers:
+            del one["expansion"]["timestamp"]
+        self.assertEqual(answers[0], answers[1])
+
+    def test_what_is_refused(self) -> None:
+        cases: tuple[tuple[str, dict[str, str], int], ...] = (
+            ("=ecl/<1", {}, 422),
+            ("=refset", {}, 422),
+            ("=refset/1105007", {}, 422),
+            ("=isa/12", {}, 400),
+            ("x", {}, 400),
+            ("=isa/1105007\nPIN 1", {}, 400),
+            ("", {"count": "1001"}, 422),
+            ("", {"count": "-1"}, 400),
+            ("", {"count": "x"}, 400),
+            ("", {"count": "\u0663"}, 400),
+            ("", {"offset": "100000"}, 422),
+            ("=isa/1105007", {"date": "2010-01-01"}, 404),
+            ("", {"filter": "a\nPIN 1"}, 400),
+            ("", {"filter": "a\rPIN 1"}, 400),
+            ("", {"filter": "a\u2028b"}, 400),
+            ("", {"filter": "a\u0085b"}, 400),
+            ("", {"filter": " "}, 400),
+            ("", {"filter": "x" * 201}, 400),
+            ("", {"activeOnly": "yes"}, 400),
+        )
+        for what, words, status in cases:
+            got, said = self.ask(what, **words)
+            self.assertEqual(
+                (got, said["resourceType"]), (status, "OperationOutcome"), (what, words)
+            )
+        fhir = self.house.gateway.fhir
+        self.assertEqual(fhir("ValueSet/$expand", url="http://hl7.org/fhir/ValueSet/x")[0], 404)
+        self.assertEqual(fhir("ValueSet/$expand", url="http://snomed.info/sctx?fhir_vs")[0], 404)
+        self.assertEqual(fhir("ValueSet/$expand")[0], 400)
+
+    def test_filter_that_no_line_of_the_hub_can_split(self) -> None:
+        for text in ("%", "a b  c", "\u00e9\u4e2d\U0001f600" * 60, "PIN 1", "x" * 200):
+            self.assertEqual(self.ask("", filter=text)[0], 200, text)
+
+
+class Translate(unittest.TestCase):
+    def setUp(self) -> None:
+        self.house = Shared.get()
+        self.codes = self.house.codes
+
+    def ask(self, refset: str, code: str = "wrist", **words: Any) -> tuple[int, Json]:
+        return self.house.gateway.fhir(
+            "ConceptMap/$translate",
+            url="%s?fhir_cm=%s" % (SCT, refset),
+            system=SCT,
+            code=self.codes[code],
+            **words,
+        )
+
+    def test_replaced_by(self) -> None:
+        found = parts_of(self.ask("900000000000526001")[1], "match")
+        self.assertEqual(
+            [
+                (one["equivalence"], one["concept"]["code"], one["concept"]["display"])
+                for one in found
+            ],
+            [("equivalent", self.codes["radius"], "Fracture of distal end of radius (disorder)")],
+        )
+
+    def test_possibly(self) -> None:
+        found = parts_of(self.ask("900000000000523009")[1], "match")
+        self.assertEqual(
+            {(one["equivalence"], one["concept"]["code"]) for one in found},
+            {("inexact", self.codes["radius"]), ("inexact", self.codes["carpal"])},
+        )
+
+    def test_same_as(self) -> None:
+        found = parts_of(self.ask("900000000000527005", "radius")[1], "match")
+        self.assertEqual(
+            [(one["equivalence"], one["concept"]["code"]) for one in found],
+            [("equal", self.codes["radius2"])],
+        )
+
+    def test_before(self) -> None:
+        said = self.ask("900000000000526001", version=version("20210130"))[1]
+        self.assertEqual((told(said, "result"), parts_of(said, "match")), ([False], []))
+
+    def test_what_is_refused(self) -> None:
+        self.assertEqual(self.ask("900000000000207008")[0], 404)
+        self.assertEqual(self.ask("900000000000526001", reverse="true")[0], 422)
+        self.assertEqual(self.ask("900000000000526001", targetsystem="http://loinc.org")[0], 404)
+        self.assertEqual(self.ask("900000000000526001", date="2010-01-01")[0], 404)
+        status, _ = self.house.gateway.fhir(
+            "ConceptMap/$translate", url=SCT, system=SCT, code="138875005"
+        )
+        self.assertEqual(status, 404)
+
+
+class Metadata(unittest.TestCase):
+    def setUp(self) -> None:
+        self.house = Shared.get()
+
+    def test_capability_statement(self) -> None:
+        said = self.house.gateway.fhir("metadata")[1]
+        self.assertEqual(
+            (said["resourceType"], said["fhirVersion"]), ("CapabilityStatement", "4.0.1")
+        )
+        offered = {
+            "%s/$%s" % (resource["type"], operation["name"])
+            for resource in said["rest"][0]["resource"]
+            for operation in resource["operation"]
+        }
+        for path in offered:
+            status, answer = self.house.gateway.fhir(path)
+            self.assertEqual((status, issue(answer)), (400, "required"), path)
+        self.assertEqual(len(offered), 6)
+
+    def test_terminology_capabilities(self) -> None:
+        said = self.house.gateway.fhir("metadata", mode="terminology")[1]
+        self.assertEqual(said["resourceType"], "TerminologyCapabilities")
+        versions = said["codeSystem"][0]["version"]
+        self.assertEqual(
+            [one["code"] for one in versions],
+            [version(day) for day in ("20190131", "20210131", "20220731")],
+        )
+        self.assertEqual(
+            [one["code"] for one in versions if one["isDefault"]], [version("20220731")]
+        )
+        self.assertIn({"name": "filter"}, said["expansion"]["parameter"])
+        said = self.house.gateway.fhir("metadata", base="/pin/2/fhir/", mode="terminology")[1]
+        self.assertEqual(
+            [one["code"] for one in said["codeSystem"][0]["version"]],
+            [version(day) for day in ("20190131", "20210131")],
+        )
+
+    def test_modes(self) -> None:
+        fhir = self.house.gateway.fhir
+        self.assertEqual(fhir("metadata", mode="full")[0], 200)
+        self.assertEqual(fhir("metadata", mode="x")[0], 400)
+
+    def test_code_system(self) -> None:
+        fhir = self.house.gateway.fhir
+        self.assertEqual(fhir("CodeSystem", url=SCT)[1]["total"], 1)
+        self.assertEqual(fhir("CodeSystem")[1]["entry"][0]["resource"]["url"], SCT)
+        self.assertEqual(fhir("CodeSystem", url="http://loinc.org")[1]["total"], 0)
+        self.assertEqual(fhir("CodeSystem/sct")[1]["content"], "not-present")
+        self.assertEqual(fhir("CodeSystem/sct", "/pin/1/fhir/")[1]["version"], version("20190131"))
