@@ -17,7 +17,7 @@ import tempfile
 from collections import namedtuple
 
 ROOT = os.path.dirname(os.path.dirname(os.path.dirname(os.path.abspath(__file__))))
-sys.path.insert(0, os.path.join(ROOT, "bench"))
+sys.path.insert(0, os.path.join(ROOT, "bench", "trials"))
 from try_gateway import python_with_h11  # noqa: E402
 
 SECONDS = 300
@@ -344,7 +344,8 @@ def failed(root, python, program, tests):
     found = []
     for test in tests.split():
         if test == PAGE:
-            words, folder = [sys.executable, os.path.join(root, "bench", PAGE), program], root
+            page = os.path.join(root, "bench", "trials", PAGE)
+            words, folder = [sys.executable, page, program], root
         else:
             hub = os.path.join(root, "examples", "hub.py")
             words, folder = [python, "-m", "tests", program, hub, test], os.path.join(

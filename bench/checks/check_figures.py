@@ -19,7 +19,7 @@ import subprocess
 import sys
 from collections import namedtuple
 
-ROOT = os.path.dirname(os.path.dirname(os.path.abspath(__file__)))
+ROOT = os.path.dirname(os.path.dirname(os.path.dirname(os.path.abspath(__file__))))
 
 # A document, a text in which {} stands for the number, and the command that prints it.
 Figure = namedtuple("Figure", "document text command")
@@ -30,7 +30,12 @@ TESTS = "grep -rhE '^ *#\\[test\\]' --include=*.rt crates/*/src | wc -l"
 CASES = "grep -hE '^case ' crates/*/data/cases/* | wc -l"
 CRATES = "ls -d crates/*/ | wc -l"
 # The definitions that the contract of an answer rests on.
-REACH = "python3 bench/count_reach.py line_server::answer | sed -nE 's/.*: ([0-9]+) words.*/\\1/p'"
+REACH = (
+    "python3 bench/checks/count_reach.py line_server::answer"
+    " | sed -nE 's/.*: ([0-9]+) words.*/\\1/p'"
+)
+# The calls that always_refused.py plants.
+CALLS = "grep -c '^    Call(' bench/faults/always_refused.py"
 # All functions of src/, those of traits and the tests' helpers too, less the tests themselves.
 FUNCTIONS = (
     "echo $(( $(grep -rhE '^ *(pub(\\([a-z]+\\))? )?fn ' --include=*.rt crates/*/src | wc -l)"
@@ -106,9 +111,8 @@ FIGURES = [
     Figure(RELIABILITY, "refused: at least {} lines in", asked_for(RUNS, "runs.most", ",")),
     Figure(RELIABILITY, "runs of {} lines, each with 16 bytes more",
            number_in("line_support/src/script.rt", "const SCRIPT: \\[Turn; ")),
-    Figure(RELIABILITY, "| {} calls, one by one", "grep -c '^    Call(' bench/always_refused.py"),
-    Figure(RELIABILITY, "makes each of {} public calls",
-           "grep -c '^    Call(' bench/always_refused.py"),
+    Figure(RELIABILITY, "| {} calls, one by one", CALLS),
+    Figure(RELIABILITY, "makes each of {} public calls", CALLS),
     Figure(RELIABILITY, "| {} lengths",
            reckoned(number_in(CHANGED, "assert_eq!\\(rt; bytes.len\\(\\), "), "n + 1")),
     Figure(RELIABILITY, "| A field changed | {}, and one",
