@@ -175,6 +175,20 @@ FAULTS = [
         "test_value_sets test_releases",
     ),
     Fault(
+        "a namespace is a translation",
+        "fhir/translation.py",
+        'Map("MOVED TO", DISJOINT)',
+        'Map("MOVED TO", INEXACT)',
+        "test_value_sets",
+    ),
+    Fault(
+        "what was a kind of the target is taken for the same",
+        "fhir/translation.py",
+        'Map("WAS A", WIDER)',
+        'Map("WAS A", EQUIVALENT)',
+        "test_value_sets",
+    ),
+    Fault(
         "the case of a display never counts",
         "snomed.py",
         "    return row.term == text\n",
