@@ -280,6 +280,22 @@ FAULTS = [
         "test_validation",
     ),
     Fault(
+        "an answer has no date",
+        "http.py",
+        '            "Date: " + formatdate(usegmt=True),\n',
+        "",
+        "test_requests",
+    ),
+    Fault(
+        "a refusal of the page doesn't tell its pin",
+        "app.py",
+        "        response = refusal(problem, fhir)\n",
+        "        response = refusal(problem, fhir)\n"
+        "        if not fhir:\n"
+        "            return response\n",
+        "test_page",
+    ),
+    Fault(
         "an answer may have any length",
         "app.py",
         "if len(response.body) > limits.ANSWER_BYTES:",

@@ -113,6 +113,17 @@ class Page(unittest.TestCase):
             self.page(q=limb, date="2025-01-01")[1],
         )
 
+    def test_a_refusal_tells_its_pin(self) -> None:
+        send = self.house.gateway.send
+        for target in ("/?q=1&date=2018-02-31", "/suggest?text=", "/suggest?text=a&date=x"):
+            answer = send("GET", target)
+            self.assertEqual((answer.status, answer.headers.get("x-sctd-pin")), (400, "3"), target)
+        headers = send("GET", "/pin/2/?q=1&date=x").headers
+        self.assertEqual(
+            (headers.get("x-sctd-pin"), headers.get("x-sctd-receipt")),
+            ("2", "RECEIPT 2: OK 2 18 20210131"),
+        )
+
     def test_two_dates_of_one_day(self) -> None:
         text = self.page(q=self.codes["wrist"], date="2018-01-01", other="2018-01-01")[1]
         self.assertIn(">the same day<", text)

@@ -29,8 +29,7 @@ class Map(NamedTuple):
 #   a record, so no code is translated by it.
 # - WAS A names a concept of which the code was a kind. (`subsumes` would say that it still is.)
 # - SIMILAR TO says that the meanings overlap, and not in which way.
-# - The last two say that it isn't certain whether the meanings are the same, or that they overlap in
-#   part, as POSSIBLY EQUIVALENT TO does.
+# - The last two leave it uncertain where the meanings part, as POSSIBLY EQUIVALENT TO does.
 MAPS = {
     "900000000000526001": Map("REPLACED BY", EQUIVALENT),
     "900000000000527005": Map("SAME AS", EQUAL),
