@@ -233,11 +233,12 @@ def replacements(maker: Maker) -> None:
         status=DEFINED,
     )
     maker.row(radius, "20220731", "0", DEFINED)
-    # In the place of this one a release names what is no concept.
+    # In the place of this one a release names what is no concept, and one that nothing tells of.
     lost = maker.concept("lost", FIRST_DAY, parents=())
     name = maker.term(lost, FIRST_DAY, "Lost (finding)", FULLY_SPECIFIED)
     maker.row(lost, "20170731", "0", PRIMITIVE)
     maker.association(100, "20170731", SAME_AS, lost, name)
+    maker.association(101, "20170731", REPLACED_BY, lost, maker.new("0"))
     maker.association(99, "20220731", SAME_AS, radius, later)
 
 

@@ -1,11 +1,43 @@
 """The page for people."""
 
+import asyncio
 import json
 import re
 import unittest
+from collections.abc import Iterable, Sequence
 from urllib.parse import urlencode
 
+from make_release import sctid
+from sctd_gateway import limits
+from sctd_gateway.page_record import replacements
+from sctd_gateway.snomed import Association, Concept
+from sctd_gateway.store import View
+
+from .demo_releases import REPLACED_BY
 from .house import Shared
+
+class Chain(View):
+    """A store in which each concept but the last was replaced by the next."""
+
+    def __init__(self, codes: list[str]) -> None:
+        self.codes = codes
+
+    async def associations(self, codes: Sequence[str], day: str) -> list[list[Association]]:
+        return [self.next(self.codes.index(code)) for code in codes]
+
+    def next(self, place: int) -> list[Association]:
+        both = self.codes[place : place + 2]
+        return [Association("m", "20200101", "1", "1", REPLACED_BY, *both)] if len(both) > 1 else []
+
+    async def concepts(
+        self, codes: Sequence[str], day: str, keep: bool = True
+    ) -> list[Concept | None]:
+        last = self.codes[-1]
+        return [Concept(one, "20200101", str(int(one == last)), "1", "1") for one in codes]
+
+    async def names(self, codes: Iterable[str], day: str) -> dict[str, str]:
+        return {code: code for code in codes}
+
 
 # Markup that only a text of the store or of a client could have brought.
 FOREIGN = re.compile(r"<script(?! src=\"page.js\" defer>)|<img|</textarea><s|onfocus='|<b>bold")
@@ -44,6 +76,23 @@ class Page(unittest.TestCase):
         found = re.search(r"Same as</b>: <a href=[^>]*><bdi>([0-9]+)</bdi>", text)
         assert found, (status, text)
         self.assertEqual((status, found[1][-3:-1]), (200, "01"))
+
+    def test_a_replacement_that_the_store_does_not_have(self) -> None:
+        text = self.page(q=self.codes["lost"])[1]
+        entries = re.findall(r"<li><b>(Replaced by|Same as)</b>: (.*?)</li>", text)
+        self.assertEqual(sorted(name for name, _ in entries), ["Replaced by", "Same as"])
+        for _, entry in entries:
+            self.assertIn("not in the store", entry)
+            self.assertNotIn("inactive<", entry)
+
+    def test_many_steps_to_what_took_its_place(self) -> None:
+        """A list that isn't whole says so."""
+        most = limits.REPLACEMENT_STEPS
+        for count, is_whole in ((most, True), (most + 1, False)):
+            chain = [str(sctid(9_000 + number, "00")) for number in range(count + 1)]
+            html = asyncio.run(replacements(Chain(chain), chain[0], "20200101"))
+            self.assertEqual(html.count("Replaced by"), most)
+            self.assertEqual("isn\u2019t whole" not in html, is_whole, count)
 
     def test_day_before_and_day_of(self) -> None:
         for date, status in (("2021-01-30", "active"), ("2021-01-31", "inactive")):
