@@ -55,6 +55,8 @@ ACCEPTED = {
     "application/json",
     "application/fhir+json",
 }
+# What a client says that it doesn't take.
+UNWANTED = re.compile(r";[ \t]*q=0(\.0*)?[ \t]*(;|\Z)", re.I)
 BODIES = ("application/json", "application/fhir+json")
 # What FHIR calls a request that isn't one.
 ISSUES = {
@@ -214,9 +216,11 @@ def pairs_of(words: str) -> list[Given]:
 def check_format(request: http.Request, given: list[Given]) -> None:
     """Refuses a request that takes no JSON. A `+` in an address is a space, also of `fhir+json`."""
     formats = [value.replace(" ", "+") for name, value in given if name == FORMAT]
+    if len(formats) > 1:
+        raise invalid("%s is given more than once" % FORMAT)
     accepted = formats[0] if formats else request.headers.get("accept") or "*/*"
-    kinds = {kind.partition(";")[0].strip().lower() for kind in accepted.split(",")}
-    if not kinds & ACCEPTED:
+    wanted = [kind for kind in accepted.split(",") if not UNWANTED.search(kind)]
+    if not ACCEPTED.intersection(kind.partition(";")[0].strip().lower() for kind in wanted):
         raise Problem(406, "not-supported", "answers are JSON only")
 
 

@@ -200,6 +200,9 @@ class Requests(unittest.TestCase):
             ("*/*", 200),
             ("text/json", 200),
             ("text/html, application/fhir+json;q=0.9", 200),
+            ("application/fhir+json; q=0", 406),
+            ("text/html, */*;q=0.000", 406),
+            ("application/fhir+json;q=0.001", 200),
         ):
             self.assertEqual(
                 self.gateway.send("GET", "/fhir/metadata", headers={"Accept": kind}).status, status
@@ -214,6 +217,7 @@ class Requests(unittest.TestCase):
             self.assertEqual(self.gateway.fhir("metadata", _format=kind)[0], status, kind)
         answer = self.gateway.send("GET", "/fhir/metadata?_format=xml")
         self.assertEqual(issue(answer.json()), "not-supported")
+        self.assertEqual(self.gateway.fhir("metadata", _format=["json", "xml"])[0], 400)
 
     def test_bodies(self) -> None:
         head = b'{"resourceType":"Parameters","parameter":['
