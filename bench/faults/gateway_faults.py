@@ -359,6 +359,20 @@ FAULTS = [
         "test_page",
     ),
     Fault(
+        "the history passes over another target",
+        "page_history.py",
+        "    if old == new:\n",
+        "    if bool(old) == bool(new):\n",
+        "test_page",
+    ),
+    Fault(
+        "concepts that are called alike are one in the history",
+        "page_history.py",
+        "Said(what, row.target, names.of(row.target))",
+        'Said(what, "", names.of(row.target))',
+        "test_page",
+    ),
+    Fault(
         "a time of day that there isn't is read",
         "fhir/versions.py",
         "(T([01][0-9]|2[0-3]):[0-5][0-9]",

@@ -9,9 +9,10 @@ from urllib.parse import urlencode
 
 from make_release import sctid
 from sctd_gateway import limits
+from sctd_gateway.page_history import Names, changes
 from sctd_gateway.page_record import replacements
-from sctd_gateway.snomed import Association, Concept
-from sctd_gateway.store import View
+from sctd_gateway.snomed import IS_A, Association, Concept, Relationship
+from sctd_gateway.store import AnyRow, View
 
 from .demo_releases import REPLACED_BY
 from .house import Shared
@@ -93,6 +94,24 @@ class Page(unittest.TestCase):
             html = asyncio.run(replacements(Chain(chain), chain[0], "20200101"))
             self.assertEqual(html.count("Replaced by"), most)
             self.assertEqual("isn\u2019t whole" not in html, is_whole, count)
+
+    def test_a_component_that_names_another_concept_from_then_on(self) -> None:
+        """A version may have another target, or another type, and stay active."""
+        called = {"11": "Eleven", "12": "Twelve", "111": "Eleven", "7": "Site"}
+        names = Names(called, {REPLACED_BY: "Replaced by"})
+        member = Association("m", "20200131", "1", "1", REPLACED_BY, "10", "11")
+        part = Relationship("r", "20200131", "1", "1", "10", "11", "0", IS_A, "i", "m")
+        cases: list[tuple[AnyRow, AnyRow, list[str]]] = [
+            (member, member._replace(target="12"), ["Replaced by changed: Eleven \u2192 Twelve"]),
+            (part, part._replace(target="12"), ["Parent changed: Eleven \u2192 Twelve"]),
+            (part, part._replace(type="7"), ["Parent withdrawn: Eleven", "Site added: Eleven"]),
+            (part, part._replace(group="1"), []),
+            (part, part._replace(target="12", active="0"), ["Parent withdrawn: Eleven"]),
+            (part, part._replace(target="111"), ["Parent changed: 11 \u2192 111"]),
+        ]
+        for before, after, told in cases:
+            found = [re.sub(r"</?bdi>", "", one) for one in changes(before, after, names)]
+            self.assertEqual(found, told, after)
 
     def test_day_before_and_day_of(self) -> None:
         for date, status in (("2021-01-30", "active"), ("2021-01-31", "inactive")):
