@@ -72,7 +72,7 @@ STEPS = (
     Step("both run", "systemctl is-active sctd sctd-gateway", "active\nactive"),
     Step("their users", "ps -o user:20= -p %s,%s" % (MAIN % "sctd", MAIN % "sctd-gateway"),
          "sctd\nsctd-gateway"),
-    Step("the sockets", "cd /run/sctd; stat -c '%n %U %G %a' *",
+    Step("the sockets", "cd /run/sctd && stat -c '%n %U %G %a' *",
          "questions.sock sctd sctd-ask 660\nsctd.sock sctd sctd 600"),
     Step("an import", "echo IMPORT r1 " + ASKING % ("sctd", "sctd"), "OK 1 6 0"),
     Step("a copy", "echo BACKUP /var/backups/sctd/copy " + ASKING % ("sctd", "sctd"), "OK 1 6 1"),
