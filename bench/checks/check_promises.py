@@ -112,7 +112,7 @@ class Sources:
         ]
 
     def is_place(self, path, crates):
-        """Whether it is a type or a module, as `Disk` or `history_model::plain`."""
+        """Whether it is a type or a module, as `Disk` or `store_life::laws`."""
         *front, last = path.split("::")
         if front:
             crates = front[:1]

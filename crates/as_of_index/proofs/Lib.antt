@@ -5,14 +5,12 @@ pub mod Following
 pub mod Walking
 pub mod OnePlace
 pub mod Among
-pub mod Keeping
 pub mod Paging
 pub mod LeastIds
 pub mod Later
 pub mod Storing
 pub mod First
 pub mod Keyed
-pub mod Apart
 pub mod Current
 pub mod Early
 pub mod Pushing

@@ -25,7 +25,7 @@ use crate::hints::{Hints, latest_from_hints};
 use crate::place_list::PlaceList;
 use crate::reader::RowReader;
 use crate::search::{Start, nth_place};
-use crate::several::{is_apart, latest, next_version};
+use crate::several::{latest, next_version};
 use fault_counts::ReadFault;
 use rf2_values::{EffectiveTime, Kind, Row};
 use segment::RowPlace;
@@ -93,14 +93,6 @@ impl Index {
     {
         let lists = Vec::with_capacity(alloc, MAX_LISTS)?;
         Ok(Index { lists, alloc })
-    }
-
-    /// Whether a list may be added: there is room, and none of its keys is listed already.
-    pub fn may_add(&self, list: &PlaceList) -> bool
-        ensures { IsTrue result
-            ↔ ((length self.now < max_lists) × ArePlaces (self.now ++ list.now ∷ [])) }
-    {
-        self.lists.len() < MAX_LISTS && is_apart(self.lists.as_slice(), list)
     }
 
     /// Adds a list as the last. It takes no memory.

@@ -1,11 +1,10 @@
 //! The places of one segment's rows.
 
-ghost use Rattle.std.specs.Prelude.{◌≡◌, ◌↔◌, IsTrue};
+ghost use Rattle.std.specs.Prelude.{◌≡◌};
 ghost use Rattle.history_model.specs.InOrder.{IsAscending};
 ghost use Rattle.as_of_index.specs.Places.{place_cmp, least_by};
 ghost use Rattle.as_of_index.specs.Private.Search.{may_show, shown_part};
 
-use crate::search::are_ascending;
 use rf2_values::EffectiveTime;
 use segment::RowPlace;
 use std::marker::Model;
@@ -66,14 +65,7 @@ pub(crate) fn first_import(places: &[RowPlace]) -> u32
 }
 
 impl PlaceList {
-    /// Whether places may be listed: each key is above the one before it.
-    pub fn may_list(places: &[RowPlace]) -> bool
-        ensures { IsTrue result ↔ IsAscending place_cmp places.now }
-    {
-        are_ascending(places)
-    }
-
-    /// Places that ascend by their keys, as `may_list` tells.
+    /// Places that ascend by their keys.
     pub fn new(places: Vec<RowPlace>) -> PlaceList
         requires { IsAscending place_cmp places.items }
         ensures { result ≡ places.items }

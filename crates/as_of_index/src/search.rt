@@ -1,20 +1,17 @@
 //! Searches in one list of places, by bisection.
 
-ghost use Rattle.std.specs.Prelude.{◌≡◌, ◌≤◌, ◌++◌, ◌∷◌, [], ℕ, ◌↔◌, length, IsTrue, find, reverse};
+ghost use Rattle.std.specs.Prelude.{◌≡◌, ◌≤◌, ℕ, length, IsTrue, find, reverse};
 ghost use Rattle.std.specs.Prelude.{take, drop, true, slice_get, Some, None};
 ghost use Rattle.std.specs.List.{AllByRecursion};
 ghost use Rattle.std.specs.Option.{option_copied};
-ghost use Rattle.std.specs.declared.cmp.Ordering.TheVariants.{Equal};
-ghost use Rattle.rf2_values.specs.Key.{kind_place, key_cmp};
-ghost use Rattle.history_model.specs.InOrder.{Has, IsAscending};
+ghost use Rattle.history_model.specs.InOrder.{IsAscending};
 ghost use Rattle.history_model.specs.Queries.{is_above};
 ghost use Rattle.as_of_index.specs.Places.{place_cmp};
-ghost use Rattle.as_of_index.specs.Private.Search.{ShareNoKey, is_under, is_of, is_before};
+ghost use Rattle.as_of_index.specs.Private.Search.{is_under, is_of, is_before};
 ghost use Rattle.as_of_index.specs.Private.Search.{SplitsAt, stops, IsPassed, IsPick};
 ghost use Rattle.as_of_index.specs.Private.Search.{id_of_kind, later_of, lesser_of, IsNext};
 ghost use Rattle.as_of_index.specs.Private.Search.{sooner_of};
 ghost use Rattle.as_of_index.specs.declared.search.Start.TheVariants as starts;
-ghost use Rattle.segment.specs.declared.place.RowPlace.{RowPlace};
 
 use rf2_values::{EffectiveTime, Key, Kind};
 use segment::RowPlace;
@@ -305,67 +302,4 @@ pub(crate) fn is_under(p: &RowPlace, key: &Key) -> bool
         Ordering::Equal => false,
         Ordering::Greater => false,
     }
-}
-
-/// The first place whose key isn't below a key.
-fn place_of_key(list: &[RowPlace], key: Key) -> usize
-    ensures { IsAscending place_cmp list.now
-        → SplitsAt (is_under (λ p. p.key) key) list.now result }
-{
-    list.partition_point(|p| is_under(p, &key))
-}
-
-fn is_key(p: &RowPlace, key: &Key) -> bool
-    ensures { IsTrue result ↔ (key_cmp p.now.key key.now ≡ Equal) }
-{
-    match p.key.compare(key) {
-        Ordering::Equal => true,
-        Ordering::Less | Ordering::Greater => false,
-    }
-}
-
-fn has_key(list: &[RowPlace], key: Key) -> bool
-    requires { IsAscending place_cmp list.now }
-    ensures { IsTrue result ↔ ((p : RowPlace) × Has list.now p × (p.key ≡ key)) }
-{
-    match nth_place(list, place_of_key(list, key)) {
-        Some(p) => is_key(&p, &key),
-        None => false,
-    }
-}
-
-/// Whether no key is in both lists.
-pub(crate) fn share_no_key(list: &[RowPlace], other: &[RowPlace]) -> bool
-    requires { IsAscending place_cmp other.now }
-    ensures { IsTrue result ↔ ShareNoKey list.now other.now }
-{
-    for p in list {
-        if has_key(other, p.key) {
-            return false;
-        }
-    }
-    true
-}
-
-/// Whether the last of some places in key order is below a place.
-fn comes_after(list: &[RowPlace], p: &RowPlace) -> bool
-    requires { IsAscending place_cmp list.now }
-    ensures { IsTrue result ↔ IsAscending place_cmp (list.now ++ p.now ∷ []) }
-{
-    match list {
-        [] => true,
-        [.., last] => is_under(last, &p.key),
-    }
-}
-
-/// Whether the keys of the places strictly ascend.
-pub(crate) fn are_ascending(list: &[RowPlace]) -> bool
-    ensures { IsTrue result ↔ IsAscending place_cmp list.now }
-{
-    for (i, p) in list.iter().enumerate() {
-        if !comes_after(&list[..i], p) {
-            return false;
-        }
-    }
-    true
 }

@@ -1,14 +1,11 @@
 //! Searches in several lists of places, by a bisection in each.
 
-ghost use Rattle.std.specs.Prelude.{◌≡◌, ◌↔◌, IsTrue};
-ghost use Rattle.std.specs.List.{AllByRecursion};
-ghost use Rattle.history_model.specs.InOrder.{IsAscending};
-ghost use Rattle.as_of_index.specs.Places.{place_cmp};
-ghost use Rattle.as_of_index.specs.Private.Search.{ShareNoKey, all_places, number_in, IsPick};
+ghost use Rattle.std.specs.Prelude.{◌≡◌};
+ghost use Rattle.as_of_index.specs.Private.Search.{all_places, number_in, IsPick};
 ghost use Rattle.as_of_index.specs.Private.Search.{IsNext, IsNextVersion};
 
 use crate::place_list::PlaceList;
-use crate::search::{Start, is_of, later, latest_in, next_in, share_no_key, sooner};
+use crate::search::{Start, is_of, later, latest_in, next_in, sooner};
 use rf2_values::{EffectiveTime, Kind};
 use segment::RowPlace;
 
@@ -70,19 +67,4 @@ pub(crate) fn next_version(
         Some((segment, p)) if is_of(kind, id, &p) => Some((segment, p)),
         _ => None,
     }
-}
-
-/// Whether no key of the list is in one of the others.
-pub(crate) fn is_apart(lists: &[PlaceList], list: &PlaceList) -> bool
-    ensures apart { IsTrue result
-        ↔ AllByRecursion (λ places. ShareNoKey places list.now) lists.now }
-    ensures ascending { IsAscending place_cmp list.now }
-{
-    let places = list.places();
-    for own in lists {
-        if !share_no_key(own.places(), places) {
-            return false;
-        }
-    }
-    true
 }

@@ -3,6 +3,7 @@
 use crate::asking::scramble;
 use as_of_index::{Index, MAX_LISTS, PlaceList, RowPlace};
 use history_model::{IS_A, StampedRow};
+use index_support::{may_add, may_list};
 use links::Links;
 use rf2_values::{
     Association, Body, Description, EffectiveTime, Key, Kind, Relationship, Row, Sctid, Text,
@@ -227,11 +228,11 @@ impl Made {
             links,
             ..
         } = pushed;
-        if !PlaceList::may_list(&places) {
+        if !may_list(&places) {
             return Err(other("not in order"));
         }
         let list = PlaceList::new(places);
-        if !self.index.may_add(&list) {
+        if !may_add(&self.index, &list) {
             return Err(other("listed twice"));
         }
         if self.terms.lists() >= MAX_LISTS || self.links.lists() >= MAX_LISTS {

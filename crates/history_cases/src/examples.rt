@@ -17,13 +17,13 @@
 
 use crate::index_questions::ask_index;
 use crate::indexed::{Indexed, lists_of};
-use crate::plain_questions::{Pinned, ask_plainly};
+use crate::plain_questions::ask_plainly;
 use as_of_index::Hints;
 use case_files::{Answer, Answers, NoAnswer};
 use case_values::{
     day_of, first_word, kind_of, number, read_question, read_row, row_text, split_prefix,
 };
-use history_model::{GhostRows, StampedRow, plain};
+use history_model::{GhostRows, StampedRow};
 use rf2_values::Row;
 use std::alloc::Global;
 use std::mem::size_of;
@@ -79,12 +79,12 @@ impl Examples {
     /// Imports a release, and answers its receipt.
     fn import(&mut self, release: &str) -> Answer {
         let release = self.rows_of(release)?;
-        if !plain::accepts(&self.rows, &release) {
+        if !plain_history::accepts(&self.rows, &release) {
             return Ok(String::from_str(self.alloc, "refused")?);
         }
         let imports = u32::from(self.imports);
-        let receipt = plain::receipt(self.alloc, imports, &self.rows, &release)?;
-        self.rows = plain::after_release(self.alloc, imports, &self.rows, &release)?;
+        let receipt = plain_history::receipt(self.alloc, imports, &self.rows, &release)?;
+        self.rows = plain_history::after_release(self.alloc, imports, &self.rows, &release)?;
         self.imports = self.imports.saturating_add(1);
         let (number, new, repeated) = (receipt.number, receipt.new, receipt.repeated);
         Ok(format!(in self.alloc; "{number}: {new} new, {repeated} repeated")?)
@@ -93,7 +93,8 @@ impl Examples {
     /// What an import brought.
     fn receipt(&self, words: &str) -> Answer {
         let imports = u32::from(self.imports);
-        let Some(receipt) = plain::import_receipt(imports, &self.rows, number(words)?) else {
+        let Some(receipt) = plain_history::import_receipt(imports, &self.rows, number(words)?)
+        else {
             return Ok(String::from_str(self.alloc, "none")?);
         };
         let new = receipt.new;
@@ -122,8 +123,8 @@ impl Examples {
     /// How many rows a snapshot has.
     fn snapshot(&self, words: &str) -> Answer {
         let (pin, date) = first_word(words)?;
-        let shown = plain::rows_at(self.alloc, number(pin)?, &self.rows)?;
-        let count = plain::snapshot(self.alloc, &shown, day_of(date)?)?.len();
+        let shown = plain_history::rows_at(self.alloc, number(pin)?, &self.rows)?;
+        let count = plain_history::snapshot(self.alloc, &shown, day_of(date)?)?.len();
         Ok(format!(in self.alloc; "{count} rows")?)
     }
 
@@ -150,13 +151,8 @@ impl Examples {
         let (text, prefix) = split_prefix(text)?;
         let question = read_question(self.alloc, text)?;
         let pin = number(pin)?;
-        let shown = plain::rows_at(self.alloc, pin, &self.rows)?;
-        let pinned = Pinned {
-            rows: &self.rows,
-            shown: &shown,
-            pin,
-        };
-        let found = ask_plainly(self.alloc, pinned, question, prefix)?;
+        let shown = plain_history::rows_at(self.alloc, pin, &self.rows)?;
+        let found = ask_plainly(self.alloc, &shown, question, prefix)?;
         let Some(made) = &self.made else {
             return Ok(found);
         };

@@ -2,9 +2,10 @@
 
 use crate::indexed::Indexed;
 use crate::spelled::{spell_ids, spell_row, spell_rows};
-use as_of_index::{KeptRows, ReadFault};
+use as_of_index::ReadFault;
 use case_files::{Answer, NoAnswer};
 use case_values::Question;
+use index_support::KeptRows;
 use links::{about, children, replacements};
 use rf2_values::Row;
 use std::alloc::{AllocError, Global};

@@ -1,9 +1,10 @@
 //! Lists of the rows of some imports, with what is listed and posted of them.
 
-use as_of_index::{Index, KeptRows, MAX_LISTS, PlaceList};
+use as_of_index::{Index, MAX_LISTS, PlaceList};
 use case_files::NoAnswer;
 use case_values::number;
 use history_model::StampedRow;
+use index_support::{KeptRows, may_add, may_list};
 use links::Links;
 use segment::RowPlace;
 use std::alloc::{AllocError, Global};
@@ -32,11 +33,11 @@ fn places_of(alloc: Global, rows: &[StampedRow]) -> Result<Vec<RowPlace>, AllocE
 
 /// Adds the places of a list, which have to be in order and listed once.
 fn add_places(index: &mut Index, places: Vec<RowPlace>) -> Result<(), NoAnswer> {
-    if !PlaceList::may_list(&places) {
+    if !may_list(&places) {
         return Err(NoAnswer::NoQuestion);
     }
     let list = PlaceList::new(places);
-    if !index.may_add(&list) {
+    if !may_add(&*index, &list) {
         return Err(NoAnswer::NoQuestion);
     }
     index.add(list);

@@ -1,19 +1,17 @@
 -- What the receipts of imports count.
-use Rattle.std.proofs.Common.{◌≡◌, ◌≢◌, ◌⊎◌, ℕ, zero, suc, ◌+◌, ◌<◌, ◌≤◌, Bool, true, false, cond, List, [], ◌∷◌, ◌++◌, length, map, get_or, take, refl, sym, ap, subst, inl, inr, ◌∙◌, arith, add-one}
+use Rattle.std.proofs.Common.{◌≡◌, ℕ, zero, suc, ◌+◌, ◌≤◌, Bool, true, false, cond, List, [], ◌∷◌, length, map, refl, sym, ap, subst, inl, inr, ◌∙◌, arith, add-one}
 use Rattle.std.specs.Prelude.{◌==◌, nat_le, Option, Some, None}
 use Rattle.std.specs.List.{filter, sum, range_with_len}
 use Rattle.std.proofs.lemmas.Bool.Decides.{nat_tests, leb_tells}
-use Rattle.std.proofs.lemmas.List.{length-map, take_more, append-nil}
-use Rattle.std.proofs.lemmas.List.Elements.{filter-append}
+use Rattle.std.proofs.lemmas.List.{length-map}
 use Rattle.std.proofs.lemmas.List.FromFn.{sum_by-map-range_with_len_more}
 use Rattle.rf2_values.specs.Row.{RowValue}
 use Rattle.history_model.specs.declared.stamped.StampedRow.{StampedRow}
 use Rattle.history_model.specs.InOrder.{Has}
 use Rattle.history_model.specs.History.{History, IsHistory, stamped_cmp, after_release, rows_at}
 use Rattle.history_model.specs.Brought.{brought_by, IsLatestDay}
-use Rattle.history_model.specs.Private.{later}
 use Rattle.history_model.specs.Laws.{ImportReceiptStays, EachImportHasAReceipt, OneReceiptForAnImport, BothReceiptsCountTheSame, ReceiptsCountWhatIsShown, ReceiptsCountTheRows}
-use Rattle.history_model.proofs.InOrder.{same_ascending, Has-append_left, Has-append_right, Has-append_cases}
+use Rattle.history_model.proofs.InOrder.{same_ascending}
 use Rattle.history_model.proofs.Keys.{stamped_total}
 use Rattle.history_model.proofs.Filtered.{Has-filter, Has-filter_from, IsAscending-filter, filter_none}
 use Rattle.history_model.proofs.Releases.{then_is_history}
@@ -22,31 +20,44 @@ use Rattle.history_model.proofs.Receipts.{after_cases, after_old, is_new, length
 
 -- ---- the last day
 
--- with one row more
-latest_with : (s : StampedRow) (rows more : List StampedRow) (day : Option ℕ) → Has more s → ((r : StampedRow) → Has more r → (s ≡ r) ⊎ Has rows r) → ((r : StampedRow) → Has rows r → Has more r) → IsLatestDay day rows → IsLatestDay (Some (later s.row.time day)) more
-latest_with s rows more None own within from e = (
-  (s, own, refl),
-  λ r h. elim (within r h) [
-    | inl same ↦ let times = ap (λ (u : StampedRow). u.row.time) same in omega (arith, times)
-    | inr k ↦ absurd (subst (λ rs. Has rs r) e k)
-  ],
+-- with one row before the others
+with_first : (s : StampedRow) (rows : List StampedRow) → (day : Option ℕ) × IsLatestDay day rows → (day : Option ℕ) × IsLatestDay day (s ∷ rows)
+with_first s rows (None, e) = (
+  Some s.row.time,
+  (
+    (s, inl refl, refl),
+    λ r h. elim h [
+      | inl same ↦ let times = ap (λ (u : StampedRow). u.row.time) same in omega (arith, times)
+      | inr k ↦ absurd (subst (λ rs. Has rs r) e k)
+    ],
+  ),
 )
-latest_with s rows more (Some day) own within from e = (
-  elim (leb_tells s.row.time day) [
-    | inl t ↦ (e.0.0, from e.0.0 e.0.1, omega (arith, t.1, e.0.2))
-    | inr t ↦ (s, own, omega (arith, t.1))
-  ],
-  λ r h. elim (within r h) [
-    | inl same ↦ let times = ap (λ (u : StampedRow). u.row.time) same in omega (arith, times)
-    | inr k ↦ let low = e.1 r k in omega (arith, low)
-  ],
-)
+with_first s rows (Some day, e) = elim (leb_tells s.row.time day) [
+  | inl t ↦ (
+    Some day,
+    (
+      (e.0.0, inr e.0.1, e.0.2),
+      λ r h. elim h [
+        | inl same ↦ let times = ap (λ (u : StampedRow). u.row.time) same in omega (arith, times, t.1)
+        | inr k ↦ e.1 r k
+      ],
+    ),
+  )
+  | inr t ↦ (
+    Some s.row.time,
+    (
+      (s, inl refl, refl),
+      λ r h. elim h [
+        | inl same ↦ let times = ap (λ (u : StampedRow). u.row.time) same in omega (arith, times)
+        | inr k ↦ let low = e.1 r k in omega (arith, low, t.1)
+      ],
+    ),
+  )
+]
 
 latest_of : (rows : List StampedRow) → (day : Option ℕ) × IsLatestDay day rows
 latest_of [] = (None, refl)
-latest_of (s ∷ rows) =
-    let rest = latest_of rows in
-    (Some (later s.row.time rest.0), latest_with s rows (s ∷ rows) rest.0 (inl refl) (λ r h. h) (λ r h. inr h) rest.1)
+latest_of (s ∷ rows) = with_first s rows (latest_of rows)
 
 one_latest : (rows : List StampedRow) (a b : Option ℕ) → IsLatestDay a rows → IsLatestDay b rows → a ≡ b
 one_latest rows None None p q = refl
@@ -165,31 +176,3 @@ all_shown h is =
 
 pub receipts_count_the_rows : ReceiptsCountTheRows
 receipts_count_the_rows h new is are = receipts_count_what_is_shown h h.imports new is are ∙ all_shown h is
-
--- ---- loops
-
--- the next row is looked at: one that the import brought, or another
-brought_next : (number : ℕ) (rows : List StampedRow) (i : ℕ) (s : StampedRow) (t : Bool) → i < length rows → s ≡ get_or rows i s → (s.import == number) ≡ t → brought_by number (take (i + 1) rows) ≡ brought_by number (take i rows) ++ cond t (s ∷ []) []
-unfolding brought_by
-brought_next number rows i s t lt is e =
-    ap (filter (λ s. s.import == number)) (take_more rows i s lt ∙ ap (λ r. take i rows ++ r ∷ []) (sym is))
-    ∙ filter-append (λ s. s.import == number) (take i rows) (s ∷ [])
-    ∙ ap (λ u. filter (λ s. s.import == number) (take i rows) ++ cond u (s ∷ []) []) e
-
-latest_next : (rows : List StampedRow) (s : StampedRow) (day : Option ℕ) → IsLatestDay day rows → IsLatestDay (Some (later s.row.time day)) (rows ++ s ∷ [])
-latest_next rows s day e =
-    latest_with s rows (rows ++ s ∷ []) day (Has-append_right rows (s ∷ []) s (inl refl))
-    (λ r h. elim (Has-append_cases rows (s ∷ []) r h) [ inl k ↦ inr k | inr k ↦ elim k [ inl same ↦ inl same | inr none ↦ absurd none ] ])
-    (λ r h. Has-append_left rows (s ∷ []) r h)
-    e
-
-pub latest_more : (number : ℕ) (rows : List StampedRow) (i : ℕ) (s : StampedRow) (day found : Option ℕ) → i < length rows → s ≡ get_or rows i s → s.import ≡ number → found ≡ Some (later s.row.time day) → IsLatestDay day (brought_by number (take i rows)) → IsLatestDay found (brought_by number (take (i + 1) rows))
-latest_more number rows i s day found lt is own e known =
-    let next = brought_next number rows i s true lt is (grind (arith, nat_tests, own)) in
-    subst (λ d. IsLatestDay d (brought_by number (take (i + 1) rows))) (sym e)
-    (subst (λ rs. IsLatestDay (Some (later s.row.time day)) rs) (sym next) (latest_next (brought_by number (take i rows)) s day known))
-
-pub latest_same : (number : ℕ) (rows : List StampedRow) (i : ℕ) (s : StampedRow) (day found : Option ℕ) → i < length rows → s ≡ get_or rows i s → s.import ≢ number → found ≡ day → IsLatestDay day (brought_by number (take i rows)) → IsLatestDay found (brought_by number (take (i + 1) rows))
-latest_same number rows i s day found lt is other e known =
-    let next = brought_next number rows i s false lt is (grind (arith, nat_tests, other)) ∙ append-nil (brought_by number (take i rows)) in
-    subst (λ d. IsLatestDay d (brought_by number (take (i + 1) rows))) (sym e) (subst (λ rs. IsLatestDay day rs) (sym next) known)

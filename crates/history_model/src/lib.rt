@@ -1,12 +1,9 @@
-//! What a history of releases says: the definitions, their
-//! laws, and a plain program that computes each definition.
+//! What a history of releases says: the definitions and their laws.
 #![tactic(auto)]
 
 mod component;
 mod ghost_rows;
 pub mod laws;
-pub mod listing;
-pub mod plain;
 mod receipt;
 mod shown;
 mod stamped;

@@ -13,7 +13,7 @@ use Rattle.history_model.proofs.InOrder.{Has-append_left, Has-append_right}
 use Rattle.history_model.proofs.Snapshots.{Has-listed_from}
 use Rattle.history_model.proofs.Listings.{two_lists, Has-union_cases, IsAscending-union}
 use Rattle.history_model.proofs.Unions.{length-union}
-use Rattle.import_check.proofs.Searching.{IsAscending-drop}
+use Rattle.as_of_index.proofs.Hinted.{IsAscending-drop}
 use Rattle.directory.specs.declared.entry.Entry.{Entry}
 use Rattle.directory.specs.Listings.{DirectoryValue}
 use Rattle.directory.specs.Places.{extent_of}

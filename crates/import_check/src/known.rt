@@ -1,20 +1,15 @@
 //! What is known before a release.
 
-ghost use Rattle.std.specs.Prelude.{◌≡◌, ◌≢◌, ◌+◌, ◌≤◌, ℕ, List, IfOk, IfErr, MatchResult, None};
-ghost use Rattle.std.specs.Prelude.{map};
+ghost use Rattle.std.specs.Prelude.{◌≡◌, ◌≢◌, ◌+◌, ◌≤◌, ℕ, List, IfOk, IfErr, None};
 ghost use Rattle.fault_counts.specs.declared.fault.ReadFault.TheVariants as readfault;
 ghost use Rattle.rf2_values.specs.Row.{RowValue};
 ghost use Rattle.rf2_values.specs.Key.{key_of};
-ghost use Rattle.history_model.specs.InOrder.{Has, IsAscending};
-ghost use Rattle.history_model.specs.History.{IsConsistent, row_cmp, stamped_cmp};
-ghost use Rattle.history_model.proofs.Filtered.{IsAscending-map};
-ghost use Rattle.history_model.proofs.Snapshots.{IsConsistent-from_ascending};
+ghost use Rattle.history_model.specs.InOrder.{Has};
+ghost use Rattle.history_model.specs.History.{IsConsistent};
 ghost use Rattle.fault_counts.specs.Counting.{Counts, CountsDiskFault, CountsDamage};
 ghost use Rattle.import_check.specs.Known.{IsRowAt, IsUnknown};
 
-use crate::search::place_near;
 use fault_counts::ReadFault;
-use history_model::StampedRow;
 use rf2_values::{Key, Row};
 use std::alloc::Global;
 
@@ -74,63 +69,4 @@ pub trait Known {
 
     /// What stays as it is in each of two calls stays as it is in both.
     ghost stays_on: { (a b c : Self) → stays a b → stays b c → stays a c };
-}
-
-/// Rows that stand in memory, in key order. Keys that are asked for in
-/// ascending order are each looked for from where the last one stood.
-#[derive(Drop)]
-pub struct KnownRows<'a> {
-    pub rows: &'a [StampedRow],
-    /// Where the last key stood, or would have stood.
-    near: usize,
-}
-
-impl<'a> KnownRows<'a> {
-    /// Rows that ascend by their keys. Of others nothing is found rightly.
-    pub fn new(rows: &'a [StampedRow]) -> KnownRows<'a>
-        ensures { result.rows ≡ rows.entry }
-    {
-        KnownRows { rows, near: 0 }
-    }
-}
-
-impl Known for KnownRows<'_> {
-    ghost use Rattle.std.specs.Prelude.{◌≡◌};
-    ghost use Rattle.std.proofs.Common.{refl, ◌∙◌};
-
-    ghost rows = { λ known. map (λ s. s.row) known.rows.now };
-
-    ghost disk_faults = { λ _. 0 };
-
-    ghost damages = { λ _. 0 };
-
-    ghost work = { λ _. 0 };
-
-    ghost cost = { λ _. 0 };
-
-    ghost is_honest = { λ known. IsAscending stamped_cmp known.rows.now };
-
-    ghost is_sound = { λ known. IsAscending stamped_cmp known.rows.now };
-
-    ghost stays = { λ a b. b.rows ≡ a.rows };
-
-    ghost stays_still = { λ known. refl };
-
-    ghost stays_on = { λ a b c ab bc. bc ∙ ab };
-
-    ghost consistent = { λ known up. IsConsistent-from_ascending (map (λ s. s.row) known.rows.now)
-        (IsAscending-map (λ s. s.row) row_cmp known.rows.now up) };
-
-    fn row(&mut self, alloc: Global, key: &Key) -> Result<Option<Row>, ReadFault> {
-        match place_near(self.rows, self.near, *key) {
-            Ok(place) => {
-                self.near = place;
-                Ok(Some(self.rows[place].row.try_clone(alloc)?))
-            }
-            Err(place) => {
-                self.near = place;
-                Ok(None)
-            }
-        }
-    }
 }

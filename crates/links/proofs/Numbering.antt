@@ -8,7 +8,7 @@ use Rattle.history_model.proofs.InOrder.{Has-all, Has-append_left, Has-append_ri
 use Rattle.history_model.proofs.Filtered.{Has-map}
 use Rattle.as_of_index.specs.Private.Search.{SplitsAt}
 use Rattle.as_of_index.specs.Postings.{numbered}
-use Rattle.as_of_index.proofs.Apart.{one_more}
+use Rattle.as_of_index.proofs.Keyed.{one_more}
 use Rattle.as_of_index.proofs.Current.{map-push}
 
 -- ---- those of d stand between those of lower and those of higher numbers

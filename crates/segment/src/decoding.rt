@@ -26,7 +26,7 @@ fn next_record(alloc: Global, bytes: &[u8]) -> Result<(StampedRow, &[u8]), Segme
 }
 
 /// Whether the row's key is above those of rows in key order.
-pub fn comes_after(rows: &[StampedRow], row: &StampedRow) -> bool
+fn comes_after(rows: &[StampedRow], row: &StampedRow) -> bool
     requires { IsAscending stamped_cmp rows.now }
     ensures { IsTrue result ↔ IsAscending stamped_cmp (rows.now ++ row.now ∷ []) }
 {

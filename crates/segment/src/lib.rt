@@ -12,7 +12,7 @@ mod raw;
 mod row;
 mod writing;
 
-pub use decoding::{comes_after, decode, record_at};
+pub use decoding::{decode, record_at};
 pub use encoding::{encode, encoded_len};
 pub use fault::SegmentFault;
 pub use history_model::StampedRow;

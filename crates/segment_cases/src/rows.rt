@@ -1,14 +1,25 @@
 //! Rows, and the segments that are made of them.
 
-ghost use Rattle.std.specs.Prelude.{IsTrue, ◌≤◌};
+ghost use Rattle.std.specs.Prelude.{IsTrue, ◌≤◌, ◌++◌, ◌∷◌, []};
 ghost use Rattle.std.specs.List.{AllByRecursion};
 ghost use Rattle.history_model.specs.InOrder.{IsAscending};
 ghost use Rattle.history_model.specs.History.{stamped_cmp};
 
 use case_files::NoAnswer;
 use history_model::StampedRow;
-use segment::{comes_after, encode};
+use segment::encode;
 use std::alloc::Global;
+
+/// Whether the row's key is above those of rows in key order.
+fn comes_after(rows: &[StampedRow], row: &StampedRow) -> bool
+    requires { IsAscending stamped_cmp rows.now }
+    ensures { IsTrue result → IsAscending stamped_cmp (rows.now ++ row.now ∷ []) }
+{
+    match rows {
+        [] => true,
+        [.., last] => last.is_below(row),
+    }
+}
 
 /// Whether the rows may be encoded.
 fn are_in_order(rows: &[StampedRow]) -> bool

@@ -1,6 +1,6 @@
 //! A list that is taken item by item.
 
-ghost use Rattle.std.specs.Prelude.{◌≡◌, ◌≤◌, length};
+ghost use Rattle.std.specs.Prelude.{◌≡◌, length};
 ghost use Rattle.std.specs.Iterator.{YieldsFirst, item_count};
 
 use std::marker::Model;
@@ -45,13 +45,6 @@ impl<T: Drop> ShrinkingList<T> {
         self.left.len()
     }
 
-    /// How many items there is room for.
-    pub fn capacity(&self) -> usize
-        ensures { length self.now ≤ result }
-    {
-        self.left.capacity()
-    }
-
     /// Whether so much of the room is idle that it is worth giving back.
     fn is_roomy(&self) -> bool {
         let room = self.left.capacity();
@@ -77,5 +70,27 @@ impl<T: Drop> Iterator for ShrinkingList<T> {
 
     fn size_hint(&self) -> (usize, Option<usize>) {
         (self.len(), Some(self.len()))
+    }
+}
+
+#[cfg(test)]
+mod tests {
+    use super::ShrinkingList;
+    use std::test::Fail;
+
+    #[test]
+    fn room_is_given_back(rt: HostRuntime) -> Result<(), Fail> {
+        let items: Vec<u32> = (0..100_000).collect(rt.alloc())?;
+        let mut list = ShrinkingList::new(items);
+        for _ in 0..90_000 {
+            assert!(rt; list.next().is_some());
+        }
+        assert_eq!(rt; list.len(), 10_000);
+        assert!(rt; list.left.capacity() < 12_000);
+        for _ in 0..10_000 {
+            assert!(rt; list.next().is_some());
+        }
+        assert!(rt; list.left.capacity() < 2_000);
+        Ok(())
     }
 }

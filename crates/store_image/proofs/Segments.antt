@@ -4,7 +4,8 @@ use Rattle.std.specs.List.{AllByRecursion}
 use Rattle.std.proofs.lemmas.List.Sums.{sum_by_push, sum_by-take-le}
 use Rattle.std.proofs.lemmas.List.{append-nil, take_more}
 use Rattle.std.proofs.lemmas.List.Elements.{All-nil, All-push, All-head, All-tail}
-use Rattle.blocks.specs.Extents.{start_of, bytes_of}
+use Rattle.blocks.specs.Extents.{start_of}
+use Rattle.store_image.specs.Private.Reading.{bytes_of}
 use Rattle.directory.specs.declared.entry.Entry.{Entry}
 use Rattle.directory.specs.Listings.{IsEntry}
 use Rattle.directory.specs.Places.{extent_of}

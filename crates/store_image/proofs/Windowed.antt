@@ -9,7 +9,7 @@ use Rattle.rf2_values.specs.declared.row.Kind.TheVariants as kinds
 use Rattle.rf2_values.specs.Row.{kind_of}
 use Rattle.history_model.specs.declared.stamped.StampedRow.{StampedRow}
 use Rattle.blocks.specs.declared.extent.Extent.{Extent}
-use Rattle.blocks.specs.Extents.{bytes_of}
+use Rattle.store_image.specs.Private.Reading.{bytes_of}
 use Rattle.segment.specs.declared.fault.SegmentFault.{SegmentFault}
 use Rattle.segment.specs.declared.fault.SegmentFault.TheVariants as segments
 use Rattle.segment.specs.Records.{record_of, IsStamped, IsRecordAt}

@@ -4,7 +4,7 @@ ghost use Rattle.std.specs.Prelude.{◌≡◌, ◌↔◌, ℕ, ◌+◌, ◌≤�
 ghost use Rattle.std.specs.Prelude.{vec_items, IsTrue, IfOk, IfErr, OnOk, MatchResult};
 ghost use Rattle.std.specs.List.{AllByRecursion};
 ghost use Rattle.disk_model.specs.Disk.{raised_by};
-ghost use Rattle.blocks.specs.Extents.{bytes_of};
+ghost use Rattle.store_image.specs.Private.Reading.{bytes_of};
 ghost use Rattle.directory.specs.Listings.{IsEntry};
 ghost use Rattle.directory.specs.Places.{extent_of};
 ghost use Rattle.history_model.specs.declared.stamped.StampedRow.{StampedRow};

@@ -32,7 +32,7 @@ pub(crate) struct Window {
 impl Window {
     ghost use Rattle.disk_model.specs.Disk.{raised_by};
     ghost use Rattle.fault_counts.specs.Counting.{CountsEach};
-    ghost use Rattle.blocks.specs.Extents.{bytes_of};
+    ghost use Rattle.store_image.specs.Private.Reading.{bytes_of};
     ghost use Rattle.segment.specs.Records.{record_of, IsStamped};
     ghost use Rattle.store_image.specs.Private.Reading.{CountsFault, bytes_in, HasRecord};
     ghost use Rattle.store_image.specs.Private.Reading.{HasNoRecord, IsNoRecord, Sees, IsFull};

@@ -6,7 +6,7 @@ use Rattle.history_model.specs.InOrder.{IsAscending}
 use Rattle.segment.specs.declared.place.RowPlace.{RowPlace}
 use Rattle.as_of_index.specs.Places.{place_cmp, EachApart, ArePlaces}
 use Rattle.as_of_index.specs.Private.Search.{ShareNoKey}
-use Rattle.as_of_index.proofs.Apart.{all_last, apart_each}
+use Rattle.index_support.proofs.Apart.{all_last, apart_each}
 
 all_front : {X : Type 0} (P : X → Type 0) (xs : List X) (l : X) → AllByRecursion P (xs ++ l ∷ []) → AllByRecursion P xs
 all_front P [] l all = tt

@@ -9,7 +9,7 @@ use crate::rows::{
     concept_id, day, is_same, relationship, relationship_id, sctid,
 };
 use as_of_index::{Index, ReadFault, RowReader};
-use history_model::{StampedRow, plain};
+use history_model::StampedRow;
 use links::{Links, Postings, about, children, replacements};
 use rf2_values::{EffectiveTime, Kind, Row, Sctid};
 use std::alloc::{AllocError, Global};
@@ -125,7 +125,7 @@ fn compare_at(
     asked: &Asked,
 ) -> Result<(usize, usize), Fail> {
     let found = children_of(alloc, &made.links, &made.index, asked)?;
-    let wanted = plain::children(alloc, shown, asked.id, asked.time)?;
+    let wanted = plain_history::children(alloc, shown, asked.id, asked.time)?;
     assert!(rt;
         found
             .iter()
@@ -134,7 +134,7 @@ fn compare_at(
     );
     let mut reader = reader_of(&made.lists);
     let rows = replacements_of(alloc, &made.links, &made.index, &mut reader, asked)?;
-    let wanted = plain::replacements(alloc, shown, asked.id, asked.time)?;
+    let wanted = plain_history::replacements(alloc, shown, asked.id, asked.time)?;
     assert!(rt; is_same(&rows, &wanted));
     Ok((found.len(), rows.len()))
 }
@@ -149,7 +149,7 @@ pub(crate) fn compare(
     let mut below = 0usize;
     let mut instead = 0usize;
     for pin in 0..7u32 {
-        let shown = plain::rows_at(alloc, pin, rows)?;
+        let shown = plain_history::rows_at(alloc, pin, rows)?;
         for date in DAYS {
             for concept in CONCEPTS {
                 let asked = Asked::of(concept, date, pin)?;

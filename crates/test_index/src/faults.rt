@@ -9,7 +9,6 @@ use crate::terms::{Search, find_rows};
 use crate::watched::Watched;
 use crate::{edges, subjects, terms};
 use as_of_index::ReadFault;
-use history_model::plain;
 use rf2_values::{EffectiveTime, Kind, Row};
 use std::alloc::Global;
 use std::process::Abort;
@@ -142,8 +141,8 @@ fn an_association_is_read_only_where_it_is_answered(rt: HostRuntime) -> Result<(
     let alloc = rt.alloc();
     let rows = edges::made_rows(alloc)?;
     let made = index_imports(alloc, &rows, &[(1, 3), (4, 6)])?;
-    let shown = plain::rows_at(alloc, 6, &rows)?;
-    let there = plain::replacements(alloc, &shown, sctid(ROOT)?, day(LAST_DAY)?)?.len() as u64;
+    let shown = plain_history::rows_at(alloc, 6, &rows)?;
+    let there = plain_history::replacements(alloc, &shown, sctid(ROOT)?, day(LAST_DAY)?)?.len() as u64;
     assert!(rt; there > 2, "{there} associations");
     let question = Question::Replacements(Asked::of(ROOT, LAST_DAY, 6)?);
     each_read_fails(&rt, alloc, &made, &question, there)
@@ -159,7 +158,7 @@ fn fail_about(
     id: u64,
 ) -> Result<u64, Fail> {
     let asked = Asked::of(id, LAST_DAY, 6)?;
-    let there = plain::about(alloc, shown, kind, asked.id, asked.time)?.len() as u64;
+    let there = plain_history::about(alloc, shown, kind, asked.id, asked.time)?.len() as u64;
     each_read_fails(rt, alloc, made, &Question::About(kind, asked), there)?;
     Ok(there)
 }
@@ -171,7 +170,7 @@ fn what_is_about_a_component_is_read_only_where_it_is_answered(
     let alloc = rt.alloc();
     let rows = subjects::made_rows(alloc)?;
     let made = index_imports(alloc, &rows, &[(1, 3), (4, 6)])?;
-    let shown = plain::rows_at(alloc, 6, &rows)?;
+    let shown = plain_history::rows_at(alloc, 6, &rows)?;
     let mut answered = 0u64;
     for kind in KINDS {
         for id in CONCEPTS {

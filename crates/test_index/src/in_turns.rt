@@ -7,7 +7,8 @@ use crate::releases::lists_of;
 use crate::rows::{LAST_DAY, day, description, description_id};
 use crate::terms::{Search, compare, compare_search, made_rows};
 use as_of_index::{Numbers, PlaceList};
-use history_model::{StampedRow, plain};
+use history_model::StampedRow;
+use index_support::may_list;
 use segment::RowPlace;
 use std::alloc::Global;
 use std::test::Fail;
@@ -15,10 +16,10 @@ use term_prefix::{Merging, Sealed, Terms};
 
 /// The numbers that the rows of two lists have among those of both.
 fn numbers_of<'a>(first: &'a [RowPlace], second: &'a [RowPlace]) -> Result<Numbers<'a>, Fail> {
-    if !PlaceList::may_list(first) {
+    if !may_list(first) {
         return Err(Fail::from("the first isn't in order"));
     }
-    if !PlaceList::may_list(second) {
+    if !may_list(second) {
         return Err(Fail::from("the second isn't in order"));
     }
     if first.len() >= 0x8000_0000 || second.len() >= 0x8000_0000 {
@@ -130,7 +131,7 @@ fn rows_in_both(alloc: Global) -> Result<Vec<StampedRow>, Fail> {
 fn terms_that_are_in_both_lists_are_merged(rt: HostRuntime) -> Result<(), Fail> {
     let alloc = rt.alloc();
     let rows = rows_in_both(alloc)?;
-    let shown = plain::rows_at(alloc, 2, &rows)?;
+    let shown = plain_history::rows_at(alloc, 2, &rows)?;
     let time = day(LAST_DAY)?;
     for many in [1usize, 2, 100] {
         let whole = merged(alloc, &rows, [(1, 1), (2, 2)], many)?;

@@ -1,8 +1,9 @@
 //! Lists of rows: their places, an index of them, their postings, and a reader of their rows.
 
 use crate::releases::{lists_of, rows_after};
-use as_of_index::{Index, KeptRows, MAX_LISTS, PlaceList};
+use as_of_index::{Index, MAX_LISTS, PlaceList};
 use history_model::StampedRow;
+use index_support::{KeptRows, may_add, may_list};
 use links::Links;
 use rf2_values::Row;
 use segment::RowPlace;
@@ -23,11 +24,11 @@ pub(crate) fn places_of(alloc: Global, rows: &[StampedRow]) -> Result<Vec<RowPla
 }
 
 fn add_places(index: &mut Index, places: Vec<RowPlace>) -> Result<(), Fail> {
-    if !PlaceList::may_list(&places) {
+    if !may_list(&places) {
         return Err(Fail::from("not in order"));
     }
     let list = PlaceList::new(places);
-    if !index.may_add(&list) {
+    if !may_add(&*index, &list) {
         return Err(Fail::from("no room, or listed twice"));
     }
     index.add(list);

@@ -5,6 +5,7 @@ use crate::releases::{lists_of, rows_of_imports};
 use crate::{edges, subjects};
 use as_of_index::{NumberTable, Numbers, PlaceList};
 use history_model::StampedRow;
+use index_support::may_list;
 use links::{Links, Merging, Sealed, laws};
 use std::alloc::Global;
 use std::process::Abort;
@@ -13,7 +14,7 @@ use std::test::Fail;
 /// The places of a list of rows.
 fn listed(alloc: Global, rows: &[StampedRow]) -> Result<PlaceList, Fail> {
     let places = places_of(alloc, rows)?;
-    if !PlaceList::may_list(&places) {
+    if !may_list(&places) {
         return Err(Fail::from("not in order"));
     }
     Ok(PlaceList::new(places))

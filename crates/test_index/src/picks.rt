@@ -7,8 +7,9 @@ use crate::rows::{
     LAST_DAY, MEMBER, OTHER, ROOT, SAME_AS, STREET, association, concept, day, is_same,
 };
 use as_of_index::{Chosen, Index, MAX_LISTS, PlaceList, ReadFault, RowReader, laws, read_all};
-use history_model::{StampedRow, plain};
+use history_model::StampedRow;
 use rf2_values::{Kind, Row};
+use index_support::{may_add, may_list};
 use segment::RowPlace;
 use std::alloc::Global;
 use std::process::Abort;
@@ -103,7 +104,7 @@ fn compare_picks(rt: &impl Abort, made: Pinned<'_>, kind: Kind, id: u128) -> Res
     for date in DATES {
         let date = day(date)?;
         let ours = made.index.get(&mut reader, kind, id, date, made.pin)?;
-        let same = match (&ours, plain::get(made.shown, kind, id, date)) {
+        let same = match (&ours, plain_history::get(made.shown, kind, id, date)) {
             (Some(ours), Some(theirs)) => ours.is_same(theirs),
             (ours, theirs) => ours.is_none() && theirs.is_none(),
         };
@@ -123,7 +124,7 @@ fn compare_versions(
 ) -> Result<usize, Fail> {
     let mut reader = reader_of(made.lists);
     let versions = made.index.history(&mut reader, kind, id, made.pin)?;
-    let wanted = plain::versions(alloc, made.shown, kind, id)?;
+    let wanted = plain_history::versions(alloc, made.shown, kind, id)?;
     assert!(rt; is_same(&versions, &wanted));
     assert_eq!(rt; reader.damages, 0);
     Ok(versions.len())
@@ -159,7 +160,7 @@ fn compare_pages(
         let page = made
             .index
             .page(&mut reader, kind, date, after, limit, made.pin)?;
-        let wanted = plain::page(alloc, made.shown, kind, date, after, limit)?;
+        let wanted = plain_history::page(alloc, made.shown, kind, date, after, limit)?;
         assert!(rt; is_same(&page, &wanted));
         answered = answered.saturating_add(page.len());
     }
@@ -191,7 +192,7 @@ fn compare(
     let index = index_of(alloc, lists)?;
     let mut answered = 0usize;
     for pin in 0..6u32 {
-        let shown = plain::rows_at(alloc, pin, rows)?;
+        let shown = plain_history::rows_at(alloc, pin, rows)?;
         let made = Pinned {
             index: &index,
             lists,
@@ -238,9 +239,9 @@ fn check_may_add(
     first: RowPlace,
 ) -> Result<(), Fail> {
     let again = PlaceList::new(vec![in alloc; first]?);
-    assert!(rt; !index.may_add(&again));
-    assert!(rt; index.may_add(&PlaceList::new(Vec::new(alloc))));
-    assert!(rt; !PlaceList::may_list(&[first, first]));
+    assert!(rt; !may_add(index, &again));
+    assert!(rt; may_add(index, &PlaceList::new(Vec::new(alloc))));
+    assert!(rt; !may_list(&[first, first]));
     Ok(())
 }
 
@@ -258,7 +259,7 @@ fn lists_are_added(rt: HostRuntime) -> Result<(), Fail> {
     assert_eq!(rt; places.get(1).map(|p| p.at), Some(first.bytes));
 
     check_may_add(&rt, alloc, &index, first)?;
-    assert!(rt; PlaceList::may_list(places));
+    assert!(rt; may_list(places));
     laws::places_of_lists();
     laws::lists_more();
     laws::lists_merged();
@@ -326,12 +327,12 @@ fn an_index_has_room_for_so_many_lists(rt: HostRuntime) -> Result<(), Fail> {
     let mut full = Index::new(alloc)?;
     for _ in 0..MAX_LISTS {
         let empty = PlaceList::new(Vec::new(alloc));
-        if full.may_add(&empty) {
+        if may_add(&full, &empty) {
             full.add(empty);
         }
     }
     assert_eq!(rt; full.lists(), MAX_LISTS);
-    assert!(rt; !full.may_add(&PlaceList::new(Vec::new(alloc))));
+    assert!(rt; !may_add(&full, &PlaceList::new(Vec::new(alloc))));
     Ok(())
 }
 
@@ -343,7 +344,7 @@ fn put_in(index: &mut Index, i: usize, j: usize, list: PlaceList) -> Result<(), 
     if j >= index.lists() {
         return Err(Fail::from("no such list"));
     }
-    if !index.may_add(&list) {
+    if !may_add(&*index, &list) {
         return Err(Fail::from("no room, or listed twice"));
     }
     index.replace_two(i, j, list);
@@ -362,7 +363,7 @@ fn put_members(
     let members = rows_of_imports(alloc, &made_rows(alloc)?, 1, 2)?;
     let places = places_of(alloc, &members)?;
     let count = places.len();
-    assert!(rt; PlaceList::may_list(&places));
+    assert!(rt; may_list(&places));
     put_in(&mut index, i, j, PlaceList::new(places))?;
     assert_eq!(rt; index.lists(), 2);
     assert!(rt; member_at < index.lists() && index.list(member_at).len() == count);

@@ -4,7 +4,7 @@ use crate::rows::{
     FINDING_SITE, IS_A, MEMBER, OTHER, ROOT, SAME_AS, STREET, STREET_NAME, THIRD, association,
     concept, description, relationship, relationship_id,
 };
-use history_model::{StampedRow, plain};
+use history_model::StampedRow;
 use rf2_values::Row;
 use std::alloc::Global;
 use std::test::Fail;
@@ -51,7 +51,7 @@ pub(crate) fn rows_after(alloc: Global, releases: &[Vec<Row>]) -> Result<Vec<Sta
         let Some(next) = imports.checked_add(1) else {
             return Err(Fail::from("too many releases"));
         };
-        rows = plain::after_release(alloc, imports, &rows, release)?;
+        rows = plain_history::after_release(alloc, imports, &rows, release)?;
         imports = next;
     }
     Ok(rows)

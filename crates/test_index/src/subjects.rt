@@ -10,7 +10,7 @@ use crate::rows::{
     is_same, relationship, relationship_id,
 };
 use as_of_index::{Index, ReadFault, RowReader};
-use history_model::{StampedRow, plain};
+use history_model::StampedRow;
 use links::{Links, about};
 use rf2_values::{Kind, Row};
 use std::alloc::Global;
@@ -107,7 +107,7 @@ fn compare_at(
     let mut answered = 0usize;
     for kind in KINDS {
         let found = rows_about(alloc, made, &mut reader_of(&made.lists), kind, asked)?;
-        let wanted = plain::about(alloc, shown, kind, asked.id, asked.time)?;
+        let wanted = plain_history::about(alloc, shown, kind, asked.id, asked.time)?;
         assert!(rt; is_same(&found, &wanted), "{kind:?}, pin {}", asked.pin);
         answered = answered.saturating_add(found.len());
     }
@@ -123,7 +123,7 @@ pub(crate) fn compare(
 ) -> Result<usize, Fail> {
     let mut answered = 0usize;
     for pin in 0..7u32 {
-        let shown = plain::rows_at(alloc, pin, rows)?;
+        let shown = plain_history::rows_at(alloc, pin, rows)?;
         for date in DAYS {
             for id in CONCEPTS {
                 let found = compare_at(rt, alloc, made, &shown, &Asked::of(id, date, pin)?)?;
@@ -159,7 +159,7 @@ fn made_subjects_in_several_lists(rt: HostRuntime) -> Result<(), Fail> {
 fn a_subject_that_is_posted_twice_counts_once(rt: HostRuntime) -> Result<(), Fail> {
     let alloc = rt.alloc();
     let rows = made_rows(alloc)?;
-    let shown = plain::rows_at(alloc, 6, &rows)?;
+    let shown = plain_history::rows_at(alloc, 6, &rows)?;
     let links = post_twice(alloc, &rows)?;
     let made = index_with(alloc, vec![in alloc; rows]?, links)?;
     compare_at(&rt, alloc, &made, &shown, &Asked::of(STREET, LAST_DAY, 6)?)?;

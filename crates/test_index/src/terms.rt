@@ -6,7 +6,7 @@ use crate::lists::{Indexed, index_all, index_imports, index_of, post_terms, read
 use crate::releases::{example, lists_of, rows_after};
 use crate::rows::{LAST_DAY, day, description, description_id, is_same};
 use as_of_index::{Index, ReadFault, RowReader};
-use history_model::{StampedRow, plain};
+use history_model::StampedRow;
 use rf2_values::{EffectiveTime, Row};
 use std::alloc::Global;
 use std::process::Abort;
@@ -143,7 +143,7 @@ pub(crate) fn compare_search(
     };
     let mut reader = reader_of(&made.lists);
     let found = find_rows(alloc, &made.terms, &made.index, &mut reader, asked)?;
-    let wanted = plain::search_terms(alloc, shown, prefix, time, after, limit)?;
+    let wanted = plain_history::search_terms(alloc, shown, prefix, time, after, limit)?;
     assert!(rt;
         is_same(&found, &wanted),
         "{prefix}, pin {pin}, after {after:?}, {limit}"
@@ -209,7 +209,7 @@ pub(crate) fn compare(
 ) -> Result<usize, Fail> {
     let mut answered = 0usize;
     for pin in 0..7u32 {
-        let shown = plain::rows_at(alloc, pin, rows)?;
+        let shown = plain_history::rows_at(alloc, pin, rows)?;
         for date in DAYS {
             let found = compare_at(rt, alloc, made, &shown, day(date)?, pin)?;
             answered = answered.saturating_add(found);
@@ -272,9 +272,9 @@ fn searches_that_go_on_find_all(rt: HostRuntime) -> Result<(), Fail> {
     let alloc = rt.alloc();
     let rows = made_rows(alloc)?;
     let made = index_imports(alloc, &rows, &[(1, 2), (3, 3), (4, 6)])?;
-    let shown = plain::rows_at(alloc, 6, &rows)?;
+    let shown = plain_history::rows_at(alloc, 6, &rows)?;
     let time = day(20_210_131)?;
-    let wanted = plain::terms(alloc, &shown, "s", time, 100)?;
+    let wanted = plain_history::terms(alloc, &shown, "s", time, 100)?;
     let many = wanted.len();
     assert!(rt; many > 3, "{many} terms");
     for limit in [1u32, 2, 3, 100] {
@@ -385,7 +385,7 @@ fn alike_rows(alloc: Global) -> Result<Vec<StampedRow>, Fail> {
 fn terms_that_begin_alike(rt: HostRuntime) -> Result<(), Fail> {
     let alloc = rt.alloc();
     let rows = alike_rows(alloc)?;
-    let shown = plain::rows_at(alloc, 1, &rows)?;
+    let shown = plain_history::rows_at(alloc, 1, &rows)?;
     let made = index_all(alloc, vec![in alloc; rows]?)?;
     let time = day(LAST_DAY)?;
     for (prefix, found) in [

@@ -3,8 +3,9 @@
 
 ghost use Rattle.std.specs.Prelude.{◌<◌};
 
-use history_model::{StampedRow, plain};
-use import_check::{ImportFault, KnownRows, NewRows, Release, new_rows};
+use history_model::StampedRow;
+use import_check::{ImportFault, NewRows, Release, new_rows};
+use plain_history::KnownRows;
 use rf2_rows::{Kind, Row, read_file};
 use std::alloc::Global;
 use std::process::Abort;
@@ -66,7 +67,7 @@ fn after_accepted(
 ) -> Result<Vec<StampedRow>, Fail>
     requires { imports < 256 }
 {
-    let after = plain::after_release(alloc, imports, rows, lines)?;
+    let after = plain_history::after_release(alloc, imports, rows, lines)?;
     let count = fresh.rows.len();
     assert!(rt; after.len().checked_sub(rows.len()) == Some(count));
     assert!(rt; brought(&fresh.rows, &after, imports + 1));
@@ -84,10 +85,10 @@ fn after(
 ) -> Result<Option<Vec<StampedRow>>, Fail> {
     let imports = u32::from(imports);
     let lines = rows_of(alloc, &release)?;
-    assert!(rt; plain::accepts(rows, &lines) == want.is_ok());
+    assert!(rt; plain_history::accepts(rows, &lines) == want.is_ok());
     match new_rows(alloc, release, &mut KnownRows::new(rows)) {
         Ok(fresh) => {
-            let receipt = plain::receipt(alloc, imports, rows, &lines)?;
+            let receipt = plain_history::receipt(alloc, imports, rows, &lines)?;
             assert!(rt; Ok((receipt.new, receipt.repeated)) == want);
             assert!(rt; Ok((fresh.rows.len() as u64, fresh.repeated)) == want);
             Ok(Some(after_accepted(rt, alloc, imports, rows, &lines, &fresh)?))

@@ -23,7 +23,7 @@ impl Answers for Examples {
             "line" | "row" | "file" | "file_of" | "names" | "names_as" | "bytes" | "term_bytes" => {
                 rows::answer(self.alloc, word, rest)
             }
-            "raised" | "in_order" | "room" => lists::answer(self.alloc, word, rest),
+            "raised" | "in_order" => lists::answer(self.alloc, word, rest),
             _ => values::answer(self.alloc, word, rest),
         }
     }

@@ -7,7 +7,8 @@ use Rattle.history_model.specs.declared.stamped.StampedRow.{StampedRow}
 use Rattle.history_model.specs.InOrder.{IsAscending}
 use Rattle.history_model.specs.History.{stamped_cmp}
 use Rattle.history_model.specs.Lists.{AreLists}
-use Rattle.blocks.specs.Extents.{bytes_of}
+use Rattle.blocks.specs.declared.extent.Extent.{Extent}
+use Rattle.blocks.specs.Extents.{start_of}
 use Rattle.directory.specs.declared.entry.Entry.{Entry}
 use Rattle.directory.specs.declared.layout.Layout.{Layout}
 use Rattle.segment.specs.declared.fault.SegmentFault.{SegmentFault}
@@ -34,6 +35,10 @@ of_segment segments.OutOfMemory = faults.OutOfMemory
 of_segment segments.BadSegment = faults.Damaged
 
 -- ---- records
+
+-- the bytes of an extent, as far as the file has them
+abbrev pub bytes_of : Extent → List ℕ → List ℕ
+bytes_of extent file = take extent.bytes (drop (start_of extent) file)
 
 -- the row's record begins at the place
 abbrev pub HasRecord : List ℕ → ℕ → StampedRow → Type 0

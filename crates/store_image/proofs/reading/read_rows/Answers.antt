@@ -2,7 +2,7 @@ use Rattle.std.proofs.Common.{◌≡◌, ℕ, ◌≤◌, List, length, refl, sym
 use Rattle.std.proofs.lemmas.Result.{err_from_is_err_and}
 use Rattle.disk_model.specs.Disk.{Moments}
 use Rattle.blocks.specs.declared.extent.Extent.{Extent}
-use Rattle.blocks.specs.Extents.{bytes_of}
+use Rattle.store_image.specs.Private.Reading.{bytes_of}
 use Rattle.directory.specs.Places.{extent_of}
 use Rattle.history_model.specs.declared.stamped.StampedRow.{StampedRow}
 use Rattle.segment.specs.Standing.{with_places}

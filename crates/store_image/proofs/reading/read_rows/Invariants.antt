@@ -1,5 +1,5 @@
 use Rattle.std.proofs.Common.{◌≡◌, ◌↔◌, ◌+◌, ◌≤◌, List, [], length}
-use Rattle.blocks.specs.Extents.{bytes_of}
+use Rattle.store_image.specs.Private.Reading.{bytes_of}
 use Rattle.directory.specs.Places.{extent_of}
 use Rattle.history_model.specs.declared.stamped.StampedRow.{StampedRow}
 use Rattle.disk_model.specs.Disk.{raised_by}

@@ -1,0 +1,12 @@
+use Rattle.std.proofs.Common.{sym, ap, ◌∙◌}
+use Rattle.std.specs.Ordering.{is_lt}
+use Rattle.index_support.proofs.listed.is_under.Goals as goal
+
+pub returns-in-Less : goal.returns-in-Less
+returns-in-Less c = sym (ap is_lt (sym c.compare.ensures ∙ c.in-Less.is))
+
+pub returns-in-Equal : goal.returns-in-Equal
+returns-in-Equal c = sym (ap is_lt (sym c.compare.ensures ∙ c.in-Equal.is))
+
+pub returns-in-Greater : goal.returns-in-Greater
+returns-in-Greater c = sym (ap is_lt (sym c.compare.ensures ∙ c.in-Greater.is))

@@ -1,0 +1,5 @@
+pub mod Placing
+pub mod Listed
+pub mod Accepting
+pub mod LatestDays
+pub mod Looking

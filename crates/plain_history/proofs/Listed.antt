@@ -1,0 +1,58 @@
+-- Lists that a loop makes.
+use Rattle.std.proofs.Common.{◌≡◌, ℕ, zero, suc, ◌+◌, ◌<◌, Bool, true, false, cond, List, [], ◌∷◌, ◌++◌, length, get_or, map, take, drop, refl, sym, ap, ◌∙◌, append-nil}
+use Rattle.std.specs.Prelude.{◌&&◌, insert}
+use Rattle.std.specs.List.{filter, take-map, drop-map}
+use Rattle.std.proofs.lemmas.List.{take_more, map-append}
+use Rattle.std.proofs.lemmas.List.Elements.{filter-append}
+use Rattle.std.specs.declared.cmp.Ordering.{Ordering}
+use Rattle.history_model.specs.InOrder.{put, in_order}
+use Rattle.history_model.proofs.Filtered.{both}
+use Rattle.plain_history.proofs.Placing.{in_order_push}
+
+pub map_take : {X Y : Type 0} (f : X → Y) (n : ℕ) (xs : List X) → map f (take n xs) ≡ take n (map f xs)
+map_take f zero xs = refl
+map_take f (suc n) [] = refl
+map_take f (suc n) (x ∷ xs) = ap (λ ys. f x ∷ ys) (map_take f n xs)
+
+pub map-insert : {X Y : Type 0} (f : X → Y) (xs : List X) (i : ℕ) (x : X) → map f (insert xs i x) ≡ insert (map f xs) i (f x)
+map-insert f xs i x =
+    map-append f (take i xs) (x ∷ drop i xs)
+    ∙ ap (λ ys. ys ++ f x ∷ map f (drop i xs)) (sym (take-map f i xs))
+    ∙ ap (λ ys. take i (map f xs) ++ f x ∷ ys) (sym (drop-map f i xs))
+
+module _ {X : Type 0} (q p : X → Bool) where
+  -- one element, where both tests hold and where one fails
+  both_of_one : (x : X) (t : Bool) → (q x && p x) ≡ t → filter p (filter q (x ∷ [])) ≡ cond t (x ∷ []) []
+  both_of_one x true e =
+      let b = both (q x) (p x) e in
+      ap (λ r. filter p (cond r (x ∷ []) [])) b.0 ∙ ap (λ r. cond r (x ∷ []) []) b.1
+  both_of_one x false e =
+      elim (q x) as (λ r. (r && p x) ≡ false → filter p (cond r (x ∷ []) []) ≡ []) [ true ↦ λ f. ap (λ s. cond s (x ∷ []) []) f | false ↦ λ f. refl ] e
+
+  -- the next element is looked at
+  pub filtered_next : (xs : List X) (i : ℕ) (x : X) (t : Bool) → i < length xs → x ≡ get_or xs i x → (q x && p x) ≡ t → filter p (filter q (take (i + 1) xs)) ≡ filter p (filter q (take i xs)) ++ cond t (x ∷ []) []
+  filtered_next xs i x t lt is e =
+      ap (λ ys. filter p (filter q ys)) (take_more xs i x lt ∙ ap (λ y. take i xs ++ y ∷ []) (sym is))
+      ∙ ap (filter p) (filter-append q (take i xs) (x ∷ []))
+      ∙ filter-append p (filter q (take i xs)) (filter q (x ∷ []))
+      ∙ ap (λ ys. filter p (filter q (take i xs)) ++ ys) (both_of_one x t e)
+
+  pub sorted_next : (cmp : X → X → Ordering) (xs : List X) (i : ℕ) (x : X) → i < length xs → x ≡ get_or xs i x → (q x && p x) ≡ true → in_order cmp (filter p (filter q (take (i + 1) xs))) ≡ put cmp x (in_order cmp (filter p (filter q (take i xs))))
+  sorted_next cmp xs i x lt is e = ap (in_order cmp) (filtered_next xs i x true lt is e) ∙ in_order_push cmp (filter p (filter q (take i xs))) x
+
+  pub sorted_same : (cmp : X → X → Ordering) (xs : List X) (i : ℕ) (x : X) → i < length xs → x ≡ get_or xs i x → (q x && p x) ≡ false → in_order cmp (filter p (filter q (take (i + 1) xs))) ≡ in_order cmp (filter p (filter q (take i xs)))
+  sorted_same cmp xs i x lt is e = ap (in_order cmp) (filtered_next xs i x false lt is e ∙ append-nil (filter p (filter q (take i xs))))
+
+  module _ {Y : Type 0} (cmp : Y → Y → Ordering) (f : X → Y) where
+    -- what passes both tests, in order
+    abbrev pub chosen : List X → List Y
+    chosen xs = in_order cmp (map f (filter p (filter q xs)))
+
+    pub chosen_next : (xs : List X) (i : ℕ) (x : X) → i < length xs → x ≡ get_or xs i x → (q x && p x) ≡ true → chosen (take (i + 1) xs) ≡ put cmp (f x) (chosen (take i xs))
+    chosen_next xs i x lt is e =
+        ap (λ ys. in_order cmp (map f ys)) (filtered_next xs i x true lt is e)
+        ∙ ap (in_order cmp) (map-append f (filter p (filter q (take i xs))) (x ∷ []))
+        ∙ in_order_push cmp (map f (filter p (filter q (take i xs)))) (f x)
+
+    pub chosen_same : (xs : List X) (i : ℕ) (x : X) → i < length xs → x ≡ get_or xs i x → (q x && p x) ≡ false → chosen (take (i + 1) xs) ≡ chosen (take i xs)
+    chosen_same xs i x lt is e = ap (λ ys. in_order cmp (map f ys)) (filtered_next xs i x false lt is e ∙ append-nil (filter p (filter q (take i xs))))

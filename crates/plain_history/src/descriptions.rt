@@ -1,0 +1,149 @@
+//! Descriptions by the beginning of their terms.
+
+ghost use Rattle.std.specs.Prelude.{◌≡◌, ◌&&◌, map, IfOk, string_bytes};
+ghost use Rattle.std.specs.Str.{IsUtf8};
+ghost use Rattle.history_model.specs.Queries.{is_current, folded};
+ghost use Rattle.history_model.specs.Queries.{is_term, terms};
+ghost use Rattle.history_model.specs.Queries.{is_term_above, terms_above};
+ghost use Rattle.history_model.specs.Queries.{search_terms};
+
+use crate::snapshots::{is_above, is_current};
+use caseless::default_case_fold_str;
+use rf2_values::{Body, EffectiveTime, Row};
+use std::alloc::{AllocError, Global};
+
+/// A text in the default case folding.
+#[tactic(auto, unfolding(history_model::specs::Queries::folded))]
+fn fold(alloc: Global, text: &[u8]) -> Result<String, AllocError>
+    requires { IsUtf8 text.now }
+    ensures { IfOk result (λ folding. string_bytes folding ≡ folded text.now) }
+{
+    match str::from_utf8(text) {
+        Ok(text) => default_case_fold_str(alloc, text),
+        Err(_) => unreachable!(),
+    }
+}
+
+/// Whether the row is an active description of which the folded term begins with the folded prefix.
+fn is_term(alloc: Global, row: &Row, prefix: &str) -> Result<bool, AllocError>
+    ensures { IfOk result (λ answer. answer ≡ is_term prefix.now row.now) }
+{
+    match &row.body {
+        Body::Description(description) if row.active => {
+            let term = fold(alloc, description.term.as_bytes())?;
+            let beginning = fold(alloc, prefix.as_bytes())?;
+            Ok(term.as_bytes().starts_with(beginning.as_bytes()))
+        }
+        _ => Ok(false),
+    }
+}
+
+fn is_term_at(
+    alloc: Global,
+    rows: &[Row],
+    date: EffectiveTime,
+    row: &Row,
+    prefix: &str,
+) -> Result<bool, AllocError>
+    ensures { IfOk result (λ answer. answer
+        ≡ (is_current rows.now date row.now && is_term prefix.now row.now)) }
+{
+    if is_current(rows, date, row) {
+        is_term(alloc, row, prefix)
+    } else {
+        Ok(false)
+    }
+}
+
+/// The first `limit` active descriptions at the date of
+/// which the folded term begins with the folded prefix.
+pub fn terms<'a>(
+    alloc: Global,
+    rows: &'a [Row],
+    prefix: &str,
+    date: EffectiveTime,
+    limit: u32,
+) -> Result<Vec<&'a Row>, AllocError>
+    ensures { IfOk result (λ found. map (λ row. row.now) found.items
+        ≡ terms prefix.now date limit rows.now) }
+{
+    let mut matching = Vec::new(alloc);
+    for row in rows {
+        if is_term_at(alloc, rows, date, row, prefix)? {
+            matching.push(row)?;
+        }
+    }
+    matching.truncate(limit as usize);
+    Ok(matching)
+}
+
+/// Whether the row is a term, with an id above `after` if that is given.
+fn is_term_above(
+    alloc: Global,
+    row: &Row,
+    prefix: &str,
+    after: Option<u128>,
+) -> Result<bool, AllocError>
+    ensures { IfOk result (λ answer. answer ≡ is_term_above prefix.now after row.now) }
+{
+    let is_term = is_term(alloc, row, prefix)?;
+    Ok(is_term && is_above(after, row.id))
+}
+
+fn is_term_above_at(
+    alloc: Global,
+    rows: &[Row],
+    date: EffectiveTime,
+    row: &Row,
+    prefix: &str,
+    after: Option<u128>,
+) -> Result<bool, AllocError>
+    ensures { IfOk result (λ answer. answer
+        ≡ (is_current rows.now date row.now && is_term_above prefix.now after row.now)) }
+{
+    if is_current(rows, date, row) {
+        is_term_above(alloc, row, prefix, after)
+    } else {
+        Ok(false)
+    }
+}
+
+/// The active descriptions at the date of which the folded term begins
+/// with the folded prefix, with an id above `after` if that is given.
+fn terms_above<'a>(
+    alloc: Global,
+    rows: &'a [Row],
+    prefix: &str,
+    date: EffectiveTime,
+    after: Option<u128>,
+) -> Result<Vec<&'a Row>, AllocError>
+    ensures { IfOk result (λ found. map (λ row. row.now) found.items
+        ≡ terms_above prefix.now date after rows.now) }
+{
+    let mut found = Vec::new(alloc);
+    for row in rows {
+        if is_term_above_at(alloc, rows, date, row, prefix, after)? {
+            found.push(row)?;
+        }
+    }
+    Ok(found)
+}
+
+/// The first `limit` active descriptions at the date of which the folded term begins with the
+/// folded prefix, with an id above `after` if that is given.
+#[tactic(auto, using(crate::proofs::Listed::map_take), unfolding(history_model::specs::Queries::search_terms))]
+pub fn search_terms<'a>(
+    alloc: Global,
+    rows: &'a [Row],
+    prefix: &str,
+    date: EffectiveTime,
+    after: Option<u128>,
+    limit: u32,
+) -> Result<Vec<&'a Row>, AllocError>
+    ensures { IfOk result (λ found. map (λ row. row.now) found.items
+        ≡ search_terms prefix.now date after limit rows.now) }
+{
+    let mut matching = terms_above(alloc, rows, prefix, date, after)?;
+    matching.truncate(limit as usize);
+    Ok(matching)
+}

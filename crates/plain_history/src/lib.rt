@@ -1,0 +1,16 @@
+//! The definitions of `history_model` computed in the plainest way, by going over all rows.
+//!
+//! These functions serve to compare others with. They may take time that is quadratic in the rows.
+#![tactic(auto)]
+
+mod descriptions;
+mod edges;
+mod known;
+mod releases;
+mod snapshots;
+
+pub use descriptions::{search_terms, terms};
+pub use edges::{about, children, replacements};
+pub use known::KnownRows;
+pub use releases::{accepts, after_release, import_receipt, receipt, rows_at};
+pub use snapshots::{get, page, snapshot, versions};
