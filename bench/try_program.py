@@ -22,6 +22,7 @@ SCRIPTS = [
     ("try_mistakes.py",),
     ("check_syncs.py",),
     ("try_hub.py",),
+    ("refuse_growths.py", "script"),
     ("soak.py", "12", "1"),
     ("soak.py", "12", "2"),
 ]
