@@ -2,6 +2,7 @@
 """Runs the built program with each of its requests for memory refused in turn, that one alone.
 
 refuse_growths.py PROGRAM [LINES [SEED]]
+refuse_growths.py PROGRAM script
 
 A store is made, and a session of LINES random lines (40 where none are given), as those of soak.py,
 is served again and again on a copy of it; behind them it asks for the terms of each first letter,
@@ -15,8 +16,12 @@ store), or each line is answered as the model of soak.py answers it, but for lin
 opened with what the model then holds. Some runs have to be refused at their start, and some in a
 line: else nothing was tried, and the status is 1.
 
-It needs Linux, glibc and a C compiler (`cc`), builds a library of a few lines for LD_PRELOAD, and
-ends by itself. Standard library alone.
+With `script` the lines are those of the demonstration, and its releases: all of them on a store
+without rows, and then its questions on the store that they leave. (`sctd demo` itself isn't run:
+its disk is in memory, and fails where that runs out.)
+
+It needs Linux, glibc and a C compiler (`cc`; without one the status is 3), builds a library of a
+few lines for LD_PRELOAD, and ends by itself. Standard library alone.
 """
 
 import os
@@ -66,28 +71,33 @@ def replies_in(output):
 
 def is_refused_start(done, store):
     """Whether a program has ended as one that is refused before its first line."""
+    refused = b"ERR 1 OutOfMemory\n"
     told = b"sctd: %s: memory ran out\n" % os.fsencode(store)
-    ends = ((b"", b"ERR 1 OutOfMemory\n"), (b"ERR 1 OutOfMemory\n", told))
-    return done.returncode == 1 and (done.stdout, done.stderr) in ends
+    return done.returncode == 1 and (done.stdout, done.stderr) in ((b"", refused), (refused, told))
 
 
-class Runs:
-    """All runs of one session."""
+def built_library(folder):
+    """The library that refuses one call."""
+    library, source = os.path.join(folder, "refuse.so"), os.path.join(folder, "refuse.c")
+    with open(source, "w", encoding="ascii") as file:
+        file.write(LIBRARY)
+    subprocess.run(["cc", "-shared", "-fPIC", "-o", library, source], check=True)
+    return library
+
+
+class Session:
+    """The random lines, the store that they are served on, and their releases."""
 
     def __init__(self, program, folder, count, seed):
         self.made = soak.Soak(program, seed, folder)
-        self.folder, self.library = folder, os.path.join(folder, "refuse.so")
-        source = os.path.join(folder, "refuse.c")
-        with open(source, "w", encoding="ascii") as file:
-            file.write(LIBRARY)
-        subprocess.run(["cc", "-shared", "-fPIC", "-o", self.library, source], check=True)
-        subprocess.run([program, "init", "--store", self.made.store], check=True)
+        self.releases, self.files = self.made.releases.folder, self.made.releases.files
+        self.store = self.made.store
+        subprocess.run([program, "init", "--store", self.store], check=True)
         self.lines = []
         for _ in range(count):
             self.lines.append(self.made.line())
             self.made.model.reply(self.lines[-1])
         self.lines += self.questions()
-        self.refused_lines = self.refused_starts = 0
 
     def questions(self):
         """What is asked behind the random lines, by a session that they don't pin."""
@@ -114,9 +124,27 @@ class Runs:
         of = self.made.model.kinds[kind].of
         return [columns for dates in of.values() for _, columns in dates.values()]
 
+
+class Runs:
+    """All runs on the same lines."""
+
+    def __init__(self, program, folder, library, releases, files, lines, store, before=()):
+        self.program, self.folder, self.library = program, folder, library
+        self.releases, self.files, self.lines = releases, files, lines
+        # The store that each run begins with, and the lines that made it.
+        self.store, self.before = store, before
+        self.refused_lines = self.refused_starts = 0
+
     def words(self, store):
-        folder = self.made.releases.folder
-        return [self.made.program, "serve", "--store", store, "--releases", folder]
+        return [self.program, "serve", "--store", store, "--releases", self.releases]
+
+    def model(self):
+        """The model of the store that a run begins with."""
+        model = soak.Model(self.files)
+        for line in self.before:
+            model.reply(line)
+        model.state, model.pins = model.state.reopened(), {}
+        return model
 
     def serve(self, store, lines, number):
         """Serves lines; the call with this number gets no memory."""
@@ -154,10 +182,10 @@ class Runs:
     def run(self, number):
         """The run with this number; whether a call was refused in it."""
         store = os.path.join(self.folder, "copy")
-        shutil.copyfile(self.made.store, store)
+        shutil.copyfile(self.store, store)
         done, was_refused = self.serve(store, self.lines, number)
         replies = list(replies_in(done.stdout))
-        model = soak.Model(self.made.releases.files)
+        model = self.model()
         if was_refused and is_refused_start(done, store):
             self.refused_starts += 1
         elif done.returncode or len(replies) != len(self.lines):
@@ -180,33 +208,132 @@ class Runs:
         if list(replies_in(done.stdout)) != said:
             raise soak.Wrong("another store afterwards")
 
+    def all_of_them(self):
+        """Makes them, and prints what came; whether each was as it has to be."""
+        number = 1
+        try:
+            while self.run(number):
+                number += 1
+        except soak.Wrong as wrong:
+            print("WRONG in run %d: %s" % (number, wrong))
+            return False
+        print("lines %d" % len(self.lines))
+        print("calls refused in turn %d" % (number - 1))
+        print("runs refused at their start %d" % self.refused_starts)
+        print("lines refused %d" % self.refused_lines)
+        unseen = number - 1 - self.refused_starts - self.refused_lines
+        print("refusals that show in no reply %d" % unseen)
+        if not self.refused_starts or not self.refused_lines:
+            print("NOTHING TRIED: no run was refused at its start, or none in a line")
+            return False
+        return True
+
+
+# The rows of the releases that the demonstration imports: their columns, without those that are the
+# same in each row of a kind.
+CORE = "900000000000207008"
+CONCEPT = CORE + " 900000000000074008"
+LINK = CORE + " 1000004 138875005 0 116680003 900000000000011006 900000000000451002"
+TERM = CORE + " 1000004 de 900000000000013009 %s 900000000000448009"
+SAMPLES = {
+    "r1": [
+        ("C", "138875005 20200131 1 " + CONCEPT),
+        ("C", "1000004 20200131 1 " + CONCEPT),
+        ("C", "2000001 20200131 1 " + CONCEPT),
+        ("D", "1000015 20200131 1 " + TERM % "Straße"),
+        ("R", "1000027 20200131 1 " + LINK),
+        ("R", "2000029 20200131 1 " + LINK),
+    ],
+    "r2": [
+        ("C", "1000004 20210131 0 " + CONCEPT),
+        ("D", "1000015 20210131 1 " + TERM % "Weg"),
+        ("R", "2000029 20210131 0 " + LINK),
+        (
+            "A",
+            "0b6a0c2e-5d0f-4c53-9f6e-8d9d2a7b1c01 20210131 1 "
+            + CORE
+            + " 900000000000527005 1000004 2000001",
+        ),
+    ],
+    "r3": [
+        ("C", "138875005 20200131 1 " + CONCEPT),
+        ("C", "1000004 20200731 0 " + CONCEPT),
+        ("C", "3000005 20200131 1 " + CONCEPT),
+    ],
+}
+# The lines of the demonstration: those that change the store, and what it is asked then.
+CHANGES = [
+    "0 STATUS",
+    "0 GET C 138875005 20230131",
+    "0 IMPORT r1",
+    "1 PIN",
+    "0 IMPORT r2",
+    "0 MERGE",
+    "0 STEP 1",
+    "1 IMPORT r3",
+    "0 STEP 100",
+    "0 PUBLISH",
+]
+QUESTIONS = [
+    "0 STATUS",
+    "0 GET C 1000004 20200831",
+    "1 GET C 1000004 20200831",
+    "0 HISTORY C 1000004",
+    "0 CHILDREN 138875005 20210131",
+    "0 TERMS 20200131 10 STRASS",
+    "0 TERMS 20210131 10 STRASS",
+    "0 REPLACED 1000004 20210131",
+    "1 PIN 9",
+    "0 IMPORT r9",
+]
+
+
+def samples_in(releases):
+    """Writes the samples as folders; the files of each, as the model takes them."""
+    files = {}
+    for name, rows in SAMPLES.items():
+        of = {kind: [row.split() for k, row in rows if k == kind] for kind in soak.KINDS}
+        texts = {kind: ["\t".join(columns) for columns in of[kind]] for kind in soak.KINDS}
+        soak.rf2.write(os.path.join(releases, name), "Delta", "20200131", texts)
+        files[name] = (None, [(kind, of[kind]) for kind in soak.KINDS])
+    return files
+
+
+def runs_of_script(program, folder, library):
+    """The runs of the demonstration's lines."""
+    releases = os.path.join(folder, "releases")
+    files = samples_in(releases)
+    empty, full = os.path.join(folder, "empty"), os.path.join(folder, "full")
+    subprocess.run([program, "init", "--store", empty], check=True, stdout=subprocess.DEVNULL)
+    shutil.copyfile(empty, full)
+    known = (program, folder, library, releases, files)
+    script = Runs(*known, CHANGES + QUESTIONS, empty)
+    script.serve(full, CHANGES, 0)
+    return [script, Runs(*known, QUESTIONS, full, CHANGES)]
+
 
 def main(words):
     if not 2 <= len(words) <= 4:
         print(__doc__.strip(), file=sys.stderr)
         return 2
-    count = int(words[2]) if len(words) > 2 else 40
-    seed = int(words[3]) if len(words) > 3 else 1
+    if shutil.which("cc") is None:
+        print("there is no C compiler")
+        return 3
+    program = os.path.abspath(words[1])
     folder = tempfile.mkdtemp(prefix="sctd-growths-")
-    runs, number = Runs(os.path.abspath(words[1]), folder, count, seed), 1
     try:
-        while runs.run(number):
-            number += 1
-    except soak.Wrong as wrong:
-        print("WRONG in run %d: %s" % (number, wrong))
-        return 1
+        library = built_library(folder)
+        if words[2:] == ["script"]:
+            runs = runs_of_script(program, folder, library)
+        else:
+            count = int(words[2]) if len(words) > 2 else 40
+            seed = int(words[3]) if len(words) > 3 else 1
+            made = Session(program, folder, count, seed)
+            known = (made.releases, made.files, made.lines, made.store)
+            runs = [Runs(program, folder, library, *known)]
+        return 0 if all([each.all_of_them() for each in runs]) else 1
     finally:
         shutil.rmtree(folder)
-    print("lines %d" % len(runs.lines))
-    print("calls refused in turn %d" % (number - 1))
-    print("runs refused at their start %d" % runs.refused_starts)
-    print("lines refused %d" % runs.refused_lines)
-    unseen = number - 1 - runs.refused_starts - runs.refused_lines
-    print("refusals that show in no reply %d" % unseen)
-    if not runs.refused_starts or not runs.refused_lines:
-        print("NOTHING TRIED: no run was refused at its start, or none in a line")
-        return 1
-    return 0
 
 
 if __name__ == "__main__":

@@ -3,7 +3,6 @@ use Rattle.std.proofs.Common.{◌≡◌, ℕ, ◌+◌, List, [], ◌∷◌, ◌+
 use Rattle.store_life.specs.DeviceView.{DeviceView}
 use Rattle.std.specs.Prelude.{◌≢◌, unwrap_or, option_map}
 use Rattle.std.specs.Fmt.{digits}
-use Rattle.std.specs.List.{AllByRecursion}
 use Rattle.std.proofs.lemmas.Bool.{false≢true}
 use Rattle.std.proofs.lemmas.Option.{slice_get_within}
 use Rattle.std.proofs.lemmas.List.{length-set}
@@ -26,17 +25,11 @@ use Rattle.line_server.specs.ReplyValue.{Answer, ReplyValue, reply_value}
 use Rattle.line_server.specs.Pins.{unpinned}
 use Rattle.line_server.specs.Replies.{Server, Replies, IsAnswer, IsRefusal, IsOutOfRange, server}
 use Rattle.store_life.specs.Life.{Call, Imported, Failed, Other, taken, TakesAll}
-use Rattle.line_server.specs.Turns.{Turn, IsTurn, IsOfAsked, Run}
-use Rattle.command_line.specs.Merging.{IsMergeTurn, IsMergeLine, IsHalt, IsHaltedBy, IsMergedTo, IsMergedAndAsked, TellsMerge, segments_of, trim_line}
-use Rattle.command_line.specs.Private.{IsAsked, IsAtRest, IsMerging, HasMerged, IsStopped, IsHalted, HaveMerged, IsOneLess, IsTrimmedTo, rows_left}
+use Rattle.line_server.specs.Turns.{Turn, IsTurn, IsOfAsked}
+use Rattle.command_line.specs.Merging.{Merges, IsMergeLine, IsHalt, IsHaltedBy, IsMergedTo, IsMergedAndAsked, TellsMerge, rows_left, segments_of, trim_line}
+use Rattle.command_line.specs.Private.{IsAsked, IsAtRest, IsMerging, HasMerged, IsStopped, IsHalted, HaveMerged, IsOneLess, IsTrimmedTo}
 use Rattle.command_line.specs.Endings.{Report, Tells}
 use Rattle.command_line.specs.Tasks.{status_line}
-
--- ---- lists one after the other
-
-all_append : {X : Type 0} (P : X → Type 0) (xs ys : List X) → AllByRecursion P xs → AllByRecursion P ys → AllByRecursion P (xs ++ ys)
-all_append P [] ys first second = second
-all_append P (x ∷ xs) ys first second = (first.0, all_append P xs ys first.1 second)
 
 -- ---- which command a line asks
 
@@ -165,9 +158,6 @@ module _ {D : Type 0} (view : DeviceView D) where
   abbrev Goes : Server D → Turn → Server D → Type 0
   Goes old turn new = IsTurn no_releases view old turn new
 
-  abbrev Runs : Server D → List Turn → Server D → Type 0
-  Runs old turns new = Run no_releases view old turns new
-
   merge_keeps : (old new : Server D) (turn : Turn) → turn.line ≡ codes "0 MERGE" → IsOk turn.outcome → Goes old turn new → segments_of new ≡ segments_of old
   merge_keeps old new turn is ok t =
       let a = answered (view.is_honest old.store.disk) t.releases old new turn.line 0 Merge (rw is merge_asks) turn.outcome ok t.goes.replies in
@@ -241,28 +231,24 @@ module _ {D : Type 0} (view : DeviceView D) where
 
   -- ---- lines one after the other
 
-  run_both : (old mid new : Server D) (turns more : List Turn) → Runs old turns mid → Runs mid more new → Runs old (turns ++ more) new
-  run_both old mid new [] more e r = subst (λ (d : Server D). Runs d more new) e r
-  run_both old mid new (turn ∷ turns) more r s = (r.0, r.1, run_both r.0 mid new turns more r.2 s)
-
-  one_run : (old new : Server D) (turn : Turn) → Goes old turn new → Runs old (turn ∷ []) new
-  one_run old new turn t = (new, t, refl)
+  merges_both : (old mid new : Server D) (turns more : List Turn) → Merges view old turns mid → Merges view mid more new → Merges view old (turns ++ more) new
+  merges_both old mid new [] more e r = subst (λ (d : Server D). Merges view d more new) e r
+  merges_both old mid new (turn ∷ turns) more r s = (r.0, r.1, r.2, r.3, merges_both r.0 mid new turns more r.4 s)
 
   pub have_none : (old : Server D) → HaveMerged view old old
-  have_none old = record { turns = []; merges = tt; run = refl }
+  have_none old = record { turns = []; merges = refl }
 
-  pub have_one : (old new : Server D) (turn : Turn) → IsMergeLine turn.line → IsOk turn.outcome → Goes old turn new → HaveMerged view old new
-  have_one old new turn is ok t = record { turns = turn ∷ []; merges = ((is, ok), tt); run = one_run old new turn t }
+  pub have_one : (old new : Server D) (turn : Turn) → IsMergeLine turn.line old → IsOk turn.outcome → Goes old turn new → HaveMerged view old new
+  have_one old new turn is ok t = record { turns = turn ∷ []; merges = (new, is, ok, t, refl) }
 
   pub have_both : (old mid new : Server D) → HaveMerged view old mid → HaveMerged view mid new → HaveMerged view old new
   have_both old mid new a b = record {
     turns = a.turns ++ b.turns;
-    merges = all_append IsMergeTurn a.turns b.turns a.merges b.merges;
-    run = run_both old mid new a.turns b.turns a.run b.run;
+    merges = merges_both old mid new a.turns b.turns a.merges b.merges;
   }
 
   -- a line was refused, after lines of merges
-  pub stopped_first : (most : ℕ) (old new : Server D) (reply : ReplyValue) (turn : Turn) → IsMergeLine turn.line → most < segments_of old → IsErr turn.outcome → reply ≡ reply_value turn.outcome → Goes old turn new → (1 ≤ most → IsHalt turn.outcome)
+  pub stopped_first : (most : ℕ) (old new : Server D) (reply : ReplyValue) (turn : Turn) → IsMergeLine turn.line old → most < segments_of old → IsErr turn.outcome → reply ≡ reply_value turn.outcome → Goes old turn new → (1 ≤ most → IsHalt turn.outcome)
       → IsStopped view most reply old new
   stopped_first most old new reply turn is more err says t cause = (turn, says, record { before = old; have = have_none old; is_merge = is; more = more; goes = t; refused = err; cause = cause })
 
@@ -288,9 +274,8 @@ module _ {D : Type 0} (view : DeviceView D) where
     h.1,
     record {
       turns = h.2.have.turns;
-      merges = h.2.have.merges;
       before = h.2.before;
-      run = h.2.have.run;
+      merges = h.2.have.merges;
       due = inl (h.2.is_merge, h.2.more);
       goes = h.2.goes;
       refused = h.2.refused;
@@ -305,31 +290,37 @@ module _ {D : Type 0} (view : DeviceView D) where
   none_imported line (Failed r) asked = refl
   none_imported line Other asked = refl
 
-  run_keeps : (old new : Server D) (turns : List Turn) → Runs old turns new → view.is_honest old.store.disk → new.store.history ≡ old.store.history
-  run_keeps old new [] run up = ap (λ (s : Server D). s.store.history) run
-  run_keeps old new (turn ∷ turns) run up =
-      let none = none_imported turn.line turn.call (run.1.own tt).asked in
-      run_keeps run.0 new turns run.2 (run.1.call.honesty.0 up)
-      ∙ subst (λ (rs : List Release). TakesAll old.store.history rs run.0.store.history) none (run.1.call.history up)
+  turn_keeps : (old new : Server D) (turn : Turn) → Goes old turn new → view.is_honest old.store.disk → new.store.history ≡ old.store.history
+  turn_keeps old new turn t up =
+      subst (λ (rs : List Release). TakesAll old.store.history rs new.store.history) (none_imported turn.line turn.call (t.own tt).asked) (t.call.history up)
+
+  merges_keep : (old new : Server D) (turns : List Turn) → Merges view old turns new → view.is_honest old.store.disk
+      → (view.is_honest new.store.disk) × (new.store.history ≡ old.store.history)
+  merges_keep old new [] e up = (subst (λ (s : Server D). view.is_honest s.store.disk) (sym e) up, ap (λ (s : Server D). s.store.history) e)
+  merges_keep old new (turn ∷ turns) m up =
+      let rest = merges_keep m.0 new turns m.4 (m.3.call.honesty.0 up) in
+      (rest.0, rest.1 ∙ turn_keeps old m.0 turn m.3 up)
 
   pub halted_keeps : (most : ℕ) (old new : Server D) (last : Turn) → IsHaltedBy view most last old new → view.is_honest old.store.disk → new.store.history ≡ old.store.history
   halted_keeps most old new last h lie =
-      run_keeps old new (h.turns ++ last ∷ []) (run_both old h.before new h.turns (last ∷ []) h.run (one_run h.before new last h.goes)) lie
+      let before = merges_keep old h.before h.turns h.merges lie in
+      turn_keeps h.before new last h.goes before.0 ∙ before.1
 
   pub merged_keeps : (most : ℕ) (old new : Server D) (last : Turn) → IsMergedAndAsked view most last old new → view.is_honest old.store.disk
       → new.store.history ≡ old.store.history
   merged_keeps most old new last m lie =
-      run_keeps old new ((m.1.turns ++ m.1.trim ∷ []) ++ last ∷ [])
-      (run_both old m.0 new (m.1.turns ++ m.1.trim ∷ []) (last ∷ []) m.1.run (one_run m.0 new last m.3)) lie
+      let before = merges_keep old m.1.before m.1.turns m.1.merges lie in
+      turn_keeps m.0 new last m.3 (m.1.goes.call.honesty.0 before.0)
+      ∙ turn_keeps m.1.before m.0 m.1.trim m.1.goes before.0 ∙ before.1
 
   -- ---- what each part of a merge leaves
 
   pub rows_more : (old mid new : Server D) (turn : Turn) → HaveMerged view old mid → segments_of mid ≡ segments_of old
-      → turn.line ≡ codes "0 STEP 100000" → IsOk turn.outcome → Goes mid turn new
+      → turn.line ≡ codes "0 STEP 100000" → 1 ≤ rows_left mid → IsOk turn.outcome → Goes mid turn new
       → HaveMerged view old new × (segments_of new ≡ segments_of old) × IsMerging new × (rows_left new ≡ rows_left mid - 100000)
-  rows_more old mid new turn have same is ok t =
+  rows_more old mid new turn have same is some ok t =
       let now = step_goes mid new turn is ok t in
-      (have_both old mid new have (have_one mid new turn (inr (inl is)) ok t), step_keeps mid new turn is ok t ∙ same, now.0, now.1)
+      (have_both old mid new have (have_one mid new turn (inr (inl (is, some))) ok t), step_keeps mid new turn is ok t ∙ same, now.0, now.1)
 
   -- a merge has begun
   pub begun_one : (old a : Server D) (begin : Turn) → begin.line ≡ codes "0 MERGE" → IsOk begin.outcome → Goes old begin a
@@ -353,11 +344,12 @@ module _ {D : Type 0} (view : DeviceView D) where
       → IsTrimmedTo view most result old new
   trimmed_to most old mid new (Ok done) have few rest last = record {
     turns = have.turns;
+    before = mid;
     merges = have.merges;
     trim = last.0;
     trims = last.1;
     trimmed = last.3;
-    run = run_both old mid new have.turns (last.0 ∷ []) have.run (one_run mid new last.0 last.2);
+    goes = last.2;
     number = trim_keeps mid new last.0 last.1 last.3 last.2 ∙ few;
     none_left = trimmed_rests mid new last.0 last.1 last.3 last.2 rest;
   }
@@ -366,9 +358,8 @@ module _ {D : Type 0} (view : DeviceView D) where
     last.3.1,
     record {
       turns = have.turns;
-      merges = have.merges;
       before = mid;
-      run = have.run;
+      merges = have.merges;
       due = inr (last.1, few, rest.1);
       goes = last.2;
       refused = last.3.0;

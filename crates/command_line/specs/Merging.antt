@@ -1,9 +1,8 @@
 -- What merging the segments of a store does.
-use Rattle.std.specs.Prelude.{◌≡◌, ◌⊎◌, ℕ, ◌<◌, ◌≤◌, List, [], ◌∷◌, ◌++◌, length, min, codes}
-use Rattle.std.specs.Prelude.{Option, None, Result, Err, IsOk, IsErr}
+use Rattle.std.specs.Prelude.{◌≡◌, ◌⊎◌, ℕ, ◌<◌, ◌≤◌, List, [], ◌∷◌, length, min, codes}
+use Rattle.std.specs.Prelude.{Option, None, Result, Err, IsOk, IsErr, unwrap_or, option_map}
 use Rattle.line_server.specs.Sources.{no_releases}
 use Rattle.store_life.specs.DeviceView.{DeviceView}
-use Rattle.std.specs.List.{AllByRecursion}
 use Rattle.history_store.specs.declared.refusal.Refusal.TheVariants as store
 use Rattle.history_store.specs.StoreValue.{StoreValue}
 use Rattle.line_server.specs.declared.refusal.LineRefusal.{LineRefusal}
@@ -11,22 +10,30 @@ use Rattle.line_server.specs.declared.refusal.LineRefusal.TheVariants as refusal
 use Rattle.line_server.specs.ReplyValue.{Answer}
 use Rattle.line_server.specs.Pins.{unpinned}
 use Rattle.line_server.specs.Replies.{Server, server}
-use Rattle.line_server.specs.Turns.{Turn, IsTurn, Run}
+use Rattle.line_server.specs.Turns.{Turn, IsTurn}
 use Rattle.command_line.specs.Endings.{Report, Tells}
 use Rattle.command_line.specs.Tasks.{IsOnOpened, status_line}
 
--- the line that begins, carries on or publishes a merge
-abbrev pub IsMergeLine : List ℕ → Type 0
-IsMergeLine line =
-    (line ≡ codes "0 MERGE") ⊎ (line ≡ codes "0 STEP 100000") ⊎ (line ≡ codes "0 PUBLISH")
+-- how many rows are left to the merge that goes on; 0 where none does
+abbrev pub rows_left : {D : Type 0} → Server D → ℕ
+rows_left server = unwrap_or (option_map (λ merge. merge.left) server.store.catalog.merge) 0
+
+-- the line begins, carries on or publishes a merge; it carries one on only while rows are left
+abbrev pub IsMergeLine : {D : Type 0} → List ℕ → Server D → Type 0
+IsMergeLine line now =
+    (line ≡ codes "0 MERGE") ⊎ ((line ≡ codes "0 STEP 100000") × (1 ≤ rows_left now))
+    ⊎ (line ≡ codes "0 PUBLISH")
 
 -- the line that cuts off what is behind the last segment
 abbrev pub trim_line : List ℕ
 trim_line = codes "0 TRIM"
 
--- a line that begins, carries on or publishes a merge was answered OK
-abbrev pub IsMergeTurn : Turn → Type 0
-IsMergeTurn turn = IsMergeLine turn.line × IsOk turn.outcome
+-- such lines were answered OK, one after the other
+abbrev pub Merges : {D : Type 0} → DeviceView D → Server D → List Turn → Server D → Type 0
+Merges {D} view old [] new = new ≡ old
+Merges {D} view old (turn ∷ turns) new =
+    (mid : Server D) × IsMergeLine turn.line old × IsOk turn.outcome
+    × IsTurn no_releases view old turn mid × Merges view mid turns new
 
 -- how many segments the store has
 abbrev pub segments_of : {D : Type 0} → Server D → ℕ
@@ -41,11 +48,12 @@ HasNoMerge server = server.store.catalog.merge ≡ None
 pub record IsMergedTo {D : Type 0} (view : DeviceView D) (most : ℕ) (old new : Server D)
     : Type 0 where
   pub turns : List Turn
-  pub merges : AllByRecursion IsMergeTurn turns
+  pub before : Server D
+  pub merges : Merges view old turns before
   pub trim : Turn
   pub trims : trim.line ≡ trim_line
   pub trimmed : IsOk trim.outcome
-  pub run : Run no_releases view old (turns ++ trim ∷ []) new
+  pub goes : IsTurn no_releases view before trim new
   pub number : segments_of new ≡ min (segments_of old) most
   pub none_left : HasNoMerge new
 
@@ -63,7 +71,7 @@ IsHalt _ = ⊥
 -- one that trims where that many are left, or as many as there were, and no merge goes on
 abbrev pub IsDue : {D : Type 0} → ℕ → Turn → Server D → Server D → Type 0
 IsDue most turn first now =
-    (IsMergeLine turn.line × (most < segments_of now))
+    (IsMergeLine turn.line now × (most < segments_of now))
     ⊎ ((turn.line ≡ trim_line) × (segments_of now ≡ min (segments_of first) most)
     × HasNoMerge now)
 
@@ -72,9 +80,8 @@ IsDue most turn first now =
 pub record IsHaltedBy {D : Type 0} (view : DeviceView D) (most : ℕ) (last : Turn)
     (old new : Server D) : Type 0 where
   pub turns : List Turn
-  pub merges : AllByRecursion IsMergeTurn turns
   pub before : Server D
-  pub run : Run no_releases view old turns before
+  pub merges : Merges view old turns before
   pub due : IsDue most last old before
   pub goes : IsTurn no_releases view before last new
   pub refused : IsErr last.outcome

@@ -3,8 +3,7 @@
 use Rattle.std.specs.Prelude.{◌≡◌, ℕ, ◌+◌, ◌<◌, ◌≤◌, List, Result, Ok, Err, IsOk, IsErr, [], ◌∷◌}
 use Rattle.line_server.specs.Sources.{no_releases}
 use Rattle.store_life.specs.DeviceView.{DeviceView}
-use Rattle.std.specs.Prelude.{codes, decimal, false, unwrap_or, option_map}
-use Rattle.std.specs.List.{AllByRecursion}
+use Rattle.std.specs.Prelude.{codes, decimal, false}
 use Rattle.history_store.specs.Merging.{GoesOn, IsFinished}
 use Rattle.clap.specs.Walk.{Rule, rule_of}
 use Rattle.clap.specs.Simple.{App, app_of}
@@ -15,8 +14,8 @@ use Rattle.line_server.specs.declared.serving.ServeFault.{ServeFault}
 use Rattle.line_server.specs.declared.serving.ServeFault.TheVariants as faults
 use Rattle.line_server.specs.ReplyValue.{ReplyValue, reply_value, line}
 use Rattle.line_server.specs.Replies.{Server}
-use Rattle.line_server.specs.Turns.{Turn, HasTurn, IsTurn, Run}
-use Rattle.command_line.specs.Merging.{IsMergeLine, IsMergeTurn, IsHalt, IsHaltedBy, IsMergedTo}
+use Rattle.line_server.specs.Turns.{Turn, HasTurn, IsTurn}
+use Rattle.command_line.specs.Merging.{IsMergeLine, Merges, IsHalt, IsHaltedBy, IsMergedTo}
 use Rattle.command_line.specs.Merging.{HasNoMerge, segments_of}
 
 -- the line was answered OK, or its reply, which is a refusal, comes back
@@ -31,10 +30,6 @@ IsAsked view line (Err reply) old new = HasTurn no_releases view line old new
 abbrev pub IsAtRest : {D : Type 0} → Server D → Type 0
 IsAtRest server = (server.store.needs_reopen ≡ false) × HasNoMerge server
 
--- how many rows are left to the merge that goes on
-abbrev pub rows_left : {D : Type 0} → Server D → ℕ
-rows_left server = unwrap_or (option_map (λ merge. merge.left) server.store.catalog.merge) 0
-
 -- no call has failed, and a merge goes on
 abbrev pub IsMerging : {D : Type 0} → Server D → Type 0
 IsMerging server = (server.store.needs_reopen ≡ false) × GoesOn server.store.catalog
@@ -46,15 +41,14 @@ HasMerged server = (server.store.needs_reopen ≡ false) × IsFinished server.st
 -- lines of merges were answered OK
 pub record HaveMerged {D : Type 0} (view : DeviceView D) (old new : Server D) : Type 0 where
   pub turns : List Turn
-  pub merges : AllByRecursion IsMergeTurn turns
-  pub run : Run no_releases view old turns new
+  pub merges : Merges view old turns new
 
 -- lines of merges were answered OK, and then one was refused that was due
 pub record IsStoppedBy {D : Type 0} (view : DeviceView D) (most : ℕ) (last : Turn)
     (old new : Server D) : Type 0 where
   pub before : Server D
   pub have : HaveMerged view old before
-  pub is_merge : IsMergeLine last.line
+  pub is_merge : IsMergeLine last.line before
   pub more : most < segments_of before
   pub goes : IsTurn no_releases view before last new
   pub refused : IsErr last.outcome

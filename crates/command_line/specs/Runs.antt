@@ -4,6 +4,7 @@ use Rattle.std.specs.Prelude.{⊤}
 use Rattle.std.specs.Io.KnownBytes.{Keeps}
 use Rattle.store_life.specs.DeviceView.{DeviceView, device_view}
 use Rattle.disk_model.specs.Change.{made}
+use Rattle.disk_model.specs.Disk.{raised_by}
 use Rattle.disk_model.specs.MemDisk.{memory_moments, failure_count, bytes_read_of}
 use Rattle.disk_model.specs.declared.memory.MemDisk.{MemDisk}
 use Rattle.samples.specs.Sample.{sample_files}
@@ -111,11 +112,18 @@ Does system script tasks.Demo left ended streams =
     IsDemonstrated script (report ended streams.old streams.new) × (left ≡ None)
     × (streams.rest ≡ streams.input)
 
--- The words ask for a task, and it was done. The status is 0 only where it ended so.
+-- how often a task asks for what holds a store: the demonstration never, and any other once
+abbrev pub AsksFor : Task → ℕ → ℕ → Type 0
+AsksFor tasks.Demo old new = new ≡ old
+AsksFor _ old new = new ≡ raised_by old 1
+
+-- The words ask for a task, and it was done. The status is 0 only where it ended so. So many
+-- devices had been asked for before it, and so many after it.
 pub record IsRun {D : Type 0} (system : SystemView D) (script : List ℕ) (words : List (List ℕ))
-    (left : Option D) (status : ℕ) (known : Streams) : Type 0 where
+    (left : Option D) (status : ℕ) (known : Streams) (before after : ℕ) : Type 0 where
   pub task : Task
   pub asked : AskFor words task
+  pub devices : AsksFor task before after
   pub ended : Result Ending ServeFault
   -- what was written, and went out at the end
   pub written : Option (List ℕ)
@@ -135,11 +143,12 @@ IsExplained (refusals.Words error) status old new =
     (IsFaulty (kind_of error) → (status ≡ 2) × (new ≡ old))
     × ((IsFaulty (kind_of error) → ⊥) → status ≤ 1)
 
--- the words ask for no task, and that was told; no device is left
+-- the words ask for no task, and that was told; no device was asked for, and none is left
 pub record IsNoTask {D : Type 0} (words : List (List ℕ)) (left : Option D) (status : ℕ)
-    (known : Streams) : Type 0 where
+    (known : Streams) (before after : ℕ) : Type 0 where
   pub refused : Refused
   pub asked : AskForNone words refused
   pub explained : IsExplained refused status known.old known.new
   pub unread : known.rest ≡ known.input
   pub none_left : left ≡ None
+  pub none_asked : after ≡ before

@@ -1,18 +1,102 @@
 //! Releases in unpacked folders.
 
-use crate::progress::tell_taken;
-use crate::system::System;
+ghost use Rattle.std.specs.Prelude.{ℕ, List, IfOk, IfErr};
+ghost use Rattle.line_server.specs.Sources.{Releases, IsGiven};
+
+use crate::progress::{Progress, tell_taken};
 use crate::telling::{Context, Told, is_about_row, tell_row, tell_why};
+use disk_model::{DiskFault, sync_folder_of};
 use history_store::Refusal;
 use import_check::Release;
 use line_server::{Source, SourceFault};
+use release_folder::{FolderFault, read_release};
 use std::alloc::Global;
+use std::fs::{File, Files};
 use std::io::{self, Write};
+
+/// The folders that the words name, and those of the files that they name.
+pub trait Folders {
+    /// The name of the file is still in its folder after a crash.
+    ghost keeps: { Self → List ℕ → Type 0 };
+    /// The folder can't be synced, so the name may be lost in a crash.
+    ghost loses: { Self → List ℕ → Type 0 };
+    /// The folders have the releases that they are said to have, and they stay.
+    ghost is_honest: { Self → Type 0 };
+    /// The releases in the folders below one.
+    ghost releases: { Self → List ℕ → Releases };
+
+    /// Sees that what was made under a name keeps it. Where that fails, `faults` is told why.
+    fn settle<E: Write>(&self, alloc: Global, path: &str, faults: &mut E) -> Result<(), DiskFault>
+        ensures kept { IfOk result (λ _. keeps self.now path.now) }
+        ensures lost { IfErr result (λ _. loses self.now path.now) };
+
+    /// The release in a folder below one. Where there is none, `faults` is told why. It is also
+    /// told which files are read and passed over; if `quiet`, only of those that may be wrong.
+    fn release<E: Write>(
+        &self,
+        alloc: Global,
+        dir: &str,
+        name: &str,
+        quiet: bool,
+        faults: &mut E,
+    ) -> Result<Release, SourceFault>
+        ensures { is_honest self.now → IsGiven result (releases self.now dir.now name.now) };
+}
+
+/// The real folders. Nothing is claimed of what they hold.
+impl<R: Files<File = File> + AllocGlobal + Clone + Drop> Folders for R {
+    ghost use Rattle.std.specs.Prelude.{None};
+
+    ghost keeps = { λ _ _. Unit {0} };
+
+    ghost loses = { λ _ _. Unit {0} };
+
+    ghost is_honest = { λ _. ⊥ };
+
+    ghost releases = { λ _ _ _. None };
+
+    fn settle<E: Write>(&self, alloc: Global, path: &str, faults: &mut E) -> Result<(), DiskFault> {
+        match sync_folder_of(self, alloc, path) {
+            Ok(()) => Ok(()),
+            Err(error) => {
+                let _ = writeln!(
+                    faults,
+                    "sctd: the folder of {path} can't be synced: {error}"
+                );
+                Err(DiskFault)
+            }
+        }
+    }
+
+    fn release<E: Write>(
+        &self,
+        alloc: Global,
+        dir: &str,
+        name: &str,
+        quiet: bool,
+        faults: &mut E,
+    ) -> Result<Release, SourceFault> {
+        let read = {
+            let mut progress = Progress { faults, quiet };
+            read_release(self, alloc, dir, name, &mut progress)
+        };
+        match read {
+            Ok(release) => Ok(release),
+            Err(fault) => match fault.fault() {
+                FolderFault::OutOfMemory => Err(SourceFault::OutOfMemory),
+                FolderFault::NoFolder => {
+                    let _ = writeln!(faults, "sctd: {fault}");
+                    Err(SourceFault::NoFolder)
+                }
+            },
+        }
+    }
+}
 
 /// The releases in the folders below one folder.
 #[derive(Drop)]
-pub struct FolderSource<'a, P: System, E: Write> {
-    pub system: &'a P,
+pub struct FolderSource<'a, F: Folders, E: Write> {
+    pub folders: &'a F,
     /// The folder that the releases' folders lie in.
     pub dir: &'a str,
     /// Takes what stood in the way of a release, and what is told while it is imported.
@@ -21,25 +105,22 @@ pub struct FolderSource<'a, P: System, E: Write> {
     pub quiet: bool,
 }
 
-impl<P: System, E: Write> FolderSource<'_, P, E> {
+impl<F: Folders, E: Write> FolderSource<'_, F, E> {
     /// Tells of a task on the store under a name what the function `tell_why` does.
-    pub(crate) fn tell_why(&mut self, told: Told, store: &str, left: &P::Device) {
-        let context = Context {
-            store,
-            last_error: self.system.last_error(left),
-        };
+    pub(crate) fn tell_why(&mut self, told: Told, store: &str, last_error: Option<io::Error>) {
+        let context = Context { store, last_error };
         tell_why(told, &context, self.faults);
     }
 }
 
-impl<P: System, E: Write> Source for FolderSource<'_, P, E> {
-    ghost is_honest = { λ s. P.is_honest s.system.now };
+impl<F: Folders, E: Write> Source for FolderSource<'_, F, E> {
+    ghost is_honest = { λ s. F.is_honest s.folders.now };
 
-    ghost releases = { λ s. P.releases s.system.now s.dir.now };
+    ghost releases = { λ s. F.releases s.folders.now s.dir.now };
 
     fn release(&mut self, alloc: Global, name: &str) -> Result<Release, SourceFault> {
         let given = self
-            .system
+            .folders
             .release(alloc, self.dir, name, self.quiet, self.faults);
         if let Ok(release) = &given {
             tell_taken(release, self.quiet, self.faults);
@@ -53,7 +134,7 @@ impl<P: System, E: Write> Source for FolderSource<'_, P, E> {
         }
         // What there is to say of the folder was said when it was read first.
         let again = self
-            .system
+            .folders
             .release(alloc, self.dir, name, true, &mut io::sink());
         match again {
             Ok(release) => tell_row(&release.files, refusal, self.faults),

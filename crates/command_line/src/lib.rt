@@ -3,6 +3,7 @@
 
 mod answering;
 mod demonstration;
+mod devices;
 mod differing;
 mod endings;
 mod folders;
@@ -15,10 +16,10 @@ mod paths;
 mod progress;
 mod running;
 mod serving;
-mod system;
 mod telling;
 mod words;
 
 pub use demonstration::SCRIPT;
+pub use devices::{Devices, FileDisks};
+pub use folders::Folders;
 pub use running::run;
-pub use system::System;

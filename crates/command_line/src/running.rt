@@ -8,17 +8,18 @@ ghost use Rattle.store_life.specs.DeviceView.{device_view};
 ghost use Rattle.command_line.specs.Tasks.{IsImport, IsStatus, IsServing};
 ghost use Rattle.command_line.specs.Merging.{IsMergedOnDisk};
 ghost use Rattle.command_line.specs.Runs.{IsDoneAt, IsMadeAt, IsMissing, IsDemonstrated, Does};
-ghost use Rattle.command_line.specs.Runs.{IsRun, IsNoTask, IsExplained};
+ghost use Rattle.command_line.specs.Runs.{IsRun, IsNoTask, IsExplained, AsksFor};
+ghost use Rattle.disk_model.specs.Disk.{raised_by};
 
 use crate::demonstration::{SCRIPT, Samples};
+use crate::devices::Devices;
 use crate::endings::{Ending, fail, finish, refuse};
-use crate::folders::FolderSource;
+use crate::folders::{FolderSource, Folders};
 use crate::importing::import;
 use crate::inspecting::status;
 use crate::making::init;
 use crate::merging::merge;
 use crate::serving::{serve_device, serve_new};
-use crate::system::System;
 use crate::telling::{Context, Told, tell_figures, tell_why};
 use crate::words::{Refused, Task, task_of};
 use disk_model::MemDisk;
@@ -30,38 +31,41 @@ use std::io::{Read, Write};
 /// Does what the words ask for, of which the first is the program's name, and answers the status of
 /// the program: 0 where it was done; 1 where it was refused, or a stream or the memory failed; 2
 /// where the words are no command. The device that the task was done on comes back as it was left.
-pub fn run<P: System, I: Read, O: Write, E: Write>(
-    system: &P,
+pub fn run<V: Devices, F: Folders, I: Read, O: Write, E: Write>(
+    devices: &mut V,
+    folders: &F,
     alloc: Global,
     words: &[String],
     input: &mut I,
     output: &mut O,
     faults: &mut E,
-) -> (u8, Option<P::Device>)
+) -> (u8, Option<V::Device>)
     ensures status { result.0 ≤ 2 }
     // Words that are no command do nothing but to be told.
     ensures no_command { result.0 ≡ 2 → (input.new ≡ input.old) × (output.new ≡ output.old) }
     ensures done { IsRun (record {
-      stands = P.stands system.now;
-      withholds = P.withholds system.now;
-      makes = P.makes system.now;
-      denies = P.denies system.now;
-      keeps = P.keeps system.now;
-      loses = P.loses system.now;
-      is_honest = P.is_honest system.now;
-      releases = P.releases system.now;
-      device = device_view P.Device.is_honest P.Device.moments P.Device.failures
-          P.Device.bytes_read;
+      stands = V.stands devices.old;
+      withholds = V.withholds devices.old;
+      makes = V.makes devices.old;
+      denies = V.denies devices.old;
+      keeps = F.keeps folders.now;
+      loses = F.loses folders.now;
+      is_honest = F.is_honest folders.now;
+      releases = F.releases folders.now;
+      device = device_view V.Device.is_honest V.Device.moments V.Device.failures
+          V.Device.bytes_read;
     }) SCRIPT.now (map string_bytes words.now) result.1 result.0
         (streams (I.remaining input.old) (I.remaining input.new)
         (O.contents output.old) (O.contents output.new))
+        (V.asked devices.old) (V.asked devices.new)
         ⊎ IsNoTask (map string_bytes words.now) result.1 result.0
         (streams (I.remaining input.old) (I.remaining input.new)
-        (O.contents output.old) (O.contents output.new)) }
+        (O.contents output.old) (O.contents output.new))
+        (V.asked devices.old) (V.asked devices.new) }
 {
     match task_of(alloc, words) {
         Ok(task) => {
-            let (ended, left) = perform(system, alloc, &task, input, output, faults);
+            let (ended, left) = perform(devices, folders, alloc, &task, input, output, faults);
             (finish(ended, output, faults), left)
         }
         Err(refused) => (explain(&refused, output, faults), None),
@@ -72,45 +76,49 @@ pub fn run<P: System, I: Read, O: Write, E: Write>(
 type Ended<D> = (Result<Ending, ServeFault>, Option<D>);
 
 /// Does a task. Where it is refused, `faults` is told why.
-fn perform<P: System, I: Read, O: Write, E: Write>(
-    system: &P,
+fn perform<V: Devices, F: Folders, I: Read, O: Write, E: Write>(
+    devices: &mut V,
+    folders: &F,
     alloc: Global,
     task: &Task<'_>,
     input: &mut I,
     output: &mut O,
     faults: &mut E,
-) -> Ended<P::Device>
-    ensures { Does (record {
-      stands = P.stands system.now;
-      withholds = P.withholds system.now;
-      makes = P.makes system.now;
-      denies = P.denies system.now;
-      keeps = P.keeps system.now;
-      loses = P.loses system.now;
-      is_honest = P.is_honest system.now;
-      releases = P.releases system.now;
-      device = device_view P.Device.is_honest P.Device.moments P.Device.failures
-          P.Device.bytes_read;
+) -> Ended<V::Device>
+    ensures does { Does (record {
+      stands = V.stands devices.old;
+      withholds = V.withholds devices.old;
+      makes = V.makes devices.old;
+      denies = V.denies devices.old;
+      keeps = F.keeps folders.now;
+      loses = F.loses folders.now;
+      is_honest = F.is_honest folders.now;
+      releases = F.releases folders.now;
+      device = device_view V.Device.is_honest V.Device.moments V.Device.failures
+          V.Device.bytes_read;
     }) SCRIPT.now task.now result.1 result.0
         (streams (I.remaining input.old) (I.remaining input.new)
         (O.contents output.old) (O.contents output.new)) }
+    ensures asked { AsksFor task.now (V.asked devices.old) (V.asked devices.new) }
 {
     match task {
-        Task::Init { store } => init_at(system, alloc, *store, output, faults),
+        Task::Init { store } => init_at(devices, folders, alloc, *store, output, faults),
         Task::Import {
             store,
             releases,
             name,
             quiet,
         } => import_at(
-            system, alloc, *store, *releases, *name, *quiet, output, faults,
+            devices, folders, alloc, *store, *releases, *name, *quiet, output, faults,
         ),
         Task::Serve { store, releases } => {
-            serve_at(system, alloc, *store, *releases, input, output, faults)
+            serve_at(
+                devices, folders, alloc, *store, *releases, input, output, faults,
+            )
         }
-        Task::Status { store } => status_at(system, alloc, *store, output, faults),
+        Task::Status { store } => status_at(devices, alloc, *store, output, faults),
         Task::Merge { store, segments } => {
-            merge_at(system, alloc, *store, *segments, output, faults)
+            merge_at(devices, alloc, *store, *segments, output, faults)
         }
         Task::Demo => (demo(alloc, output), None),
     }
@@ -118,46 +126,49 @@ fn perform<P: System, I: Read, O: Write, E: Write>(
 
 /// Makes a store under a name. The name is seen to stay before anything is written, so that a store
 /// that was made is found after a stop.
-fn init_at<P: System, O: Write, E: Write>(
-    system: &P,
+fn init_at<V: Devices, F: Folders, O: Write, E: Write>(
+    devices: &mut V,
+    folders: &F,
     alloc: Global,
     path: &str,
     output: &mut O,
     faults: &mut E,
-) -> Ended<P::Device>
-    ensures { IsMadeAt (record {
-      stands = P.stands system.now;
-      withholds = P.withholds system.now;
-      makes = P.makes system.now;
-      denies = P.denies system.now;
-      keeps = P.keeps system.now;
-      loses = P.loses system.now;
-      is_honest = P.is_honest system.now;
-      releases = P.releases system.now;
-      device = device_view P.Device.is_honest P.Device.moments P.Device.failures
-          P.Device.bytes_read;
+) -> Ended<V::Device>
+    ensures made { IsMadeAt (record {
+      stands = V.stands devices.old;
+      withholds = V.withholds devices.old;
+      makes = V.makes devices.old;
+      denies = V.denies devices.old;
+      keeps = F.keeps folders.now;
+      loses = F.loses folders.now;
+      is_honest = F.is_honest folders.now;
+      releases = F.releases folders.now;
+      device = device_view V.Device.is_honest V.Device.moments V.Device.failures
+          V.Device.bytes_read;
     }) path.now result.1 (report result.0 (O.contents output.old) (O.contents output.new)) }
+    ensures asked { V.asked devices.new ≡ raised_by (V.asked devices.old) 1 }
 {
     let mut told = Told::new();
-    let Ok(device) = system.device_or_new(path, faults) else {
+    let Ok(device) = devices.device_or_new(path, faults) else {
         return (refuse(alloc, output, Refusal::DiskFault, &mut told), None);
     };
-    if system.settle(alloc, path, faults).is_err() {
+    if folders.settle(alloc, path, faults).is_err() {
         let ended = refuse(alloc, output, Refusal::DiskFault, &mut told);
         return (ended, Some(device));
     }
     let (ended, left) = init(alloc, device, output, &mut told);
     let context = Context {
         store: path,
-        last_error: system.last_error(&left),
+        last_error: devices.last_error(&left),
     };
     tell_why(told, &context, faults);
     (ended, Some(left))
 }
 
 /// Imports a release into the store under a name.
-fn import_at<P: System, O: Write, E: Write>(
-    system: &P,
+fn import_at<V: Devices, F: Folders, O: Write, E: Write>(
+    devices: &mut V,
+    folders: &F,
     alloc: Global,
     path: &str,
     dir: &str,
@@ -165,27 +176,28 @@ fn import_at<P: System, O: Write, E: Write>(
     quiet: bool,
     output: &mut O,
     faults: &mut E,
-) -> Ended<P::Device>
-    ensures { IsDoneAt (P.stands system.now path.now)
+) -> Ended<V::Device>
+    ensures done { IsDoneAt (V.stands devices.old path.now)
         (λ device after. IsImport
-        (source_view (P.is_honest system.now) (P.releases system.now dir.now))
-        (device_view P.Device.is_honest P.Device.moments P.Device.failures P.Device.bytes_read)
+        (source_view (F.is_honest folders.now) (F.releases folders.now dir.now))
+        (device_view V.Device.is_honest V.Device.moments V.Device.failures V.Device.bytes_read)
         name.now device after (report result.0 (O.contents output.old) (O.contents output.new)))
         (IsMissing (report result.0 (O.contents output.old) (O.contents output.new))
-        × P.withholds system.now path.now) result.1 }
+        × V.withholds devices.old path.now) result.1 }
+    ensures asked { V.asked devices.new ≡ raised_by (V.asked devices.old) 1 }
 {
     let mut told = Told::new();
-    let had = system.device(path, faults);
+    let had = devices.device(path, faults);
     match had {
         Ok(device) => {
             let mut source = FolderSource {
-                system,
+                folders,
                 dir,
                 faults,
                 quiet,
             };
             let (ended, left) = import(alloc, device, name, &mut source, output, &mut told);
-            source.tell_why(told, path, &left);
+            source.tell_why(told, path, devices.last_error(&left));
             (ended, Some(left))
         }
         Err(_) => (refuse(alloc, output, Refusal::DiskFault, &mut told), None),
@@ -193,36 +205,38 @@ fn import_at<P: System, O: Write, E: Write>(
 }
 
 /// Answers the lines of the input from the store under a name.
-fn serve_at<P: System, I: Read, O: Write, E: Write>(
-    system: &P,
+fn serve_at<V: Devices, F: Folders, I: Read, O: Write, E: Write>(
+    devices: &mut V,
+    folders: &F,
     alloc: Global,
     path: &str,
     dir: &str,
     input: &mut I,
     output: &mut O,
     faults: &mut E,
-) -> Ended<P::Device>
-    ensures { IsDoneAt (P.stands system.now path.now)
+) -> Ended<V::Device>
+    ensures done { IsDoneAt (V.stands devices.old path.now)
         (λ device after. IsServing
-        (source_view (P.is_honest system.now) (P.releases system.now dir.now))
-        (device_view P.Device.is_honest P.Device.moments P.Device.failures P.Device.bytes_read)
+        (source_view (F.is_honest folders.now) (F.releases folders.now dir.now))
+        (device_view V.Device.is_honest V.Device.moments V.Device.failures V.Device.bytes_read)
         device after result.0 (streams (I.remaining input.old) (I.remaining input.new)
         (O.contents output.old) (O.contents output.new)))
         (IsMissing (report result.0 (O.contents output.old) (O.contents output.new))
         × (I.remaining input.new ≡ I.remaining input.old)
-        × P.withholds system.now path.now) result.1 }
+        × V.withholds devices.old path.now) result.1 }
+    ensures asked { V.asked devices.new ≡ raised_by (V.asked devices.old) 1 }
 {
     let mut told = Told::new();
-    match system.device(path, faults) {
+    match devices.device(path, faults) {
         Ok(device) => {
             let mut source = FolderSource {
-                system,
+                folders,
                 dir,
                 faults,
                 quiet: true,
             };
             let (ended, left) = serve_device(alloc, device, &mut source, input, output, &mut told);
-            source.tell_why(told, path, &left);
+            source.tell_why(told, path, devices.last_error(&left));
             (ended, Some(left))
         }
         Err(_) => (refuse(alloc, output, Refusal::DiskFault, &mut told), None),
@@ -230,30 +244,31 @@ fn serve_at<P: System, I: Read, O: Write, E: Write>(
 }
 
 /// Tells the status of the store under a name.
-fn status_at<P: System, O: Write, E: Write>(
-    system: &P,
+fn status_at<V: Devices, O: Write, E: Write>(
+    devices: &mut V,
     alloc: Global,
     path: &str,
     output: &mut O,
     faults: &mut E,
-) -> Ended<P::Device>
-    ensures { IsDoneAt (P.stands system.now path.now)
+) -> Ended<V::Device>
+    ensures done { IsDoneAt (V.stands devices.old path.now)
         (λ device after. IsStatus
-        (device_view P.Device.is_honest P.Device.moments P.Device.failures P.Device.bytes_read)
+        (device_view V.Device.is_honest V.Device.moments V.Device.failures V.Device.bytes_read)
         device after
         (report result.0 (O.contents output.old) (O.contents output.new)))
         (IsMissing (report result.0 (O.contents output.old) (O.contents output.new))
-        × P.withholds system.now path.now) result.1 }
+        × V.withholds devices.old path.now) result.1 }
+    ensures asked { V.asked devices.new ≡ raised_by (V.asked devices.old) 1 }
 {
     let mut told = Told::new();
-    let found = system.device(path, faults);
+    let found = devices.device(path, faults);
     match found {
         Ok(device) => {
-            let size = system.size(path);
+            let size = devices.size(path);
             let (ended, left, figures) = status(alloc, device, output, &mut told);
             let context = Context {
                 store: path,
-                last_error: system.last_error(&left),
+                last_error: devices.last_error(&left),
             };
             tell_why(told, &context, faults);
             tell_figures(path, figures, size, faults);
@@ -264,30 +279,31 @@ fn status_at<P: System, O: Write, E: Write>(
 }
 
 /// Merges the segments of the store under a name.
-fn merge_at<P: System, O: Write, E: Write>(
-    system: &P,
+fn merge_at<V: Devices, O: Write, E: Write>(
+    devices: &mut V,
     alloc: Global,
     path: &str,
     most: u32,
     output: &mut O,
     faults: &mut E,
-) -> Ended<P::Device>
-    ensures { IsDoneAt (P.stands system.now path.now)
+) -> Ended<V::Device>
+    ensures done { IsDoneAt (V.stands devices.old path.now)
         (λ device after. IsMergedOnDisk
-        (device_view P.Device.is_honest P.Device.moments P.Device.failures P.Device.bytes_read)
+        (device_view V.Device.is_honest V.Device.moments V.Device.failures V.Device.bytes_read)
         most device after
         (report result.0 (O.contents output.old) (O.contents output.new)))
         (IsMissing (report result.0 (O.contents output.old) (O.contents output.new))
-        × P.withholds system.now path.now) result.1 }
+        × V.withholds devices.old path.now) result.1 }
+    ensures asked { V.asked devices.new ≡ raised_by (V.asked devices.old) 1 }
 {
     let mut told = Told::new();
-    let stands = system.device(path, faults);
+    let stands = devices.device(path, faults);
     match stands {
         Ok(device) => {
             let (ended, left) = merge(alloc, device, path, most, output, &mut told, faults);
             let context = Context {
                 store: path,
-                last_error: system.last_error(&left),
+                last_error: devices.last_error(&left),
             };
             tell_why(told, &context, faults);
             (ended, Some(left))

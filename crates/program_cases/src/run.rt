@@ -154,6 +154,7 @@ impl Run {
             };
             let mut faults = Vec::new(rt.alloc());
             let (status, _) = command_line::run(
+                &mut command_line::FileDisks::new(rt),
                 rt,
                 rt.alloc(),
                 self.words.as_slice(),

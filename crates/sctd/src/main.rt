@@ -2,7 +2,7 @@
 //! a file, and answers what each component looked like on any past date.
 #![tactic(auto)]
 
-use command_line::run;
+use command_line::{FileDisks, run};
 use std::fs::{self, File};
 use std::io::ErrorKind;
 use std::process::ExitCode;
@@ -42,7 +42,9 @@ fn main(rt: HostRuntime) -> ExitCode {
         }
     };
     let (mut input, mut output, mut faults) = (rt.stdin(), rt.stdout(), rt.stderr());
+    let mut disks = FileDisks::new(&rt);
     let (status, _) = run(
+        &mut disks,
         &rt,
         rt.alloc(),
         &words,

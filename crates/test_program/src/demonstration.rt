@@ -2,7 +2,7 @@
 //! two texts, of which each has to say what the other does.
 
 use crate::shown::words_of;
-use command_line::{SCRIPT, run};
+use command_line::{FileDisks, SCRIPT, run};
 use line_support::{demonstration, input_of, replies_of};
 use std::test::Fail;
 
@@ -16,6 +16,7 @@ fn the_demonstration_is_the_script(rt: HostRuntime) -> Result<(), Fail> {
     let mut output = Vec::new(alloc);
     let mut faults = Vec::new(alloc);
     let (status, _) = run(
+        &mut FileDisks::new(&rt),
         &rt,
         alloc,
         words.as_slice(),

@@ -1,6 +1,6 @@
 //! Runs of the program, and what they show.
 
-use command_line::run;
+use command_line::{FileDisks, run};
 use std::alloc::{AllocError, Global};
 use std::test::Fail;
 use test_support::Scarcity;
@@ -43,6 +43,7 @@ pub fn run_line(rt: &HostRuntime, line: &str, mut input: &[u8]) -> Result<Shown,
     let mut output = Vec::new(rt.alloc());
     let mut faults = Vec::new(rt.alloc());
     let (status, _) = run(
+        &mut FileDisks::new(rt),
         rt,
         rt.alloc(),
         words.as_slice(),
@@ -73,7 +74,15 @@ pub fn run_words(
     if let Some(bytes) = room {
         scarcity.leave(bytes)?;
     }
-    let (status, _) = run(rt, alloc, words, &mut input, &mut output, &mut faults);
+    let (status, _) = run(
+        &mut FileDisks::new(rt),
+        rt,
+        alloc,
+        words,
+        &mut input,
+        &mut output,
+        &mut faults,
+    );
     scarcity.relax();
     Ok(Shown {
         status,

@@ -2,8 +2,8 @@ use Rattle.std.proofs.Common.{◌≡◌, ◌-◌, ◌*◌}
 use Rattle.store_life.specs.DeviceView.{device_view}
 use Rattle.line_server.specs.Pins.{AreWithin}
 use Rattle.line_server.specs.Replies.{server}
-use Rattle.command_line.specs.Merging.{segments_of}
-use Rattle.command_line.specs.Private.{HaveMerged, IsMerging, rows_left}
+use Rattle.command_line.specs.Merging.{rows_left, segments_of}
+use Rattle.command_line.specs.Private.{HaveMerged, IsMerging}
 use Rattle.command_line.proofs.merging.take_rows.Given as goal
 
 -- lines of the merge were answered, of as many segments, and each took its rows

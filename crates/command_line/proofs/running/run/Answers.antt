@@ -5,9 +5,10 @@ pub returns-in-Ok-clause-done : goal.returns-in-Ok-clause-done
 returns-in-Ok-clause-done g c = inl (record {
   task = c.in-Ok.task;
   asked = c.in-Ok.ensures.task;
+  devices = c.perform-ended.ensures.asked;
   ended = c.perform-ended.result.0;
   written = g.O.Write.contents c.perform-ended.new.output;
-  does = c.perform-ended.ensures;
+  does = c.perform-ended.ensures.does;
   kept = c.finish.ensures.written;
   at_most = c.finish.ensures.status;
   done = λ z. (c.finish.ensures.done z).0;
@@ -20,4 +21,5 @@ returns-in-Err-clause-done g c = inr (record {
   explained = c.explain.ensures.explained;
   unread = refl;
   none_left = refl;
+  none_asked = refl;
 })

@@ -1,0 +1,7 @@
+-- How many devices were asked for.
+use Rattle.std.specs.Prelude.{ℕ}
+use Rattle.command_line.specs.declared.devices.FileDisks.{FileDisks}
+
+-- how many files were asked for
+abbrev pub files_asked : {R : Type 0} → FileDisks R → ℕ
+files_asked files = files.asked

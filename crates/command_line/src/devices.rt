@@ -1,0 +1,119 @@
+//! Where the program finds what holds a store.
+
+ghost use Rattle.std.specs.Prelude.{◌≡◌, ℕ, List, IfOk, IfErr};
+ghost use Rattle.disk_model.specs.Disk.{raised_by};
+ghost use Rattle.command_line.specs.Devices.{files_asked};
+
+use disk_model::{Disk, DiskFault, FileDisk, OpenFault};
+use std::fs::{self, File, Files};
+use std::io::{self, Write};
+
+/// What holds stores, by names. It counts how often it is asked for one.
+pub trait Devices {
+    /// What holds a store.
+    type Device: Disk + Drop;
+    /// How many devices it was asked for, whatever it answered.
+    /// It has 64 bits; at its last value it stays.
+    ghost asked: { Self → ℕ };
+    /// This stands under the name, and is had from there.
+    ghost stands: { Self → List ℕ → Self.Device → Type 0 };
+    /// There is no file of this name, or it can't be opened.
+    ghost withholds: { Self → List ℕ → Type 0 };
+    /// This stands under the name, or was made there since nothing did.
+    ghost makes: { Self → List ℕ → Self.Device → Type 0 };
+    /// There is no file of this name that can be opened, and none can be created.
+    ghost denies: { Self → List ℕ → Type 0 };
+
+    /// What stands under a name. Where it can't be had, `faults` is told why.
+    fn device<E: Write>(&mut self, path: &str, faults: &mut E) -> Result<Self::Device, DiskFault>
+        ensures had { IfOk result (stands self.old path.now) }
+        ensures missing { IfErr result (λ _. withholds self.old path.now) }
+        ensures asked { asked self.new ≡ raised_by (asked self.old) 1 };
+
+    /// What stands under a name, or a new one where nothing does.
+    /// Where it can't be had or made, `faults` is told why.
+    fn device_or_new<E: Write>(
+        &mut self,
+        path: &str,
+        faults: &mut E,
+    ) -> Result<Self::Device, DiskFault>
+        ensures had { IfOk result (makes self.old path.now) }
+        ensures denied { IfErr result (λ _. denies self.old path.now) }
+        ensures asked { asked self.new ≡ raised_by (asked self.old) 1 };
+
+    /// What the system said of the device's call that failed last, if one has failed.
+    fn last_error(&self, device: &Self::Device) -> Option<io::Error>;
+
+    /// How many bytes stand under a name, if that can be had.
+    fn size(&self, path: &str) -> Option<u64>;
+}
+
+/// The real files. Nothing is claimed of which of them stand under a name.
+#[derive(Drop)]
+pub struct FileDisks<'a, R: Files<File = File>> {
+    rt: &'a R,
+    asked: u64,
+}
+
+impl<'a, R: Files<File = File>> FileDisks<'a, R> {
+    /// None was asked for yet.
+    pub fn new(rt: &'a R) -> FileDisks<'a, R>
+        ensures { files_asked result ≡ 0 }
+    {
+        FileDisks { rt, asked: 0 }
+    }
+}
+
+impl<R: Files<File = File>> Devices for FileDisks<'_, R> {
+    type Device = FileDisk;
+
+    ghost asked = { files_asked };
+
+    ghost stands = { λ _ _ _. Unit {0} };
+
+    ghost withholds = { λ _ _. Unit {0} };
+
+    ghost makes = { λ _ _ _. Unit {0} };
+
+    ghost denies = { λ _ _. Unit {0} };
+
+    fn device<E: Write>(&mut self, path: &str, faults: &mut E) -> Result<FileDisk, DiskFault> {
+        self.asked = self.asked.saturating_add(1);
+        device_or_told(FileDisk::open(self.rt, path), path, faults)
+    }
+
+    fn device_or_new<E: Write>(
+        &mut self,
+        path: &str,
+        faults: &mut E,
+    ) -> Result<FileDisk, DiskFault> {
+        self.asked = self.asked.saturating_add(1);
+        device_or_told(FileDisk::open_or_make(self.rt, path), path, faults)
+    }
+
+    fn last_error(&self, device: &FileDisk) -> Option<io::Error> {
+        device.fault()
+    }
+
+    fn size(&self, path: &str) -> Option<u64> {
+        match fs::metadata(self.rt, path) {
+            Ok(metadata) => Some(metadata.len()),
+            Err(_) => None,
+        }
+    }
+}
+
+/// A file's disk, or the line that says why there is none.
+fn device_or_told<E: Write>(
+    opened: Result<FileDisk, OpenFault>,
+    path: &str,
+    faults: &mut E,
+) -> Result<FileDisk, DiskFault> {
+    match opened {
+        Ok(disk) => Ok(disk),
+        Err(fault) => {
+            let _ = writeln!(faults, "sctd: {path}: {fault}");
+            Err(DiskFault)
+        }
+    }
+}
