@@ -44,7 +44,7 @@ METER_NAMES = re.compile(r"ensures (?:cache|same_cache|keeps|capacity|looked_up|
 # A clause that hands on what a disk is, or a system, to a word that says more than counts.
 HANDS_ON = re.compile(r"device_view|\.moments \w+(?:\.\w+)*\.failures|\bP\.stands")
 
-NO_PRODUCT = re.compile(r"(?:test|bench)_|line_support$|folder_run$")
+NO_PRODUCT = re.compile(r"(?:test|bench)_|line_support$")
 
 
 class Found(NamedTuple):
