@@ -109,7 +109,7 @@ FIGURES = [
            asked_for(RUNS, "runs.not_begun", "")),
     Figure(RELIABILITY, "and for {} in which lines are refused",
            asked_for(RUNS, "runs.refused", " &&")),
-    Figure(RELIABILITY, "refused: at least {} lines in", asked_for(RUNS, "runs.most", ",")),
+    Figure(RELIABILITY, "refused: at least {} lines in", asked_for(RUNS, "runs.most", "")),
     Figure(RELIABILITY, "runs of {} lines, each with 16 bytes more",
            number_in("line_support/src/script.rt", "const SCRIPT: \\[Turn; ")),
     Figure(RELIABILITY, "| {} calls, one by one", CALLS),

@@ -107,7 +107,7 @@ def measure(program, folder, rows, times):
             os.remove(copy)
         return Work([program, "write", before, copy, str(-(-size * STEP // (2 * rows)))])
 
-    nothing = Least(times, lambda: Work([program]))
+    nothing = Least(times, lambda: Work([program, "nothing"]))
     opening = Least(times, lambda: run("open"))
     merging = Least(times, lambda: run("merge"))
     show("open", opening, nothing)

@@ -1,65 +1,115 @@
 //! What is asked of a store that is open.
 
+use crate::open_store;
+use bstr::ByteSlice;
 use disk_model::FileDisk;
 use history_store::Store;
 use rf2_rows::{EffectiveTime, Kind, Sctid};
-use std::alloc::{AllocError, Global};
+use std::fs;
+use std::rt::HostRuntime;
+
+/// The date that is asked for.
+const DATE: u32 = 20_251_231;
+
+/// What is asked of a concept.
+#[derive(Clone, Copy)]
+pub(crate) enum Question {
+    /// Its row.
+    Lookup,
+    /// A page of a hundred concepts behind it.
+    Page,
+    Children,
+}
+
+/// The name of a question, in what is printed.
+pub(crate) fn name_of(question: Question) -> &'static str {
+    match question {
+        Question::Lookup => "lookups",
+        Question::Page => "pages",
+        Question::Children => "children",
+    }
+}
 
 /// The concepts of a file, one a line.
-pub(crate) fn concepts(alloc: Global, text: &[u8]) -> Result<Vec<Sctid>, AllocError> {
-    let mut ids = Vec::new(alloc);
-    for line in text.split(|byte| *byte == b'\n') {
+pub(crate) fn concepts_in(rt: &HostRuntime, path: &str) -> Option<Vec<Sctid>> {
+    let text = fs::read(rt, path).ok()?;
+    let mut ids = Vec::new(rt.alloc());
+    for line in text.as_slice().lines() {
         if let Some(id) = Sctid::parse(line) {
-            ids.push(id)?;
+            ids.push(id).ok()?;
         }
     }
-    Ok(ids)
+    Some(ids)
 }
 
-/// Looks up some concepts. How many are found.
-pub(crate) fn look_up(store: &mut Store<FileDisk>, ids: &[Sctid]) -> Option<u64> {
-    let time = EffectiveTime::of(20_251_231)?;
+/// Asks of a concept. How many rows or ids are found.
+fn ask(
+    store: &mut Store<FileDisk>,
+    question: Question,
+    id: Sctid,
+    time: EffectiveTime,
+) -> Option<usize> {
     let pin = store.imports();
-    let mut found = 0;
-    for id in ids {
-        if pin > store.imports() {
-            return None;
+    let value = u128::from(id.value());
+    match question {
+        Question::Lookup => {
+            let row = store.get(Kind::Concept, value, time, pin).ok()?;
+            Some(usize::from(row.is_some()))
         }
-        let row = store
-            .get(Kind::Concept, u128::from(id.value()), time, pin)
-            .ok()?;
-        found += u64::from(row.is_some() && found < u64::MAX);
+        Question::Page => {
+            let rows = store.page(Kind::Concept, time, Some(value), 100, pin).ok()?;
+            Some(rows.len())
+        }
+        Question::Children => Some(store.children(id, time, pin).ok()?.len()),
     }
-    Some(found)
 }
 
-/// Reads a page of a hundred concepts behind each of some. How many rows that are.
-pub(crate) fn turn_pages(store: &mut Store<FileDisk>, ids: &[Sctid]) -> Option<u64> {
-    let time = EffectiveTime::of(20_251_231)?;
-    let pin = store.imports();
+/// Asks of each of some concepts. How many rows or ids are found.
+pub(crate) fn ask_each(
+    store: &mut Store<FileDisk>,
+    question: Question,
+    ids: &[Sctid],
+) -> Option<u64> {
+    let time = EffectiveTime::of(DATE)?;
     let mut found: u64 = 0;
     for id in ids {
-        if pin > store.imports() {
-            return None;
-        }
-        let after = Some(u128::from(id.value()));
-        let rows = store.page(Kind::Concept, time, after, 100, pin).ok()?;
-        found = found.saturating_add(rows.len() as u64);
+        found = found.saturating_add(ask(store, question, *id, time)? as u64);
     }
     Some(found)
 }
 
-/// Asks for the children of each of some concepts. How many ids that are.
-pub(crate) fn ask_children(store: &mut Store<FileDisk>, ids: &[Sctid]) -> Option<u64> {
-    let time = EffectiveTime::of(20_251_231)?;
+/// Searches for ten descriptions by a prefix. How many there are.
+fn search(store: &mut Store<FileDisk>, prefix: &[u8], time: EffectiveTime) -> Option<usize> {
+    let Ok(prefix) = str::from_utf8(prefix) else {
+        return Some(0);
+    };
     let pin = store.imports();
+    Some(store.terms(prefix, time, 10, pin).ok()?.len())
+}
+
+/// Searches for ten descriptions by each prefix of a file. How many rows that are.
+pub(crate) fn search_terms(rt: &HostRuntime, path: &str, prefixes: &str) -> Option<u64> {
+    let mut store = open_store(rt, path)?;
+    let prefixes = fs::read(rt, prefixes).ok()?;
+    let time = EffectiveTime::of(DATE)?;
     let mut found: u64 = 0;
-    for id in ids {
-        if pin > store.imports() {
-            return None;
-        }
-        let children = store.children(*id, time, pin).ok()?;
-        found = found.saturating_add(children.len() as u64);
+    for prefix in prefixes.as_slice().lines() {
+        found = found.saturating_add(search(&mut *store, prefix, time)? as u64);
     }
     Some(found)
+}
+
+/// The descriptions behind one, so many. The last of them; none, where there is none behind it.
+pub(crate) fn turn_page(
+    store: &mut Store<FileDisk>,
+    after: Option<u128>,
+    rows: u32,
+) -> Option<Option<u128>> {
+    let time = EffectiveTime::of(DATE)?;
+    let pin = store.imports();
+    let rows = store.page(Kind::Description, time, after, rows, pin).ok()?;
+    match rows.last() {
+        Some(row) => Some(Some(row.id)),
+        None => Some(None),
+    }
 }

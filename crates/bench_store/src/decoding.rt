@@ -1,4 +1,4 @@
-//! An opening, and beside it the decoding of the same bytes with no store round it.
+//! What a store's file costs to open, and its segments alone to decode.
 
 use crate::open_store;
 use crate::watch::start_watch;
@@ -6,6 +6,7 @@ use blocks::{BLOCK, read_current};
 use directory::{Directory, Entry};
 use disk_model::FileDisk;
 use segment::decode;
+use std::alloc::Global;
 use std::fs;
 use std::rt::HostRuntime;
 
@@ -25,22 +26,36 @@ fn read_directory(rt: &HostRuntime, path: &str) -> Option<Directory> {
     Directory::decode(rt.alloc(), &content).ok()
 }
 
+/// Decodes a segment and drops its rows again. How many there were.
+fn decode_one(alloc: Global, bytes: &[u8], entry: &Entry) -> Option<usize> {
+    Some(decode(alloc, segment_in(bytes, entry)?).ok()?.len())
+}
+
+/// Decodes the segments that a directory lists. How many rows they have.
+fn decode_all(alloc: Global, bytes: &[u8], directory: &Directory) -> Option<u64> {
+    let mut rows: u64 = 0;
+    for entry in directory.entries() {
+        rows = rows.saturating_add(decode_one(alloc, bytes, entry)? as u64);
+    }
+    Some(rows)
+}
+
+/// Opens the store, closes it again, and says what the opening took.
+fn open_and_tell(rt: &HostRuntime, path: &str) -> Option<()> {
+    let opening = start_watch(rt)?;
+    let _store = open_store(rt, path)?;
+    opening.tell(rt, "open")
+}
+
 /// Opens the store and decodes its segments, and says what each took. How many rows were decoded.
 pub(crate) fn open_and_decode(rt: &HostRuntime, path: &str) -> Option<u64> {
     let reading = start_watch(rt)?;
     let bytes = fs::read(rt, path).ok()?;
     reading.tell(rt, "read the file")?;
-    let opening = start_watch(rt)?;
-    let store = open_store(rt, path)?;
-    opening.tell(rt, "open")?;
-    drop(store);
+    open_and_tell(rt, path)?;
     let directory = read_directory(rt, path)?;
     let decoding = start_watch(rt)?;
-    let mut rows: u64 = 0;
-    for entry in directory.entries() {
-        let found = decode(rt.alloc(), segment_in(&bytes, entry)?).ok()?;
-        rows = rows.saturating_add(found.len() as u64);
-    }
+    let rows = decode_all(rt.alloc(), &bytes, &directory)?;
     decoding.tell(rt, "decode, and give the rows back")?;
     Some(rows)
 }

@@ -1,23 +1,30 @@
 //! Does one piece of work on a store in a file, for the drivers that measure it
-//! (measure.py, measure_merge.py and measure_segments.py in bench/measurements).
-//! Without words it does nothing.
+//! (measure.py, measure_merge.py and measure_segments.py in bench/measurements), reads a file of
+//! descriptions, or asks an index of made places. Without words it asks a small one and prints
+//! nothing.
 #![tactic(auto)]
 
 mod asking;
 mod decoding;
+mod making;
 mod merging;
+mod places;
+mod reading;
 mod segments;
 mod watch;
 
-use crate::asking::{ask_children, concepts, look_up, turn_pages};
+use crate::asking::{Question, ask_each, concepts_in, search_terms};
+use crate::decoding::open_and_decode;
 use crate::merging::{look_up_in_groups, merge, write_alike};
+use crate::places::{SMALL, ask_each_index};
+use crate::reading::read_three_times;
+use crate::segments::open_and_ask;
 use disk_model::FileDisk;
 use history_store::Store;
 use release_folder::read_folder;
-use rf2_rows::EffectiveTime;
 use std::process::ExitCode;
 use std::rt::HostRuntime;
-use std::{env, fs};
+use std::{env, io};
 
 /// The store in a file. It is boxed, so that a function which
 /// lets it go is proved without what a store is made of.
@@ -48,84 +55,72 @@ fn import(rt: &HostRuntime, path: &str, folder: &str, name: &str) -> Option<u64>
     }
 }
 
-/// Searches for ten descriptions by each prefix of a file. How many rows that are.
-fn search_terms(rt: &HostRuntime, path: &str, prefixes: &str) -> Option<u64> {
-    let mut store = open_store(rt, path)?;
-    let prefixes = fs::read(rt, prefixes).ok()?;
-    let time = EffectiveTime::of(20_251_231)?;
-    let pin = store.imports();
-    let mut found: u64 = 0;
-    for line in prefixes.split(|byte| *byte == b'\n') {
-        if let Ok(prefix) = str::from_utf8(line) {
-            if pin > store.imports() {
-                return None;
-            }
-            let rows = store.terms(prefix, time, 10, pin).ok()?;
-            found = found.saturating_add(rows.len() as u64);
-        }
-    }
-    Some(found)
+/// Opens a store. How many rows it has.
+fn open(rt: &HostRuntime, path: &str) -> Option<u64> {
+    Some(open_store(rt, path)?.row_count())
 }
 
-/// Asks of each concept of a file what the word says. How many rows or ids are found.
-fn ask_each(rt: &HostRuntime, what: &str, path: &str, ids: &str) -> Option<u64> {
+/// Asks a question of each concept of a file. How many rows or ids are found.
+fn open_and_ask_each(rt: &HostRuntime, question: Question, path: &str, ids: &str) -> Option<u64> {
     let mut store = open_store(rt, path)?;
-    let ids = concepts(rt.alloc(), &fs::read(rt, ids).ok()?).ok()?;
-    match what {
-        "lookups" => look_up(&mut *store, &ids),
-        "pages" => turn_pages(&mut *store, &ids),
-        _ => ask_children(&mut *store, &ids),
+    let ids = concepts_in(rt, ids)?;
+    ask_each(&mut *store, question, &ids)
+}
+
+/// The word at a place; one of no bytes where there are fewer.
+fn word(words: &[String], place: usize) -> &str {
+    match words.get(place) {
+        Some(word) => word.as_str(),
+        None => "",
     }
 }
 
-/// Does what the words say, and prints how many rows it brought, found or holds.
+/// Does a piece of work on a store. How many rows it brought, found or holds.
 /// None where it can't be done.
-fn run(rt: &HostRuntime) -> Option<()> {
-    let mut words = env::args(rt).ok()?.skip(1);
-    let Some(what) = words.next() else {
-        return Some(());
-    };
-    let path = words.next()?;
-    let count = match what.as_str() {
-        "make" => make(rt, path.as_str())?,
-        "import" => import(
-            rt,
-            path.as_str(),
-            words.next()?.as_str(),
-            words.next()?.as_str(),
-        )?,
-        "open" => open_store(rt, path.as_str())?.row_count(),
-        "decode" => decoding::open_and_decode(rt, path.as_str())?,
-        "lookups" | "pages" | "children" => {
-            ask_each(rt, what.as_str(), path.as_str(), words.next()?.as_str())?
+fn work(rt: &HostRuntime, words: &[String]) -> Option<u64> {
+    let (path, third, fourth) = (word(words, 2), word(words, 3), word(words, 4));
+    match word(words, 1) {
+        "make" => make(rt, path),
+        "import" => import(rt, path, third, fourth),
+        "open" => open(rt, path),
+        "decode" => open_and_decode(rt, path),
+        "lookups" => open_and_ask_each(rt, Question::Lookup, path, third),
+        "pages" => open_and_ask_each(rt, Question::Page, path, third),
+        "children" => open_and_ask_each(rt, Question::Children, path, third),
+        "terms" => search_terms(rt, path, third),
+        "segments" => open_and_ask(rt, path, third, fourth),
+        "merge" => merge(rt, path),
+        "groups" => look_up_in_groups(rt, path, third, fourth),
+        "write" => write_alike(rt, path, third, fourth),
+        _ => None,
+    }
+}
+
+/// Does what the words say: `nothing`, `rows FILE`, `places NUMBER`,
+/// or work on a store, of which a number is printed.
+fn run(rt: &HostRuntime, words: &[String]) -> Option<()> {
+    match word(words, 1) {
+        "" => ask_each_index(rt, SMALL, true),
+        "nothing" => Some(()),
+        "rows" => read_three_times(rt, word(words, 2)),
+        "places" => ask_each_index(rt, word(words, 2).parse::<u64>().ok()?, false),
+        _ => {
+            let count = work(rt, words)?;
+            println!(rt; "{count}").ok()
         }
-        "terms" => search_terms(rt, path.as_str(), words.next()?.as_str())?,
-        "segments" => segments::open_and_ask(
-            rt,
-            path.as_str(),
-            words.next()?.as_str(),
-            words.next()?.as_str(),
-        )?,
-        "merge" => merge(rt, path.as_str())?,
-        "groups" => look_up_in_groups(
-            rt,
-            path.as_str(),
-            words.next()?.as_str(),
-            words.next()?.as_str(),
-        )?,
-        "write" => write_alike(
-            rt,
-            path.as_str(),
-            words.next()?.as_str(),
-            words.next()?.as_str(),
-        )?,
-        _ => return None,
-    };
-    println!(rt; "{count}").ok()
+    }
+}
+
+/// The words of the command line, of which the first is the program's name.
+fn words_of(rt: &HostRuntime) -> io::Result<Vec<String>> {
+    Ok(env::args(rt)?.collect(rt.alloc())?)
 }
 
 fn main(rt: HostRuntime) -> ExitCode {
-    match run(&rt) {
+    let Ok(words) = words_of(&rt) else {
+        return ExitCode::FAILURE;
+    };
+    match run(&rt, &words) {
         Some(()) => ExitCode::SUCCESS,
         None => ExitCode::FAILURE,
     }

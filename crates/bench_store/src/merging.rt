@@ -1,10 +1,10 @@
 //! Merges of the two smallest segments, and what they are to be held against.
 
-use crate::asking::{concepts, look_up};
+use crate::asking::{Question, ask_each, concepts_in, turn_page};
 use crate::open_store;
 use disk_model::{Disk, FileDisk, MAX_END};
 use history_store::Store;
-use rf2_rows::{EffectiveTime, Kind};
+use rf2_rows::Sctid;
 use std::fs;
 use std::rt::HostRuntime;
 use std::time::CpuClock;
@@ -32,7 +32,7 @@ fn take_all(store: &mut Store<FileDisk>) -> Option<u64> {
 }
 
 /// Merges two segments and publishes the output. How many steps that were.
-pub fn merge(rt: &HostRuntime, path: &str) -> Option<u64> {
+pub(crate) fn merge(rt: &HostRuntime, path: &str) -> Option<u64> {
     let mut store = open_store(rt, path)?;
     let steps = take_all(&mut *store)?;
     store.merge_publish().ok()?;
@@ -66,17 +66,6 @@ fn prepare(store: &mut Store<FileDisk>, way: &str) -> Option<Between> {
     }
 }
 
-/// The descriptions behind one, as many as a step takes. The last of them;
-/// none, where there is none behind it.
-fn turn_page(store: &mut Store<FileDisk>, after: Option<u128>) -> Option<Option<u128>> {
-    let time = EffectiveTime::of(20_251_231)?;
-    let pin = store.imports();
-    let rows = store
-        .page(Kind::Description, time, after, ROWS_A_STEP, pin)
-        .ok()?;
-    Some(rows.last().map(|row| row.id))
-}
-
 /// Does what goes before a group. Behind which description the next page begins.
 fn go_between(
     store: &mut Store<FileDisk>,
@@ -89,54 +78,95 @@ fn go_between(
             store.merge_step(ROWS_A_STEP).ok()?;
             Some(after)
         }
-        Between::Page => turn_page(store, after),
+        Between::Page => turn_page(store, after, ROWS_A_STEP),
     }
+}
+
+/// What lookups in groups took of the processor, in nanoseconds.
+#[derive(Clone, Copy)]
+struct Took {
+    /// What went before the groups.
+    before: u128,
+    /// The lookups.
+    asked: u128,
+    /// How many concepts were found.
+    found: u64,
+}
+
+/// What the process has used of the processor, in nanoseconds.
+fn nanos(rt: &HostRuntime) -> Option<u128> {
+    Some(rt.process_cpu_time().ok()?.as_nanos())
+}
+
+/// Looks up concepts in groups of fifty, each behind what goes before it.
+fn ask_groups(
+    rt: &HostRuntime,
+    store: &mut Store<FileDisk>,
+    ids: &[Sctid],
+    between: Between,
+) -> Option<Took> {
+    let mut after = None;
+    let mut took = Took {
+        before: 0,
+        asked: 0,
+        found: 0,
+    };
+    for group in ids.chunks(LOOKUPS_A_GROUP) {
+        let start = nanos(rt)?;
+        after = go_between(store, between, after)?;
+        let middle = nanos(rt)?;
+        let found = ask_each(store, Question::Lookup, group)?;
+        let end = nanos(rt)?;
+        took.before = took.before.saturating_add(middle.saturating_sub(start));
+        took.asked = took.asked.saturating_add(end.saturating_sub(middle));
+        took.found = took.found.saturating_add(found);
+    }
+    Some(took)
 }
 
 /// Looks up the concepts of a file in groups of fifty: without a merge (`none`), with half of the
 /// rows of one taken (`half`), with a step before each group (`steps`), or without a merge and with
 /// a page before each group (`pages`). Says what the lookups, and what goes before the groups, took
 /// of the processor. How many are found.
-pub fn look_up_in_groups(rt: &HostRuntime, path: &str, ids: &str, way: &str) -> Option<u64> {
+pub(crate) fn look_up_in_groups(rt: &HostRuntime, path: &str, ids: &str, way: &str) -> Option<u64> {
     let mut store = open_store(rt, path)?;
-    let ids = concepts(rt.alloc(), &fs::read(rt, ids).ok()?).ok()?;
+    let ids = concepts_in(rt, ids)?;
     let between = prepare(&mut *store, way)?;
-    let mut after = None;
-    let mut found: u64 = 0;
-    let mut asked: u128 = 0;
-    let mut before: u128 = 0;
-    for group in ids.chunks(LOOKUPS_A_GROUP) {
-        let start = rt.process_cpu_time().ok()?.as_nanos();
-        after = go_between(&mut *store, between, after)?;
-        let middle = rt.process_cpu_time().ok()?.as_nanos();
-        found = found.saturating_add(look_up(&mut *store, group)?);
-        let end = rt.process_cpu_time().ok()?.as_nanos();
-        before = before.saturating_add(middle.saturating_sub(start));
-        asked = asked.saturating_add(end.saturating_sub(middle));
-    }
+    let took = ask_groups(rt, &mut *store, &ids, between)?;
+    let (asked, before) = (took.asked, took.before);
     println!(rt; "lookups {asked} ns, before them {before} ns").ok()?;
-    Some(found)
+    Some(took.found)
 }
 
-/// Writes what stands behind the slots of one file into another,
-/// in so many bytes a write, and syncs. How many writes that were.
-pub fn write_alike(rt: &HostRuntime, from: &str, to: &str, bytes: &str) -> Option<u64> {
-    let size = bytes.parse::<usize>().ok()?;
-    let content = fs::read(rt, from).ok()?;
-    let mut disk = FileDisk::open_or_make(rt, to).ok()?;
-    if size == 0 || content.len() < SLOTS || content.len() as u64 > MAX_END {
+/// Writes a part at a place. Behind which byte it ends.
+fn write_part(disk: &mut FileDisk, at: u64, part: &[u8]) -> Option<u64> {
+    if part.len() as u64 > MAX_END.checked_sub(at)? {
+        return None;
+    }
+    disk.write_at(at, part).ok()?;
+    Some(at + part.len() as u64)
+}
+
+/// Writes some bytes, in so many a write, and syncs. How many writes that were.
+fn write_all(disk: &mut FileDisk, bytes: &[u8], size: usize) -> Option<u64> {
+    if size == 0 {
         return None;
     }
     let mut at = 0;
     let mut writes: u64 = 0;
-    for part in content[SLOTS..].chunks(size) {
-        if part.len() as u64 > MAX_END.checked_sub(at)? {
-            return None;
-        }
-        disk.write_at(at, part).ok()?;
-        at += part.len() as u64;
+    for part in bytes.chunks(size) {
+        at = write_part(disk, at, part)?;
         writes = writes.saturating_add(1);
     }
     disk.sync().ok()?;
     Some(writes)
+}
+
+/// Writes what stands behind the slots of one file into another,
+/// in so many bytes a write, and syncs. How many writes that were.
+pub(crate) fn write_alike(rt: &HostRuntime, from: &str, to: &str, bytes: &str) -> Option<u64> {
+    let size = bytes.parse::<usize>().ok()?;
+    let content = fs::read(rt, from).ok()?;
+    let mut disk = FileDisk::open_or_make(rt, to).ok()?;
+    write_all(&mut disk, content.get(SLOTS..)?, size)
 }

@@ -2,6 +2,7 @@
 
 use blocks::Extent;
 use directory::{Directory, DirectoryFault, Entry, Full, Layout, first_fit};
+use std::alloc::Global;
 use std::test::Fail;
 
 /// The beginning of a content block of epoch 2 and one import,
@@ -55,52 +56,80 @@ fn two_segments() -> [u8; 4096] {
 #[test]
 fn a_content_block_byte_for_byte(rt: HostRuntime) -> Result<(), Fail> {
     let mut directory = Directory::new(rt.alloc())?;
-    assert_eq!(rt; directory.epoch(), 1);
-    assert_eq!(rt; directory.imports(), 0);
+    assert_eq!(rt; (directory.epoch(), directory.imports()), (1, 0));
     assert_eq!(rt; directory.entries().len(), 0);
     directory.advance(1);
     directory.add(FIRST);
     let mut block = [7; 4096];
     directory.encode(&mut block);
-    assert_eq!(rt; block.as_slice(), block_of(&ONE_SEGMENT, 0).as_slice());
-    // What stands in the rest isn't read.
+    assert_eq!(rt; block, block_of(&ONE_SEGMENT, 0));
+    Ok(())
+}
+
+#[test]
+fn what_stands_in_the_rest_of_a_block_is_not_read(rt: HostRuntime) -> Result<(), Fail> {
     let read = Directory::decode(rt.alloc(), &block_of(&ONE_SEGMENT, 255))?;
-    assert_eq!(rt; read.epoch(), 2);
-    assert_eq!(rt; read.imports(), 1);
+    assert_eq!(rt; (read.epoch(), read.imports()), (2, 1));
     assert_eq!(rt; read.entries(), [FIRST].as_slice());
     Ok(())
+}
+
+/// Whether a block is refused as a bad directory.
+fn is_bad(alloc: Global, block: &[u8; 4096]) -> bool {
+    matches!(
+        Directory::decode(alloc, block),
+        Err(DirectoryFault::BadDirectory)
+    )
+}
+
+/// Whether the block of both segments with another byte at a place is refused.
+fn is_bad_with(alloc: Global, place: usize, byte: u8) -> bool {
+    let mut block = two_segments();
+    if place >= block.len() {
+        return false;
+    }
+    block[place] = byte;
+    is_bad(alloc, &block)
+}
+
+/// A byte at a place of the block of both segments, and why that is bad.
+const BAD_BYTES: [(usize, u8, &str); 14] = [
+    (7, 0, "epoch 0"),
+    (15, b'3', "another mark"),
+    (23, 251, "too many entries"),
+    (20, 1, "far too many entries"),
+    (24, 1, "a zero field of the header"),
+    (31, 1, "the end of that field"),
+    (39, 0, "no bytes"),
+    (43, 0, "no rows"),
+    (44, 1, "a zero field of an entry"),
+    (47, 1, "the end of that field"),
+    (35, 3, "a first block among the slots"),
+    (49, 64, "an end above the last block"),
+    (51, 4, "two extents that share a block"),
+    (38, 16, "the same with the first of them longer"),
+];
+
+/// The first of these faults with which the block isn't refused.
+fn missed_fault(alloc: Global) -> Option<&'static str> {
+    for (place, byte, fault) in &BAD_BYTES {
+        if !is_bad_with(alloc, *place, *byte) {
+            return Some(*fault);
+        }
+    }
+    None
 }
 
 #[test]
 fn each_way_in_which_a_block_is_bad(rt: HostRuntime) -> Result<(), Fail> {
     let good = Directory::decode(rt.alloc(), &two_segments())?;
     assert_eq!(rt; good.entries(), [FIRST, SECOND].as_slice());
-    for (place, byte, fault) in [
-        (7, 0, "epoch 0"),
-        (15, b'3', "another mark"),
-        (23, 251, "too many entries"),
-        (20, 1, "far too many entries"),
-        (24, 1, "a zero field of the header"),
-        (31, 1, "the end of that field"),
-        (39, 0, "no bytes"),
-        (43, 0, "no rows"),
-        (44, 1, "a zero field of an entry"),
-        (47, 1, "the end of that field"),
-        (35, 3, "a first block among the slots"),
-        (49, 64, "an end above the last block"),
-        (51, 4, "two extents that share a block"),
-        (38, 16, "the same with the first of them longer"),
-    ] {
-        let mut block = two_segments();
-        assert!(rt; place < 4096);
-        block[place] = byte;
-        let read = Directory::decode(rt.alloc(), &block);
-        assert!(rt;
-            matches!(read, Err(DirectoryFault::BadDirectory)),
-            "{fault}"
-        );
-    }
-    // An extent may end at the last block, and no further.
+    assert_eq!(rt; missed_fault(rt.alloc()), None);
+    Ok(())
+}
+
+#[test]
+fn an_extent_ends_at_the_last_block_at_most(rt: HostRuntime) -> Result<(), Fail> {
     let mut block = two_segments();
     block[49] = 63;
     block[50] = 255;
@@ -108,8 +137,7 @@ fn each_way_in_which_a_block_is_bad(rt: HostRuntime) -> Result<(), Fail> {
     let last = Directory::decode(rt.alloc(), &block)?;
     assert_eq!(rt; last.entries().len(), 2);
     block[51] = 255;
-    let read = Directory::decode(rt.alloc(), &block);
-    assert!(rt; matches!(read, Err(DirectoryFault::BadDirectory)));
+    assert!(rt; is_bad(rt.alloc(), &block));
     Ok(())
 }
 
@@ -130,8 +158,7 @@ fn entries_go_last_and_close_up(rt: HostRuntime) -> Result<(), Fail> {
     );
     directory.advance(0);
     directory.put_back(Layout::One, 1, 0, 1, FIRST, SECOND);
-    assert_eq!(rt; directory.layout(), Layout::One);
-    assert_eq!(rt; directory.epoch(), 1);
+    assert_eq!(rt; (directory.layout(), directory.epoch()), (Layout::One, 1));
     assert_eq!(rt; directory.entries(), [FIRST, SECOND].as_slice());
     Ok(())
 }
@@ -147,58 +174,53 @@ fn segment(first: u32, bytes: u32) -> Entry {
 
 #[test]
 fn the_least_place_is_found(rt: HostRuntime) {
-    let live = [
-        Entry {
-            first: 4,
-            bytes: 46,
-            rows: 1,
-        },
-        Entry {
-            first: 6,
-            bytes: 8192,
-            rows: 1,
-        },
-    ];
+    let live = [segment(4, 46), segment(6, 8192)];
     let reserved = Some(Extent {
         first: 8,
         bytes: 10,
     });
-    assert_eq!(rt; first_fit(0, &live, None), Ok(4));
-    assert_eq!(rt; first_fit(1, &live, None), Ok(5));
-    assert_eq!(rt; first_fit(2, &live, None), Ok(8));
-    assert_eq!(rt; first_fit(2, &live, reserved), Ok(9));
-    assert_eq!(rt; first_fit(4_194_300, &[], None), Ok(4));
-    assert_eq!(rt; first_fit(4_194_301, &[], None), Err(Full));
+    let found = [
+        first_fit(0, &live, None),
+        first_fit(1, &live, None),
+        first_fit(2, &live, None),
+        first_fit(2, &live, reserved),
+        first_fit(4_194_300, &[], None),
+        first_fit(4_194_301, &[], None),
+    ];
+    assert_eq!(rt; found, [Ok(4), Ok(5), Ok(8), Ok(9), Ok(4), Err(Full)]);
 }
 
-/// The two segments to merge lie in blocks 4 and 5, three of 1,048,576 blocks each
+/// Where an output of so many blocks fits, where the first segment has so many bytes and the last
+/// one so many. The two segments to merge lie in blocks 4 and 5, three of 1,048,576 blocks each
 /// behind them, and one more up to the last free blocks of 4,194,304.
+fn fit(wanted: u32, len: u32, last: u32) -> Result<u32, Full> {
+    let live = [
+        segment(4, len),
+        segment(5, 1),
+        segment(6, u32::MAX),
+        segment(1_048_582, u32::MAX),
+        segment(2_097_158, u32::MAX),
+        segment(3_145_734, last),
+    ];
+    first_fit(wanted, &live, None)
+}
+
 #[test]
 fn an_output_wants_free_blocks_side_by_side(rt: HostRuntime) {
-    for (wanted, len, last, want, why) in [
-        (2, 4_096, 4_294_942_720, Err(Full), "no free block"),
-        (1, 4_095, 4_294_942_720, Err(Full), "none for one block"),
-        (
-            2,
-            4_096,
-            4_294_938_624,
-            Err(Full),
-            "one where two are wanted",
-        ),
-        (1, 4_095, 4_294_938_624, Ok(4_194_303), "one"),
-        (2, 4_096, 4_294_934_528, Ok(4_194_302), "two"),
-        (1, 4_095, 4_294_934_528, Ok(4_194_302), "one of two"),
-    ] {
-        let live = [
-            segment(4, len),
-            segment(5, 1),
-            segment(6, u32::MAX),
-            segment(1_048_582, u32::MAX),
-            segment(2_097_158, u32::MAX),
-            segment(3_145_734, last),
-        ];
-        assert_eq!(rt; first_fit(wanted, &live, None), want, "{why}");
-    }
+    // No free block; none for one block; one where two are wanted.
+    let full = [
+        fit(2, 4_096, 4_294_942_720),
+        fit(1, 4_095, 4_294_942_720),
+        fit(2, 4_096, 4_294_938_624),
+    ];
+    assert_eq!(rt; full, [Err(Full); 3]);
+    // One; two; one of two.
+    let free = [
+        fit(1, 4_095, 4_294_938_624),
+        fit(2, 4_096, 4_294_934_528),
+        fit(1, 4_095, 4_294_934_528),
+    ];
+    assert_eq!(rt; free, [Ok(4_194_303), Ok(4_194_302), Ok(4_194_302)]);
     // Block 6 and the last one are free, which lie apart.
     let apart = [
         segment(4, 4_096),
@@ -216,22 +238,15 @@ fn a_block_of_version_one(rt: HostRuntime) -> Result<(), Fail> {
     let mut block = two_segments();
     block[15] = b'1';
     let mut read = Directory::decode(rt.alloc(), &block)?;
-    assert_eq!(rt; read.layout(), Layout::One);
-    assert_eq!(rt; read.version(), 1);
+    assert_eq!(rt; (read.layout(), read.version()), (Layout::One, 1));
     assert_eq!(rt; read.entries(), [FIRST, SECOND].as_slice());
     let mut written = [7; 4096];
     read.encode(&mut written);
-    assert_eq!(rt; written[15], b'1');
+    let one = written[15];
     read.upgrade();
-    assert_eq!(rt; read.version(), 2);
     read.encode(&mut written);
-    assert_eq!(rt; written[15], b'2');
+    assert_eq!(rt; (one, read.version(), written[15]), (b'1', 2, b'2'));
     block[23] = 129;
-    assert!(rt;
-        matches!(
-            Directory::decode(rt.alloc(), &block),
-            Err(DirectoryFault::BadDirectory)
-        )
-    );
+    assert!(rt; is_bad(rt.alloc(), &block));
     Ok(())
 }

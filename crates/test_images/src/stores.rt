@@ -1,14 +1,12 @@
 //! A store byte for byte, and each way in which an image is damaged.
 
-ghost use Rattle.std.specs.Prelude.{◌≤◌};
-ghost use Rattle.disk_model.specs.MemDisk.{changes_of};
-
 use blocks::Slot;
 use directory::{Directory, Entry};
 use disk_model::{Choice, Disk, DiskFault, MemDisk};
 use history_model::StampedRow;
 use segment::RowPlace;
 use std::alloc::{AllocError, Global};
+use std::process::Abort;
 use std::test::Fail;
 use store_image::{
     Damage, LoadFault, Loaded, Made, MakeFault, RowSink, add_segment, check_empty, load, make,
@@ -56,6 +54,27 @@ fn load_disk(alloc: Global, disk: &mut MemDisk) -> Result<Loaded, LoadFault> {
     load(alloc, disk, &mut Seen::new(alloc))
 }
 
+/// The current slot of what was loaded, its epoch, and how many imports and segments there are.
+type Shown = (Slot, u64, u32, usize);
+
+/// What a disk is loaded as, in numbers.
+fn shown(alloc: Global, disk: &mut MemDisk) -> Result<Shown, LoadFault> {
+    let store = load_disk(alloc, disk)?;
+    let directory = &store.directory;
+    let segments = store.places.len();
+    Ok((store.slot, directory.epoch(), directory.imports(), segments))
+}
+
+/// How many segments are read of a disk.
+fn segments_of(alloc: Global, disk: &mut MemDisk) -> Result<usize, LoadFault> {
+    Ok(load_disk(alloc, disk)?.places.len())
+}
+
+/// Why a disk isn't loaded.
+fn fault_of(alloc: Global, disk: &mut MemDisk) -> Option<LoadFault> {
+    load_disk(alloc, disk).err()
+}
+
 // 138875005|20200131|1|900000000000207008|900000000000074008 at import 1
 const ROOT: [u8; 46] =
     *b"\x00\x00\x00\x2e\x01\x00\x00\x00\x00\x00\x00\x00\x00\x00\x00\x00\x00\x08\x47\x10\
@@ -93,40 +112,38 @@ const BOTH: Entry = Entry {
     rows: 2,
 };
 
-/// A store after two imports, and the directory that lists one segment in the place of both.
-#[derive(Drop)]
-struct Unmerged {
-    disk: MemDisk,
-    slot: Slot,
-    merged: Directory,
+/// Makes a store on a disk. Its current slot and its epoch.
+fn make_store(alloc: Global, disk: &mut MemDisk) -> Result<(Slot, u64), MakeFault> {
+    let made = make(alloc, disk)?;
+    Ok((made.slot, made.directory.epoch()))
 }
 
-/// A store after two imports, the second one with these bytes as its segment.
-/// Slot A is the current one.
-fn import_two(alloc: Global, second: &[u8; 46]) -> Result<Unmerged, Fail> {
-    let mut disk = MemDisk::new(alloc);
+/// Makes a store with two imports, the second one with these bytes as its segment. The slot that is
+/// current, and a directory that lists one segment in the place of both.
+fn import_two(
+    alloc: Global,
+    disk: &mut MemDisk,
+    second: &[u8; 46],
+) -> Result<(Slot, Directory), Fail> {
     let Made {
         slot,
         mut directory,
-    } = make(alloc, &mut disk)?;
+    } = make(alloc, disk)?;
     directory.advance(1);
     directory.add(FIRST);
-    let slot = add_segment(&mut disk, slot, &directory, FIRST, &ROOT)?;
+    let slot = add_segment(disk, slot, &directory, FIRST, &ROOT)?;
     directory.advance(2);
     directory.add(SECOND);
-    let slot = add_segment(&mut disk, slot, &directory, SECOND, second)?;
+    let slot = add_segment(disk, slot, &directory, SECOND, second)?;
     directory.replace_two(0, 1, BOTH);
     directory.advance(2);
-    Ok(Unmerged {
-        disk,
-        slot,
-        merged: directory,
-    })
+    Ok((slot, directory))
 }
 
-/// The disk alone.
+/// A disk with two imports.
 fn two_imports(alloc: Global, second: &[u8; 46]) -> Result<MemDisk, Fail> {
-    let Unmerged { disk, .. } = import_two(alloc, second)?;
+    let mut disk = MemDisk::new(alloc);
+    let _ = import_two(alloc, &mut disk, second)?;
     Ok(disk)
 }
 
@@ -136,281 +153,387 @@ fn write_both(disk: &mut MemDisk) -> Result<(), DiskFault> {
     write_ahead(disk, BOTH.extent(), 46, &ROOT)
 }
 
-/// How many segments are read after a stop.
-fn segments_after(alloc: Global, disk: &MemDisk, after: u64, choice: Choice) -> Result<usize, Fail>
-    requires { after ≤ changes_of disk.now }
-{
+/// How many segments are read after a stop behind so many calls; none where there are fewer.
+fn segments_after(
+    alloc: Global,
+    disk: &MemDisk,
+    after: u64,
+    choice: Choice,
+) -> Result<Option<usize>, Fail> {
+    if after > disk.changes() {
+        return Ok(None);
+    }
     let mut stopped = MemDisk::from_bytes(alloc, disk.image(after, choice)?);
-    Ok(load_disk(alloc, &mut stopped)?.places.len())
+    Ok(Some(segments_of(alloc, &mut stopped)?))
 }
 
-/// The disk with another byte at a place.
-fn patch_byte(alloc: Global, disk: &MemDisk, place: usize, byte: u8) -> Result<MemDisk, Fail> {
-    let mut bytes = Vec::new(alloc);
-    bytes.extend_from_slice(disk.bytes())?;
-    if place < bytes.len() {
-        bytes[place] = byte;
-    }
-    Ok(MemDisk::from_bytes(alloc, bytes))
+/// How many segments are read after a stop at the present moment.
+fn segments_now(alloc: Global, disk: &MemDisk, choice: Choice) -> Result<usize, Fail> {
+    let mut stopped = MemDisk::from_bytes(alloc, disk.image_now(choice)?);
+    Ok(segments_of(alloc, &mut stopped)?)
+}
+
+/// Makes a store where there is none, and then another one.
+fn make_twice(rt: &impl Abort, alloc: Global, disk: &mut MemDisk) {
+    let made = (
+        check_empty(disk),
+        make_store(alloc, disk),
+        disk.bytes().len(),
+    );
+    assert_eq!(rt; made, (Ok(()), Ok((Slot::A, 1)), 16384));
+    assert_eq!(rt; shown(alloc, disk), Ok((Slot::A, 1, 0, 0)));
+    let again = (check_empty(disk), make_store(alloc, disk));
+    assert_eq!(rt; again, (Err(MakeFault::NotEmpty), Err(MakeFault::NotEmpty)));
 }
 
 #[test]
-fn an_empty_store(rt: HostRuntime) -> Result<(), Fail> {
-    let mut disk = MemDisk::new(rt.alloc());
-    assert_eq!(rt; check_empty(&mut disk), Ok(()));
-    let made = make(rt.alloc(), &mut disk)?;
-    assert_eq!(rt; made.slot, Slot::A);
-    assert_eq!(rt; made.directory.epoch(), 1);
-    assert_eq!(rt; disk.bytes().len(), 16384);
-    let store = load_disk(rt.alloc(), &mut disk)?;
-    assert_eq!(rt; store.slot, Slot::A);
-    assert_eq!(rt; store.directory.epoch(), 1);
-    assert_eq!(rt; store.places.len(), 0);
-    assert_eq!(rt; check_empty(&mut disk), Err(MakeFault::NotEmpty));
-    let again = make(rt.alloc(), &mut disk);
-    assert_eq!(rt; again.err(), Some(MakeFault::NotEmpty));
+fn an_empty_store(rt: HostRuntime) {
+    make_twice(&rt, rt.alloc(), &mut MemDisk::new(rt.alloc()));
+}
+
+/// What `make_store` answers.
+type MadeStore = Result<(Slot, u64), MakeFault>;
+
+/// What the making of a store answers on a disk of three bytes, where the first call of the disk
+/// fails and then again; and in between, how many calls changed the disk, and whether it has the
+/// three bytes.
+fn make_on_three_bytes(alloc: Global) -> Result<([MadeStore; 2], u64, bool), AllocError> {
+    let mut disk = MemDisk::from_bytes(alloc, vec![in alloc; 1, 2, 3]?);
+    disk.set_read_break(0);
+    let refused = make_store(alloc, &mut disk);
+    let changes = disk.changes();
+    let is_same = disk.bytes() == [1, 2, 3].as_slice();
+    let again = make_store(alloc, &mut disk);
+    Ok(([refused, again], changes, is_same))
+}
+
+#[test]
+fn a_disk_that_cannot_be_looked_at_stays(rt: HostRuntime) -> Result<(), AllocError> {
+    let refused = [Err(MakeFault::DiskFault), Err(MakeFault::NotEmpty)];
+    assert_eq!(rt; make_on_three_bytes(rt.alloc())?, (refused, 0, true));
     Ok(())
 }
 
-#[test]
-fn a_disk_that_cannot_be_looked_at_stays(rt: HostRuntime) -> Result<(), Fail> {
-    let alloc = rt.alloc();
-    let mut disk = MemDisk::from_bytes(alloc, vec![in alloc; 1, 2, 3]?);
-    disk.set_read_break(0);
-    let refused = make(alloc, &mut disk);
-    assert_eq!(rt; refused.err(), Some(MakeFault::DiskFault));
-    assert_eq!(rt; disk.changes(), 0);
-    assert_eq!(rt; disk.bytes(), [1, 2, 3].as_slice());
-    let refused = make(alloc, &mut disk);
-    assert_eq!(rt; refused.err(), Some(MakeFault::NotEmpty));
+/// Of the only row of a disk: its id, the number of its import, its first byte and its length.
+fn only_place(
+    alloc: Global,
+    disk: &mut MemDisk,
+) -> Result<Option<(u128, u32, u32, u32)>, LoadFault> {
+    let store = load_disk(alloc, disk)?;
+    match store.places.as_slice() {
+        [places] => match places.as_slice() {
+            [place] => Ok(Some((place.key.id, place.import, place.at, place.bytes))),
+            _ => Ok(None),
+        },
+        _ => Ok(None),
+    }
+}
+
+/// Whether a disk has these bytes at a place.
+fn has_at(disk: &MemDisk, at: usize, wanted: &[u8]) -> bool {
+    match disk.bytes().split_at_checked(at) {
+        Some((_, rest)) => rest.starts_with(wanted),
+        None => false,
+    }
+}
+
+/// Imports one segment, and publishes the directory once more.
+fn import_and_publish(rt: &impl Abort, alloc: Global, disk: &mut MemDisk) -> Result<(), Fail> {
+    let Made {
+        slot,
+        mut directory,
+    } = make(alloc, disk)?;
+    directory.advance(1);
+    directory.add(FIRST);
+    let slot = add_segment(disk, slot, &directory, FIRST, &ROOT)?;
+    assert_eq!(rt; (slot, disk.bytes().len()), (Slot::B, 16430));
+    assert!(rt; has_at(disk, 8192, &[0xa5]));
+    assert!(rt; has_at(disk, 12288, &CONTENT));
+    assert!(rt; has_at(disk, 16384, &ROOT));
+    directory.advance(2);
+    assert_eq!(rt; publish_directory(disk, slot, &directory), Ok(Slot::A));
     Ok(())
 }
 
 #[test]
 fn an_import_byte_for_byte(rt: HostRuntime) -> Result<(), Fail> {
     let mut disk = MemDisk::new(rt.alloc());
-    let Made {
-        slot,
-        mut directory,
-    } = make(rt.alloc(), &mut disk)?;
-    directory.advance(1);
-    directory.add(FIRST);
-    let slot = add_segment(&mut disk, slot, &directory, FIRST, &ROOT)?;
-    assert_eq!(rt; slot, Slot::B);
-    assert_eq!(rt; disk.bytes().len(), 16430);
-    assert!(rt; disk.bytes().ends_with(&ROOT));
-    assert_eq!(rt; disk.bytes().get(8192), Some(&0xa5));
-    assert_eq!(rt; disk.bytes().get(12288..12336), Some(CONTENT.as_slice()));
-    directory.advance(2);
-    assert_eq!(rt; publish_directory(&mut disk, slot, &directory)?, Slot::A);
-    let store = load_disk(rt.alloc(), &mut disk)?;
-    assert_eq!(rt; store.directory.epoch(), 3);
-    assert_eq!(rt; store.directory.imports(), 2);
-    assert_eq!(rt; store.places.len(), 1);
-    for places in store.places.iter() {
-        assert_eq!(rt; places.len(), 1);
-        for place in places.iter() {
-            assert_eq!(rt; place.key.id, 138_875_005);
-            assert_eq!(rt; place.import, 1);
-            assert_eq!(rt; place.at, 0);
-            assert_eq!(rt; place.bytes, 46);
-        }
-    }
+    import_and_publish(&rt, rt.alloc(), &mut disk)?;
+    assert_eq!(rt; shown(rt.alloc(), &mut disk), Ok((Slot::A, 3, 2, 1)));
+    let place = only_place(rt.alloc(), &mut disk);
+    assert_eq!(rt; place, Ok(Some((138_875_005, 1, 0, 46))));
     Ok(())
+}
+
+/// The two rows that are handed on of a disk, and how many segments end.
+fn two_rows(alloc: Global, disk: &mut MemDisk) -> Result<([(u128, u32, u32, u32); 2], u32), Fail> {
+    let mut seen = Seen::new(alloc);
+    load(alloc, disk, &mut seen)?;
+    match seen.rows.as_slice() {
+        [first, second] => Ok(([*first, *second], seen.segments)),
+        _ => Err(Fail::from("not two rows")),
+    }
 }
 
 #[test]
 fn rows_are_handed_on_segment_by_segment(rt: HostRuntime) -> Result<(), Fail> {
     let mut disk = two_imports(rt.alloc(), &OTHER)?;
-    let mut seen = Seen::new(rt.alloc());
-    load(rt.alloc(), &mut disk, &mut seen)?;
-    assert_eq!(rt;
-        seen.rows.as_slice(),
-        [(138_875_005, 1, 0, 0), (1_000_004, 2, 0, 1)].as_slice()
-    );
-    assert_eq!(rt; seen.segments, 2);
+    let rows = [(138_875_005, 1, 0, 0), (1_000_004, 2, 0, 1)];
+    assert_eq!(rt; two_rows(rt.alloc(), &mut disk)?, (rows, 2));
     Ok(())
+}
+
+/// Why a disk with another byte at a place isn't loaded.
+fn fault_with(
+    alloc: Global,
+    disk: &MemDisk,
+    place: usize,
+    byte: u8,
+) -> Result<Option<LoadFault>, AllocError> {
+    let mut bytes = disk.bytes().to_vec(alloc)?;
+    if place < bytes.len() {
+        bytes[place] = byte;
+    }
+    Ok(fault_of(alloc, &mut MemDisk::from_bytes(alloc, bytes)))
+}
+
+/// A byte at a place, the part that it damages, and how.
+const DAMAGES: [(usize, u8, Damage, &str); 8] = [
+    (
+        4111,
+        b'3',
+        Damage::Directory,
+        "another mark, though the older slot is good",
+    ),
+    (4135, 0, Damage::Directory, "an entry of no bytes"),
+    (4139, 2, Damage::Segment(1), "another number of rows"),
+    (4151, 47, Damage::Segment(2), "a segment behind the end"),
+    (12295, 3, Damage::Slots, "two slots of one epoch"),
+    (16388, 9, Damage::Segment(1), "a record of no kind"),
+    (20484, 9, Damage::Segment(2), "a record of no kind"),
+    (
+        16412,
+        3,
+        Damage::Segment(1),
+        "a number above that of the imports",
+    ),
+];
+
+/// The first of the damages after which a disk isn't refused as it has to be.
+fn wrong_damage(alloc: Global, disk: &MemDisk) -> Result<Option<&'static str>, AllocError> {
+    for (place, byte, part, cause) in &DAMAGES {
+        if fault_with(alloc, disk, *place, *byte)? != Some(LoadFault::Damaged(*part)) {
+            return Ok(Some(*cause));
+        }
+    }
+    Ok(None)
 }
 
 #[test]
 fn each_way_in_which_an_image_is_damaged(rt: HostRuntime) -> Result<(), Fail> {
     let mut good = two_imports(rt.alloc(), &OTHER)?;
-    assert_eq!(rt; load_disk(rt.alloc(), &mut good)?.places.len(), 2);
-    for (place, byte, part, cause) in [
-        (
-            4111,
-            b'3',
-            Damage::Directory,
-            "another mark, though the older slot is good",
-        ),
-        (4135, 0, Damage::Directory, "an entry of no bytes"),
-        (4139, 2, Damage::Segment(1), "another number of rows"),
-        (4151, 47, Damage::Segment(2), "a segment behind the end"),
-        (12295, 3, Damage::Slots, "two slots of one epoch"),
-        (16388, 9, Damage::Segment(1), "a record of no kind"),
-        (20484, 9, Damage::Segment(2), "a record of no kind"),
-        (
-            16412,
-            3,
-            Damage::Segment(1),
-            "a number above that of the imports",
-        ),
-    ] {
-        let mut disk = patch_byte(rt.alloc(), &good, place, byte)?;
-        assert_eq!(rt;
-            load_disk(rt.alloc(), &mut disk).err(),
-            Some(LoadFault::Damaged(part)),
-            "{cause}"
-        );
+    assert_eq!(rt; segments_of(rt.alloc(), &mut good), Ok(2));
+    assert_eq!(rt; wrong_damage(rt.alloc(), &good)?, None);
+    good.set_fuse(1);
+    assert_eq!(rt; fault_of(rt.alloc(), &mut good), Some(LoadFault::DiskFault));
+    Ok(())
+}
+
+/// Why a disk of one byte at a place, and of zeros before it, isn't loaded.
+fn fault_of_byte(alloc: Global, place: u64, byte: u8) -> Option<LoadFault> {
+    let mut disk = MemDisk::new(alloc);
+    if place > 16383 || disk.write_at(place, &[byte]).is_err() {
+        return None;
     }
+    fault_of(alloc, &mut disk)
+}
+
+#[test]
+fn what_is_no_store_or_has_a_key_twice(rt: HostRuntime) -> Result<(), Fail> {
     let mut shared = two_imports(rt.alloc(), &ROOT)?;
     assert_eq!(rt;
-        load_disk(rt.alloc(), &mut shared).err(),
+        fault_of(rt.alloc(), &mut shared),
         Some(LoadFault::Damaged(Damage::SharedKey))
     );
-    let mut short = MemDisk::new(rt.alloc());
-    short.write_at(0, &[0xa5])?;
     assert_eq!(rt;
-        load_disk(rt.alloc(), &mut short).err(),
+        fault_of_byte(rt.alloc(), 0, 0xa5),
         Some(LoadFault::Damaged(Damage::Slots))
     );
-    let mut zeros = MemDisk::new(rt.alloc());
-    zeros.write_at(16383, &[0])?;
     assert_eq!(rt;
-        load_disk(rt.alloc(), &mut zeros).err(),
+        fault_of_byte(rt.alloc(), 16383, 0),
         Some(LoadFault::NotAStore)
     );
-    good.set_fuse(1);
-    assert_eq!(rt;
-        load_disk(rt.alloc(), &mut good).err(),
-        Some(LoadFault::DiskFault)
-    );
+    Ok(())
+}
+
+/// Writes a segment ahead, and then publishes the directory that lists it.
+fn write_and_publish(rt: &impl Abort, alloc: Global, disk: &mut MemDisk) -> Result<(), Fail> {
+    let (slot, merged) = import_two(alloc, disk, &OTHER)?;
+    let written = (disk.changes(), write_both(disk), disk.bytes().len());
+    assert_eq!(rt; written, (25, Ok(()), 24668));
+    let segments = segments_of(alloc, disk);
+    let published = sync_and_publish(disk, slot, &merged);
+    let bytes = disk.bytes().len();
+    assert_eq!(rt; (segments, published, bytes), (Ok(2), Ok(Slot::B), 24668));
     Ok(())
 }
 
 #[test]
 fn a_segment_that_was_written_ahead_is_published(rt: HostRuntime) -> Result<(), Fail> {
-    let Unmerged {
-        mut disk,
-        slot,
-        merged,
-    } = import_two(rt.alloc(), &OTHER)?;
-    write_both(&mut disk)?;
-    assert_eq!(rt; disk.bytes().len(), 24668);
-    assert_eq!(rt; load_disk(rt.alloc(), &mut disk)?.places.len(), 2);
-    assert_eq!(rt; sync_and_publish(&mut disk, slot, &merged)?, Slot::B);
-    assert_eq!(rt; disk.bytes().len(), 24668);
-    let mut seen = Seen::new(rt.alloc());
-    let store = load(rt.alloc(), &mut disk, &mut seen)?;
-    assert_eq!(rt; store.directory.epoch(), 4);
-    assert_eq!(rt; store.directory.imports(), 2);
-    assert_eq!(rt; seen.segments, 1);
-    assert_eq!(rt;
-        seen.rows.as_slice(),
-        [(1_000_004, 2, 0, 0), (138_875_005, 1, 46, 0)].as_slice()
-    );
+    let mut disk = MemDisk::new(rt.alloc());
+    write_and_publish(&rt, rt.alloc(), &mut disk)?;
+    assert_eq!(rt; shown(rt.alloc(), &mut disk), Ok((Slot::B, 4, 2, 1)));
+    let rows = [(1_000_004, 2, 0, 0), (138_875_005, 1, 46, 0)];
+    assert_eq!(rt; two_rows(rt.alloc(), &mut disk)?, (rows, 1));
     Ok(())
+}
+
+/// Writes the segment of both ahead and publishes it, without reading in between.
+fn publish_both(alloc: Global, disk: &mut MemDisk) -> Result<(), Fail> {
+    let (slot, merged) = import_two(alloc, disk, &OTHER)?;
+    write_both(disk)?;
+    let _ = sync_and_publish(disk, slot, &merged)?;
+    Ok(())
+}
+
+/// How many segments are read after a stop behind so many calls: where
+/// the other gate reads as closed, and where it reads as opened.
+const STOPS: [(u64, usize, usize); 10] = [
+    (25, 2, 2),
+    (26, 2, 2),
+    (27, 2, 2),
+    (28, 2, 2),
+    (29, 2, 2),
+    (30, 2, 2),
+    (31, 2, 2),
+    (32, 2, 2),
+    (33, 2, 1),
+    (34, 1, 1),
+];
+
+/// Whether so many segments are read after a stop, whatever it leaves of what isn't synced.
+fn is_stopped_with(
+    alloc: Global,
+    disk: &MemDisk,
+    (after, closed, opened): (u64, usize, usize),
+) -> Result<bool, Fail> {
+    for (choice, segments) in [
+        (Choice::Lost, closed),
+        (Choice::Filled(0), closed),
+        (Choice::Kept, opened),
+        (Choice::Filled(0xa5), opened),
+    ] {
+        if segments_after(alloc, disk, after, choice)? != Some(segments) {
+            return Ok(false);
+        }
+    }
+    Ok(true)
+}
+
+/// Behind how many calls the first stop is that leaves other segments than it has to.
+fn wrong_stop(alloc: Global, disk: &MemDisk) -> Result<Option<u64>, Fail> {
+    for stop in &STOPS {
+        if !is_stopped_with(alloc, disk, *stop)? {
+            return Ok(Some(stop.0));
+        }
+    }
+    Ok(None)
 }
 
 /// Two writes ahead, one sync and the six changing calls of a publication.
 #[test]
 fn a_stop_leaves_two_segments_or_the_one_of_both(rt: HostRuntime) -> Result<(), Fail> {
-    let Unmerged {
-        mut disk,
-        slot,
-        merged,
-    } = import_two(rt.alloc(), &OTHER)?;
-    assert_eq!(rt; disk.changes(), 25);
-    write_both(&mut disk)?;
-    let _ = sync_and_publish(&mut disk, slot, &merged)?;
+    let mut disk = MemDisk::new(rt.alloc());
+    publish_both(rt.alloc(), &mut disk)?;
     assert_eq!(rt; disk.changes(), 34);
-    for (after, closed, opened) in [
-        (25, 2, 2),
-        (26, 2, 2),
-        (27, 2, 2),
-        (28, 2, 2),
-        (29, 2, 2),
-        (30, 2, 2),
-        (31, 2, 2),
-        (32, 2, 2),
-        (33, 2, 1),
-        (34, 1, 1),
-    ] {
-        for (choice, segments) in [
-            (Choice::Lost, closed),
-            (Choice::Filled(0), closed),
-            (Choice::Kept, opened),
-            (Choice::Filled(0xa5), opened),
-        ] {
-            assert!(rt; after <= disk.changes());
-            let found = segments_after(rt.alloc(), &disk, after, choice)?;
-            assert_eq!(rt; found, segments, "after {after}");
-        }
-    }
+    assert_eq!(rt; wrong_stop(rt.alloc(), &disk)?, None);
     Ok(())
+}
+
+/// How many segments are read where a changing call behind so many others fails, from the first one
+/// of the publication on; none where it doesn't say so.
+fn segments_after_failure(alloc: Global, calls: u64) -> Result<Option<usize>, Fail> {
+    let mut disk = MemDisk::new(alloc);
+    let (slot, merged) = import_two(alloc, &mut disk, &OTHER)?;
+    write_both(&mut disk)?;
+    disk.set_break(calls, 0);
+    if sync_and_publish(&mut disk, slot, &merged).is_ok() {
+        return Ok(None);
+    }
+    Ok(Some(segments_of(alloc, &mut disk)?))
 }
 
 /// Each changing call of the publication fails once; the last one is the sync of the opened gate.
 #[test]
 fn a_publication_that_failed_leaves_one_of_the_two(rt: HostRuntime) -> Result<(), Fail> {
     for (calls, segments) in [(0, 2), (1, 2), (2, 2), (3, 2), (4, 2), (5, 2), (6, 1)] {
-        let Unmerged {
-            mut disk,
-            slot,
-            merged,
-        } = import_two(rt.alloc(), &OTHER)?;
-        write_both(&mut disk)?;
-        disk.set_break(calls, 0);
-        assert_eq!(rt; sync_and_publish(&mut disk, slot, &merged), Err(DiskFault));
-        let found = load_disk(rt.alloc(), &mut disk)?.places.len();
-        assert_eq!(rt; found, segments, "after {calls}");
+        let found = segments_after_failure(rt.alloc(), calls)?;
+        assert_eq!(rt; found, Some(segments), "after {calls}");
     }
     Ok(())
+}
+
+/// How many segments are read after a stop at the present moment, whatever it leaves.
+fn segments_of_images(alloc: Global, disk: &MemDisk) -> Result<[usize; 3], Fail> {
+    let lost = segments_now(alloc, disk, Choice::Lost)?;
+    let kept = segments_now(alloc, disk, Choice::Kept)?;
+    Ok([lost, kept, segments_now(alloc, disk, Choice::Filled(9))?])
 }
 
 #[test]
 fn a_write_ahead_that_failed_leaves_what_is_listed(rt: HostRuntime) -> Result<(), Fail> {
     let mut disk = two_imports(rt.alloc(), &OTHER)?;
     disk.set_break(1, 10);
-    assert_eq!(rt; write_both(&mut disk), Err(DiskFault));
-    assert_eq!(rt; disk.bytes().len(), 24632);
-    for choice in [Choice::Lost, Choice::Kept, Choice::Filled(9)] {
-        let mut stopped = MemDisk::from_bytes(rt.alloc(), disk.image_now(choice)?);
-        assert_eq!(rt; load_disk(rt.alloc(), &mut stopped)?.places.len(), 2);
-    }
+    let written = (write_both(&mut disk), disk.bytes().len());
+    assert_eq!(rt; written, (Err(DiskFault), 24632));
+    assert_eq!(rt; segments_of_images(rt.alloc(), &disk)?, [2; 3]);
     Ok(())
+}
+
+/// Cuts off what no segment needs.
+fn cut_off(rt: &impl Abort, disk: &mut MemDisk) {
+    assert_eq!(rt; write_both(disk), Ok(()));
+    let kept = (trim(disk, 28672), trim(disk, 24668), disk.changes());
+    assert_eq!(rt; kept, (Ok(0), Ok(0), 27));
+    let cut = (trim(disk, 24576), disk.changes(), disk.bytes().len());
+    assert_eq!(rt; cut, (Ok(92), 29, 24576));
+}
+
+/// How many segments are read after a stop behind so many calls, whatever it leaves.
+fn segments_of_stop(alloc: Global, disk: &MemDisk, after: u64) -> Result<[Option<usize>; 3], Fail> {
+    let lost = segments_after(alloc, disk, after, Choice::Lost)?;
+    let kept = segments_after(alloc, disk, after, Choice::Kept)?;
+    let filled = segments_after(alloc, disk, after, Choice::Filled(9))?;
+    Ok([lost, kept, filled])
 }
 
 #[test]
 fn what_no_segment_needs_is_cut_off(rt: HostRuntime) -> Result<(), Fail> {
     let mut disk = two_imports(rt.alloc(), &OTHER)?;
-    write_both(&mut disk)?;
-    assert_eq!(rt; trim(&mut disk, 28672), Ok(0));
-    assert_eq!(rt; trim(&mut disk, 24668), Ok(0));
-    assert_eq!(rt; disk.changes(), 27);
-    assert_eq!(rt; trim(&mut disk, 24576), Ok(92));
-    assert_eq!(rt; disk.changes(), 29);
-    assert_eq!(rt; disk.bytes().len(), 24576);
+    cut_off(&rt, &mut disk);
     for after in [27, 28, 29] {
-        for choice in [Choice::Lost, Choice::Kept, Choice::Filled(9)] {
-            assert!(rt; after <= disk.changes());
-            let found = segments_after(rt.alloc(), &disk, after, choice)?;
-            assert_eq!(rt; found, 2, "after {after}");
-        }
+        assert_eq!(rt; segments_of_stop(rt.alloc(), &disk, after)?, [Some(2); 3]);
     }
     Ok(())
+}
+
+/// What a trim answers where a changing call behind so many others
+/// fails, and how many bytes and segments the disk has then.
+fn trim_and_fail(
+    alloc: Global,
+    calls: u64,
+) -> Result<(Result<u64, DiskFault>, usize, usize), Fail> {
+    let mut disk = two_imports(alloc, &OTHER)?;
+    write_both(&mut disk)?;
+    disk.set_break(calls, 0);
+    let trimmed = trim(&mut disk, 24576);
+    Ok((trimmed, disk.bytes().len(), segments_of(alloc, &mut disk)?))
 }
 
 /// The cut fails, and then the sync.
 #[test]
 fn a_trim_that_failed_leaves_what_is_listed(rt: HostRuntime) -> Result<(), Fail> {
-    for (calls, len) in [(0, 24668), (1, 24576)] {
-        let mut disk = two_imports(rt.alloc(), &OTHER)?;
-        write_both(&mut disk)?;
-        disk.set_break(calls, 0);
-        assert_eq!(rt; trim(&mut disk, 24576), Err(DiskFault));
-        assert_eq!(rt; disk.bytes().len(), len);
-        assert_eq!(rt; load_disk(rt.alloc(), &mut disk)?.places.len(), 2);
-    }
+    assert_eq!(rt; trim_and_fail(rt.alloc(), 0)?, (Err(DiskFault), 24668, 2));
+    assert_eq!(rt; trim_and_fail(rt.alloc(), 1)?, (Err(DiskFault), 24576, 2));
     Ok(())
 }

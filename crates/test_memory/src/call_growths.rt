@@ -6,6 +6,7 @@ use history_store::Refusal;
 use import_check::Release;
 use rf2_rows::Kind;
 use std::alloc::{AllocError, Global};
+use std::process::Abort;
 use std::test::Fail;
 use test_support::{Example, Scarcity, merged_disk, sample_named};
 
@@ -124,27 +125,15 @@ fn is_as_often(refused: u32, least: u32) -> bool {
     }
 }
 
-/// What came of a call.
-#[derive(Debug, Drop)]
-enum Outcome {
-    /// The answer, after so many refusals because memory ran out.
-    Answered(Answer, u32),
-    /// Another refusal.
-    Refused(Refusal),
-    /// It was refused because memory ran out, and the counts changed.
-    Changed,
-    /// It was refused with as much memory as there is.
-    Never,
-}
-
-/// Makes a call with more and more memory, until it isn't refused for want of it.
+/// Makes a call with more and more memory, until it isn't refused for want of it. The answer, and
+/// how often it was refused first; no refusal may change the counts.
 fn try_call(
     alloc: Global,
     scarcity: &mut Scarcity,
     call: Call,
     releases: &[Release],
     store: &mut Example,
-) -> Result<Outcome, AllocError> {
+) -> Result<(Answer, u32), Fail> {
     let before = counts(store);
     let mut refused = 0u32;
     for number in 0..TRIES {
@@ -153,15 +142,28 @@ fn try_call(
         let answer = make(call, release, store);
         scarcity.relax();
         match answer {
-            Ok(answer) => return Ok(Outcome::Answered(answer, refused)),
+            Ok(answer) => return Ok((answer, refused)),
             Err(Refusal::OutOfMemory) => refused = refused.saturating_add(1),
-            Err(refusal) => return Ok(Outcome::Refused(refusal)),
+            Err(refusal) => return Err(Fail::from(refusal)),
         }
         if counts(store) != before {
-            return Ok(Outcome::Changed);
+            return Err(Fail::from("a refusal changed the counts"));
         }
     }
-    Ok(Outcome::Never)
+    Err(Fail::from("refused with all memory"))
+}
+
+/// Makes a call with more and more memory. Whether it is answered
+/// as it has to be, and how often it was refused first.
+fn check_call(
+    alloc: Global,
+    scarcity: &mut Scarcity,
+    (call, wanted, _): (Call, Wanted, u32),
+    releases: &[Release],
+    store: &mut Example,
+) -> Result<(bool, u32), Fail> {
+    let (answer, refused) = try_call(alloc, scarcity, call, releases, store)?;
+    Ok((is_wanted(alloc, &answer, wanted)?, refused))
 }
 
 /// A new store, made with more and more memory on the disk that comes back.
@@ -197,31 +199,33 @@ fn samples(alloc: Global) -> Result<Vec<Release>, Refusal> {
     Ok(releases)
 }
 
+/// Makes all calls, each with more and more memory.
+fn make_calls(
+    rt: &impl Abort,
+    alloc: Global,
+    scarcity: &mut Scarcity,
+    releases: &[Release],
+    store: &mut Example,
+) -> Result<(), Fail> {
+    for (number, call) in CALLS.iter().enumerate() {
+        let (is_right, refused) = check_call(alloc, scarcity, *call, releases, store)?;
+        assert!(rt; is_right, "call {number}");
+        assert!(rt;
+            is_as_often(refused, call.2),
+            "call {number}: {refused} refused"
+        );
+    }
+    Ok(())
+}
+
 #[test]
 fn each_growth_of_a_call(rt: HostRuntime) -> Result<(), Fail> {
     let releases = samples(rt.alloc())?;
     let mut scarcity = Scarcity::new(rt.alloc())?;
     let (mut store, refused) = create_with_little(rt.alloc(), &mut scarcity)?;
     assert!(rt; refused >= 2_500, "making: {refused} refused");
-    for (call, wanted, least) in &CALLS {
-        match try_call(
-            rt.alloc(),
-            &mut scarcity,
-            *call,
-            releases.as_slice(),
-            &mut store,
-        )? {
-            Outcome::Answered(answer, refused) => {
-                assert!(rt;
-                    is_wanted(rt.alloc(), &answer, *wanted)?,
-                    "{call:?}: {answer:?}"
-                );
-                assert!(rt; is_as_often(refused, *least), "{call:?}: {refused} refused");
-            }
-            other => assert!(rt; false, "{call:?}: {other:?}"),
-        }
-    }
-    Ok(())
+    let alloc = rt.alloc();
+    make_calls(&rt, alloc, &mut scarcity, releases.as_slice(), &mut store)
 }
 
 /// Whether the store is that of the merged disk.
@@ -250,23 +254,24 @@ fn opens(
     }
 }
 
+/// How often an opening is refused, with more and more memory, until it isn't.
+fn count_refused(alloc: Global, scarcity: &mut Scarcity, bytes: &[u8]) -> Result<u32, Fail> {
+    let mut refused = 0u32;
+    for number in 0..TRIES {
+        match opens(alloc, scarcity, bytes, STEP * number)? {
+            Some(true) => return Ok(refused),
+            Some(false) => refused = refused.saturating_add(1),
+            None => return Err(Fail::from("another store, or another refusal")),
+        }
+    }
+    Err(Fail::from("never opened"))
+}
+
 #[test]
 fn each_growth_of_an_opening(rt: HostRuntime) -> Result<(), Fail> {
     let disk = merged_disk(rt.alloc())?;
     let mut scarcity = Scarcity::new(rt.alloc())?;
-    let mut is_opened = false;
-    let mut refused = 0u32;
-    for number in 0..TRIES {
-        match opens(rt.alloc(), &mut scarcity, disk.bytes(), STEP * number)? {
-            Some(true) => {
-                is_opened = true;
-                break;
-            }
-            Some(false) => refused = refused.saturating_add(1),
-            None => assert!(rt; false, "with {number} steps of memory"),
-        }
-    }
-    assert!(rt; is_opened);
+    let refused = count_refused(rt.alloc(), &mut scarcity, disk.bytes())?;
     assert!(rt; refused >= 5_000, "{refused} refused");
     Ok(())
 }

@@ -7,7 +7,7 @@ use std::alloc::{AllocError, Global};
 use test_support::{Example, copy_of, line, lines};
 
 /// A call.
-#[derive(Clone, Copy, Debug)]
+#[derive(Clone, Copy)]
 pub enum Call {
     /// The release at this place is imported.
     Import(usize),
@@ -27,7 +27,7 @@ pub enum Call {
 }
 
 /// What a call answers.
-#[derive(Debug, Drop)]
+#[derive(Drop)]
 pub enum Answer {
     Imported(Receipt),
     /// A number, 0 where the call answers none.
@@ -40,7 +40,7 @@ pub enum Answer {
 }
 
 /// What a call is to answer.
-#[derive(Clone, Copy, Debug)]
+#[derive(Clone, Copy)]
 pub enum Wanted {
     Imported(u32, u64, u64),
     Number(u64),

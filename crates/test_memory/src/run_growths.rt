@@ -75,7 +75,7 @@ fn is_as_without(alloc: Global, replies: &[Vec<u8>]) -> Result<bool, AllocError>
 }
 
 /// What came of a run.
-#[derive(Clone, Copy, Debug, PartialEq, Eq)]
+#[derive(Clone, Copy)]
 enum Outcome {
     /// No line was refused because memory ran out.
     Whole,
@@ -119,7 +119,7 @@ fn run(
 }
 
 /// What came of the runs up to one in which nothing was refused.
-#[derive(Clone, Copy, Debug, PartialEq, Eq)]
+#[derive(Clone, Copy)]
 struct Runs {
     /// How many weren't begun.
     not_begun: usize,
@@ -166,10 +166,19 @@ fn each_growth_of_a_run(rt: HostRuntime) -> Result<(), Fail> {
     let said = new_server(rt.alloc())?.served(input.as_slice())?;
     assert!(rt; said == replies_of(rt.alloc(), &SCRIPT)?);
     let runs = run_with_each_room(rt.alloc(), input.as_slice())?.ok_or("a run went wrong")?;
+    let Runs {
+        not_begun,
+        refused,
+        most,
+        ..
+    } = runs;
     // The buffer has 4,098 bytes.
-    assert!(rt; runs.not_begun >= 250, "{runs:?}");
-    assert!(rt; runs.refused >= 250 && runs.most >= 5, "{runs:?}");
-    assert!(rt; runs.without_imports > 0, "{runs:?}");
-    assert!(rt; runs.without_imports < runs.refused, "{runs:?}");
+    assert!(rt;
+        runs.not_begun >= 250,
+        "{not_begun} not begun, {refused} refused, {most} at most"
+    );
+    assert!(rt; runs.refused >= 250 && runs.most >= 5);
+    assert!(rt; runs.without_imports > 0);
+    assert!(rt; runs.without_imports < runs.refused);
     Ok(())
 }

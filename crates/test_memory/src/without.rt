@@ -186,11 +186,20 @@ pub fn came(replies: &[Vec<u8>], place: usize) -> bool {
     !matches!(replies.get(place), Some(said) if said.as_slice() == OUT_OF_MEMORY)
 }
 
+/// Whether all of the lines at some places came, or none of them.
+fn have_come(replies: &[Vec<u8>], places: &[usize], wanted: bool) -> bool {
+    for place in places {
+        if came(replies, *place) != wanted {
+            return false;
+        }
+    }
+    true
+}
+
 /// Whether the lines that a variant names came, and those that it says so of didn't.
 fn is_case(replies: &[Vec<u8>], variant: Variant) -> bool {
     let (_, needs, lacks, _) = variant;
-    needs.iter().all(|place| came(replies, *place))
-        && !lacks.iter().any(|place| came(replies, *place))
+    have_come(replies, needs, true) && have_come(replies, lacks, false)
 }
 
 /// What the line at a place has to be told, which is what the

@@ -1,6 +1,6 @@
 //! Releases in unpacked folders: which files are taken, and what stood in the way.
 
-use import_check::Release;
+use import_check::{Release, ReleaseFile};
 use release_folder::{
     FolderFault, Unwatched, Watcher, is_nearly_to_take, kind_to_take, read_folder, read_release,
 };
@@ -10,13 +10,77 @@ use std::alloc::Global;
 use std::fs::{self, Files};
 use std::test::Fail;
 
-/// Writes the files of a sample into a folder.
-fn write_all(rt: &HostRuntime, folder: &str, release: &Release) -> Result<(), Fail> {
+/// Writes a file into a folder, which is made if it isn't there.
+fn write_in(rt: &HostRuntime, folder: &str, name: &str, bytes: &[u8]) -> Result<(), Fail> {
     fs::create_dir_all(rt, folder)?;
+    let path = format!(in rt.alloc(); "{folder}/{name}")?;
+    Ok(fs::write(rt, path.as_str(), bytes)?)
+}
+
+/// Writes the files of a sample into the folders of a release.
+fn write_all(
+    rt: &HostRuntime,
+    terminology: &str,
+    refset: &str,
+    release: &Release,
+) -> Result<(), Fail> {
     for file in &release.files {
-        let name = &file.name;
-        let path = format!(in rt.alloc(); "{folder}/{name}")?;
-        fs::write(rt, path.as_str(), file.bytes.as_slice())?;
+        let folder = match file.kind {
+            Kind::Association => refset,
+            _ => terminology,
+        };
+        write_in(rt, folder, file.name.as_str(), file.bytes.as_slice())?;
+    }
+    Ok(())
+}
+
+/// The release of a name below the folder `releases`.
+fn read_named(rt: &HostRuntime, name: &str) -> Result<Release, Fail> {
+    match read_folder(rt, rt.alloc(), "releases", name) {
+        Ok(read) => Ok(read),
+        Err(fault) => Err(Fail::from(fault)),
+    }
+}
+
+/// Whether there is no release of a name below the folder `releases`.
+fn is_no_folder(rt: &HostRuntime, name: &str) -> bool {
+    let read = read_folder(rt, rt.alloc(), "releases", name);
+    matches!(read, Err(FolderFault::NoFolder))
+}
+
+/// Whether a file is one of a release, byte for byte.
+fn is_in(file: &ReleaseFile, release: &Release) -> bool {
+    for other in &release.files {
+        if other.name == file.name && other.bytes == file.bytes {
+            return true;
+        }
+    }
+    false
+}
+
+/// Whether files are of these kinds, in this order, and those of a
+/// release; but for the file of concrete values, which it doesn't have.
+fn are_files_of(files: &[ReleaseFile], kinds: &[Kind], release: &Release) -> bool {
+    for (file, kind) in files.iter().zip(kinds) {
+        if file.kind != *kind || !(is_in(file, release) || file.kind == Kind::Concrete) {
+            return false;
+        }
+    }
+    files.len() == kinds.len()
+}
+
+/// Writes the sample `r2` below the folder `releases`. The association file stands in its own
+/// folder, there is one file more to take, and there are three of other names.
+fn write_second(rt: &HostRuntime, release: &Release) -> Result<(), Fail> {
+    let terminology = "releases/r2/Terminology";
+    write_all(rt, terminology, "releases/r2/Refset/Content", release)?;
+    for name in [
+        "readme.txt",
+        "sct2_Concept_Snapshot_INT_20210131.txt",
+        "sct2_Identifier_Delta_INT_20210131.txt",
+        "sct2_RelationshipConcreteValues_Delta_INT_20210131.txt",
+    ] {
+        write_in(rt, terminology, name, b"id")?;
     }
     Ok(())
 }
@@ -24,36 +88,8 @@ fn write_all(rt: &HostRuntime, folder: &str, release: &Release) -> Result<(), Fa
 #[test]
 fn a_release_is_read_in_the_order_of_its_names(rt: HostRuntime) -> Result<(), Fail> {
     let release = sample(rt.alloc(), "r2")?.ok_or("a sample")?;
-    write_all(&rt, "releases/r2/Terminology", &release)?;
-    // The association file stands in its own folder, and files of other names are passed over.
-    fs::create_dir_all(&rt, "releases/r2/Refset/Content")?;
-    let association = "der2_cRefset_AssociationDelta_INT_20210131.txt";
-    let from = format!(in rt.alloc(); "releases/r2/Terminology/{association}")?;
-    let to = format!(in rt.alloc(); "releases/r2/Refset/Content/{association}")?;
-    fs::rename(&rt, from.as_str(), to.as_str())?;
-    fs::write(
-        &rt,
-        "releases/r2/Terminology/readme.txt",
-        b"read me".as_slice(),
-    )?;
-    fs::write(
-        &rt,
-        "releases/r2/Terminology/sct2_Concept_Snapshot_INT_20210131.txt",
-        b"id".as_slice(),
-    )?;
-    fs::write(
-        &rt,
-        "releases/r2/Terminology/sct2_Identifier_Delta_INT_20210131.txt",
-        b"id".as_slice(),
-    )?;
-    let concrete = "sct2_RelationshipConcreteValues_Delta_INT_20210131.txt";
-    let path = format!(in rt.alloc(); "releases/r2/Terminology/{concrete}")?;
-    fs::write(&rt, path.as_str(), b"id".as_slice())?;
-    let read = match read_folder(&rt, rt.alloc(), "releases", "r2") {
-        Ok(read) => read,
-        Err(fault) => return Err(Fail::from(fault)),
-    };
-    assert_eq!(rt; read.files.len(), 5);
+    write_second(&rt, &release)?;
+    let read = read_named(&rt, "r2")?;
     let kinds = [
         Kind::Concept,
         Kind::Description,
@@ -61,13 +97,7 @@ fn a_release_is_read_in_the_order_of_its_names(rt: HostRuntime) -> Result<(), Fa
         Kind::Relationship,
         Kind::Association,
     ];
-    for (file, kind) in read.files.iter().zip(&kinds) {
-        assert_eq!(rt; file.kind, *kind);
-        let same = file.kind == Kind::Concrete
-            || release.files.iter().any(|other| other.name == file.name
-                && other.bytes == file.bytes);
-        assert!(rt; same, "{}", file.name);
-    }
+    assert!(rt; are_files_of(read.files.as_slice(), &kinds, &release));
     Ok(())
 }
 
@@ -83,36 +113,34 @@ fn what_is_no_release_is_no_folder(rt: HostRuntime) -> Result<(), Fail> {
         &rt,
         "releases/nested/Terminology/sct2_Concept_Full_INT_20200131.txt",
     )?;
-    for name in &["absent", "empty", "file", "part", "nested"] {
-        let read = read_folder(&rt, rt.alloc(), "releases", *name);
-        assert!(rt; matches!(read, Err(FolderFault::NoFolder)), "{name}");
+    for name in ["absent", "empty", "file", "part", "nested"] {
+        assert!(rt; is_no_folder(&rt, name), "{name}");
     }
     Ok(())
+}
+
+/// Whether a release has so many files of concepts, each of one byte: `1`, `2` and so on.
+fn are_numbered(files: &[ReleaseFile], count: usize) -> bool {
+    for (file, want) in files.iter().zip([b"1", b"2", b"3"]) {
+        if file.kind != Kind::Concept || file.bytes.as_slice() != want.as_slice() {
+            return false;
+        }
+    }
+    files.len() == count
 }
 
 #[test]
 fn files_of_one_kind_come_in_the_byte_order_of_their_names(rt: HostRuntime) -> Result<(), Fail> {
     // Written in another order than the bytes have: capitals
     // before small letters, and a name before one that goes on.
-    let written = [
-        (b"3".as_slice(), "sct2_Concept_Full_de_20200131.txt"),
-        (b"1".as_slice(), "sct2_Concept_Delta_INT_20200131.txt"),
-        (b"2".as_slice(), "sct2_Concept_Full_INT_20200131.txt"),
-    ];
-    fs::create_dir_all(&rt, "releases/two/Terminology")?;
-    for (bytes, name) in &written {
-        let path = format!(in rt.alloc(); "releases/two/Terminology/{name}")?;
-        fs::write(&rt, path.as_str(), *bytes)?;
+    for (bytes, name) in [
+        (b"3", "sct2_Concept_Full_de_20200131.txt"),
+        (b"1", "sct2_Concept_Delta_INT_20200131.txt"),
+        (b"2", "sct2_Concept_Full_INT_20200131.txt"),
+    ] {
+        write_in(&rt, "releases/two/Terminology", name, bytes)?;
     }
-    let read = match read_folder(&rt, rt.alloc(), "releases", "two") {
-        Ok(read) => read,
-        Err(fault) => return Err(Fail::from(fault)),
-    };
-    assert_eq!(rt; read.files.len(), 3);
-    for (file, want) in read.files.iter().zip([b"1", b"2", b"3"]) {
-        assert_eq!(rt; file.kind, Kind::Concept);
-        assert_eq!(rt; file.bytes.as_slice(), want.as_slice());
-    }
+    assert!(rt; are_numbered(read_named(&rt, "two")?.files.as_slice(), 3));
     Ok(())
 }
 
@@ -124,98 +152,108 @@ fn obstacle_of(rt: &HostRuntime, name: &str) -> Result<String, Fail> {
     }
 }
 
+/// Whether this stood in the way of a release.
+fn is_in_the_way(rt: &HostRuntime, name: &str, text: &str) -> Result<bool, Fail> {
+    Ok(obstacle_of(rt, name)?.as_str() == text)
+}
+
+/// Folders that are made below the folder `releases`.
+const FOLDERS: [&str; 10] = [
+    "releases/bare/terminology",
+    "releases/package/Full/Terminology",
+    "releases/deltas/Delta/Refset",
+    "releases/empty/Refset/Content",
+    "releases/device/Terminology",
+    "releases/dangling/Terminology",
+    "releases/lost",
+    "releases/half/Terminology",
+    "releases/refset/Terminology",
+    "releases/refset/Refset",
+];
+
+/// An endless device and links that lead nowhere: what each leads to, and where it stands.
+const LINKS: [(&str, &str); 6] = [
+    (
+        "/dev/zero",
+        "releases/device/Terminology/sct2_Concept_Full_INT_20200131.txt",
+    ),
+    (
+        "nowhere",
+        "releases/dangling/Terminology/sct2_Concept_Full_INT_20200131.txt",
+    ),
+    ("nowhere", "releases/lost/Terminology"),
+    ("nowhere", "releases/half/Refset"),
+    ("nowhere", "releases/gone"),
+    ("nowhere", "releases/refset/Refset/Content"),
+];
+
+/// Makes the folders, and the files and links in them.
+fn make_obstacles(rt: &HostRuntime) -> Result<(), Fail> {
+    for path in FOLDERS {
+        fs::create_dir_all(rt, path)?;
+    }
+    for folder in ["releases/half/Terminology", "releases/refset/Terminology"] {
+        write_in(rt, folder, "sct2_Concept_Full_INT_20200131.txt", b"id")?;
+    }
+    write_in(rt, "releases", "packed.zip", b"PK")?;
+    for (to, path) in LINKS {
+        rt.symlink(to, path)?;
+    }
+    Ok(())
+}
+
+/// What stands in the way of a release of a name.
+const OBSTACLES: [(&str, &str); 12] = [
+    ("absent", "releases/absent: no such folder"),
+    ("gone", "releases/gone: a link that leads nowhere"),
+    (
+        "packed.zip",
+        "releases/packed.zip: it is no folder; unpack the release, and name its folder",
+    ),
+    (
+        "bare",
+        "releases/bare: no folder Terminology or Refset/Content in it",
+    ),
+    (
+        "empty",
+        "releases/empty: no file to take in Terminology or Refset/Content",
+    ),
+    (
+        "device",
+        "releases/device/Terminology/sct2_Concept_Full_INT_20200131.txt: not a regular file",
+    ),
+    (
+        "dangling",
+        "releases/dangling/Terminology/sct2_Concept_Full_INT_20200131.txt: a link that leads \
+         nowhere",
+    ),
+    (
+        "lost",
+        "releases/lost/Terminology: a link that leads nowhere",
+    ),
+    ("half", "releases/half/Refset: a link that leads nowhere"),
+    (
+        "refset",
+        "releases/refset/Refset/Content: a link that leads nowhere",
+    ),
+    (
+        "package",
+        "releases/package: no folder Terminology or Refset/Content in it; its folder Full is the \
+         one to name",
+    ),
+    (
+        "deltas",
+        "releases/deltas: no folder Terminology or Refset/Content in it; its folder Delta is the \
+         one to name",
+    ),
+];
+
 #[test]
 fn what_stood_in_the_way_is_told(rt: HostRuntime) -> Result<(), Fail> {
-    let file = "sct2_Concept_Full_INT_20200131.txt";
-    for folder in [
-        "bare/terminology",
-        "package/Full/Terminology",
-        "deltas/Delta/Refset",
-        "empty/Refset/Content",
-        "device/Terminology",
-        "dangling/Terminology",
-        "lost",
-        "half/Terminology",
-        "refset/Terminology",
-    ] {
-        let path = format!(in rt.alloc(); "releases/{folder}")?;
-        fs::create_dir_all(&rt, path.as_str())?;
-    }
-    fs::write(&rt, "releases/packed.zip", b"PK".as_slice())?;
-    // An endless device and links that lead nowhere.
-    let links = [
-        ("/dev/zero", "device/Terminology"),
-        ("nowhere", "dangling/Terminology"),
-    ];
-    for (to, folder) in &links {
-        let path = format!(in rt.alloc(); "releases/{folder}/{file}")?;
-        rt.symlink(*to, path.as_str())?;
-    }
-    for folder in ["half/Terminology", "refset/Terminology"] {
-        let path = format!(in rt.alloc(); "releases/{folder}/{file}")?;
-        fs::write(&rt, path.as_str(), b"id".as_slice())?;
-    }
-    for path in ["lost/Terminology", "half/Refset", "gone"] {
-        let path = format!(in rt.alloc(); "releases/{path}")?;
-        rt.symlink("nowhere", path.as_str())?;
-    }
-    fs::create_dir(&rt, "releases/refset/Refset")?;
-    rt.symlink("nowhere", "releases/refset/Refset/Content")?;
-    let nothing = "no folder Terminology or Refset/Content in it";
-    let cases = [
-        ("absent", "releases/absent: no such folder", ""),
-        ("gone", "releases/gone: a link that leads nowhere", ""),
-        (
-            "packed.zip",
-            "releases/packed.zip: it is no folder; unpack the release, and name its folder",
-            "",
-        ),
-        ("bare", "releases/bare: ", nothing),
-        (
-            "empty",
-            "releases/empty: no file to take in Terminology or Refset/Content",
-            "",
-        ),
-        (
-            "device",
-            "releases/device/Terminology/sct2_Concept_Full_INT_20200131.txt: not a regular file",
-            "",
-        ),
-        (
-            "dangling",
-            "releases/dangling/Terminology/sct2_Concept_Full_INT_20200131.txt: a link that leads \
-                 nowhere",
-            "",
-        ),
-        (
-            "lost",
-            "releases/lost/Terminology: a link that leads nowhere",
-            "",
-        ),
-        (
-            "half",
-            "releases/half/Refset: a link that leads nowhere",
-            "",
-        ),
-        (
-            "refset",
-            "releases/refset/Refset/Content: a link that leads nowhere",
-            "",
-        ),
-    ];
-    for (name, start, end) in &cases {
-        let told = obstacle_of(&rt, *name)?;
-        let want = format!(in rt.alloc(); "{start}{end}")?;
-        assert_eq!(rt; told.as_str(), want.as_str());
-        let read = read_folder(&rt, rt.alloc(), "releases", *name);
-        assert!(rt; matches!(read, Err(FolderFault::NoFolder)), "{name}");
-    }
-    for (name, inner) in &[("package", "Full"), ("deltas", "Delta")] {
-        let told = obstacle_of(&rt, *name)?;
-        let want = format!(in rt.alloc();
-            "releases/{name}: {nothing}; its folder {inner} is the one to name"
-        )?;
-        assert_eq!(rt; told.as_str(), want.as_str());
+    make_obstacles(&rt)?;
+    for (name, text) in OBSTACLES {
+        assert!(rt; is_in_the_way(&rt, name, text)?, "{name}");
+        assert!(rt; is_no_folder(&rt, name), "{name}");
     }
     Ok(())
 }
@@ -266,20 +304,22 @@ impl Watcher for Notes {
     }
 }
 
+/// Whether texts are these, in this order.
+fn are_lines(lines: &[String], wanted: &[&str]) -> bool {
+    for (line, want) in lines.iter().zip(wanted) {
+        if line.as_str() != *want {
+            return false;
+        }
+    }
+    lines.len() == wanted.len()
+}
+
 #[test]
 fn a_watcher_is_told_of_each_file(rt: HostRuntime) -> Result<(), Fail> {
     let taken = "sct2_Concept_Full_INT_20200131.txt";
-    for folder in ["Terminology", "Refset/Content"] {
-        let path = format!(in rt.alloc(); "releases/watched/{folder}")?;
-        fs::create_dir_all(&rt, path.as_str())?;
-        let path = format!(in rt.alloc(); "releases/watched/{folder}/{taken}")?;
-        fs::write(&rt, path.as_str(), b"id".as_slice())?;
-    }
-    fs::write(
-        &rt,
-        "releases/watched/Terminology/readme.txt",
-        b"".as_slice(),
-    )?;
+    write_in(&rt, "releases/watched/Terminology", taken, b"id")?;
+    write_in(&rt, "releases/watched/Refset/Content", taken, b"id")?;
+    write_in(&rt, "releases/watched/Terminology", "readme.txt", b"")?;
     let mut notes = Notes {
         alloc: rt.alloc(),
         lines: Vec::new(rt.alloc()),
@@ -287,11 +327,11 @@ fn a_watcher_is_told_of_each_file(rt: HostRuntime) -> Result<(), Fail> {
     let read = read_release(&rt, rt.alloc(), "releases", "watched", &mut notes);
     assert!(rt; read.is_ok());
     notes.lines.sort_unstable();
-    assert_eq!(rt; notes.lines.len(), 3);
-    assert_eq!(rt; notes.lines[0].as_str(), "passes over readme.txt");
-    for line in &notes.lines[1..] {
-        let want = format!(in rt.alloc(); "reads {taken}")?;
-        assert_eq!(rt; line.as_str(), want.as_str());
-    }
+    let wanted = [
+        "passes over readme.txt",
+        "reads sct2_Concept_Full_INT_20200131.txt",
+        "reads sct2_Concept_Full_INT_20200131.txt",
+    ];
+    assert!(rt; are_lines(notes.lines.as_slice(), &wanted));
     Ok(())
 }

@@ -1,0 +1,232 @@
+//! What is asked of an index over made places, in 2, 8, 128 and 250 lists.
+
+use crate::making::{Made, Order, ROOT, association, make_lists, scramble};
+use crate::watch::start_watch;
+use as_of_index::{ReadFault, RowPlace, RowReader};
+use history_model::StampedRow;
+use links::{about, children};
+use rf2_rows::{EffectiveTime, Kind, Sctid};
+use std::alloc::Global;
+use std::rt::HostRuntime;
+use term_prefix::{Search, find};
+
+/// How many places there are if nothing else is said.
+pub(crate) const SMALL: u64 = 2_000;
+
+/// The date that is asked for.
+const DATE: u32 = 20_210_131;
+
+/// A reader that gives one row, whatever the place:
+/// what is timed is the search and a copy of a row.
+#[derive(Drop)]
+struct OneRow {
+    stamped: StampedRow,
+    /// How often it was read.
+    reads: u64,
+}
+
+impl RowReader for OneRow {
+    ghost use Rattle.std.specs.Prelude.{◌≡◌, []};
+
+    ghost lists = { λ _. [] };
+
+    ghost disk_faults = { λ _. 0 };
+
+    ghost damages = { λ _. 0 };
+
+    ghost work = { λ r. r.reads };
+
+    ghost cost = { λ _. 1 };
+
+    ghost is_honest = { λ _. ⊥ };
+
+    ghost stays = { λ _ _. Unit {0} };
+
+    ghost stays_still = { λ _. tt };
+
+    ghost stays_on = { λ _ _ _ _ _. tt };
+
+    fn row(
+        &mut self,
+        alloc: Global,
+        _segment: usize,
+        _at: RowPlace,
+    ) -> Result<StampedRow, ReadFault> {
+        self.reads = self.reads.saturating_add(1);
+        Ok(self.stamped.try_clone(alloc)?)
+    }
+}
+
+/// What is asked, and for how many rows.
+#[derive(Clone, Copy)]
+enum Question {
+    /// A twentieth of the associations, one by one.
+    Gets(u64),
+    /// A hundred pages of associations.
+    Pages(u64, u32),
+    /// The first descriptions of a prefix that all have, ten times.
+    Searches(u32),
+    /// The children of the root.
+    Children,
+    /// The descriptions of the root.
+    About,
+}
+
+/// The name of a question, in what is printed.
+fn name_of(question: Question) -> &'static str {
+    match question {
+        Question::Gets(_) => "gets",
+        Question::Pages(_, 10) => "100 pages of 10",
+        Question::Pages(..) => "100 pages of 1,000",
+        Question::Searches(10) => "10 searches for 10",
+        Question::Searches(_) => "10 searches for 1,000",
+        Question::Children => "children",
+        Question::About => "about",
+    }
+}
+
+/// How many of the associations are found.
+fn get_each(made: &Made, reader: &mut OneRow, size: u64, date: EffectiveTime) -> Option<u64> {
+    let mut found = 0u64;
+    for n in 0..size / 20 {
+        let id = u128::from(scramble(n, size / 2));
+        let row = made.index.get(reader, Kind::Association, id, date, 1).ok()?;
+        found = found.wrapping_add(u64::from(row.is_some()));
+    }
+    Some(found)
+}
+
+/// How many rows a hundred pages have.
+fn turn_pages(
+    made: &Made,
+    reader: &mut OneRow,
+    size: u64,
+    limit: u32,
+    date: EffectiveTime,
+) -> Option<u64> {
+    let mut rows = 0u64;
+    for n in 0..100u64 {
+        let after = Some(u128::from(scramble(n, size / 4)));
+        let page = made
+            .index
+            .page(reader, Kind::Association, date, after, limit, 1);
+        rows = rows.wrapping_add(page.ok()?.len() as u64);
+    }
+    Some(rows)
+}
+
+/// How many descriptions ten searches find.
+fn search(
+    alloc: Global,
+    made: &Made,
+    reader: &mut OneRow,
+    limit: u32,
+    time: EffectiveTime,
+) -> Option<u64> {
+    let wanted = Search {
+        time,
+        pin: 1,
+        after: None,
+        limit,
+    };
+    let mut rows = 0u64;
+    for _ in 0..10 {
+        let found = find(alloc, &made.terms, &made.index, reader, "Finding", &wanted);
+        rows = rows.wrapping_add(found.ok()?.len() as u64);
+    }
+    Some(rows)
+}
+
+/// How many children the root has.
+fn count_children(alloc: Global, made: &Made, date: EffectiveTime) -> Option<u64> {
+    let root = Sctid::of(ROOT)?;
+    let ids = children(alloc, &made.links, &made.index, root, date, 1);
+    Some(ids.ok()?.len() as u64)
+}
+
+/// How many descriptions the root has.
+fn count_about(
+    alloc: Global,
+    made: &Made,
+    reader: &mut OneRow,
+    date: EffectiveTime,
+) -> Option<u64> {
+    let root = Sctid::of(ROOT)?;
+    let kind = Kind::Description;
+    let rows = about(alloc, &made.links, &made.index, reader, kind, root, date, 1);
+    Some(rows.ok()?.len() as u64)
+}
+
+/// How many rows or ids are found.
+fn ask(alloc: Global, made: &Made, reader: &mut OneRow, question: Question) -> Option<u64> {
+    let date = EffectiveTime::of(DATE)?;
+    match question {
+        Question::Gets(size) => get_each(made, reader, size, date),
+        Question::Pages(size, limit) => turn_pages(made, reader, size, limit, date),
+        Question::Searches(limit) => search(alloc, made, reader, limit, date),
+        Question::Children => count_children(alloc, made, date),
+        Question::About => count_about(alloc, made, reader, date),
+    }
+}
+
+/// Asks, and says what it took, unless nothing is to be printed.
+fn time(
+    rt: &HostRuntime,
+    made: &Made,
+    reader: &mut OneRow,
+    question: Question,
+    is_quiet: bool,
+) -> Option<()> {
+    let asking = start_watch(rt)?;
+    let found = ask(rt.alloc(), made, reader, question)?;
+    if is_quiet {
+        Some(())
+    } else {
+        asking.tell_found(rt, name_of(question), found)
+    }
+}
+
+/// Asks an index of so many lists.
+fn ask_index(
+    rt: &HostRuntime,
+    (size, lists): (u64, u64),
+    order: Order,
+    questions: &[Question],
+    is_quiet: bool,
+) -> Option<()> {
+    let mut reader = OneRow {
+        stamped: association(rt.alloc())?,
+        reads: 0,
+    };
+    let made = make_lists(rt.alloc(), size, lists, order)?;
+    for question in questions {
+        time(rt, &made, &mut reader, *question, is_quiet)?;
+    }
+    Some(())
+}
+
+/// Asks indexes of 2, 8, 128 and 250 lists. There are so many places of associations, and a
+/// twentieth as many descriptions, and as many children of one concept. What is asked for terms,
+/// children and descriptions is asked again where the terms stand in the worst order.
+pub(crate) fn ask_each_index(rt: &HostRuntime, size: u64, is_quiet: bool) -> Option<()> {
+    let questions = [
+        Question::Searches(10),
+        Question::Searches(1000),
+        Question::Children,
+        Question::About,
+        Question::Gets(size),
+        Question::Pages(size, 10),
+        Question::Pages(size, 1000),
+    ];
+    for lists in [2u64, 8, 128, 250] {
+        if !is_quiet {
+            println!(rt; "{lists} lists").ok()?;
+        }
+        ask_index(rt, (size, lists), Order::Mixed, &questions, is_quiet)?;
+        if !is_quiet {
+            println!(rt; "{lists} lists, terms in the worst order").ok()?;
+        }
+        ask_index(rt, (size, lists), Order::Falling, &questions[..4], is_quiet)?;
+    }
+    Some(())
+}

@@ -1,0 +1,34 @@
+//! What the reading of a release file takes.
+
+use rf2_rows::{Kind, read_file};
+use std::alloc::Global;
+use std::fs;
+use std::rt::HostRuntime;
+use std::time::Instant;
+
+/// How many descriptions a file has, or 0 where it isn't one of descriptions.
+fn count_rows(alloc: Global, bytes: &[u8]) -> usize {
+    match read_file(alloc, Kind::Description, bytes) {
+        Ok(rows) => rows.len(),
+        Err(_) => 0,
+    }
+}
+
+/// Reads a file of descriptions, which is in memory, and says how long it took.
+fn read_once(rt: &HostRuntime, bytes: &[u8]) -> Option<()> {
+    let start = Instant::now(rt).ok()?;
+    let rows = count_rows(rt.alloc(), bytes);
+    let millis = start.elapsed(rt).ok()?.as_millis();
+    println!(rt; "{rows} rows in {millis} ms").ok()
+}
+
+/// Reads a file of descriptions three times, and says how long each reading took.
+pub(crate) fn read_three_times(rt: &HostRuntime, path: &str) -> Option<()> {
+    let bytes = fs::read(rt, path).ok()?;
+    let size = bytes.len();
+    println!(rt; "{size} bytes").ok()?;
+    for _ in 0..3 {
+        read_once(rt, &bytes)?;
+    }
+    Some(())
+}
