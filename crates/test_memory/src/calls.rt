@@ -64,30 +64,26 @@ pub fn release_of(
     }
 }
 
-/// Makes a call that may change the store.
-fn change(call: Call, release: Option<Release>, store: &mut Example) -> Result<Answer, Refusal> {
-    let number = match call {
-        Call::Import(_) => match release {
-            Some(release) => return Ok(Answer::Imported(store.take(release)?)),
-            None => 0,
-        },
-        Call::MergeBegin => store.merge_begin()?,
-        Call::MergeStep(rows) => store.merge_step(rows)?,
+/// Makes a call that may change the store, and is no import. The number that it answers, if any.
+fn change(call: Call, store: &mut Example) -> Result<u64, Refusal> {
+    match call {
+        Call::Import(_) => Ok(0),
+        Call::MergeBegin => store.merge_begin(),
+        Call::MergeStep(rows) => store.merge_step(rows),
         Call::MergePublish => {
             store.merge_publish()?;
-            0
+            Ok(0)
         }
         Call::MergeAbandon => {
             store.merge_abandon()?;
-            0
+            Ok(0)
         }
-        _ => store.trim()?,
-    };
-    Ok(Answer::Number(number))
+        _ => store.trim(),
+    }
 }
 
-/// Makes a call, with the release that it imports.
-pub fn make(call: Call, release: Option<Release>, store: &mut Example) -> Result<Answer, Refusal> {
+/// Makes a call that imports nothing.
+fn ask(call: Call, store: &mut Example) -> Result<Answer, Refusal> {
     let pin = store.imports();
     match call {
         Call::Row(kind, id, date, pin) => Ok(Answer::Line(store.line_at(kind, id, date, pin)?)),
@@ -99,7 +95,15 @@ pub fn make(call: Call, release: Option<Release>, store: &mut Example) -> Result
         Call::Terms(prefix, date) => Ok(Answer::Lines(store.terms(prefix, date, 10, pin)?)),
         Call::Children(id, date) => Ok(Answer::Ids(store.children(id, date, pin)?)),
         Call::Replacements(id, date) => Ok(Answer::Lines(store.replacements(id, date, pin)?)),
-        _ => change(call, release, store),
+        _ => Ok(Answer::Number(change(call, store)?)),
+    }
+}
+
+/// Makes a call, or imports the release that it imports.
+pub fn make(call: Call, release: Option<Release>, store: &mut Example) -> Result<Answer, Refusal> {
+    match release {
+        Some(release) => Ok(Answer::Imported(store.take(release)?)),
+        None => ask(call, store),
     }
 }
 
