@@ -31,7 +31,7 @@ use crate::turns::{merge_posted, take_in_turns};
 use as_of_index::Hints;
 use case_files::{Answer, NoAnswer, unquoted};
 use case_values::{day_of, first_word, kind_of, number, read_question, split_prefix};
-use history_model::plain;
+use history_model::{StampedRow, plain};
 use std::alloc::Global;
 
 /// How many lines an answer has.
@@ -49,6 +49,61 @@ fn prefix_of(alloc: Global, text: &str) -> Answer {
         Ok(prefix) => Ok(String::from_str(alloc, prefix)?),
         Err(_) => Err(NoAnswer::NoQuestion),
     }
+}
+
+/// Posts the terms and links of two ranges of imports as those of one list.
+fn merge(
+    alloc: Global,
+    rows: &[StampedRow],
+    made: &mut Indexed,
+    words: &str,
+) -> Result<(), NoAnswer> {
+    let (first, words) = first_word(words)?;
+    let (second, many) = first_word(words)?;
+    let many = number(many)?;
+    let first = list_of(alloc, rows, first)?;
+    let second = list_of(alloc, rows, second)?;
+    made.post_merged(alloc, merge_posted(alloc, [&first, &second], many)?)?;
+    Ok(())
+}
+
+/// Puts the rows of a range of imports in the place of two lists.
+fn put(
+    alloc: Global,
+    rows: &[StampedRow],
+    made: &mut Indexed,
+    words: &str,
+) -> Result<(), NoAnswer> {
+    let (i, words) = first_word(words)?;
+    let (j, range) = first_word(words)?;
+    let places = (number(i)?, number(j)?);
+    made.put(alloc, places, list_of(alloc, rows, range)?)
+}
+
+/// Changes an index, or what is posted or read beside it, and answers how many lists there are of
+/// what it changed.
+fn change_index(
+    alloc: Global,
+    rows: &[StampedRow],
+    made: &mut Indexed,
+    word: &str,
+    rest: &str,
+) -> Result<usize, NoAnswer> {
+    match word {
+        "read" => {
+            made.lists = lists_of(alloc, rows, rest)?;
+            return Ok(made.lists.len());
+        }
+        "put" => {
+            put(alloc, rows, made, rest)?;
+            return Ok(made.index.lists());
+        }
+        "posted" => made.post_front(alloc, number(rest)?)?,
+        "post" => made.post_lists(alloc, &lists_of(alloc, rows, rest)?)?,
+        "link" => made.link(alloc, rest)?,
+        _ => merge(alloc, rows, made, rest)?,
+    }
+    Ok(made.links.lists())
 }
 
 impl Examples {
@@ -146,53 +201,23 @@ impl Examples {
             _ => by_date(self.alloc, &self.rows, rest)?,
         };
         let count = lists.len();
-        self.made = Some(Indexed::new(self.alloc, lists, count)?);
+        self.made = Some(Indexed::new(self.alloc, lists)?);
         self.is_alone = false;
         Ok(format!(in self.alloc; "{count} lists")?)
     }
 
     /// Changes the index, or what is posted or read beside it.
     pub(crate) fn change(&mut self, word: &str, rest: &str) -> Answer {
-        let mut made = self.made.take().ok_or(NoAnswer::NoQuestion)?;
-        match word {
-            "posted" => made = Indexed::new(self.alloc, made.lists, number(rest)?)?,
-            "post" => made.post_lists(self.alloc, &lists_of(self.alloc, &self.rows, rest)?)?,
-            "link" => made.link(self.alloc, rest)?,
-            "merge" => self.merge(&mut made, rest)?,
-            "put" => self.put(&mut made, rest)?,
-            _ => made.lists = lists_of(self.alloc, &self.rows, rest)?,
-        }
+        let Some(made) = &mut self.made else {
+            return Err(NoAnswer::NoQuestion);
+        };
+        let count = change_index(self.alloc, &self.rows, made, word, rest)?;
         self.is_alone = match word {
             "merge" => false,
             "link" => rest != "twice",
             _ => true,
         };
-        let count = match word {
-            "read" => made.lists.len(),
-            "put" => made.index.lists(),
-            _ => made.links.lists(),
-        };
-        self.made = Some(made);
         Ok(format!(in self.alloc; "{count} lists")?)
-    }
-
-    /// Posts the terms and links of two ranges of imports as those of one list.
-    fn merge(&self, made: &mut Indexed, words: &str) -> Result<(), NoAnswer> {
-        let (first, words) = first_word(words)?;
-        let (second, many) = first_word(words)?;
-        let first = list_of(self.alloc, &self.rows, first)?;
-        let second = list_of(self.alloc, &self.rows, second)?;
-        let posted = merge_posted(self.alloc, [&first, &second], number(many)?)?;
-        made.post_merged(self.alloc, posted)?;
-        Ok(())
-    }
-
-    /// Puts the rows of a range of imports in the place of two lists.
-    fn put(&self, made: &mut Indexed, words: &str) -> Result<(), NoAnswer> {
-        let (i, words) = first_word(words)?;
-        let (j, range) = first_word(words)?;
-        let rows = list_of(self.alloc, &self.rows, range)?;
-        made.put(self.alloc, (number(i)?, number(j)?), rows)
     }
 
     /// The places of two lists, taken in turns.

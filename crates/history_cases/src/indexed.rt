@@ -10,7 +10,7 @@ use segment::RowPlace;
 use std::alloc::{AllocError, Global};
 use term_prefix::Terms;
 
-/// Lists of rows, the index of their places, and the terms and links of the first of them.
+/// Lists of rows, the index of their places, and what is posted of their terms and links.
 #[derive(Drop)]
 pub struct Indexed {
     pub lists: Vec<Vec<StampedRow>>,
@@ -233,14 +233,9 @@ fn post_twice(alloc: Global, rows: &[StampedRow]) -> Result<links::Postings, All
 }
 
 impl Indexed {
-    /// All that is listed of some lists, and what is posted of the first so many of them.
-    pub fn new(
-        alloc: Global,
-        lists: Vec<Vec<StampedRow>>,
-        posted: usize,
-    ) -> Result<Indexed, NoAnswer> {
-        let front = lists.get(..posted).ok_or(NoAnswer::NoQuestion)?;
-        let (terms, links) = (terms_of(alloc, front)?, links_of(alloc, front)?);
+    /// All that is listed and posted of some lists.
+    pub fn new(alloc: Global, lists: Vec<Vec<StampedRow>>) -> Result<Indexed, NoAnswer> {
+        let (terms, links) = (terms_of(alloc, &lists)?, links_of(alloc, &lists)?);
         let index = index_of(alloc, &lists)?;
         Ok(Indexed {
             lists,
@@ -248,6 +243,15 @@ impl Indexed {
             terms,
             links,
         })
+    }
+
+    /// Posts what is posted of the first so many lists alone.
+    pub fn post_front(&mut self, alloc: Global, count: usize) -> Result<(), NoAnswer> {
+        let front = self.lists.get(..count).ok_or(NoAnswer::NoQuestion)?;
+        let (terms, links) = (terms_of(alloc, front)?, links_of(alloc, front)?);
+        self.terms = terms;
+        self.links = links;
+        Ok(())
     }
 
     /// Posts what is posted of other lists.
@@ -292,20 +296,17 @@ impl Indexed {
         (i, j): (usize, usize),
         rows: Vec<StampedRow>,
     ) -> Result<(), NoAnswer> {
-        let places = list_places(alloc, &rows)?;
-        let (terms, links) = (
-            post_terms(alloc, &rows)?.seal(),
-            post_links(alloc, &rows)?.seal(),
-        );
         if j >= self.terms.lists() || j >= self.links.lists() {
             return Err(NoAnswer::NoQuestion);
         }
         if i >= j || j >= self.lists.len() {
             return Err(NoAnswer::NoQuestion);
         }
-        put_in(&mut self.index, i, j, places)?;
-        self.terms.replace_two(i, j, terms);
-        self.links.replace_two(i, j, links);
+        put_in(&mut self.index, i, j, list_places(alloc, &rows)?)?;
+        self.terms
+            .replace_two(i, j, post_terms(alloc, &rows)?.seal());
+        self.links
+            .replace_two(i, j, post_links(alloc, &rows)?.seal());
         self.lists[i] = rows;
         let _removed = self.lists.remove(j);
         Ok(())
