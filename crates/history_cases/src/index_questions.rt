@@ -1,22 +1,20 @@
 //! What an index answers.
 
 use crate::indexed::Indexed;
-use crate::spelled::{spell_ids, spell_row, spell_rows};
-use as_of_index::ReadFault;
+use crate::spelled::{spell_ids, spell_rows};
+use as_of_index::{ReadFault, RowReader};
 use case_files::{Answer, NoAnswer};
 use case_values::Question;
-use index_support::KeptRows;
 use links::{about, children, replacements};
-use rf2_values::Row;
+use rf2_values::{EffectiveTime, Row};
 use std::alloc::{AllocError, Global};
 use term_prefix::{Search, find};
 
-/// Why there is no answer where a row can't be read.
-fn no_answer(fault: ReadFault) -> NoAnswer {
-    match fault {
-        ReadFault::OutOfMemory => NoAnswer::OutOfMemory,
-        _ => NoAnswer::NoQuestion,
-    }
+/// A question, without the prefix that is asked for, and the pin.
+#[derive(Clone, Copy)]
+pub struct Request {
+    pub question: Question,
+    pub pin: u32,
 }
 
 /// References to rows.
@@ -28,28 +26,45 @@ fn all_of(alloc: Global, rows: &[Row]) -> Result<Vec<&Row>, AllocError> {
     Ok(all)
 }
 
-/// The descriptions that are found.
-fn search(
+/// A row, if there is one, as rows.
+fn rows_of(alloc: Global, found: Option<Row>) -> Result<Vec<Row>, ReadFault> {
+    let mut rows = Vec::new(alloc);
+    if let Some(row) = found {
+        rows.push(row)?;
+    }
+    Ok(rows)
+}
+
+/// The descriptions that are found at a date and a pin, above an id and at most so many.
+fn search<R: RowReader>(
     alloc: Global,
     made: &Indexed,
-    reader: &mut KeptRows<'_>,
+    reader: &mut R,
     prefix: &str,
-    asked: Search,
+    (time, pin): (EffectiveTime, u32),
+    (after, limit): (Option<u128>, u32),
 ) -> Result<Vec<Row>, ReadFault> {
+    let asked = Search {
+        time,
+        pin,
+        after,
+        limit,
+    };
     find(alloc, &made.terms, &made.index, reader, prefix, &asked)
 }
 
 /// The rows that are found, where the question asks for rows.
-fn rows_found(
+pub fn rows_found<R: RowReader>(
     alloc: Global,
     made: &Indexed,
-    reader: &mut KeptRows<'_>,
-    pin: u32,
-    question: Question,
+    reader: &mut R,
+    request: Request,
     prefix: &str,
 ) -> Result<Vec<Row>, ReadFault> {
     let (links, index) = (&made.links, &made.index);
+    let Request { question, pin } = request;
     match question {
+        Question::Get(kind, id, date) => rows_of(alloc, index.get(reader, kind, id, date, pin)?),
         Question::Versions(kind, id) => index.history(reader, kind, id, pin),
         Question::Page(kind, date, after, limit) => {
             index.page(reader, kind, date, after, limit, pin)
@@ -59,72 +74,41 @@ fn rows_found(
         }
         Question::About(kind, id, time) => about(alloc, links, index, reader, kind, id, time, pin),
         Question::Terms(time, limit) => {
-            let after = None;
-            search(
-                alloc,
-                made,
-                reader,
-                prefix,
-                Search {
-                    time,
-                    pin,
-                    after,
-                    limit,
-                },
-            )
+            search(alloc, made, reader, prefix, (time, pin), (None, limit))
         }
         Question::Search(time, after, limit) => {
-            search(
-                alloc,
-                made,
-                reader,
-                prefix,
-                Search {
-                    time,
-                    pin,
-                    after,
-                    limit,
-                },
-            )
+            search(alloc, made, reader, prefix, (time, pin), (after, limit))
         }
-        _ => Ok(Vec::new(alloc)),
+        Question::Children(_, _) => Ok(Vec::new(alloc)),
     }
 }
 
-/// Rows that are found. Only these are read, and each of them once.
-fn find_rows(alloc: Global, made: &Indexed, pin: u32, question: Question, prefix: &str) -> Answer {
+/// Rows that are found. Only these are read, and each of them once; a place at which none stands
+/// is told of once.
+fn find_rows(alloc: Global, made: &Indexed, request: Request, prefix: &str) -> Answer {
     let mut reader = made.reader();
-    let found = match rows_found(alloc, made, &mut reader, pin, question, prefix) {
-        Ok(found) => found,
-        Err(fault) => return Err(no_answer(fault)),
-    };
-    let rows = spell_rows(alloc, &all_of(alloc, &found)?)?;
+    let found = rows_found(alloc, made, &mut reader, request, prefix);
     let (reads, damages) = (reader.reads, reader.damages);
-    if reads == found.len() as u64 && damages == 0 {
-        return Ok(rows);
+    let rows = match found {
+        Ok(found) => found,
+        Err(ReadFault::OutOfMemory) => return Err(NoAnswer::OutOfMemory),
+        Err(fault) => return Ok(format!(in alloc; "{fault:?}, with {damages} damages")?),
+    };
+    let text = spell_rows(alloc, &all_of(alloc, &rows)?)?;
+    if reads == rows.len() as u64 && damages == 0 {
+        return Ok(text);
     }
-    Ok(format!(in alloc; "{rows}, with {reads} reads and {damages} damages")?)
+    Ok(format!(in alloc; "{text}, with {reads} reads and {damages} damages")?)
 }
 
 /// What the index answers.
-pub fn ask_index(
-    alloc: Global,
-    made: &Indexed,
-    pin: u32,
-    question: Question,
-    prefix: &str,
-) -> Answer {
+pub fn ask_index(alloc: Global, made: &Indexed, request: Request, prefix: &str) -> Answer {
+    let Request { question, pin } = request;
     match question {
-        Question::Get(kind, id, date) => {
-            match made.index.get(&mut made.reader(), kind, id, date, pin) {
-                Ok(row) => spell_row(alloc, row.as_ref()),
-                Err(fault) => Err(no_answer(fault)),
-            }
-        }
         Question::Children(id, date) => {
             let found = children(alloc, &made.links, &made.index, id, date, pin)?;
             spell_ids(alloc, &found)
         }
-        _ => find_rows(alloc, made, pin, question, prefix),
+        _ => find_rows(alloc, made, Request { question, pin }, prefix),
     }
 }

@@ -2,15 +2,16 @@
 
 use as_of_index::{Index, MAX_LISTS, PlaceList};
 use case_files::NoAnswer;
-use case_values::number;
+use case_values::{day_of, number};
 use history_model::StampedRow;
 use index_support::{KeptRows, may_add, may_list};
 use links::Links;
+use rf2_values::EffectiveTime;
 use segment::RowPlace;
 use std::alloc::{AllocError, Global};
 use term_prefix::Terms;
 
-/// Lists of rows, the index of their places, and the terms and links of the first of them.
+/// Lists of rows, the index of their places, and what is posted of their terms and links.
 #[derive(Drop)]
 pub struct Indexed {
     pub lists: Vec<Vec<StampedRow>>,
@@ -20,7 +21,7 @@ pub struct Indexed {
 }
 
 /// Where the rows of a list stand.
-fn places_of(alloc: Global, rows: &[StampedRow]) -> Result<Vec<RowPlace>, AllocError> {
+pub fn places_of(alloc: Global, rows: &[StampedRow]) -> Result<Vec<RowPlace>, AllocError> {
     let mut places = Vec::new(alloc);
     let mut at = 0u32;
     for stamped in rows {
@@ -31,12 +32,17 @@ fn places_of(alloc: Global, rows: &[StampedRow]) -> Result<Vec<RowPlace>, AllocE
     Ok(places)
 }
 
-/// Adds the places of a list, which have to be in order and listed once.
-fn add_places(index: &mut Index, places: Vec<RowPlace>) -> Result<(), NoAnswer> {
+/// The places of a list, which have to be in order.
+fn list_places(alloc: Global, rows: &[StampedRow]) -> Result<PlaceList, NoAnswer> {
+    let places = places_of(alloc, rows)?;
     if !may_list(&places) {
         return Err(NoAnswer::NoQuestion);
     }
-    let list = PlaceList::new(places);
+    Ok(PlaceList::new(places))
+}
+
+/// Adds the places of a list, which have to be listed nowhere else.
+fn add_places(index: &mut Index, list: PlaceList) -> Result<(), NoAnswer> {
     if !may_add(&*index, &list) {
         return Err(NoAnswer::NoQuestion);
     }
@@ -44,17 +50,32 @@ fn add_places(index: &mut Index, places: Vec<RowPlace>) -> Result<(), NoAnswer> 
     Ok(())
 }
 
+/// Puts the places of a list in the place of two, where its keys are in none of the lists.
+fn put_in(index: &mut Index, i: usize, j: usize, list: PlaceList) -> Result<(), NoAnswer> {
+    if i >= j {
+        return Err(NoAnswer::NoQuestion);
+    }
+    if j >= index.lists() {
+        return Err(NoAnswer::NoQuestion);
+    }
+    if !may_add(&*index, &list) {
+        return Err(NoAnswer::NoQuestion);
+    }
+    index.replace_two(i, j, list);
+    Ok(())
+}
+
 /// The index of some lists.
 fn index_of(alloc: Global, lists: &[Vec<StampedRow>]) -> Result<Index, NoAnswer> {
     let mut index = Index::new(alloc)?;
     for rows in lists {
-        add_places(&mut index, places_of(alloc, rows)?)?;
+        add_places(&mut index, list_places(alloc, rows)?)?;
     }
     Ok(index)
 }
 
 /// What is posted of the terms of a list.
-fn post_terms(alloc: Global, rows: &[StampedRow]) -> Result<term_prefix::Postings, AllocError> {
+pub fn post_terms(alloc: Global, rows: &[StampedRow]) -> Result<term_prefix::Postings, AllocError> {
     let mut postings = term_prefix::Postings::new(alloc);
     for (number, stamped) in (0u32..).zip(rows) {
         postings.push(stamped, number)?;
@@ -63,7 +84,7 @@ fn post_terms(alloc: Global, rows: &[StampedRow]) -> Result<term_prefix::Posting
 }
 
 /// What is posted of the links of a list.
-fn post_links(alloc: Global, rows: &[StampedRow]) -> Result<links::Postings, AllocError> {
+pub fn post_links(alloc: Global, rows: &[StampedRow]) -> Result<links::Postings, AllocError> {
     let mut postings = links::Postings::new(alloc);
     for (number, stamped) in (0u32..).zip(rows) {
         postings.push(stamped, number)?;
@@ -96,7 +117,11 @@ fn links_of(alloc: Global, lists: &[Vec<StampedRow>]) -> Result<Links, NoAnswer>
 }
 
 /// The rows of the imports from the first up to the last, as in `2-3`.
-fn list_of(alloc: Global, rows: &[StampedRow], range: &str) -> Result<Vec<StampedRow>, NoAnswer> {
+pub fn list_of(
+    alloc: Global,
+    rows: &[StampedRow],
+    range: &str,
+) -> Result<Vec<StampedRow>, NoAnswer> {
     let (first, last) = range.split_once('-').ok_or(NoAnswer::NoQuestion)?;
     let (first, last): (u32, u32) = (number(first)?, number(last)?);
     let mut list = Vec::new(alloc);
@@ -108,7 +133,7 @@ fn list_of(alloc: Global, rows: &[StampedRow], range: &str) -> Result<Vec<Stampe
     Ok(list)
 }
 
-/// A list for each of some ranges of imports.
+/// A list for each of some ranges of imports; none of an empty text.
 pub fn lists_of(
     alloc: Global,
     rows: &[StampedRow],
@@ -116,20 +141,102 @@ pub fn lists_of(
 ) -> Result<Vec<Vec<StampedRow>>, NoAnswer> {
     let mut lists = Vec::new(alloc);
     for range in ranges.split(' ') {
-        lists.push(list_of(alloc, rows, range)?)?;
+        if !range.is_empty() {
+            lists.push(list_of(alloc, rows, range)?)?;
+        }
     }
     Ok(lists)
 }
 
+/// The rows with so many others of some between two of them, and `left` behind the last.
+fn every(
+    alloc: Global,
+    rows: &[StampedRow],
+    count: usize,
+    left: usize,
+) -> Result<Vec<StampedRow>, AllocError> {
+    let mut list = Vec::new(alloc);
+    for (place, stamped) in rows.iter().enumerate() {
+        let behind = rows.len().saturating_sub(place).saturating_sub(1);
+        if behind.checked_rem(count) == Some(left) {
+            list.push(stamped.try_clone(alloc)?)?;
+        }
+    }
+    Ok(list)
+}
+
+/// The rows in so many lists, to which they are dealt in turn, the last one first.
+pub fn spread(
+    alloc: Global,
+    rows: &[StampedRow],
+    count: usize,
+) -> Result<Vec<Vec<StampedRow>>, AllocError> {
+    let mut lists = Vec::new(alloc);
+    for left in 0..count {
+        lists.push(every(alloc, rows, count, left)?)?;
+    }
+    Ok(lists)
+}
+
+/// The rows of a date.
+fn of_date(
+    alloc: Global,
+    rows: &[StampedRow],
+    date: EffectiveTime,
+) -> Result<Vec<StampedRow>, AllocError> {
+    let mut list = Vec::new(alloc);
+    for stamped in rows {
+        if stamped.row.time == date {
+            list.push(stamped.try_clone(alloc)?)?;
+        }
+    }
+    Ok(list)
+}
+
+/// A list for the rows of each of some dates.
+pub fn by_date(
+    alloc: Global,
+    rows: &[StampedRow],
+    dates: &str,
+) -> Result<Vec<Vec<StampedRow>>, NoAnswer> {
+    let mut lists = Vec::new(alloc);
+    for date in dates.split(' ') {
+        lists.push(of_date(alloc, rows, day_of(date)?)?)?;
+    }
+    Ok(lists)
+}
+
+/// What is posted of the links of some rows of a list, each by its number.
+fn post_rows(
+    alloc: Global,
+    rows: &[StampedRow],
+    numbers: &str,
+) -> Result<links::Postings, NoAnswer> {
+    let mut postings = links::Postings::new(alloc);
+    for word in numbers.split(' ') {
+        if !word.is_empty() {
+            let number: u32 = number(word)?;
+            let stamped = rows.get(number as usize).ok_or(NoAnswer::NoQuestion)?;
+            postings.push(stamped, number)?;
+        }
+    }
+    Ok(postings)
+}
+
+/// What is posted of the links of a list whose rows are posted twice each.
+fn post_twice(alloc: Global, rows: &[StampedRow]) -> Result<links::Postings, AllocError> {
+    let mut postings = links::Postings::new(alloc);
+    for (number, stamped) in (0u32..).zip(rows) {
+        postings.push(stamped, number)?;
+        postings.push(stamped, number)?;
+    }
+    Ok(postings)
+}
+
 impl Indexed {
-    /// All that is listed of some lists, and what is posted of the first so many of them.
-    pub fn new(
-        alloc: Global,
-        lists: Vec<Vec<StampedRow>>,
-        posted: usize,
-    ) -> Result<Indexed, NoAnswer> {
-        let front = lists.get(..posted).ok_or(NoAnswer::NoQuestion)?;
-        let (terms, links) = (terms_of(alloc, front)?, links_of(alloc, front)?);
+    /// All that is listed and posted of some lists.
+    pub fn new(alloc: Global, lists: Vec<Vec<StampedRow>>) -> Result<Indexed, NoAnswer> {
+        let (terms, links) = (terms_of(alloc, &lists)?, links_of(alloc, &lists)?);
         let index = index_of(alloc, &lists)?;
         Ok(Indexed {
             lists,
@@ -137,6 +244,73 @@ impl Indexed {
             terms,
             links,
         })
+    }
+
+    /// Posts what is posted of the first so many lists alone.
+    pub fn post_front(&mut self, alloc: Global, count: usize) -> Result<(), NoAnswer> {
+        let front = self.lists.get(..count).ok_or(NoAnswer::NoQuestion)?;
+        let (terms, links) = (terms_of(alloc, front)?, links_of(alloc, front)?);
+        self.terms = terms;
+        self.links = links;
+        Ok(())
+    }
+
+    /// Posts what is posted of other lists.
+    pub fn post_lists(&mut self, alloc: Global, lists: &[Vec<StampedRow>]) -> Result<(), NoAnswer> {
+        self.terms = terms_of(alloc, lists)?;
+        self.links = links_of(alloc, lists)?;
+        Ok(())
+    }
+
+    /// Posts the terms and links of one list.
+    pub fn post_merged(
+        &mut self,
+        alloc: Global,
+        posted: (term_prefix::Sealed, links::Sealed),
+    ) -> Result<(), AllocError> {
+        let (mut terms, mut links) = (Terms::new(alloc)?, Links::new(alloc)?);
+        terms.add(posted.0);
+        links.add(posted.1);
+        self.terms = terms;
+        self.links = links;
+        Ok(())
+    }
+
+    /// Posts the links of the first list anew: of the rows with these numbers, or of each row
+    /// twice for `twice`.
+    pub fn link(&mut self, alloc: Global, numbers: &str) -> Result<(), NoAnswer> {
+        let rows = self.lists.first().ok_or(NoAnswer::NoQuestion)?;
+        let postings = match numbers {
+            "twice" => post_twice(alloc, rows)?,
+            _ => post_rows(alloc, rows, numbers)?,
+        };
+        let mut links = Links::new(alloc)?;
+        links.add(postings.seal());
+        self.links = links;
+        Ok(())
+    }
+
+    /// Puts a list in the place of two, which has to have rows that stand in none.
+    pub fn put(
+        &mut self,
+        alloc: Global,
+        (i, j): (usize, usize),
+        rows: Vec<StampedRow>,
+    ) -> Result<(), NoAnswer> {
+        if j >= self.terms.lists() || j >= self.links.lists() {
+            return Err(NoAnswer::NoQuestion);
+        }
+        if i >= j || j >= self.lists.len() {
+            return Err(NoAnswer::NoQuestion);
+        }
+        put_in(&mut self.index, i, j, list_places(alloc, &rows)?)?;
+        self.terms
+            .replace_two(i, j, post_terms(alloc, &rows)?.seal());
+        self.links
+            .replace_two(i, j, post_links(alloc, &rows)?.seal());
+        self.lists[i] = rows;
+        let _removed = self.lists.remove(j);
+        Ok(())
     }
 
     /// A reader of the rows.

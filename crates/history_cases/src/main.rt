@@ -2,11 +2,16 @@
 //! index of it have to answer the same.
 #![tactic(auto)]
 
+mod asking;
 mod examples;
+mod expanded;
+mod failing;
 mod index_questions;
 mod indexed;
 mod plain_questions;
 mod spelled;
+mod turns;
+mod watched;
 
 use case_files::Asked;
 use examples::Examples;

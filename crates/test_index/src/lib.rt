@@ -1,29 +1,19 @@
-//! What an index of places answers, and searches of the postings beside it, over
-//! rows in memory; made histories beside the plain program; readers that fail. It has no code of
-//! its own.
+//! How an index has room for lists and reads rows, the numbers that the rows of two lists have in
+//! one, and postings of as many lists and rows as there may be. It has no code of its own. What an
+//! index answers is in the cases of `history_cases`.
 #![tactic(auto)]
 
 #[cfg(test)]
-mod edges;
-#[cfg(test)]
-mod faults;
-#[cfg(test)]
-mod in_turns;
+mod indexes;
 #[cfg(test)]
 mod lists;
 #[cfg(test)]
-mod merging;
+mod many_links;
 #[cfg(test)]
-mod picks;
+mod many_terms;
 #[cfg(test)]
-mod places_in_turns;
-#[cfg(test)]
-mod releases;
+mod numbers;
 #[cfg(test)]
 mod rows;
 #[cfg(test)]
-mod subjects;
-#[cfg(test)]
-mod terms;
-#[cfg(test)]
-mod watched;
+mod versions;

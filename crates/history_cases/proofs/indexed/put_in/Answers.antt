@@ -1,5 +1,5 @@
-use Rattle.test_index.proofs.Replaced.{replaced_places}
-use Rattle.test_index.proofs.picks.put_in.Goals as goal
+use Rattle.history_cases.proofs.Replaced.{replaced_places}
+use Rattle.history_cases.proofs.indexed.put_in.Goals as goal
 
 pub replace_two-requires-clause-lists : goal.replace_two-requires-clause-lists
 replace_two-requires-clause-lists c =

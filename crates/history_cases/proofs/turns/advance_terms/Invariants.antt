@@ -1,6 +1,6 @@
 use Rattle.std.proofs.Common.{◌≡◌}
 use Rattle.term_prefix.specs.Merged.{IsMergeOfTerms}
-use Rattle.test_index.proofs.in_turns.advance_all.Given as goal
+use Rattle.history_cases.proofs.turns.advance_terms.Given as goal
 
 abbrev pub invariant-loop-turn : goal.invariant-loop-turn
 invariant-loop-turn l = IsMergeOfTerms l.numbers l.a l.b l.fn.merging → IsMergeOfTerms l.numbers l.a l.b l.merging

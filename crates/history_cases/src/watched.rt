@@ -8,7 +8,7 @@ use std::alloc::Global;
 
 /// Rows in memory that are counted as they are read, and with one read that fails.
 #[derive(Drop)]
-pub(crate) struct Watched<'a> {
+pub struct Watched<'a> {
     lists: &'a [Vec<StampedRow>],
     reads: u64,
     /// From 1 on; 0 for none.
@@ -19,7 +19,7 @@ pub(crate) struct Watched<'a> {
 }
 
 impl Watched<'_> {
-    pub(crate) fn new(lists: &[Vec<StampedRow>], failing: u64, fault: ReadFault) -> Watched<'_> {
+    pub fn new(lists: &[Vec<StampedRow>], failing: u64, fault: ReadFault) -> Watched<'_> {
         Watched {
             lists,
             reads: 0,
@@ -31,7 +31,7 @@ impl Watched<'_> {
     }
 
     /// How often a row was asked for, the device failed, and a row was damaged.
-    pub(crate) fn counts(&self) -> (u64, u64, u64) {
+    pub fn counts(&self) -> (u64, u64, u64) {
         (self.reads, self.disk_faults, self.damages)
     }
 }
