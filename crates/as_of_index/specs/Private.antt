@@ -4,5 +4,6 @@ pub mod Reader
 pub mod Search
 pub mod Current
 pub mod Chosen
+pub mod Postings
 pub mod Merging
 pub mod Numbers

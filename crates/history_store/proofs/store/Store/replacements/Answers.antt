@@ -1,9 +1,9 @@
 use Rattle.std.specs.List.{sum_by}
-use Rattle.std.proofs.Common.{◌+◌, ◌≤◌, map, sym, ap, subst, ◌∙◌}
+use Rattle.std.proofs.Common.{map, sym, ap, subst, ◌∙◌}
 use Rattle.history_model.specs.History.{rows_at}
 use Rattle.history_model.specs.Lists.{listed}
-use Rattle.links.specs.Replacements.{PostsReferences, reference_keys, replacements_among}
-use Rattle.links.proofs.Posted.{posted_references_stand, posted_references_are_all}
+use Rattle.history_model.specs.Queries.{replacements}
+use Rattle.links.specs.Laws.{EachPosted}
 use Rattle.segment.specs.Standing.{places_of}
 use Rattle.blocks.proofs.Looked.{none_looks_up}
 use Rattle.history_store.specs.Queries.{is_listed}
@@ -21,8 +21,8 @@ pub returns-clause-found : goal.returns-clause-found
 returns-clause-found g c = rw (← c.self.view_is) (λ up.
     let lent = reader_honest g.D.Disk.is_honest g.D.Disk.moments _ _ _ _ _ _ _ _ _ _ c.self.invariant.0 c.new-reader.ensures.disk c.new-reader.ensures.cache c.new-reader.ensures.entries c.new-reader.ensures.shown up c.if-self.false (g.met.D.Disk.now_is_image c.self.inside.disk up) in
     answered_so _ _ c.replacements-read.result c.answered.result c.answered.ensures.same
-    (λ x is. is ∙ ap (λ l. replacements_among (reference_keys l c.links.result.now) c.args.id c.args.time (rows_at c.args.pin (listed l))) c.new-reader.ensures.shown ∙ posted_references_are_all c.self.inside.index c.links.result.now c.args.id c.args.time c.args.pin c.links.ensures)
-    (c.replacements-read.ensures.found lent (c.places.ensures ∙ ap (map places_of) (sym c.new-reader.ensures.shown)) (subst (λ l. PostsReferences l c.links.result.now) (sym c.new-reader.ensures.shown) (posted_references_stand _ _ c.links.ensures))))
+    (λ x is. is ∙ ap (λ l. replacements c.args.id c.args.time (rows_at c.args.pin (listed l))) c.new-reader.ensures.shown)
+    (c.replacements-read.ensures.found lent (c.places.ensures ∙ ap (map places_of) (sym c.new-reader.ensures.shown)) (subst (λ l. EachPosted l c.links.result.now) (sym c.new-reader.ensures.shown) c.links.ensures)))
 
 pub returns-clause-query : goal.returns-clause-query
 returns-clause-query g c = rw (← c.self.view_is) (
@@ -30,7 +30,7 @@ returns-clause-query g c = rw (← c.self.view_is) (
     c.if-self.false c.new-reader.ensures.disk c.replacements-read.ensures.stays.0 c.replacements-read.ensures.disk_faults
     (λ up.
     let lent = reader_honest g.D.Disk.is_honest g.D.Disk.moments _ _ _ _ _ _ _ _ _ _ c.self.invariant.0 c.new-reader.ensures.disk c.new-reader.ensures.cache c.new-reader.ensures.entries c.new-reader.ensures.shown up c.if-self.false (g.met.D.Disk.now_is_image c.self.inside.disk up) in
-    c.replacements-read.ensures.undamaged lent (c.places.ensures ∙ ap (map places_of) (sym c.new-reader.ensures.shown)) (subst (λ l. PostsReferences l c.links.result.now) (sym c.new-reader.ensures.shown) (posted_references_stand _ _ c.links.ensures)))
+    c.replacements-read.ensures.undamaged lent (c.places.ensures ∙ ap (map places_of) (sym c.new-reader.ensures.shown)) (subst (λ l. EachPosted l c.links.result.now) (sym c.new-reader.ensures.shown) c.links.ensures))
     c.answered.ensures.same c.answered.ensures.left c.answered.ensures.disk c.answered.ensures.acknowledged)
 
 pub returns-clause-bytes_read : goal.returns-clause-bytes_read
@@ -53,5 +53,4 @@ returns-clause-other_calls g c = rw (← c.self.view_is) (calls_stay g.D.Disk.ot
 
 pub returns-clause-bytes_read_always : goal.returns-clause-bytes_read_always
 returns-clause-bytes_read_always g c = rw (← c.self.view_is) (
-    subst (λ xs. g.D.Disk.bytes_read c.answered.new.self.disk ≤ g.D.Disk.bytes_read c.self.inside.disk + sum_by row_cost xs) (posted_references_are_all c.self.inside.index c.links.result.now c.args.id c.args.time c.args.pin c.links.ensures)
-    (always_bytes g.D.Disk.bytes_read (λ l. sum_by row_cost (replacements_among (reference_keys l c.links.result.now) c.args.id c.args.time (rows_at c.args.pin (listed l)))) _ _ c.self.inside.disk c.new-reader.result.disk.now c.answered.new.self.disk c.replacements-read.new.reader.disk.now c.new-reader.ensures.shown c.new-reader.ensures.disk c.answered.ensures.disk (c.replacements-read.ensures.work_always (c.places.ensures ∙ ap (map places_of) (sym c.new-reader.ensures.shown)) (subst (λ l. PostsReferences l c.links.result.now) (sym c.new-reader.ensures.shown) (posted_references_stand _ _ c.links.ensures)))))
+    always_bytes g.D.Disk.bytes_read (λ l. sum_by row_cost (replacements c.args.id c.args.time (rows_at c.args.pin (listed l)))) _ _ c.self.inside.disk c.new-reader.result.disk.now c.answered.new.self.disk c.replacements-read.new.reader.disk.now c.new-reader.ensures.shown c.new-reader.ensures.disk c.answered.ensures.disk (c.replacements-read.ensures.work_always (c.places.ensures ∙ ap (map places_of) (sym c.new-reader.ensures.shown)) (subst (λ l. EachPosted l c.links.result.now) (sym c.new-reader.ensures.shown) c.links.ensures)))

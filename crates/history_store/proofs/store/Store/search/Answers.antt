@@ -1,9 +1,9 @@
 use Rattle.std.specs.List.{sum_by}
-use Rattle.std.proofs.Common.{◌+◌, ◌≤◌, map, sym, ap, subst, ◌∙◌}
+use Rattle.std.proofs.Common.{map, sym, ap, subst, ◌∙◌}
 use Rattle.history_model.specs.History.{rows_at}
 use Rattle.history_model.specs.Lists.{listed}
-use Rattle.term_prefix.specs.Terms.{PostsTerms, term_keys, terms_among}
-use Rattle.term_prefix.proofs.Posted.{posted_terms_stand, posted_terms_are_all}
+use Rattle.history_model.specs.Queries.{search_terms}
+use Rattle.term_prefix.specs.Pushed.{ArePosted}
 use Rattle.segment.specs.Standing.{places_of}
 use Rattle.blocks.proofs.Looked.{none_looks_up}
 use Rattle.history_store.specs.Queries.{is_listed}
@@ -21,8 +21,8 @@ pub returns-clause-found : goal.returns-clause-found
 returns-clause-found g c = rw (← c.self.view_is) (λ up.
     let lent = reader_honest g.D.Disk.is_honest g.D.Disk.moments _ _ _ _ _ _ _ _ _ _ c.self.invariant.0 c.new-reader.ensures.disk c.new-reader.ensures.cache c.new-reader.ensures.entries c.new-reader.ensures.shown up c.if-self.false (g.met.D.Disk.now_is_image c.self.inside.disk up) in
     answered_so _ _ c.find-read.result c.answered.result c.answered.ensures.same
-    (λ x is. is ∙ ap (λ l. terms_among (term_keys l c.terms.result.now) c.args.prefix.now c.args.time c.args.after c.args.limit (rows_at c.args.pin (listed l))) c.new-reader.ensures.shown ∙ posted_terms_are_all c.self.inside.index c.terms.result.now c.args.prefix.now c.args.time c.args.after c.args.limit c.args.pin c.terms.ensures)
-    (c.find-read.ensures.found lent (c.places.ensures ∙ ap (map places_of) (sym c.new-reader.ensures.shown)) (subst (λ l. PostsTerms l c.terms.result.now) (sym c.new-reader.ensures.shown) (posted_terms_stand _ _ c.terms.ensures))))
+    (λ x is. is ∙ ap (λ l. search_terms c.args.prefix.now c.args.time c.args.after c.args.limit (rows_at c.args.pin (listed l))) c.new-reader.ensures.shown)
+    (c.find-read.ensures.found lent (c.places.ensures ∙ ap (map places_of) (sym c.new-reader.ensures.shown)) (subst (λ l. ArePosted l c.terms.result.now) (sym c.new-reader.ensures.shown) c.terms.ensures)))
 
 pub returns-clause-query : goal.returns-clause-query
 returns-clause-query g c = rw (← c.self.view_is) (
@@ -30,7 +30,7 @@ returns-clause-query g c = rw (← c.self.view_is) (
     c.if-self.false c.new-reader.ensures.disk c.find-read.ensures.stays.0 c.find-read.ensures.disk_faults
     (λ up.
     let lent = reader_honest g.D.Disk.is_honest g.D.Disk.moments _ _ _ _ _ _ _ _ _ _ c.self.invariant.0 c.new-reader.ensures.disk c.new-reader.ensures.cache c.new-reader.ensures.entries c.new-reader.ensures.shown up c.if-self.false (g.met.D.Disk.now_is_image c.self.inside.disk up) in
-    c.find-read.ensures.undamaged lent (c.places.ensures ∙ ap (map places_of) (sym c.new-reader.ensures.shown)) (subst (λ l. PostsTerms l c.terms.result.now) (sym c.new-reader.ensures.shown) (posted_terms_stand _ _ c.terms.ensures)))
+    c.find-read.ensures.undamaged lent (c.places.ensures ∙ ap (map places_of) (sym c.new-reader.ensures.shown)) (subst (λ l. ArePosted l c.terms.result.now) (sym c.new-reader.ensures.shown) c.terms.ensures))
     c.answered.ensures.same c.answered.ensures.left c.answered.ensures.disk c.answered.ensures.acknowledged)
 
 pub returns-clause-bytes_read : goal.returns-clause-bytes_read
@@ -53,5 +53,4 @@ returns-clause-other_calls g c = rw (← c.self.view_is) (calls_stay g.D.Disk.ot
 
 pub returns-clause-bytes_read_always : goal.returns-clause-bytes_read_always
 returns-clause-bytes_read_always g c = rw (← c.self.view_is) (
-    subst (λ xs. g.D.Disk.bytes_read c.answered.new.self.disk ≤ g.D.Disk.bytes_read c.self.inside.disk + sum_by row_cost xs) (posted_terms_are_all c.self.inside.index c.terms.result.now c.args.prefix.now c.args.time c.args.after c.args.limit c.args.pin c.terms.ensures)
-    (always_bytes g.D.Disk.bytes_read (λ l. sum_by row_cost (terms_among (term_keys l c.terms.result.now) c.args.prefix.now c.args.time c.args.after c.args.limit (rows_at c.args.pin (listed l)))) _ _ c.self.inside.disk c.new-reader.result.disk.now c.answered.new.self.disk c.find-read.new.reader.disk.now c.new-reader.ensures.shown c.new-reader.ensures.disk c.answered.ensures.disk (c.find-read.ensures.work_always (c.places.ensures ∙ ap (map places_of) (sym c.new-reader.ensures.shown)) (subst (λ l. PostsTerms l c.terms.result.now) (sym c.new-reader.ensures.shown) (posted_terms_stand _ _ c.terms.ensures)))))
+    always_bytes g.D.Disk.bytes_read (λ l. sum_by row_cost (search_terms c.args.prefix.now c.args.time c.args.after c.args.limit (rows_at c.args.pin (listed l)))) _ _ c.self.inside.disk c.new-reader.result.disk.now c.answered.new.self.disk c.find-read.new.reader.disk.now c.new-reader.ensures.shown c.new-reader.ensures.disk c.answered.ensures.disk (c.find-read.ensures.work_always (c.places.ensures ∙ ap (map places_of) (sym c.new-reader.ensures.shown)) (subst (λ l. ArePosted l c.terms.result.now) (sym c.new-reader.ensures.shown) c.terms.ensures)))
