@@ -1,30 +1,22 @@
--- Rows among those with some keys, rows that are looked up, and rows of several lists.
-use Rattle.std.proofs.Common.{◌≡◌, ◌⊎◌, ℕ, zero, suc, Bool, true, false, cond, List, [], ◌∷◌, refl, ap, subst, inl, inr, ◌∙◌, sym, arith}
-use Rattle.std.specs.Prelude.{◌&&◌, ◌||◌, ◌==◌, Some, slice_get}
-use Rattle.std.specs.List.{filter, find}
+-- Keys that are equal, rows that are looked up, and rows of several lists.
+use Rattle.std.proofs.Common.{◌≡◌, ℕ, zero, suc, Bool, true, false, cond, List, [], ◌∷◌, refl, subst, inl, inr, sym, arith}
+use Rattle.std.specs.Prelude.{◌&&◌, ◌==◌, Some, slice_get}
+use Rattle.std.specs.List.{find}
 use Rattle.std.proofs.lemmas.Bool.Decides.{nat_tests}
 use Rattle.rf2_values.specs.declared.row.Kind.{Kind}
 use Rattle.rf2_values.specs.declared.key.Key.{Key}
 use Rattle.rf2_values.specs.Row.{RowValue}
-use Rattle.rf2_values.specs.Key.{kind_place, key_of}
+use Rattle.rf2_values.specs.Key.{kind_place}
 use Rattle.history_model.specs.declared.stamped.StampedRow.{StampedRow}
 use Rattle.history_model.specs.InOrder.{Has, joined}
 use Rattle.history_model.specs.Queries.{get, snapshot, is_version_of}
 use Rattle.history_model.proofs.InOrder.{Has-append_left, Has-append_right}
 use Rattle.history_model.proofs.Filtered.{both}
 use Rattle.history_model.proofs.Keys.{same_kind}
-use Rattle.as_of_index.specs.Current.{is_among, is_same_key}
 
-either : (a b : Bool) → (a || b) ≡ true → (a ≡ true) ⊎ (b ≡ true)
-either true b e = inl refl
-either false b e = inr e
-
-or_left : (a b : Bool) → a ≡ true → (a || b) ≡ true
-or_left a b e = rw e refl
-
-or_right : (a b : Bool) → b ≡ true → (a || b) ≡ true
-or_right true b e = refl
-or_right false b e = e
+-- the two keys are equal
+abbrev is_same_key : Key → Key → Bool
+is_same_key a b = kind_place a.kind == kind_place b.kind && a.id == b.id && a.time == b.time
 
 pub key_test : (k : Key) → is_same_key k k ≡ true
 key_test k =
@@ -48,20 +40,6 @@ key_from_test j k e =
       and_assoc true b c e = e
       and_assoc false b c e = e
 
-pub among_from : (keys : List Key) (row : RowValue) (k : Key) → Has keys k → k ≡ key_of row → is_among keys row ≡ true
-among_from [] row k h e = absurd h
-among_from (j ∷ keys) row k h e = elim h [
-  | inl q ↦ or_left (is_same_key j (key_of row)) (is_among keys row) (subst (λ z. is_same_key j z ≡ true) (q ∙ e) (key_test j))
-  | inr t ↦ or_right (is_same_key j (key_of row)) (is_among keys row) (among_from keys row k t e)
-]
-
-pub among_has : (keys : List Key) (row : RowValue) → is_among keys row ≡ true → Has keys (key_of row)
-among_has [] row e = absurd (cc)
-among_has (j ∷ keys) row e = elim (either (is_same_key j (key_of row)) (is_among keys row) e) [
-  | inl q ↦ inl (key_from_test j (key_of row) q)
-  | inr t ↦ inr (among_has keys row t)
-]
-
 -- ---- a component's row and the snapshot
 
 found_there : {X : Type 0} (p : X → Bool) (xs : List X) (b : X) → find p xs ≡ Some b → Has xs b
@@ -79,14 +57,3 @@ pub has_joined : (lists : List (List StampedRow)) (i : ℕ) (rows : List Stamped
 has_joined [] i rows s e h = absurd (cc)
 has_joined (r ∷ lists) zero rows s e h = let same : r ≡ rows = cc in Has-append_left r (joined lists) s (subst (λ z. Has z s) (sym same) h)
 has_joined (r ∷ lists) (suc i) rows s e h = Has-append_right r (joined lists) s (has_joined lists i rows s e h)
-
--- ---- a test that holds wherever another does leaves a filter as it is
-
-pub filter_both : {X : Type 0} (p q : X → Bool) (xs : List X) → ((x : X) → Has xs x → p x ≡ true → q x ≡ true) → filter (λ x. p x && q x) xs ≡ filter p xs
-filter_both p q [] each = refl
-filter_both p q (x ∷ xs) each =
-    let rest = filter_both p q xs (λ y h. each y (inr h)) in
-    elim (p x) as (λ b. (b ≡ true → q x ≡ true) → cond (b && q x) (x ∷ filter (λ y. p y && q y) xs) (filter (λ y. p y && q y) xs) ≡ cond b (x ∷ filter p xs) (filter p xs)) [
-      | true ↦ λ f. rw (f refl) (ap (λ ys. x ∷ ys) rest)
-      | false ↦ λ f. rest
-    ] (each x (inl refl))

@@ -4,8 +4,6 @@ use Rattle.std.specs.Prelude.{Option, Some, None, slice_get, flat_map}
 use Rattle.std.specs.Option.{option_to_list}
 use Rattle.std.proofs.lemmas.List.{get_or_past}
 use Rattle.std.proofs.lemmas.Option.{get_or_from_slice_get, slice_get_read}
-use Rattle.rf2_values.specs.declared.key.Key.{Key}
-use Rattle.rf2_values.specs.Key.{key_of}
 use Rattle.history_model.specs.declared.stamped.StampedRow.{StampedRow}
 use Rattle.history_model.specs.InOrder.{Has}
 use Rattle.history_model.proofs.InOrder.{Has-append_left, Has-append_right, Has-append_cases}
@@ -13,7 +11,6 @@ use Rattle.segment.specs.declared.place.RowPlace.{RowPlace}
 use Rattle.segment.specs.Standing.{record_len, row_place, with_places, StandsAt}
 use Rattle.as_of_index.specs.Places.{item_at}
 use Rattle.as_of_index.specs.Current.{IsPlaceOfRow}
-use Rattle.as_of_index.specs.Postings.{numbered, key_at, posted_keys}
 
 -- ---- an item of a list of lists
 
@@ -71,23 +68,3 @@ Has-option f (Some x) y h = elim h [ inl e ↦ (x, refl, e) | inr k ↦ absurd k
 
 pub Has-option_from : {X Y : Type 0} (f : X → Y) (o : Option X) (x : X) → o ≡ Some x → Has (map f (option_to_list o)) (f x)
 Has-option_from f o x e = subst (λ p. Has (map f (option_to_list p)) (f x)) (sym e) (inl refl)
-
--- ---- the keys of the rows that are posted
-
--- a posting and its row, which has the key
-pub record HasKey {X : Type 0} (number : X → ℕ) (lists : List (List StampedRow)) (postings : List (List X)) (key : Key) : Type 0 where
-  pub x : ℕ × X
-  pub there : Has (numbered 0 postings) x
-  pub s : StampedRow
-  pub row_there : item_at lists x.0 (number x.1) ≡ Some s
-  pub key_is : key_of s.row ≡ key
-
-module _ {X : Type 0} (number : X → ℕ) (lists : List (List StampedRow)) (postings : List (List X)) where
-  pub key_posted : (x : ℕ × X) (s : StampedRow) → Has (numbered 0 postings) x → item_at lists x.0 (number x.1) ≡ Some s → Has (posted_keys number lists postings) (key_of s.row)
-  key_posted x s h e = Has-flat_map_from (λ (x : ℕ × X). key_at lists x.0 (number x.1)) (numbered 0 postings) x (key_of s.row) h (Has-option_from (λ (t : StampedRow). key_of t.row) (item_at lists x.0 (number x.1)) s e)
-
-  pub key_cases : (key : Key) → Has (posted_keys number lists postings) key → HasKey number lists postings key
-  key_cases key h =
-      let w = Has-flat_map (λ (x : ℕ × X). key_at lists x.0 (number x.1)) (numbered 0 postings) key h in
-      let o = Has-option (λ (t : StampedRow). key_of t.row) (item_at lists w.0.0 (number w.0.1)) key w.2 in
-      record { x = w.0; there = w.1; s = o.0; row_there = o.1; key_is = o.2 }

@@ -6,7 +6,6 @@ use Rattle.std.proofs.lemmas.List.Sorted.{IsPermutation-sym}
 use Rattle.std.proofs.lemmas.List.Sorted.{All-permutation}
 use Rattle.std.proofs.lemmas.List.Elements.{All-from_recursion, recursion_from_All}
 use Rattle.rf2_values.specs.Row.{RowValue}
-use Rattle.rf2_values.specs.Key.{key_of}
 use Rattle.history_model.specs.declared.stamped.StampedRow.{StampedRow}
 use Rattle.history_model.specs.InOrder.{Has, joined}
 use Rattle.history_model.specs.History.{rows_at}
@@ -16,10 +15,8 @@ use Rattle.history_model.proofs.InOrder.{Has-all, all_from_has, Has-append_left,
 use Rattle.history_model.proofs.Filtered.{Has-map, Has-map_from}
 use Rattle.history_model.proofs.Snapshots.{current_from_snapshot, Has-listed_cases, Has-rows_at_cases}
 use Rattle.as_of_index.specs.Places.{item_at}
-use Rattle.as_of_index.specs.Current.{is_among}
-use Rattle.as_of_index.specs.Postings.{posted_all, numbered, posted_keys, AllPosted}
-use Rattle.as_of_index.proofs.Among.{among_from}
-use Rattle.as_of_index.proofs.Numbered.{key_posted}
+use Rattle.as_of_index.specs.Postings.{posted_all, AllPosted}
+use Rattle.as_of_index.specs.Private.Postings.{numbered}
 
 pub Has-permuted : {X : Type 0} (xs ys : List X) → IsPermutation xs ys → (z : X) → Has ys z → Has xs z
 Has-permuted xs ys p z h = Has-all (λ w. Has xs w) ys z (recursion_from_All (λ w. Has xs w) ys (All-permutation (λ w. Has xs w) xs ys p (All-from_recursion (λ w. Has xs w) xs (all_from_has (λ w. Has xs w) xs (λ w k. k))))) h
@@ -119,17 +116,29 @@ numbers_of_row (rows ∷ lists) s h = elim (Has-append_cases rows (joined lists)
   | inr r ↦ (let w = numbers_of_row lists s r in (suc w.0, w.1, w.2))
 ]
 
-module _ {X : Type 0} (posted : RowValue → ℕ → List X) (number : X → ℕ) (test : RowValue → Bool) (complete : (row : RowValue) (i : ℕ) → test row ≡ true → (t : X) × Has (posted row i) t × (number t ≡ i)) where
-  pub among_all : (lists : List (List StampedRow)) (terms : List (List X)) (date pin : ℕ) → AllPosted posted lists terms → (row : RowValue) → Has (snapshot (rows_at pin (listed lists)) date) row → test row ≡ true → is_among (posted_keys number lists terms) row ≡ true
-  among_all lists terms date pin a row h e =
-      let current = current_from_snapshot (rows_at pin (listed lists)) date row h in
-      let w = Has-rows_at_cases pin (listed lists) row current.known in
-      let s = w.stamped_row in
-      let p = numbers_of_row lists s (Has-listed_cases lists s w.known) in
-      let t = complete s.row p.1 (subst (λ (r : RowValue). test r ≡ true) (sym w.same) e) in
-      let there = posting_there posted lists terms a p.0 p.1 s p.2 t.0 t.1 in
-      let row_there = subst (λ i. item_at lists p.0 i ≡ Some s) (sym t.2) p.2 in
-      among_from (posted_keys number lists terms) row (key_of s.row) (key_posted number lists terms (p.0, t.0) s there row_there) (ap key_of w.same)
+-- a posting, and its row
+pub record IsPostedAs {X : Type 0} (number : X → ℕ) (lists : List (List StampedRow)) (postings : List (List X)) (row : RowValue) : Type 0 where
+  pub x : ℕ × X
+  pub there : Has (numbered 0 postings) x
+  pub s : StampedRow
+  pub row_there : item_at lists x.0 (number x.1) ≡ Some s
+  pub same : s.row ≡ row
+
+-- a row of the Snapshot that passes a test is posted, where such rows are
+pub posted_as : {X : Type 0} (posted : RowValue → ℕ → List X) (number : X → ℕ) (test : RowValue → Bool) (complete : (row : RowValue) (i : ℕ) → test row ≡ true → (t : X) × Has (posted row i) t × (number t ≡ i)) (lists : List (List StampedRow)) (terms : List (List X)) (date pin : ℕ) → AllPosted posted lists terms → (row : RowValue) → Has (snapshot (rows_at pin (listed lists)) date) row → test row ≡ true → IsPostedAs number lists terms row
+posted_as posted number test complete lists terms date pin a row h e =
+    let current = current_from_snapshot (rows_at pin (listed lists)) date row h in
+    let w = Has-rows_at_cases pin (listed lists) row current.known in
+    let s = w.stamped_row in
+    let p = numbers_of_row lists s (Has-listed_cases lists s w.known) in
+    let t = complete s.row p.1 (subst (λ (r : RowValue). test r ≡ true) (sym w.same) e) in
+    record {
+      x = (p.0, t.0);
+      there = posting_there posted lists terms a p.0 p.1 s p.2 t.0 t.1;
+      s = s;
+      row_there = subst (λ i. item_at lists p.0 i ≡ Some s) (sym t.2) p.2;
+      same = w.same;
+    }
 
 -- ---- one row more
 

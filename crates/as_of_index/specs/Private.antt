@@ -3,5 +3,6 @@
 pub mod Search
 pub mod Current
 pub mod Chosen
+pub mod Postings
 pub mod Merging
 pub mod Numbers

@@ -32,3 +32,10 @@ module _ {D : Type 0} (honest : D → Type 0) (moments : D → Moments) (disk le
         held_read (honest disk) (honest after) (moments disk) (moments after) cache left slot d lists needs held stays agrees,
         merge_read (honest disk) (honest after) (moments disk) (moments after) d lists merge needs going stays,
       )
+
+  -- so it is where the reader stays honest
+  pub held_after : (merge : Option MergeInProgress) (after : D) (left : LruCache ℕ (List ℕ)) (left_entries : List Entry) (left_lists : List (List StampedRow)) → HasMerge (honest disk) (moments disk).state.now d lists merge needs → MomentsStay (honest lent) (honest after) (moments lent) (moments after)
+      → (honest disk → IsImage (moments disk).state (moments disk).state.now)
+      → (honest lent × AgreesWith lent_cache (moments lent).state.now × AreThere entries lent_lists (moments lent).state.now → honest after × AgreesWith left (moments after).state.now × AreThere left_entries left_lists (moments after).state.now)
+      → IsHeld (honest after) (moments after).state left slot d lists needs × HasMerge (honest after) (moments after).state.now d lists merge needs
+  held_after merge after left left_entries left_lists going stays now honesty = held_left merge after left going stays (λ up still. (honesty (reader_honest up still (now up))).1)

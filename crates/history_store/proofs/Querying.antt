@@ -1,21 +1,27 @@
 -- What is left of a store after a query.
-use Rattle.std.proofs.Common.{◌≡◌, ◌≢◌, ◌↔◌, ℕ, ◌+◌, ◌≤◌, List, false, true, Result, Ok, Err, IfOk, IfErr, MatchResult, refl, sym, ap, subst, ◌∙◌}
+use Rattle.std.proofs.Common.{◌≡◌, ◌≢◌, ◌↔◌, ℕ, ◌+◌, ◌≤◌, List, false, true, Result, Ok, Err, IfOk, IfErr, MatchResult, refl, sym, ap, subst, ◌∙◌, arith, Vec, Global}
+use Rattle.std.specs.List.{sum_by}
+use Rattle.rf2_values.specs.Row.{RowValue}
 use Rattle.std.proofs.lemmas.Bool.{false≢true}
 use Rattle.fault_counts.specs.Counting.{Counts as CountsBy, CountsDiskFault}
 use Rattle.history_model.specs.declared.stamped.StampedRow.{StampedRow}
+use Rattle.history_model.specs.History.{rows_at}
+use Rattle.history_model.specs.Lists.{listed}
 use Rattle.disk_model.specs.Disk.{Moments}
 use Rattle.lru.specs.LruCache.{LruCache}
-use Rattle.blocks.specs.Cache.{LooksUpSome}
+use Rattle.blocks.specs.Cache.{AgreesWith, LooksUpSome}
+use Rattle.blocks.proofs.Looked.{none_looks_up}
 use Rattle.directory.specs.declared.entry.Entry.{Entry}
 use Rattle.fault_counts.specs.declared.fault.ReadFault.{ReadFault}
 use Rattle.fault_counts.specs.declared.fault.ReadFault.TheVariants as readfault
 use Rattle.history_store.specs.declared.refusal.Refusal.{Refusal}
 use Rattle.history_store.specs.declared.refusal.Refusal.TheVariants as refusals
-use Rattle.history_store.specs.Private.Reading.{MomentsStay}
+use Rattle.history_store.specs.Private.Reading.{AreThere, MomentsStay}
+use Rattle.history_store.specs.Reading.{row_cost}
 use Rattle.history_store.specs.Refusals.{of_read}
 use Rattle.history_store.specs.StoreValue.{StoreValue, IsAcknowledged}
 use Rattle.history_store.specs.Answers.{Counts, IsRefused, IsReadingOf}
-use Rattle.history_store.specs.Queries.{IsQuery, is_listed}
+use Rattle.history_store.specs.Queries.{IsQuery, IsRowsQuery, is_listed}
 use Rattle.history_store.proofs.Refusing.{read_undamaged}
 
 -- what was read, as the store answers it
@@ -31,24 +37,9 @@ is_answer (Ok x) result is = is
 is_answer (Err fault) result is = is
 
 -- what holds of what was read, holds of what is answered
-pub answered_so : {T : Type 0} (P Q : T → Type 0) (read : Result T ReadFault) (result : Result T Refusal) → IsAnswerOf read result → ((x : T) → P x → Q x) → IfOk read P → IfOk result Q
+answered_so : {T : Type 0} (P Q : T → Type 0) (read : Result T ReadFault) (result : Result T Refusal) → IsAnswerOf read result → ((x : T) → P x → Q x) → IfOk read P → IfOk result Q
 answered_so P Q (Ok x) result is so h = subst (λ r. IfOk r Q) (sym is) (so x h)
 answered_so P Q (Err fault) result is so h = subst (λ r. IfOk r Q) (sym is) tt
-
--- no more bytes are read for what is answered than for what was read
-pub answered_bytes : {T D : Type 0} (bytes_read : D → ℕ) (cost : T → ℕ) (before lent left disk : D) (read : Result T ReadFault) (result : Result T Refusal) → IsAnswerOf read result → lent ≡ before → left ≡ disk
-    → IfOk read (λ x. bytes_read disk ≤ bytes_read lent + cost x) → IfOk result (λ x. bytes_read left ≤ bytes_read before + cost x)
-answered_bytes bytes_read cost before lent left disk read result is lent_is same h =
-    answered_so (λ x. bytes_read disk ≤ bytes_read lent + cost x) (λ x. bytes_read left ≤ bytes_read before + cost x) read result is
-    (λ x le. subst (λ d. bytes_read d ≤ bytes_read before + cost x) (sym same) (subst (λ d. bytes_read disk ≤ bytes_read d + cost x) lent_is le)) h
-
--- whatever is answered, no more bytes are read than for these rows
-pub always_bytes : {D : Type 0} (bytes_read : D → ℕ) (cost : List (List StampedRow) → ℕ) (lists shown : List (List StampedRow)) (before lent left disk : D) → lists ≡ shown → lent ≡ before → left ≡ disk
-    → bytes_read disk ≤ bytes_read lent + cost lists → bytes_read left ≤ bytes_read before + cost shown
-always_bytes bytes_read cost lists shown before lent left disk shown_is lent_is same le =
-    subst (λ d. bytes_read d ≤ bytes_read before + cost shown) (sym same)
-    (subst (λ d. bytes_read disk ≤ bytes_read d + cost shown) lent_is
-    (subst (λ l. bytes_read disk ≤ bytes_read lent + cost l) shown_is le))
 
 undamaged_answer : {T : Type 0} (read : Result T ReadFault) → IfErr read (λ e. e ≢ readfault.Damaged) → IfErr (answer_of read) (λ e. e ≢ refusals.Damaged)
 undamaged_answer (Ok x) other = tt
@@ -71,7 +62,7 @@ read_beside (Err readfault.DiskFault) old new disk cache r = (r.0, refused_besid
 read_beside (Err readfault.Damaged) old new disk cache r = (r.0, refused_beside _ old new disk cache r.1)
 
 -- the rows were read, and what was read is answered
-pub answered_query : {T D : Type 0} (honest : D → Type 0) (moments : D → Moments) (failures : D → ℕ) (old new : StoreValue D) (lent disk : D) (cache : LruCache ℕ (List ℕ)) (read : Result T ReadFault) (result : Result T Refusal)
+answered_query : {T D : Type 0} (honest : D → Type 0) (moments : D → Moments) (failures : D → ℕ) (old new : StoreValue D) (lent disk : D) (cache : LruCache ℕ (List ℕ)) (read : Result T ReadFault) (result : Result T Refusal)
     → old.needs_reopen ≡ false → lent ≡ old.disk → MomentsStay (honest lent) (honest disk) (moments lent) (moments disk) → CountsBy CountsDiskFault read (failures lent) (failures disk)
     → (honest old.disk → IfErr read (λ e. e ≢ readfault.Damaged))
     → IsAnswerOf read result → IsReadingOf result (record old { disk = disk; cache = cache }) new → new.disk ≡ disk → (honest disk → new.needs_reopen ≡ false → IsAcknowledged moments new)
@@ -91,7 +82,7 @@ answered_query honest moments failures old new lent disk cache read result still
     }
 
 -- a store that has to be opened again isn't touched
-pub closed_query : {T D : Type 0} (honest : D → Type 0) (moments : D → Moments) (failures : D → ℕ) (s : StoreValue D) → s.needs_reopen ≡ true → IsQuery {T = T} (Err refusals.ReopenNeeded) honest moments failures s s
+closed_query : {T D : Type 0} (honest : D → Type 0) (moments : D → Moments) (failures : D → ℕ) (s : StoreValue D) → s.needs_reopen ≡ true → IsQuery {T = T} (Err refusals.ReopenNeeded) honest moments failures s s
 closed_query honest moments failures s needs = record {
   undamaged = λ up same. absurd (cc);
   read = (needs, record { history = refl; catalog = refl; closed = λ same. absurd (cc); still = λ other. refl });
@@ -102,16 +93,65 @@ closed_query honest moments failures s needs = record {
   failures = refl;
 }
 
--- the rows were read through the cache
-pub through_cache : {D : Type 0} (bytes_read : D → ℕ) (entries listed : List Entry) (lent_cache old cache new : LruCache ℕ (List ℕ)) (lent before disk left : D) → entries ≡ listed → lent_cache ≡ old → lent ≡ before → new ≡ cache → left ≡ disk
-    → LooksUpSome (is_listed entries) lent_cache cache (bytes_read lent) (bytes_read disk) → LooksUpSome (is_listed listed) old new (bytes_read before) (bytes_read left)
-through_cache bytes_read entries listed lent_cache old cache new lent before disk left is was lent_is kept same looked_up =
-    subst (λ d. LooksUpSome (is_listed listed) old new (bytes_read before) (bytes_read d)) (sym same)
-    (subst (λ c. LooksUpSome (is_listed listed) old c (bytes_read before) (bytes_read disk)) (sym kept)
-    (subst (λ d. LooksUpSome (is_listed listed) old cache (bytes_read d) (bytes_read disk)) lent_is
-    (subst (λ c. LooksUpSome (is_listed listed) c cache (bytes_read lent) (bytes_read disk)) was
-    (subst (λ e. LooksUpSome (is_listed e) lent_cache cache (bytes_read lent) (bytes_read disk)) is looked_up))))
+-- the rows of a list that is answered
+abbrev pub row_items : Vec RowValue Global → List RowValue
+row_items rows = rows.items
 
--- no call but reads was made
-pub calls_stay : {D : Type 0} (other_calls : D → ℕ) (lent before disk left : D) → lent ≡ before → left ≡ disk → other_calls disk ≡ other_calls lent → other_calls left ≡ other_calls before
-calls_stay other_calls lent before disk left lent_is same stays = ap other_calls same ∙ stays ∙ ap other_calls lent_is
+-- rows were read by a reader to which the disk, the cache and the segments were lent, and what was read is answered
+module _ {T D : Type 0} (honest : D → Type 0) (moments : D → Moments) (failures bytes_read other_calls : D → ℕ) (rows_of : T → List RowValue) (wanted : List RowValue → List RowValue) (pin : ℕ) where
+  module _ (Indexed : List (List StampedRow) → Type 0) (old new : StoreValue D) (lists shown : List (List StampedRow)) (entries : List Entry) (lent disk : D) (lent_cache cache : LruCache ℕ (List ℕ)) (read : Result T ReadFault) (result : Result T Refusal) where
+    abbrev pub IsHonestReader : Type 0
+    IsHonestReader = honest lent × AgreesWith lent_cache (moments lent).state.now × AreThere entries shown (moments lent).state.now
+
+    abbrev pub FoundOf : List (List StampedRow) → Type 0
+    FoundOf ls = IfOk read (λ x. rows_of x ≡ wanted (rows_at pin (listed ls)))
+
+    abbrev pub BoundOf : List (List StampedRow) → D → D → Type 0
+    BoundOf ls before after = bytes_read after ≤ bytes_read before + sum_by row_cost (wanted (rows_at pin (listed ls)))
+
+    pub rows_answered : old.history.rows ≡ listed lists → old.needs_reopen ≡ false
+        → lent ≡ old.disk → lent_cache ≡ old.cache → entries ≡ old.catalog.entries → shown ≡ lists
+        → Indexed lists → (honest old.disk → IsHonestReader)
+        → (IsHonestReader → Indexed shown → FoundOf shown)
+        → (IsHonestReader → Indexed shown → IfErr read (λ e. e ≢ readfault.Damaged))
+        → IfOk read (λ x. bytes_read disk ≤ bytes_read lent + sum_by row_cost (rows_of x))
+        → (Indexed shown → BoundOf shown lent disk)
+        → CountsBy CountsDiskFault read (failures lent) (failures disk)
+        → MomentsStay (honest lent) (honest disk) (moments lent) (moments disk)
+        → LooksUpSome (is_listed entries) lent_cache cache (bytes_read lent) (bytes_read disk)
+        → other_calls disk ≡ other_calls lent
+        → IsAnswerOf read result → IsReadingOf result (record old { disk = disk; cache = cache }) new → new.disk ≡ disk → new.cache ≡ cache
+        → (honest disk → new.needs_reopen ≡ false → IsAcknowledged moments new)
+        → IsRowsQuery result rows_of wanted pin honest moments failures bytes_read other_calls old new
+    rows_answered rows_are still lent_is lent_cache_is entries_are shown_is indexed lends found undamaged work work_always counted stays looked_up calls answers left same kept acknowledged =
+        let indexed_so = subst Indexed (sym shown_is) indexed in
+        let all_are = ap (λ rows. wanted (rows_at pin rows)) (sym rows_are) in
+        record {
+          found = λ up. answered_so (λ x. rows_of x ≡ wanted (rows_at pin (listed shown))) (λ x. rows_of x ≡ wanted (rows_at pin old.history.rows)) read result answers (λ x is. is ∙ ap (λ ls. wanted (rows_at pin (listed ls))) shown_is ∙ all_are) (found (lends up) indexed_so);
+          query = answered_query honest moments failures old new lent disk cache read result still lent_is stays counted (λ up. undamaged (lends up) indexed_so) answers left same acknowledged;
+          other_calls = ap other_calls same ∙ calls ∙ ap other_calls lent_is;
+          looked_up =
+              subst (λ d. LooksUpSome (is_listed old.catalog.entries) old.cache new.cache (bytes_read old.disk) (bytes_read d)) (sym same)
+              (subst (λ c. LooksUpSome (is_listed old.catalog.entries) old.cache c (bytes_read old.disk) (bytes_read disk)) (sym kept)
+              (subst (λ d. LooksUpSome (is_listed old.catalog.entries) old.cache cache (bytes_read d) (bytes_read disk)) lent_is
+              (subst (λ c. LooksUpSome (is_listed old.catalog.entries) c cache (bytes_read lent) (bytes_read disk)) lent_cache_is
+              (subst (λ (e : List Entry). LooksUpSome (is_listed e) lent_cache cache (bytes_read lent) (bytes_read disk)) entries_are looked_up))));
+          bytes_read = answered_so (λ x. bytes_read disk ≤ bytes_read lent + sum_by row_cost (rows_of x)) (λ x. bytes_read new.disk ≤ bytes_read old.disk + sum_by row_cost (rows_of x)) read result answers
+              (λ x le. subst (λ d. bytes_read d ≤ bytes_read old.disk + sum_by row_cost (rows_of x)) (sym same) (subst (λ d. bytes_read disk ≤ bytes_read d + sum_by row_cost (rows_of x)) lent_is le)) work;
+          bytes_read_always =
+              subst (λ rows. bytes_read new.disk ≤ bytes_read old.disk + sum_by row_cost (wanted (rows_at pin rows))) (sym rows_are)
+              (subst (λ d. BoundOf lists old.disk d) (sym same)
+              (subst (λ d. BoundOf lists d disk) lent_is
+              (subst (λ ls. BoundOf ls lent disk) shown_is (work_always indexed_so))));
+        }
+
+  -- a store that has to be opened again answers nothing, and isn't touched
+  pub closed_rows : (s : StoreValue D) → s.needs_reopen ≡ true → IsRowsQuery (Err refusals.ReopenNeeded) rows_of wanted pin honest moments failures bytes_read other_calls s s
+  closed_rows s needs = record {
+    found = λ up. tt;
+    query = closed_query {T = T} honest moments failures s needs;
+    other_calls = refl;
+    looked_up = none_looks_up (is_listed s.catalog.entries) s.cache (bytes_read s.disk);
+    bytes_read = tt;
+    bytes_read_always = omega arith;
+  }

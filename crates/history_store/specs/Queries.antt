@@ -1,7 +1,9 @@
--- What a query leaves of a store.
-use Rattle.std.specs.Prelude.{◌≡◌, ◌≢◌, ◌⊎◌, ◌↔◌, ℕ, Bool, true, false, List, Result, IfErr}
+-- What a query answers, and what it leaves of a store.
+use Rattle.std.specs.Prelude.{◌≡◌, ◌≢◌, ◌⊎◌, ◌↔◌, ℕ, Bool, true, false, List, Result, IfOk, IfErr}
 use Rattle.std.specs.Prelude.{◌+◌, ◌≤◌, OnOk, OnErr, Option, Some, None}
-use Rattle.std.specs.List.{list_any}
+use Rattle.std.specs.List.{list_any, sum_by}
+use Rattle.rf2_values.specs.Row.{RowValue}
+use Rattle.history_model.specs.History.{rows_at}
 use Rattle.disk_model.specs.Disk.{Moments}
 use Rattle.lru.specs.LruCache.{LruCache}
 use Rattle.blocks.specs.declared.extent.Extent.{Extent}
@@ -13,6 +15,7 @@ use Rattle.directory.specs.Places.{extent_of}
 use Rattle.history_store.specs.declared.refusal.Refusal.{Refusal}
 use Rattle.history_store.specs.declared.refusal.Refusal.TheVariants as refusals
 use Rattle.history_store.specs.Catalog.{reserved_by}
+use Rattle.history_store.specs.Reading.{row_cost}
 use Rattle.history_store.specs.Written.{added_entries}
 use Rattle.history_store.specs.StoreValue.{StoreValue, IsAcknowledged}
 use Rattle.history_store.specs.Answers.{Counts, IsReadingOf}
@@ -80,3 +83,32 @@ pub record IsQuery {T D : Type 0} (result : Result T Refusal) (is_honest : D →
   pub acknowledged : is_honest old.disk → new.needs_reopen ≡ false → IsAcknowledged moments_of new
   pub honesty : is_honest old.disk ↔ is_honest new.disk
   pub failures : Counts result (failures_of old.disk) (failures_of new.disk)
+
+-- A query for rows: `rows_of` says which rows an answer has, and `wanted` which are to be answered,
+-- of the rows that the pin shows. On an honest disk these are the same. On every disk no call but
+-- reads is made, what is kept is not read again, and no more is read than the rows of the answer
+-- take. Whatever is answered, no more is read than the wanted rows take, each counted once.
+pub record IsRowsQuery {T D : Type 0} (result : Result T Refusal) (rows_of : T → List RowValue)
+    (wanted : List RowValue → List RowValue) (pin : ℕ) (is_honest : D → Type 0)
+    (moments_of : D → Moments) (failures_of bytes_read_of other_calls_of : D → ℕ)
+    (old new : StoreValue D) : Type 0 where
+  pub found : is_honest old.disk
+      → IfOk result (λ x. rows_of x ≡ wanted (rows_at pin old.history.rows))
+  pub query : IsQuery result is_honest moments_of failures_of old new
+  pub other_calls : other_calls_of new.disk ≡ other_calls_of old.disk
+  pub looked_up : ReadsThroughCache bytes_read_of old new
+  pub bytes_read : IfOk result
+      (λ x. bytes_read_of new.disk ≤ bytes_read_of old.disk + sum_by row_cost (rows_of x))
+  pub bytes_read_always : bytes_read_of new.disk
+      ≤ bytes_read_of old.disk + sum_by row_cost (wanted (rows_at pin old.history.rows))
+
+-- A query that the index answers on every disk, of the rows that the pin shows, without reading
+-- one. Nothing changes, and it is refused only where the store has to be opened again, or memory
+-- runs out.
+pub record IsIndexQuery {T D : Type 0} (result : Result T Refusal)
+    (IsAnswer : T → List RowValue → Type 0) (pin : ℕ) (old new : StoreValue D) : Type 0 where
+  pub found : IfOk result
+      (λ x. (old.needs_reopen ≡ false) × IsAnswer x (rows_at pin old.history.rows))
+  pub refused : IfErr result (λ e. ((e ≡ refusals.ReopenNeeded) × (old.needs_reopen ≡ true))
+      ⊎ ((e ≡ refusals.OutOfMemory) × (old.needs_reopen ≡ false)))
+  pub unchanged : new ≡ old

@@ -1,7 +1,6 @@
 //! The questions to a store. None of them changes what it holds.
 
-ghost use Rattle.std.specs.Prelude.{◌≡◌, ◌⊎◌, ◌+◌, ◌≤◌};
-ghost use Rattle.std.specs.Prelude.{IfOk, IfErr, MatchResult, Ok, Err, true, false};
+ghost use Rattle.std.specs.Prelude.{◌≡◌, ◌≤◌, IfOk, IfErr, MatchResult, Ok, Err, true, false};
 
 use crate::brought::receipt_of;
 use crate::reading::DiskRows;
@@ -15,15 +14,12 @@ use rf2_rows::{EffectiveTime, Kind, Row, Sctid};
 use term_prefix::{Search, find};
 
 impl<D: Disk> Store<D> {
-    ghost use Rattle.std.specs.List.{sum_by};
     ghost use Rattle.std.specs.Option.{option_to_list};
-    ghost use Rattle.history_model.specs.History.{rows_at};
     ghost use Rattle.history_model.specs.Brought.{ImportReceiptOf};
     ghost use Rattle.history_model.specs.Queries.{get, versions, page, terms, search_terms};
     ghost use Rattle.history_model.specs.Queries.{about, children, replacements};
     ghost use Rattle.history_store.specs.Answers.{IsReadingOf};
-    ghost use Rattle.history_store.specs.Queries.{IsQuery, ReadsThroughCache};
-    ghost use Rattle.history_store.specs.Reading.{row_cost};
+    ghost use Rattle.history_store.specs.Queries.{IsRowsQuery, IsIndexQuery};
     ghost use Rattle.history_store.specs.Refusals.{of_read};
     ghost use Rattle.history_store.specs.StoreValue.{IsAcknowledged};
     ghost use Rattle.history_store.specs.declared.refusal.Refusal.TheVariants as refusals;
@@ -60,22 +56,9 @@ impl<D: Disk> Store<D> {
         pin: u32,
     ) -> Result<Option<Row>, Refusal>
         requires { pin ≤ self.old.history.imports }
-        ensures found { D.is_honest self.old.disk
-            → IfOk result (λ row. row ≡ get kind id time (rows_at pin self.old.history.rows)) }
-        ensures query { IsQuery result D.is_honest D.moments D.failures self.old self.new }
-        // On every disk, and whatever it answers, no call but reads is made.
-        ensures other_calls { D.other_calls self.new.disk ≡ D.other_calls self.old.disk }
-        // On every disk, and whatever it answers, what is kept is not read again.
-        ensures looked_up { ReadsThroughCache D.bytes_read self.old self.new }
-        // Whatever is on the disk, no more is read than the row that is answered takes,
-        // and nothing where none is answered.
-        ensures bytes_read { IfOk result (λ row. D.bytes_read self.new.disk
-            ≤ D.bytes_read self.old.disk + sum_by row_cost (option_to_list row)) }
-        // Whatever it answers, no more is read than the row takes that is to be found, and nothing
-        // where there is none.
-        ensures bytes_read_always { D.bytes_read self.new.disk ≤ D.bytes_read self.old.disk
-            + sum_by row_cost (option_to_list
-            (get kind id time (rows_at pin self.old.history.rows))) }
+        ensures answer { IsRowsQuery result option_to_list
+            (λ rows. option_to_list (get kind id time rows)) pin
+            D.is_honest D.moments D.failures D.bytes_read D.other_calls self.old self.new }
     {
         if self.needs_reopen {
             return Err(Refusal::ReopenNeeded);
@@ -93,21 +76,8 @@ impl<D: Disk> Store<D> {
     /// All versions of the component that the first `pin` imports brought, ascending by time.
     pub fn history(&mut self, kind: Kind, id: u128, pin: u32) -> Result<Vec<Row>, Refusal>
         requires { pin ≤ self.old.history.imports }
-        ensures found { D.is_honest self.old.disk
-            → IfOk result (λ rows. rows.items ≡ versions kind id
-            (rows_at pin self.old.history.rows)) }
-        ensures query { IsQuery result D.is_honest D.moments D.failures self.old self.new }
-        // On every disk, and whatever it answers, no call but reads is made.
-        ensures other_calls { D.other_calls self.new.disk ≡ D.other_calls self.old.disk }
-        // On every disk, and whatever it answers, what is kept is not read again.
-        ensures looked_up { ReadsThroughCache D.bytes_read self.old self.new }
-        // Whatever is on the disk, no more is read than the rows that are answered take.
-        ensures bytes_read { IfOk result (λ rows. D.bytes_read self.new.disk
-            ≤ D.bytes_read self.old.disk + sum_by row_cost rows.items) }
-        // Whatever it answers, no more is read than the rows take that are to be found, each
-        // counted once.
-        ensures bytes_read_always { D.bytes_read self.new.disk ≤ D.bytes_read self.old.disk
-            + sum_by row_cost (versions kind id (rows_at pin self.old.history.rows)) }
+        ensures answer { IsRowsQuery result (λ rows. rows.items) (versions kind id) pin
+            D.is_honest D.moments D.failures D.bytes_read D.other_calls self.old self.new }
     {
         if self.needs_reopen {
             return Err(Refusal::ReopenNeeded);
@@ -133,22 +103,8 @@ impl<D: Disk> Store<D> {
         pin: u32,
     ) -> Result<Vec<Row>, Refusal>
         requires { pin ≤ self.old.history.imports }
-        ensures found { D.is_honest self.old.disk
-            → IfOk result (λ rows. rows.items ≡ page kind time after limit
-            (rows_at pin self.old.history.rows)) }
-        ensures query { IsQuery result D.is_honest D.moments D.failures self.old self.new }
-        // On every disk, and whatever it answers, no call but reads is made.
-        ensures other_calls { D.other_calls self.new.disk ≡ D.other_calls self.old.disk }
-        // On every disk, and whatever it answers, what is kept is not read again.
-        ensures looked_up { ReadsThroughCache D.bytes_read self.old self.new }
-        // Whatever is on the disk, no more is read than the rows that are answered take.
-        ensures bytes_read { IfOk result (λ rows. D.bytes_read self.new.disk
-            ≤ D.bytes_read self.old.disk + sum_by row_cost rows.items) }
-        // Whatever it answers, no more is read than the rows take that are to be found, each
-        // counted once.
-        ensures bytes_read_always { D.bytes_read self.new.disk ≤ D.bytes_read self.old.disk
-            + sum_by row_cost
-            (page kind time after limit (rows_at pin self.old.history.rows)) }
+        ensures answer { IsRowsQuery result (λ rows. rows.items) (page kind time after limit) pin
+            D.is_honest D.moments D.failures D.bytes_read D.other_calls self.old self.new }
     {
         if self.needs_reopen {
             return Err(Refusal::ReopenNeeded);
@@ -176,22 +132,8 @@ impl<D: Disk> Store<D> {
         pin: u32,
     ) -> Result<Vec<Row>, Refusal>
         requires { pin ≤ self.old.history.imports }
-        ensures found { D.is_honest self.old.disk
-            → IfOk result (λ rows. rows.items ≡ about kind id time
-            (rows_at pin self.old.history.rows)) }
-        ensures query { IsQuery result D.is_honest D.moments D.failures self.old self.new }
-        // On every disk, and whatever it answers, no call but reads is made.
-        ensures other_calls { D.other_calls self.new.disk ≡ D.other_calls self.old.disk }
-        // On every disk, and whatever it answers, what is kept is not read again.
-        ensures looked_up { ReadsThroughCache D.bytes_read self.old self.new }
-        // Whatever is on the disk, no more is read than the rows that are answered take.
-        ensures bytes_read { IfOk result (λ rows. D.bytes_read self.new.disk
-            ≤ D.bytes_read self.old.disk + sum_by row_cost rows.items) }
-        // Whatever it answers, no more is read than the rows take that are to be found, each
-        // counted once.
-        ensures bytes_read_always { D.bytes_read self.new.disk ≤ D.bytes_read self.old.disk
-            + sum_by row_cost
-            (about kind id time (rows_at pin self.old.history.rows)) }
+        ensures answer { IsRowsQuery result (λ rows. rows.items) (about kind id time) pin
+            D.is_honest D.moments D.failures D.bytes_read D.other_calls self.old self.new }
     {
         if self.needs_reopen {
             return Err(Refusal::ReopenNeeded);
@@ -226,22 +168,9 @@ impl<D: Disk> Store<D> {
         pin: u32,
     ) -> Result<Vec<Row>, Refusal>
         requires { pin ≤ self.old.history.imports }
-        ensures found { D.is_honest self.old.disk
-            → IfOk result (λ rows. rows.items ≡ search_terms prefix.now time after limit
-            (rows_at pin self.old.history.rows)) }
-        ensures query { IsQuery result D.is_honest D.moments D.failures self.old self.new }
-        // On every disk, and whatever it answers, no call but reads is made.
-        ensures other_calls { D.other_calls self.new.disk ≡ D.other_calls self.old.disk }
-        // On every disk, and whatever it answers, what is kept is not read again.
-        ensures looked_up { ReadsThroughCache D.bytes_read self.old self.new }
-        // Whatever is on the disk, no more is read than the rows that are answered take.
-        ensures bytes_read { IfOk result (λ rows. D.bytes_read self.new.disk
-            ≤ D.bytes_read self.old.disk + sum_by row_cost rows.items) }
-        // Whatever it answers, no more is read than the rows take that are to be found, each
-        // counted once.
-        ensures bytes_read_always { D.bytes_read self.new.disk ≤ D.bytes_read self.old.disk
-            + sum_by row_cost
-            (search_terms prefix.now time after limit (rows_at pin self.old.history.rows)) }
+        ensures answer { IsRowsQuery result (λ rows. rows.items)
+            (search_terms prefix.now time after limit) pin
+            D.is_honest D.moments D.failures D.bytes_read D.other_calls self.old self.new }
     {
         if self.needs_reopen {
             return Err(Refusal::ReopenNeeded);
@@ -278,22 +207,8 @@ impl<D: Disk> Store<D> {
         pin: u32,
     ) -> Result<Vec<Row>, Refusal>
         requires { pin ≤ self.old.history.imports }
-        ensures found { D.is_honest self.old.disk
-            → IfOk result (λ rows. rows.items ≡ terms prefix.now time limit
-            (rows_at pin self.old.history.rows)) }
-        ensures query { IsQuery result D.is_honest D.moments D.failures self.old self.new }
-        // On every disk, and whatever it answers, no call but reads is made.
-        ensures other_calls { D.other_calls self.new.disk ≡ D.other_calls self.old.disk }
-        // On every disk, and whatever it answers, what is kept is not read again.
-        ensures looked_up { ReadsThroughCache D.bytes_read self.old self.new }
-        // Whatever is on the disk, no more is read than the rows that are answered take.
-        ensures bytes_read { IfOk result (λ rows. D.bytes_read self.new.disk
-            ≤ D.bytes_read self.old.disk + sum_by row_cost rows.items) }
-        // Whatever it answers, no more is read than the rows take that are to be found, each
-        // counted once.
-        ensures bytes_read_always { D.bytes_read self.new.disk ≤ D.bytes_read self.old.disk
-            + sum_by row_cost
-            (terms prefix.now time limit (rows_at pin self.old.history.rows)) }
+        ensures answer { IsRowsQuery result (λ rows. rows.items) (terms prefix.now time limit) pin
+            D.is_honest D.moments D.failures D.bytes_read D.other_calls self.old self.new }
     {
         self.search(prefix, time, None, limit, pin)
     }
@@ -307,12 +222,8 @@ impl<D: Disk> Store<D> {
         pin: u32,
     ) -> Result<Vec<u64>, Refusal>
         requires { pin ≤ self.old.history.imports }
-        ensures found { IfOk result (λ ids. (self.old.needs_reopen ≡ false)
-            × (ids.items ≡ children id time (rows_at pin self.old.history.rows))) }
-        ensures refused { IfErr result (λ e. ((e ≡ refusals.ReopenNeeded)
-            × (self.old.needs_reopen ≡ true)) ⊎ ((e ≡ refusals.OutOfMemory)
-            × (self.old.needs_reopen ≡ false))) }
-        ensures unchanged { self.new ≡ self.old }
+        ensures answer { IsIndexQuery result (λ ids rows. ids.items ≡ children id time rows) pin
+            self.old self.new }
     {
         if self.needs_reopen {
             return Err(Refusal::ReopenNeeded);
@@ -336,22 +247,8 @@ impl<D: Disk> Store<D> {
         pin: u32,
     ) -> Result<Vec<Row>, Refusal>
         requires { pin ≤ self.old.history.imports }
-        ensures found { D.is_honest self.old.disk
-            → IfOk result (λ rows. rows.items ≡ replacements id time
-            (rows_at pin self.old.history.rows)) }
-        ensures query { IsQuery result D.is_honest D.moments D.failures self.old self.new }
-        // On every disk, and whatever it answers, no call but reads is made.
-        ensures other_calls { D.other_calls self.new.disk ≡ D.other_calls self.old.disk }
-        // On every disk, and whatever it answers, what is kept is not read again.
-        ensures looked_up { ReadsThroughCache D.bytes_read self.old self.new }
-        // Whatever is on the disk, no more is read than the rows that are answered take.
-        ensures bytes_read { IfOk result (λ rows. D.bytes_read self.new.disk
-            ≤ D.bytes_read self.old.disk + sum_by row_cost rows.items) }
-        // Whatever it answers, no more is read than the rows take that are to be found, each
-        // counted once.
-        ensures bytes_read_always { D.bytes_read self.new.disk ≤ D.bytes_read self.old.disk
-            + sum_by row_cost
-            (replacements id time (rows_at pin self.old.history.rows)) }
+        ensures answer { IsRowsQuery result (λ rows. rows.items) (replacements id time) pin
+            D.is_honest D.moments D.failures D.bytes_read D.other_calls self.old self.new }
     {
         if self.needs_reopen {
             return Err(Refusal::ReopenNeeded);

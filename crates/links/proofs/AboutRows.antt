@@ -21,7 +21,7 @@ use Rattle.as_of_index.specs.declared.chosen.Chosen.{Chosen}
 use Rattle.as_of_index.specs.Places.{ArePlaces}
 use Rattle.as_of_index.specs.Chosen.{StandAtAll}
 use Rattle.as_of_index.specs.Private.Chosen.{chosen, chosen_cmp}
-use Rattle.as_of_index.specs.Postings.{numbered}
+use Rattle.as_of_index.specs.Private.Postings.{numbered}
 use Rattle.as_of_index.proofs.Among.{looked_up}
 use Rattle.as_of_index.proofs.Numbered.{stands_there, place_of_row}
 use Rattle.as_of_index.proofs.Current.{standing_row, one_row, shown, current_where, AllCurrent, rows_for, stand_for, row_for, for_row, ascending_rows_for}

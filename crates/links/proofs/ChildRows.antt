@@ -1,6 +1,6 @@
 -- The sources that are taken from all lists are the children.
-use Rattle.std.proofs.Common.{◌≡◌, ℕ, true, Bool, List, [], map, refl, sym, ap, subst, inl, inr, ◌∙◌, arith}
-use Rattle.std.specs.Prelude.{◌&&◌, ◌==◌}
+use Rattle.std.proofs.Common.{◌≡◌, ℕ, true, List, [], map, refl, sym, ap, subst, inl, inr, ◌∙◌, arith}
+use Rattle.std.specs.Prelude.{◌==◌}
 use Rattle.std.specs.List.{filter}
 use Rattle.std.specs.Ordering.{nat_cmp}
 use Rattle.std.specs.Cmp.{nat_cmp_total, ranked}
@@ -12,20 +12,19 @@ use Rattle.rf2_values.specs.Row.{RowValue}
 use Rattle.rf2_values.specs.Key.{key_of}
 use Rattle.history_model.specs.declared.stamped.StampedRow.{StampedRow}
 use Rattle.history_model.specs.InOrder.{Has, in_order}
-use Rattle.history_model.specs.Queries.{snapshot, is_child_of, says_is_a, is_a, source_of}
+use Rattle.history_model.specs.Queries.{snapshot, is_child_of, says_is_a, is_a, source_of, children}
 use Rattle.history_model.proofs.InOrder.{same_ascending, Has-put_all_cases, Has-put_all_new, IsAscending-in_order}
 use Rattle.history_model.proofs.Filtered.{both, Has-filter, Has-filter_from, Has-map, Has-map_from}
 use Rattle.segment.specs.Standing.{places_of}
 use Rattle.as_of_index.specs.Places.{ArePlaces}
-use Rattle.as_of_index.specs.Current.{is_among}
-use Rattle.as_of_index.specs.Postings.{numbered}
-use Rattle.as_of_index.proofs.Numbered.{stands_there, place_of_row, key_posted, key_cases}
-use Rattle.as_of_index.proofs.Among.{among_from, among_has, looked_up}
+use Rattle.as_of_index.specs.Private.Postings.{numbered}
+use Rattle.as_of_index.proofs.Numbered.{stands_there, place_of_row}
+use Rattle.as_of_index.proofs.Among.{looked_up}
 use Rattle.as_of_index.proofs.Current.{standing_row, one_row, shown, current_where}
-use Rattle.links.specs.declared.postings.Link.{Link}
-use Rattle.links.specs.Edges.{Edges, links_in}
-use Rattle.links.specs.Children.{PostsLinks, link_keys, children_among}
-use Rattle.links.specs.Private.{IsThere, AreSources}
+use Rattle.links.specs.Edges.{Edges}
+use Rattle.links.specs.Laws.{EachPosted}
+use Rattle.links.specs.Private.{links_in, IsThere, AreSources}
+use Rattle.links.proofs.Posted.{link_stands, link_of_child}
 
 eq_of : (m n : ℕ) → (m == n) ≡ true → m ≡ n
 eq_of m n e = grind (arith, nat_tests, e)
@@ -45,15 +44,12 @@ dest_of c d row e f = says_dest c d row.body (both row.active (says_is_a c row.b
 number_there : (ids : List ℕ) (id : ℕ) → IsThere nat_cmp ids id → Has ids id
 number_there ids id w = subst (λ m. Has ids m) (sym (ranked id w.0 Equal (sym w.2))) w.1
 
-module _ (lists : List (List StampedRow)) (are : ArePlaces (map places_of lists)) (edges : List Edges) (posts : PostsLinks lists edges) (concept date pin : ℕ) where
+module _ (lists : List (List StampedRow)) (are : ArePlaces (map places_of lists)) (edges : List Edges) (posts : EachPosted lists edges) (concept date pin : ℕ) where
   abbrev at_date : List RowValue
   at_date = snapshot (shown lists are date pin) date
 
-  abbrev counts : RowValue → Bool
-  counts row = is_child_of concept row && is_among (link_keys lists edges) row
-
   abbrev sources : List ℕ
-  sources = map (λ (row : RowValue). source_of row.body) (filter counts at_date)
+  sources = map (λ (row : RowValue). source_of row.body) (filter (is_child_of concept) at_date)
 
   module _ (ids : List ℕ) (a : AreSources lists date pin concept (numbered 0 (links_in edges)) ids) where
     to_children : (id : ℕ) → Has ids id → Has sources id
@@ -61,37 +57,35 @@ module _ (lists : List (List StampedRow)) (are : ArePlaces (map places_of lists)
         let w = a.1.only id (a.2.only id h) in
         let x = w.0 in
         let s = w.3.row_there.1.0 in
-        let post = posts x w.1 in
+        let post = link_stands lists edges posts x w.1 in
         let at = w.3.at in
         let stands = stands_there lists x.0 x.1.row post.0 at post.1 w.3.row_there.0 in
         let same : s ≡ post.0 = one_row lists are x.0 x.0 at at s post.0 w.3.row_there.1.1 stands refl in
         let child : is_child_of concept s.row ≡ true = subst (λ (z : StampedRow). is_child_of concept z.row ≡ true) (sym same) (subst (λ d. is_child_of d post.0.row ≡ true) w.2 post.2.says) in
-        let among : is_among (link_keys lists edges) s.row ≡ true = among_from (link_keys lists edges) s.row (key_of post.0.row) (key_posted (λ (l : Link). l.row) lists (links_in edges) x post.0 w.1 post.1) (ap (λ (z : StampedRow). key_of z.row) (sym same)) in
-        let there = Has-filter_from counts at_date s.row (looked_up at.key.kind at.key.id date (shown lists are date pin) s.row w.3.row_there.1.2) (rw (child, among) refl) in
+        let there = Has-filter_from (is_child_of concept) at_date s.row (looked_up at.key.kind at.key.id date (shown lists are date pin) s.row w.3.row_there.1.2) child in
         let id_is : source_of s.row.body ≡ id = ap (λ (z : StampedRow). source_of z.row.body) same ∙ post.2.source_is ∙ w.3.answer_is in
-        subst (λ k. Has sources k) id_is (Has-map_from (λ (row : RowValue). source_of row.body) (filter counts at_date) s.row there)
+        subst (λ k. Has sources k) id_is (Has-map_from (λ (row : RowValue). source_of row.body) (filter (is_child_of concept) at_date) s.row there)
 
     from_children : (id : ℕ) → Has sources id → Has ids id
     from_children id h =
-        let m = Has-map (λ (row : RowValue). source_of row.body) (filter counts at_date) id h in
+        let m = Has-map (λ (row : RowValue). source_of row.body) (filter (is_child_of concept) at_date) id h in
         let row = m.0 in
-        let f = Has-filter counts at_date row m.1 in
-        let t = both (is_child_of concept row) (is_among (link_keys lists edges) row) f.1 in
-        let g = key_cases (λ (l : Link). l.row) lists (links_in edges) (key_of row) (among_has (link_keys lists edges) row t.1) in
+        let f = Has-filter (is_child_of concept) at_date row m.1 in
+        let g = link_of_child lists edges posts concept date pin row f.0 f.1 in
         let n = g.x.0 in
         let l = g.x.1 in
-        let post = posts g.x g.there in
+        let post = link_stands lists edges posts g.x g.there in
         let own : g.s ≡ post.0 = (let rows_are = sym g.row_there ∙ post.1 in cc) in
         let p = place_of_row lists n l.row post.0 post.1 in
         let stands = stands_there lists n l.row post.0 p.0 post.1 p.1 in
-        let key_is : p.0.key ≡ key_of row = (standing_row lists are n p.0 post.0 stands).1 ∙ ap (λ (z : StampedRow). key_of z.row) (sym own) ∙ g.key_is in
+        let key_is : p.0.key ≡ key_of row = (standing_row lists are n p.0 post.0 stands).1 ∙ ap (λ (z : StampedRow). key_of z.row) (sym own) ∙ ap key_of g.same in
         let now = current_where lists are date pin n p.0 post.0 row stands f.0 key_is in
-        let dest : l.destination ≡ concept = dest_of l.destination concept post.0.row post.2.says (subst (λ (z : RowValue). is_child_of concept z ≡ true) now.0 t.0) in
+        let dest : l.destination ≡ concept = dest_of l.destination concept post.0.row post.2.says (subst (λ (z : RowValue). is_child_of concept z ≡ true) now.0 f.1) in
         let id_is : l.source ≡ id = sym post.2.source_is ∙ ap (λ (z : RowValue). source_of z.body) (sym now.0) ∙ m.2 in
         subst (λ k. Has ids k) id_is (number_there ids l.source (a.2.there l.source (a.1.taken g.x l.source g.there dest (record { at = p.0; row_there = (p.1, now.1); answer_is = refl }))))
 
-    pub children_from_sources : ids ≡ children_among (link_keys lists edges) concept date (shown lists are date pin)
-    unfolding children_among
+    pub children_from_sources : ids ≡ children concept date (shown lists are date pin)
+    unfolding children
     children_from_sources = same_ascending nat_cmp_total ids (in_order nat_cmp sources) a.2.ascending (IsAscending-in_order nat_cmp_total sources)
         (λ id h. Has-put_all_new nat_cmp sources [] id (λ y there tie. sym (ranked id y Equal (sym tie))) (to_children id h))
         (λ id h. elim (Has-put_all_cases nat_cmp sources [] id h) [ inl l ↦ from_children id l | inr r ↦ absurd r ])

@@ -7,7 +7,7 @@ use Rattle.history_model.specs.InOrder.{Has}
 use Rattle.history_model.proofs.InOrder.{Has-all, Has-append_left, Has-append_right, Has-append_cases}
 use Rattle.history_model.proofs.Filtered.{Has-map}
 use Rattle.as_of_index.specs.Private.Search.{SplitsAt}
-use Rattle.as_of_index.specs.Postings.{numbered}
+use Rattle.as_of_index.specs.Private.Postings.{numbered}
 use Rattle.as_of_index.proofs.Keyed.{one_more}
 use Rattle.as_of_index.proofs.Current.{map-push}
 

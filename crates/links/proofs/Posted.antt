@@ -1,31 +1,27 @@
 -- Links, references and subjects that were pushed, each with the number of its row, are of rows of their lists, and none is left out.
 use Rattle.std.proofs.Common.{◌≡◌, ℕ, zero, suc, ◌+◌, true, false, List, [], ◌∷◌, ◌++◌, length, map, refl, sym, ap, subst, inl, inr, ◌∙◌, arith}
 use Rattle.std.specs.Prelude.{◌==◌, Option, Some, None, slice_set, remove, if◌then◌else◌}
-use Rattle.std.specs.Ordering.{nat_cmp}
 use Rattle.std.proofs.lemmas.Bool.Decides.{nat_tests}
 use Rattle.rf2_values.specs.declared.row.Body.{Body}
 use Rattle.rf2_values.specs.declared.row.Body.TheVariants as body
 use Rattle.rf2_values.specs.declared.row.Kind.{Kind}
 use Rattle.rf2_values.specs.Row.{RowValue, kind_of}
 use Rattle.history_model.specs.declared.stamped.StampedRow.{StampedRow}
-use Rattle.history_model.specs.InOrder.{Has, in_order}
+use Rattle.history_model.specs.InOrder.{Has}
 use Rattle.history_model.specs.History.{rows_at}
 use Rattle.history_model.specs.Lists.{listed}
-use Rattle.history_model.specs.Queries.{subject_of, is_a, is_child_of, says_is_a, source_of, is_replacement_of, refers_to, refset_of, target_of, snapshot, children, replacements, replacement_cmp}
+use Rattle.history_model.specs.Queries.{subject_of, is_a, is_child_of, says_is_a, source_of, is_replacement_of, refers_to, refset_of, target_of, snapshot}
 use Rattle.history_model.proofs.Filtered.{both}
 use Rattle.as_of_index.specs.Places.{item_at}
-use Rattle.as_of_index.specs.Current.{is_among}
-use Rattle.as_of_index.specs.Postings.{posted_all, numbered, AllPosted}
-use Rattle.as_of_index.proofs.Among.{filter_both}
-use Rattle.as_of_index.proofs.Pushing.{stands, posting_there, among_all, posted_push}
+use Rattle.as_of_index.specs.Postings.{posted_all, AllPosted}
+use Rattle.as_of_index.specs.Private.Postings.{numbered}
+use Rattle.as_of_index.proofs.Pushing.{stands, posting_there, IsPostedAs, posted_as, posted_push}
 use Rattle.links.specs.declared.postings.Link.{Link}
 use Rattle.links.specs.declared.postings.Reference.{Reference}
 use Rattle.links.specs.declared.postings.Subject.{Subject}
-use Rattle.links.specs.Edges.{Edges, links_in, references_in, link_of_body, reference_of_body, subject_at, posted_link, posted_reference, posted_subject}
-use Rattle.links.specs.Private.{subjects_in}
-use Rattle.links.specs.Children.{IsLinkOf, link_keys, children_among, EachChildIsPosted}
-use Rattle.links.specs.Replacements.{IsReferenceOf, reference_keys, replacements_among, EachReplacementIsPosted}
-use Rattle.links.specs.Laws.{EachPosted, ArePostingsOf, PushedOneByOne, PostedLinksStand, PostedReferencesStand, PostedLinksAreAll, PostedReferencesAreAll, EdgesMore, EdgesMerged}
+use Rattle.links.specs.Edges.{Edges, link_of_body, reference_of_body, subject_at, posted_link, posted_reference, posted_subject}
+use Rattle.links.specs.Private.{links_in, references_in, subjects_in}
+use Rattle.links.specs.Laws.{EachPosted, ArePostingsOf, PushedOneByOne, EdgesMore, EdgesMerged}
 
 -- ---- of postings of both kinds those of one
 
@@ -48,6 +44,11 @@ subjects_posted (rows ∷ lists) [] a = absurd a
 subjects_posted (rows ∷ lists) (e ∷ edges) a = (a.0.subjects, subjects_posted lists edges a.1)
 
 -- ---- what is posted says what its row does
+
+-- the link is what the row says
+pub record IsLinkOf (l : Link) (row : RowValue) : Type 0 where
+  pub says : is_child_of l.destination row ≡ true
+  pub source_is : source_of row.body ≡ l.source
 
 link_body : (row : RowValue) (i : ℕ) (b : Body) (l : Link) → row.active ≡ true → row.body ≡ b → Has (link_of_body b i) l → IsLinkOf l row × (l.row ≡ i)
 link_body row i (body.Concept c) l a e h = absurd h
@@ -76,6 +77,12 @@ link_row row i l h =
       | true ↦ λ e k. link_body row i row.body l e refl k
       | false ↦ λ e k. absurd k
     ] refl h
+
+-- the reference is what the row says
+pub record IsReferenceOf (r : Reference) (row : RowValue) : Type 0 where
+  pub says : is_replacement_of r.referenced row ≡ true
+  pub refset_is : refset_of row.body ≡ r.refset
+  pub target_is : target_of row.body ≡ r.target
 
 reference_body : (row : RowValue) (i : ℕ) (b : Body) (r : Reference) → row.active ≡ true → row.body ≡ b → Has (reference_of_body b i) r → IsReferenceOf r row × (r.row ≡ i)
 reference_body row i (body.Concept c) r a e h = absurd h
@@ -122,22 +129,13 @@ subject_row row i x h =
 pub subject_stands : (lists : List (List StampedRow)) (edges : List Edges) → EachPosted lists edges → (x : ℕ × Subject) → Has (numbered 0 (subjects_in edges)) x → (s : StampedRow) × (item_at lists x.0 x.1.row ≡ Some s) × IsSubjectOf x.1 s.row
 subject_stands lists edges a x h = stands posted_subject (λ (y : Subject). y.row) IsSubjectOf subject_row lists (subjects_in edges) (subjects_posted lists edges a) x h
 
-pub posted_links_stand : PostedLinksStand
-posted_links_stand lists edges a = stands posted_link (λ (l : Link). l.row) IsLinkOf link_row lists (links_in edges) (links_posted lists edges a)
+pub link_stands : (lists : List (List StampedRow)) (edges : List Edges) → EachPosted lists edges → (x : ℕ × Link) → Has (numbered 0 (links_in edges)) x → (s : StampedRow) × (item_at lists x.0 x.1.row ≡ Some s) × IsLinkOf x.1 s.row
+link_stands lists edges a x h = stands posted_link (λ (l : Link). l.row) IsLinkOf link_row lists (links_in edges) (links_posted lists edges a) x h
 
-pub posted_references_stand : PostedReferencesStand
-posted_references_stand lists edges a = stands posted_reference (λ (r : Reference). r.row) IsReferenceOf reference_row lists (references_in edges) (references_posted lists edges a)
+pub reference_stands : (lists : List (List StampedRow)) (edges : List Edges) → EachPosted lists edges → (x : ℕ × Reference) → Has (numbered 0 (references_in edges)) x → (s : StampedRow) × (item_at lists x.0 x.1.row ≡ Some s) × IsReferenceOf x.1 s.row
+reference_stands lists edges a x h = stands posted_reference (λ (r : Reference). r.row) IsReferenceOf reference_row lists (references_in edges) (references_posted lists edges a) x h
 
 -- ---- none is left out
-
-pub each_child_is_posted : EachChildIsPosted
-unfolding children_among children
-each_child_is_posted keys concept date rows each =
-    ap (λ xs. in_order nat_cmp (map (λ (row : RowValue). source_of row.body) xs)) (filter_both (is_child_of concept) (is_among keys) (snapshot rows date) each)
-
-pub each_replacement_is_posted : EachReplacementIsPosted
-unfolding replacements_among replacements
-each_replacement_is_posted keys id date rows each = ap (in_order replacement_cmp) (filter_both (is_replacement_of id) (is_among keys) (snapshot rows date) each)
 
 all_link_body : (concept : ℕ) (i : ℕ) (b : Body) → says_is_a concept b ≡ true → (l : Link) × Has (link_of_body b i) l × (l.row ≡ i)
 all_link_body concept i (body.Concept c) e = absurd (cc)
@@ -167,15 +165,13 @@ all_reference d row i e =
     let r = all_reference_body d i row.body w.1 in
     (r.0, subst (λ b. Has (if b then reference_of_body row.body i else []) r.0) (sym w.0) r.1, r.2)
 
-pub posted_links_are_all : PostedLinksAreAll
-posted_links_are_all lists edges concept date pin a =
-    each_child_is_posted (link_keys lists edges) concept date (rows_at pin (listed lists))
-    (among_all posted_link (λ (l : Link). l.row) (is_child_of concept) (all_link concept) lists (links_in edges) date pin (links_posted lists edges a))
+pub link_of_child : (lists : List (List StampedRow)) (edges : List Edges) → EachPosted lists edges → (concept date pin : ℕ) (row : RowValue) → Has (snapshot (rows_at pin (listed lists)) date) row → is_child_of concept row ≡ true → IsPostedAs (λ (l : Link). l.row) lists (links_in edges) row
+link_of_child lists edges a concept date pin row h e =
+    posted_as posted_link (λ (l : Link). l.row) (is_child_of concept) (all_link concept) lists (links_in edges) date pin (links_posted lists edges a) row h e
 
-pub posted_references_are_all : PostedReferencesAreAll
-posted_references_are_all lists edges id date pin a =
-    each_replacement_is_posted (reference_keys lists edges) id date (rows_at pin (listed lists))
-    (among_all posted_reference (λ (r : Reference). r.row) (is_replacement_of id) (all_reference id) lists (references_in edges) date pin (references_posted lists edges a))
+pub reference_of_replacement : (lists : List (List StampedRow)) (edges : List Edges) → EachPosted lists edges → (id date pin : ℕ) (row : RowValue) → Has (snapshot (rows_at pin (listed lists)) date) row → is_replacement_of id row ≡ true → IsPostedAs (λ (r : Reference). r.row) lists (references_in edges) row
+reference_of_replacement lists edges a id date pin row h e =
+    posted_as posted_reference (λ (r : Reference). r.row) (is_replacement_of id) (all_reference id) lists (references_in edges) date pin (references_posted lists edges a) row h e
 
 subject_there : (row : RowValue) (i : ℕ) (id : ℕ) → row.active ≡ true → subject_of row ≡ Some id → Has (posted_subject row i) (record { subject = id; kind = kind_of row; row = i })
 subject_there row i id active subject =

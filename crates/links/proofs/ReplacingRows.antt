@@ -13,7 +13,7 @@ use Rattle.rf2_values.specs.Row.{RowValue, kind_of, kind_of_body}
 use Rattle.rf2_values.specs.Key.{key_of}
 use Rattle.history_model.specs.declared.stamped.StampedRow.{StampedRow}
 use Rattle.history_model.specs.InOrder.{Has, IsAscending, in_order}
-use Rattle.history_model.specs.Queries.{get, snapshot, is_replacement_of, refers_to, replacement_cmp}
+use Rattle.history_model.specs.Queries.{get, snapshot, is_replacement_of, refers_to, replacement_cmp, replacements}
 use Rattle.history_model.proofs.InOrder.{same_ascending, Has-put_all_cases, Has-put_all_new, IsAscending-in_order}
 use Rattle.history_model.proofs.Filtered.{both, Has-filter, Has-filter_from}
 use Rattle.segment.specs.Standing.{places_of, StandsAt}
@@ -21,15 +21,16 @@ use Rattle.as_of_index.specs.declared.chosen.Chosen.{Chosen}
 use Rattle.as_of_index.specs.Places.{item_at, ArePlaces}
 use Rattle.as_of_index.specs.Chosen.{StandAtAll}
 use Rattle.as_of_index.specs.Private.Chosen.{ranked_cmp}
-use Rattle.as_of_index.specs.Current.{is_among, IsCurrentAt}
-use Rattle.as_of_index.specs.Postings.{numbered}
-use Rattle.as_of_index.proofs.Numbered.{stands_there, place_of_row, key_posted, key_cases}
-use Rattle.as_of_index.proofs.Among.{among_from, among_has, looked_up}
+use Rattle.as_of_index.specs.Current.{IsCurrentAt}
+use Rattle.as_of_index.specs.Private.Postings.{numbered}
+use Rattle.as_of_index.proofs.Numbered.{stands_there, place_of_row}
+use Rattle.as_of_index.proofs.Among.{looked_up}
 use Rattle.as_of_index.proofs.Current.{standing_row, one_row, shown, current_where, AllCurrent, rows_for, stand_for, row_for, for_row, ascending_rows_for}
 use Rattle.links.specs.declared.postings.Reference.{Reference}
-use Rattle.links.specs.Edges.{Edges, references_in}
-use Rattle.links.specs.Replacements.{PostsReferences, IsReferenceOf, reference_keys, replacements_among}
-use Rattle.links.specs.Private.{ranked, AreRanked}
+use Rattle.links.specs.Edges.{Edges}
+use Rattle.links.specs.Laws.{EachPosted}
+use Rattle.links.specs.Private.{references_in, ranked, AreRanked}
+use Rattle.links.proofs.Posted.{IsReferenceOf, reference_stands, reference_of_replacement}
 use Rattle.links.proofs.Ranked.{one_id, one_row_id, replacements_total}
 
 eq_of : (m n : ℕ) → (m == n) ≡ true → m ≡ n
@@ -52,15 +53,12 @@ associated d row (body.Relationship x) e f = absurd (cc)
 associated d row (body.Association a) e f = ap (λ (x : Body). kind_of_body x) e
 associated d row (body.Concrete x) e f = absurd (cc)
 
-module _ (lists : List (List StampedRow)) (are : ArePlaces (map places_of lists)) (edges : List Edges) (posts : PostsReferences lists edges) (d date pin : ℕ) where
+module _ (lists : List (List StampedRow)) (are : ArePlaces (map places_of lists)) (edges : List Edges) (posts : EachPosted lists edges) (d date pin : ℕ) where
   abbrev at_date : List RowValue
   at_date = snapshot (shown lists are date pin) date
 
-  abbrev counts : RowValue → Bool
-  counts row = is_replacement_of d row && is_among (reference_keys lists edges) row
-
   abbrev wanted : List RowValue
-  wanted = filter counts at_date
+  wanted = filter (is_replacement_of d) at_date
 
   -- what is posted of one that is chosen
   record IsPosted (k : Chosen) : Type 0 where
@@ -78,7 +76,7 @@ module _ (lists : List (List StampedRow)) (are : ArePlaces (map places_of lists)
     posted_of : (k : Chosen) → Has kept k → IsPosted k
     posted_of k h =
         let w = a.1.only k (a.2.only k h) in
-        let p = posts w.0 w.1 in
+        let p = reference_stands lists edges posts w.0 w.1 in
         record {
           x = w.0;
           there = w.1;
@@ -118,26 +116,23 @@ module _ (lists : List (List StampedRow)) (are : ArePlaces (map places_of lists)
         let p = posted_of x.k x.there in
         let says = said x.k x.s x.there x.stands in
         let replaces : is_replacement_of d x.s.row ≡ true = subst (λ n. is_replacement_of n x.s.row ≡ true) p.d_is says.says in
-        let same : p.s ≡ x.s = one_row lists are x.k.segment x.k.segment x.k.at x.k.at p.s x.s p.stands x.stands refl in
-        let among : is_among (reference_keys lists edges) x.s.row ≡ true = among_from (reference_keys lists edges) x.s.row (key_of p.s.row) (key_posted (λ (r : Reference). r.row) lists (references_in edges) p.x p.s p.there p.row_is) (ap (λ (z : StampedRow). key_of z.row) same) in
         subst (λ z. Has wanted z) x.row_is
-        (Has-filter_from counts at_date x.s.row (looked_up x.k.at.key.kind x.k.at.key.id date (shown lists are date pin) x.s.row x.found) (rw (replaces, among) refl))
+        (Has-filter_from (is_replacement_of d) at_date x.s.row (looked_up x.k.at.key.kind x.k.at.key.id date (shown lists are date pin) x.s.row x.found) replaces)
 
     from_wanted : (row : RowValue) → Has wanted row → Has found_rows row
     from_wanted row h =
-        let f = Has-filter counts at_date row h in
-        let t = both (is_replacement_of d row) (is_among (reference_keys lists edges) row) f.1 in
-        let g = key_cases (λ (r : Reference). r.row) lists (references_in edges) (key_of row) (among_has (reference_keys lists edges) row t.1) in
+        let f = Has-filter (is_replacement_of d) at_date row h in
+        let g = reference_of_replacement lists edges posts d date pin row f.0 f.1 in
         let n = g.x.0 in
         let r = g.x.1 in
-        let post = posts g.x g.there in
+        let post = reference_stands lists edges posts g.x g.there in
         let own : g.s ≡ post.0 = same_some g.s post.0 (sym g.row_there ∙ post.1) in
         let place = place_of_row lists n r.row post.0 post.1 in
         let at = place.0 in
         let stands = stands_there lists n r.row post.0 at post.1 place.1 in
-        let key_is : at.key ≡ key_of row = (standing_row lists are n at post.0 stands).1 ∙ ap (λ (z : StampedRow). key_of z.row) (sym own) ∙ g.key_is in
+        let key_is : at.key ≡ key_of row = (standing_row lists are n at post.0 stands).1 ∙ ap (λ (z : StampedRow). key_of z.row) (sym own) ∙ ap key_of g.same in
         let now = current_where lists are date pin n at post.0 row stands f.0 key_is in
-        let refers = (both row.active (refers_to d row.body) t.0).1 in
+        let refers = (both row.active (refers_to d row.body) f.1).1 in
         let refers_post : refers_to r.referenced row.body ≡ true = subst (λ (z : RowValue). refers_to r.referenced z.body ≡ true) (sym now.0) (both post.0.row.active (refers_to r.referenced post.0.row.body) post.2.says).1 in
         let kind : kind_of row ≡ kinds.Association = associated d row row.body refl refers in
         let w = a.2.there (ranked n r at) (a.1.taken g.x (ranked n r at) g.there (refers_dest r.referenced d row.body refers_post refers) (record { at = at; row_there = (place.1, now.1); answer_is = refl })) in
@@ -173,8 +168,8 @@ module _ (lists : List (List StampedRow)) (are : ArePlaces (map places_of lists)
         let one : m.s.row ≡ n.s.row = cc in
         sym n.row_is ∙ sym one ∙ m.row_is
 
-    pub replacements_from_chosen : (rows : List StampedRow) × StandAtAll lists kept rows × (map (λ (s : StampedRow). s.row) rows ≡ replacements_among (reference_keys lists edges) d date (shown lists are date pin))
-    unfolding replacements_among
+    pub replacements_from_chosen : (rows : List StampedRow) × StandAtAll lists kept rows × (map (λ (s : StampedRow). s.row) rows ≡ replacements d date (shown lists are date pin))
+    unfolding replacements
     replacements_from_chosen = (
       rows_for lists date pin kept each_current,
       stand_for lists date pin kept each_current,

@@ -1,6 +1,6 @@
 -- What is posted of rows: links of relationships, references of associations, and what any but a
 -- concept is about.
-use Rattle.std.specs.Prelude.{ℕ, ◌+◌, ◌*◌, ◌==◌, List, [], ◌∷◌, ◌++◌, length, map}
+use Rattle.std.specs.Prelude.{ℕ, ◌+◌, ◌*◌, ◌==◌, List, [], ◌∷◌, ◌++◌, length}
 use Rattle.std.specs.Prelude.{if◌then◌else◌}
 use Rattle.std.specs.Prelude.{Option, Some, None}
 use Rattle.std.specs.List.Sorted.{IsNonDecreasingBy, IsPermutation}
@@ -67,13 +67,6 @@ pub record IsSealed (e : Edges) : Type 0 where
   pub by_destination : IsNonDecreasingBy (λ l. l.destination) e.links
   pub by_referenced : IsNonDecreasingBy (λ r. r.referenced) e.references
   pub by_subject : IsNonDecreasingBy (λ x. subject_rank x.subject x.kind) e.subjects
-
--- the links of each list, and the references of each list
-abbrev pub links_in : List Edges → List (List Link)
-links_in lists = map (λ e. e.links) lists
-
-abbrev pub references_in : List Edges → List (List Reference)
-references_in lists = map (λ e. e.references) lists
 
 -- the link of a relationship that is row i, and the reference of an association that is row i
 abbrev pub link : Relationship → ℕ → Link

@@ -1,12 +1,7 @@
--- What a store that posts each row's link and reference can say of its lists.
+-- Lists of which all rows are posted.
 use Rattle.std.specs.Prelude.{◌≡◌, ℕ, List, [], ◌∷◌, ◌++◌, length, slice_set, remove}
-use Rattle.history_model.specs.History.{rows_at}
-use Rattle.history_model.specs.Lists.{listed}
-use Rattle.history_model.specs.Queries.{children, replacements}
 use Rattle.history_model.specs.declared.stamped.StampedRow.{StampedRow}
 use Rattle.links.specs.Edges.{Edges, AreSameEdges, edges_of, joined_edges, posted_edges}
-use Rattle.links.specs.Children.{PostsLinks, link_keys, children_among}
-use Rattle.links.specs.Replacements.{PostsReferences, reference_keys, replacements_among}
 
 -- the postings of a segment's rows, each row pushed with its number
 abbrev pub ArePostingsOf : List StampedRow → Edges → Type 0
@@ -23,29 +18,6 @@ EachPosted (rows ∷ lists) (e ∷ edges) = ArePostingsOf rows e × EachPosted l
 abbrev pub PushedOneByOne : Type 0
 PushedOneByOne = (rows : List StampedRow) (row : StampedRow) → posted_edges (rows ++ row ∷ [])
     ≡ joined_edges (posted_edges rows) (edges_of row.row (length rows))
-
--- if each list has the postings of its rows, each link is of the row of its list that has its
--- number, and so is each reference
-abbrev pub PostedLinksStand : Type 0
-PostedLinksStand = (lists : List (List StampedRow)) (edges : List Edges)
-    → EachPosted lists edges → PostsLinks lists edges
-
-abbrev pub PostedReferencesStand : Type 0
-PostedReferencesStand = (lists : List (List StampedRow)) (edges : List Edges)
-    → EachPosted lists edges → PostsReferences lists edges
-
--- if each list has the postings of its rows, no child is left out, and no replacement
-abbrev pub PostedLinksAreAll : Type 0
-PostedLinksAreAll = (lists : List (List StampedRow)) (edges : List Edges) (concept date pin : ℕ)
-    → EachPosted lists edges
-    → children_among (link_keys lists edges) concept date (rows_at pin (listed lists))
-    ≡ children concept date (rows_at pin (listed lists))
-
-abbrev pub PostedReferencesAreAll : Type 0
-PostedReferencesAreAll = (lists : List (List StampedRow)) (edges : List Edges) (id date pin : ℕ)
-    → EachPosted lists edges
-    → replacements_among (reference_keys lists edges) id date (rows_at pin (listed lists))
-    ≡ replacements id date (rows_at pin (listed lists))
 
 -- each list has the postings of its rows still after a list and its postings are added
 abbrev pub EdgesMore : Type 0

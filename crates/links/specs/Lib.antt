@@ -13,8 +13,6 @@ pub use Rattle.as_of_index.specs.Postings
 pub use Rattle.as_of_index.specs.Numbers
 pub use Rattle.as_of_index.specs.Merging
 pub mod Edges
-pub mod Children
-pub mod Replacements
 pub mod Laws
 pub mod MergedEdges
 pub mod Private

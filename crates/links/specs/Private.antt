@@ -16,6 +16,13 @@ use Rattle.links.specs.declared.postings.Link.{Link}
 use Rattle.links.specs.declared.postings.Reference.{Reference}
 use Rattle.links.specs.Edges.{Edges, subject_rank}
 
+-- the links, the references and the subjects of each list
+abbrev pub links_in : List Edges → List (List Link)
+links_in lists = map (λ e. e.links) lists
+
+abbrev pub references_in : List Edges → List (List Reference)
+references_in lists = map (λ e. e.references) lists
+
 abbrev pub subjects_in : List Edges → List (List Subject)
 subjects_in lists = map (λ e. e.subjects) lists
 

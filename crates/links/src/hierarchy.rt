@@ -7,11 +7,11 @@ ghost use Rattle.history_model.specs.declared.stamped.StampedRow.{StampedRow};
 ghost use Rattle.history_model.specs.InOrder.{Has};
 ghost use Rattle.history_model.specs.History.{rows_at};
 ghost use Rattle.history_model.specs.Lists.{listed};
+ghost use Rattle.history_model.specs.Queries.{children};
 ghost use Rattle.as_of_index.specs.Places.{Lists};
-ghost use Rattle.as_of_index.specs.Postings.{numbered};
-ghost use Rattle.links.specs.Edges.{links_in};
-ghost use Rattle.links.specs.Children.{PostsLinks, link_keys, children_among};
-ghost use Rattle.links.specs.Private.{GivesSource, Takes, AreOnce, AreSources};
+ghost use Rattle.as_of_index.specs.Private.Postings.{numbered};
+ghost use Rattle.links.specs.Laws.{EachPosted};
+ghost use Rattle.links.specs.Private.{links_in, GivesSource, Takes, AreOnce, AreSources};
 
 use crate::Links;
 use crate::postings::{Link, Sealed};
@@ -80,8 +80,8 @@ fn sources(
 }
 
 /// The distinct sources of active "is a" relationships to the concept at the date, ascending, of
-/// the rows that the pin shows and of the versions that are posted. It reads no row: each posted
-/// link to the concept costs a bisection a list, and those that count are sorted at the end.
+/// the rows that the pin shows. It reads no row: each posted link to the concept costs a bisection
+/// a list, and those that count are sorted at the end.
 pub fn children(
     alloc: Global,
     links: &Links,
@@ -90,12 +90,11 @@ pub fn children(
     time: EffectiveTime,
     pin: u32,
 ) -> Result<Vec<u64>, AllocError>
-    // Whatever lists of rows they are that the index lists the places of, and the links post rows
-    // of.
+    // Whatever lists of rows they are that the index lists the places of, and the links are the
+    // postings of.
     ensures found { IfOk result (λ ids. (lists : List (List StampedRow)) → Lists index.now lists
-        → PostsLinks lists links.now
-        → ids.items ≡ children_among (link_keys lists links.now) concept time
-        (rows_at pin (listed lists))) }
+        → EachPosted lists links.now
+        → ids.items ≡ children concept time (rows_at pin (listed lists))) }
 {
     // Its contract says that no key is listed twice.
     let _listed = index.lists();

@@ -8,14 +8,14 @@ ghost use Rattle.history_model.specs.declared.stamped.StampedRow.{StampedRow};
 ghost use Rattle.history_model.specs.InOrder.{Has};
 ghost use Rattle.history_model.specs.History.{rows_at};
 ghost use Rattle.history_model.specs.Lists.{listed};
+ghost use Rattle.history_model.specs.Queries.{replacements};
 ghost use Rattle.as_of_index.specs.Places.{Lists};
 ghost use Rattle.as_of_index.specs.Private.Chosen.{ranked_cmp};
-ghost use Rattle.as_of_index.specs.Postings.{numbered};
+ghost use Rattle.as_of_index.specs.Private.Postings.{numbered};
 ghost use Rattle.fault_counts.specs.Counting.{Counts, CountsDiskFault, CountsDamage};
 ghost use Rattle.fault_counts.specs.declared.fault.ReadFault.TheVariants as readfault;
-ghost use Rattle.links.specs.Edges.{references_in};
-ghost use Rattle.links.specs.Replacements.{PostsReferences, reference_keys, replacements_among};
-ghost use Rattle.links.specs.Private.{ranked, GivesRanked, Takes, AreOnce, AreRanked};
+ghost use Rattle.links.specs.Laws.{EachPosted};
+ghost use Rattle.links.specs.Private.{references_in, ranked, GivesRanked, Takes, AreOnce, AreRanked};
 
 use crate::Links;
 use crate::postings::{Reference, Sealed};
@@ -111,7 +111,7 @@ fn chosen_all(
 }
 
 /// The active associations of the component at the date, by refset, target and member, of the rows
-/// that the pin shows and of the versions that are posted.
+/// that the pin shows.
 pub fn replacements<R: RowReader>(
     alloc: Global,
     links: &Links,
@@ -122,12 +122,11 @@ pub fn replacements<R: RowReader>(
     pin: u32,
 ) -> Result<Vec<Row>, ReadFault>
     ensures found { R.is_honest reader.old → Lists index.now (R.lists reader.old)
-        → PostsReferences (R.lists reader.old) links.now
+        → EachPosted (R.lists reader.old) links.now
         → IfOk result (λ rows.
-        rows.items ≡ replacements_among (reference_keys (R.lists reader.old) links.now) component
-        time (rows_at pin (listed (R.lists reader.old)))) }
+        rows.items ≡ replacements component time (rows_at pin (listed (R.lists reader.old)))) }
     ensures undamaged { R.is_honest reader.old → Lists index.now (R.lists reader.old)
-        → PostsReferences (R.lists reader.old) links.now
+        → EachPosted (R.lists reader.old) links.now
         → IfErr result (λ e. e ≢ readfault.Damaged) }
     // No more is read than the rows that it answers take, each read once.
     ensures work { IfOk result (λ rows.
@@ -135,10 +134,9 @@ pub fn replacements<R: RowReader>(
     // Whatever it answers and whatever was read, no more is read than these associations take, each
     // counted once.
     ensures work_always { Lists index.now (R.lists reader.old)
-        → PostsReferences (R.lists reader.old) links.now
-        → R.work reader.new ≤ R.work reader.old + sum_by R.cost (replacements_among
-        (reference_keys (R.lists reader.old) links.now) component time
-        (rows_at pin (listed (R.lists reader.old)))) }
+        → EachPosted (R.lists reader.old) links.now
+        → R.work reader.new ≤ R.work reader.old + sum_by R.cost
+        (replacements component time (rows_at pin (listed (R.lists reader.old)))) }
     ensures lists { R.lists reader.new ≡ R.lists reader.old }
     ensures honesty { R.is_honest reader.old → R.is_honest reader.new }
     ensures stays { R.stays reader.old reader.new }

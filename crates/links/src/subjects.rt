@@ -12,13 +12,12 @@ ghost use Rattle.history_model.specs.Lists.{listed};
 ghost use Rattle.history_model.specs.Queries.{about};
 ghost use Rattle.as_of_index.specs.Places.{Lists};
 ghost use Rattle.as_of_index.specs.Private.Chosen.{chosen, chosen_cmp};
-ghost use Rattle.as_of_index.specs.Postings.{numbered};
+ghost use Rattle.as_of_index.specs.Private.Postings.{numbered};
 ghost use Rattle.fault_counts.specs.Counting.{Counts, CountsDiskFault, CountsDamage};
 ghost use Rattle.fault_counts.specs.declared.fault.ReadFault.TheVariants as readfault;
 ghost use Rattle.links.specs.Edges.{subject_rank};
-ghost use Rattle.links.specs.Private.{subjects_in};
 ghost use Rattle.links.specs.Laws.{EachPosted};
-ghost use Rattle.links.specs.Private.{GivesRow, Takes, AreOnce, AreRows};
+ghost use Rattle.links.specs.Private.{subjects_in, GivesRow, Takes, AreOnce, AreRows};
 
 use crate::Links;
 use crate::postings::{Sealed, Subject};

@@ -1,6 +1,6 @@
 -- Terms that were pushed, each with the number of its row, are of rows of their lists, and none is left out.
-use Rattle.std.proofs.Common.{◌≡◌, ℕ, ◌+◌, ◌≤◌, Bool, true, false, List, [], ◌∷◌, length, arith, refl, sym, ap, subst, inl, inr, take}
-use Rattle.std.specs.Prelude.{if◌then◌else◌, slice_set, Option}
+use Rattle.std.proofs.Common.{◌≡◌, ℕ, ◌+◌, ◌≤◌, Bool, true, false, List, [], ◌∷◌, length, arith, refl, sym, ap, subst, inl, inr}
+use Rattle.std.specs.Prelude.{if◌then◌else◌, slice_set, Option, Some}
 use Rattle.rf2_values.specs.declared.row.Body.{Body}
 use Rattle.rf2_values.specs.declared.row.Body.TheVariants as body
 use Rattle.rf2_values.specs.Row.{RowValue}
@@ -8,22 +8,31 @@ use Rattle.std.proofs.lemmas.List.{length-append}
 use Rattle.std.proofs.lemmas.List.Sorted.{length_permutation}
 use Rattle.history_model.specs.declared.stamped.StampedRow.{StampedRow}
 use Rattle.history_model.specs.InOrder.{Has}
+use Rattle.as_of_index.specs.Places.{item_at}
 use Rattle.as_of_index.specs.Postings.{posted_all}
+use Rattle.as_of_index.specs.Private.Postings.{numbered}
 use Rattle.history_model.specs.History.{rows_at}
 use Rattle.history_model.specs.Lists.{listed}
-use Rattle.history_model.specs.Queries.{snapshot, is_above, is_term, is_term_above, begins_with, folded, terms_above, search_terms}
+use Rattle.history_model.specs.Queries.{snapshot, is_above, is_term, is_term_above, begins_with, folded}
 use Rattle.history_model.proofs.Filtered.{both}
-use Rattle.as_of_index.specs.Current.{is_among}
-use Rattle.as_of_index.proofs.Among.{filter_both}
-use Rattle.as_of_index.proofs.Pushing.{stands, among_all, all_more, all_set, all_removed}
-use Rattle.term_prefix.specs.Terms.{TermAt, IsTermOf, HasFolded, term_keys, terms_among, EachTermIsPosted}
-use Rattle.term_prefix.specs.Pushed.{term_of_body, posted_term, PostedTermsStand, PostedTermsAreAll, PostedTermsAreFew, PostedTermsMore, PostedTermsMerged}
-
-pub each_term_is_posted : EachTermIsPosted
-unfolding terms_among search_terms terms_above
-each_term_is_posted keys prefix date after limit rows each = ap (take limit) (filter_both (is_term_above prefix after) (is_among keys) (snapshot rows date) each)
+use Rattle.as_of_index.proofs.Pushing.{stands, IsPostedAs, posted_as, all_more, all_set, all_removed}
+use Rattle.term_prefix.specs.Terms.{TermAt}
+use Rattle.term_prefix.specs.Pushed.{term_of_body, posted_term, ArePosted, PostedTermsAreFew, PostedTermsMore, PostedTermsMerged}
 
 -- ---- what is posted says what its row is
+
+-- the body is a description's, and this is the folding of its term
+abbrev pub HasFolded : List ℕ → Body → Type 0
+HasFolded text (body.Concept c) = ⊥
+HasFolded text (body.Description d) = folded d.term ≡ text
+HasFolded text (body.Relationship r) = ⊥
+HasFolded text (body.Association a) = ⊥
+HasFolded text (body.Concrete c) = ⊥
+
+-- what a posting says of the row that has its number
+pub record IsTermOf (t : TermAt) (row : RowValue) : Type 0 where
+  pub active : row.active ≡ true
+  pub folded_is : HasFolded t.folded row.body
 
 of_body : (row : RowValue) (i : ℕ) (b : Body) (t : TermAt) → row.active ≡ true → row.body ≡ b → Has (term_of_body b i) t → IsTermOf t row × (t.row ≡ i)
 of_body row i (body.Concept c) t a e h = absurd h
@@ -42,8 +51,8 @@ of_row row i t h =
       | false ↦ λ e k. absurd k
     ] refl h
 
-pub posted_terms_stand : PostedTermsStand
-posted_terms_stand lists terms a x h = stands posted_term (λ (t : TermAt). t.row) IsTermOf of_row lists terms a x h
+pub term_stands : (lists : List (List StampedRow)) (terms : List (List TermAt)) → ArePosted lists terms → (x : ℕ × TermAt) → Has (numbered 0 terms) x → (s : StampedRow) × (item_at lists x.0 x.1.row ≡ Some s) × IsTermOf x.1 s.row
+term_stands lists terms a x h = stands posted_term (λ (t : TermAt). t.row) IsTermOf of_row lists terms a x h
 
 -- ---- and each active one is posted
 
@@ -60,10 +69,9 @@ row_posted prefix after row i e =
     let t = body_posted prefix i row.body w.1 in
     (t.0, subst (λ b. Has (if b then term_of_body row.body i else []) t.0) (sym w.0) t.1, t.2)
 
-pub posted_terms_are_all : PostedTermsAreAll
-posted_terms_are_all lists posts prefix date after limit pin a =
-    each_term_is_posted (term_keys lists posts) prefix date after limit (rows_at pin (listed lists))
-    (among_all posted_term (λ (t : TermAt). t.row) (is_term_above prefix after) (row_posted prefix after) lists posts date pin a)
+pub term_of_description : (lists : List (List StampedRow)) (terms : List (List TermAt)) → ArePosted lists terms → (prefix : List ℕ) (date : ℕ) (after : Option ℕ) (pin : ℕ) (row : RowValue) → Has (snapshot (rows_at pin (listed lists)) date) row → is_term_above prefix after row ≡ true → IsPostedAs (λ (t : TermAt). t.row) lists terms row
+term_of_description lists terms a prefix date after pin row h e =
+    posted_as posted_term (λ (t : TermAt). t.row) (is_term_above prefix after) (row_posted prefix after) lists terms date pin a row h e
 
 -- ---- how many there are
 

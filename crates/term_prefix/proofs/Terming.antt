@@ -1,6 +1,6 @@
 -- The rows of the places that are kept are the terms that are asked for.
-use Rattle.std.proofs.Common.{◌≡◌, ◌⊎◌, ℕ, zero, suc, ◌+◌, ◌<◌, ◌≤◌, Bool, true, List, [], ◌∷◌, ◌++◌, length, get_or, take, map, refl, sym, ap, subst, inl, inr, ◌∙◌, arith, append-nil, append_assoc}
-use Rattle.std.specs.Prelude.{◌&&◌, nat_eq, Option, Some, chars, encode_utf8_all, flat_map}
+use Rattle.std.proofs.Common.{◌≡◌, ◌⊎◌, ℕ, zero, suc, ◌+◌, ◌<◌, ◌≤◌, true, List, [], ◌∷◌, ◌++◌, length, get_or, take, map, refl, sym, ap, subst, inl, inr, ◌∙◌, arith, append-nil, append_assoc}
+use Rattle.std.specs.Prelude.{nat_eq, Option, Some, chars, encode_utf8_all, flat_map}
 use Rattle.caseless.specs.Caseless.{default_case_fold}
 use Rattle.std.specs.List.{filter, starts_with}
 use Rattle.std.specs.Ordering.{nat_cmp, ordering_then}
@@ -16,7 +16,7 @@ use Rattle.rf2_values.specs.Key.{kind_place, key_of}
 use Rattle.history_model.specs.declared.stamped.StampedRow.{StampedRow}
 use Rattle.history_model.specs.InOrder.{Has, IsAscending}
 use Rattle.history_model.specs.History.{row_cmp}
-use Rattle.history_model.specs.Queries.{get, snapshot, is_above, is_term, is_term_above, begins_with, folded}
+use Rattle.history_model.specs.Queries.{get, snapshot, is_above, is_term, is_term_above, begins_with, folded, terms_above, search_terms}
 use Rattle.history_model.proofs.InOrder.{Has-append_left, Has-append_right, Has-append_cases}
 use Rattle.history_model.proofs.Filtered.{both, Has-filter, Has-filter_from, Has-map, Has-map_from, IsAscending-filter}
 use Rattle.history_model.proofs.Keys.{rows_total}
@@ -29,13 +29,15 @@ use Rattle.segment.proofs.Posting.{says}
 use Rattle.as_of_index.specs.Chosen.{StandAtAll}
 use Rattle.as_of_index.specs.Private.Chosen.{chosen, chosen_cmp}
 use Rattle.as_of_index.specs.Places.{item_at}
-use Rattle.as_of_index.specs.Current.{is_among, IsPlaceOfRow}
-use Rattle.as_of_index.specs.Postings.{numbered}
-use Rattle.term_prefix.specs.Terms.{TermAt, HasFolded, IsTermOf, PostsTerms, term_keys, terms_among}
+use Rattle.as_of_index.specs.Current.{IsPlaceOfRow}
+use Rattle.as_of_index.specs.Private.Postings.{numbered}
+use Rattle.term_prefix.specs.Terms.{TermAt}
+use Rattle.term_prefix.specs.Pushed.{ArePosted}
 use Rattle.term_prefix.specs.Private.{begins, begun, chosen_at, AreOfDescriptions, AreKept}
-use Rattle.as_of_index.proofs.Numbered.{stands_there, place_of_row, Has-flat_map, Has-flat_map_from, Has-option, Has-option_from, key_posted, key_cases}
+use Rattle.term_prefix.proofs.Posted.{HasFolded, IsTermOf, term_stands, term_of_description}
+use Rattle.as_of_index.proofs.Numbered.{stands_there, place_of_row, Has-flat_map, Has-flat_map_from, Has-option, Has-option_from}
 use Rattle.as_of_index.proofs.Paging.{less_from}
-use Rattle.as_of_index.proofs.Among.{among_from, among_has, looked_up}
+use Rattle.as_of_index.proofs.Among.{looked_up}
 use Rattle.as_of_index.proofs.First.{same_first}
 use Rattle.as_of_index.proofs.Current.{standing_row, one_row, shown, shown_ascends, current_where, AllCurrent, rows_for, stand_for, length-rows_for, row_for, for_row, ascending_rows_for}
 
@@ -169,14 +171,14 @@ has_numbered k (suc n) (us ∷ terms) ts t lt is h =
     Has-append_right (in_list k us) (numbered (k + 1) terms) (k + suc n, t) (subst (λ m. Has (numbered (k + 1) terms) (m, t)) number (has_numbered (k + 1) n terms ts t (omega arith) is h))
 
 -- the terms of a list that begin so are of descriptions
-pub described_those : (lists : List (List StampedRow)) (terms : List (List TermAt)) → PostsTerms lists terms → (n : ℕ) (ts : List TermAt) → n < length terms → ts ≡ get_or terms n ts → (text : List ℕ) (those : List Term)
+pub described_those : (lists : List (List StampedRow)) (terms : List (List TermAt)) → ArePosted lists terms → (n : ℕ) (ts : List TermAt) → n < length terms → ts ≡ get_or terms n ts → (text : List ℕ) (those : List Term)
     → ((i : ℕ) → (Has (map (λ (t : Term). t.row) those) i → Has (map (λ (t : TermAt). t.row) (filter (begins text) ts)) i) × (Has (map (λ (t : TermAt). t.row) (filter (begins text) ts)) i → Has (map (λ (t : Term). t.row) those) i))
     → AreOfDescriptions lists n those
 described_those lists terms posts n ts lt is text those which t h at place =
     let m = Has-map (λ (u : TermAt). u.row) (filter (begins text) ts) t.row ((which t.row).0 (Has-map_from (λ (u : Term). u.row) those t h)) in
     let number : 0 + n ≡ n = omega arith in
     let there = subst (λ k. Has (numbered 0 terms) (k, m.0)) number (has_numbered 0 n terms ts m.0 lt is (Has-filter (begins text) ts m.0 m.1).0) in
-    let p = posts (n, m.0) there in
+    let p = term_stands lists terms posts (n, m.0) there in
     let stands = stands_there lists n t.row p.0 at (subst (λ i. item_at lists n i ≡ Some p.0) m.2 p.1) place in
     ap (λ (k : Key). k.kind) (says 0 stands.rows (p.0, at) stands.there).key_is ∙ described m.0.folded p.0.row p.0.row.body refl p.2.folded_is
 
@@ -186,7 +188,7 @@ first_id a b e f lt =
     ap (λ r. ordering_then r (ordering_then (nat_cmp a.id b.id) (nat_cmp a.time b.time))) (subst (λ k. nat_cmp (kind_place (kind_of a)) (kind_place k) ≡ Equal) (e ∙ sym f) (tied_itself nat_cmp_total (kind_place (kind_of a))))
     ∙ ap (λ r. ordering_then r (nat_cmp a.time b.time)) (less_from a.id b.id lt)
 
-module _ (lists : List (List StampedRow)) (are : ArePlaces (map places_of lists)) (terms : List (List TermAt)) (posts : PostsTerms lists terms) (prefix : List ℕ) (date : ℕ) (after : Option ℕ) (limit pin : ℕ) where
+module _ (lists : List (List StampedRow)) (are : ArePlaces (map places_of lists)) (terms : List (List TermAt)) (posts : ArePosted lists terms) (prefix : List ℕ) (date : ℕ) (after : Option ℕ) (limit pin : ℕ) where
   -- what is posted of a place that begins so
   record IsPosted (k : Chosen) : Type 0 where
     x : ℕ × TermAt
@@ -200,7 +202,7 @@ module _ (lists : List (List StampedRow)) (are : ArePlaces (map places_of lists)
   posted_of : (k : Chosen) → Has (begun lists (folded prefix) (numbered 0 terms)) k → IsPosted k
   posted_of k h =
       let c = begun-cases lists (folded prefix) (numbered 0 terms) k h in
-      let p = posts c.x c.there in
+      let p = term_stands lists terms posts c.x c.there in
       record {
         x = c.x;
         there = c.there;
@@ -210,9 +212,6 @@ module _ (lists : List (List StampedRow)) (are : ArePlaces (map places_of lists)
         stands = subst (λ (j : Chosen). StandsAt lists j.segment j.at p.0) c.chosen_is (stands_there lists c.x.0 c.x.1.row p.0 c.at p.1 c.place_is);
         says = p.2;
       }
-
-  abbrev counts : RowValue → Bool
-  counts row = is_term_above prefix after row && is_among (term_keys lists terms) row
 
   module _ (kept : List Chosen) (a : AreKept lists date after limit pin (begun lists (folded prefix) (numbered 0 terms)) kept) where
     each_current : AllCurrent lists date pin kept
@@ -241,7 +240,7 @@ module _ (lists : List (List StampedRow)) (are : ArePlaces (map places_of lists)
         a.ascending
 
     abbrev wanted : List RowValue
-    wanted = filter counts (snapshot (shown lists are date pin) date)
+    wanted = filter (is_term_above prefix after) (snapshot (shown lists are date pin) date)
 
     to_wanted : (row : RowValue) → Has found_rows row → Has wanted row
     to_wanted row h =
@@ -251,24 +250,22 @@ module _ (lists : List (List StampedRow)) (are : ArePlaces (map places_of lists)
         let active : r.s.row.active ≡ true = subst (λ (z : StampedRow). z.row.active ≡ true) same p.says.active in
         let begins_so : begins_with prefix r.s.row.body ≡ true = subst (λ (z : StampedRow). begins_with prefix z.row.body ≡ true) same (begins_from prefix p.x.1.folded p.s.row.body p.says.folded_is p.begins_so) in
         let above : is_above after r.s.row.id ≡ true = subst (λ id. is_above after id ≡ true) (id_at r.k.segment r.k.at r.s r.stands) (a.only r.k r.there).1.above in
-        let among : is_among (term_keys lists terms) r.s.row ≡ true = among_from (term_keys lists terms) r.s.row (key_of p.s.row) (key_posted (λ (t : TermAt). t.row) lists terms p.x p.s p.there p.row_is) (ap (λ (z : StampedRow). key_of z.row) same) in
         subst (λ z. Has wanted z) r.row_is
-        (Has-filter_from counts (snapshot (shown lists are date pin) date) r.s.row (looked_up r.k.at.key.kind r.k.at.key.id date (shown lists are date pin) r.s.row r.found) (rw (active, begins_so, above, among) refl))
+        (Has-filter_from (is_term_above prefix after) (snapshot (shown lists are date pin) date) r.s.row (looked_up r.k.at.key.kind r.k.at.key.id date (shown lists are date pin) r.s.row r.found) (rw (active, begins_so, above) refl))
 
     from_wanted : (row : RowValue) → Has wanted row → Has found_rows row ⊎ ((limit ≤ length found_rows) × ((y : RowValue) → Has found_rows y → row_cmp y row ≡ Less))
     from_wanted row h =
-        let f = Has-filter counts (snapshot (shown lists are date pin) date) row h in
-        let t = both (is_term_above prefix after row) (is_among (term_keys lists terms) row) f.1 in
-        let u = both (is_term prefix row) (is_above after row.id) t.0 in
-        let g = key_cases (λ (t : TermAt). t.row) lists terms (key_of row) (among_has (term_keys lists terms) row t.1) in
+        let f = Has-filter (is_term_above prefix after) (snapshot (shown lists are date pin) date) row h in
+        let u = both (is_term prefix row) (is_above after row.id) f.1 in
+        let g = term_of_description lists terms posts prefix date after pin row f.0 f.1 in
         let n = g.x.0 in
         let term = g.x.1 in
-        let post = posts g.x g.there in
+        let post = term_stands lists terms posts g.x g.there in
         let own : g.s ≡ post.0 = (let rows_are = sym g.row_there ∙ post.1 in cc) in
         let p = place_of_row lists n term.row post.0 post.1 in
         let at = p.0 in
         let stands = stands_there lists n term.row post.0 at post.1 p.1 in
-        let key_is : at.key ≡ key_of row = (standing_row lists are n at post.0 stands).1 ∙ ap (λ (z : StampedRow). key_of z.row) (sym own) ∙ g.key_is in
+        let key_is : at.key ≡ key_of row = (standing_row lists are n at post.0 stands).1 ∙ ap (λ (z : StampedRow). key_of z.row) (sym own) ∙ ap key_of g.same in
         let now = current_where lists are date pin n at post.0 row stands f.0 key_is in
         let body_begins = (both row.active (begins_with prefix row.body) u.0).1 in
         let begins_so : begins (folded prefix) term ≡ true = begins_to prefix term.folded post.0.row.body post.2.folded_is (subst (λ (z : RowValue). begins_with prefix z.body ≡ true) now.0 body_begins) in
@@ -293,11 +290,11 @@ module _ (lists : List (List StampedRow)) (are : ArePlaces (map places_of lists)
           )
         ]
 
-    pub terms_from_kept : (rows : List StampedRow) × StandAtAll lists kept rows × (map (λ (s : StampedRow). s.row) rows ≡ terms_among (term_keys lists terms) prefix date after limit (shown lists are date pin))
-    unfolding terms_among
+    pub terms_from_kept : (rows : List StampedRow) × StandAtAll lists kept rows × (map (λ (s : StampedRow). s.row) rows ≡ search_terms prefix date after limit (shown lists are date pin))
+    unfolding search_terms terms_above
     terms_from_kept = (
       rows_for lists date pin kept each_current,
       stand_for lists date pin kept each_current,
-      same_first rows_total limit found_rows wanted rows_ascend (IsAscending-filter counts row_cmp (snapshot (shown lists are date pin) date) (shown_ascends lists are date pin))
+      same_first rows_total limit found_rows wanted rows_ascend (IsAscending-filter (is_term_above prefix after) row_cmp (snapshot (shown lists are date pin) date) (shown_ascends lists are date pin))
           (let e = length-rows_for lists date pin kept each_current in let le = a.few in omega arith) to_wanted from_wanted,
     )

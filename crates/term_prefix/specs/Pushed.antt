@@ -1,16 +1,14 @@
 -- What is posted of rows, and lists of it that stay such.
-use Rattle.std.specs.Prelude.{◌≡◌, ◌≤◌, ℕ, List, [], ◌∷◌, ◌++◌, length, remove, slice_set}
-use Rattle.std.specs.Prelude.{if◌then◌else◌, Option}
+use Rattle.std.specs.Prelude.{◌≤◌, ℕ, List, [], ◌∷◌, ◌++◌, length, remove, slice_set}
+use Rattle.std.specs.Prelude.{if◌then◌else◌}
 use Rattle.std.specs.List.Sorted.{IsPermutation}
 use Rattle.rf2_values.specs.declared.row.Body.{Body}
 use Rattle.rf2_values.specs.declared.row.Body.TheVariants as body
 use Rattle.rf2_values.specs.Row.{RowValue}
 use Rattle.history_model.specs.declared.stamped.StampedRow.{StampedRow}
-use Rattle.history_model.specs.History.{rows_at}
-use Rattle.history_model.specs.Lists.{listed}
-use Rattle.history_model.specs.Queries.{folded, search_terms}
+use Rattle.history_model.specs.Queries.{folded}
 use Rattle.as_of_index.specs.Postings.{posted_all, AllPosted}
-use Rattle.term_prefix.specs.Terms.{TermAt, PostsTerms, term_keys, terms_among}
+use Rattle.term_prefix.specs.Terms.{TermAt}
 
 abbrev pub term_of_body : Body → ℕ → List TermAt
 term_of_body (body.Concept c) i = []
@@ -31,24 +29,10 @@ IsPosted rows ts = IsPermutation (posted_all posted_term 0 rows) ts
 abbrev pub ArePosted : List (List StampedRow) → List (List TermAt) → Type 0
 ArePosted lists terms = AllPosted posted_term lists terms
 
--- if each list has the postings of its rows, each posting is of the row of its list that has its
--- number
-abbrev pub PostedTermsStand : Type 0
-PostedTermsStand = (lists : List (List StampedRow)) (terms : List (List TermAt))
-    → ArePosted lists terms → PostsTerms lists terms
-
 -- there are no more postings than rows
 abbrev pub PostedTermsAreFew : Type 0
 PostedTermsAreFew = (rows : List StampedRow) (ts : List TermAt) → IsPosted rows ts
     → length ts ≤ length rows
-
--- if each list has the postings of its rows, no description is left out
-abbrev pub PostedTermsAreAll : Type 0
-PostedTermsAreAll = (lists : List (List StampedRow)) (posts : List (List TermAt))
-    (prefix : List ℕ) (date : ℕ) (after : Option ℕ) (limit pin : ℕ)
-    → ArePosted lists posts
-    → terms_among (term_keys lists posts) prefix date after limit (rows_at pin (listed lists))
-    ≡ search_terms prefix date after limit (rows_at pin (listed lists))
 
 -- each list has the postings of its rows still after a list and its postings are added
 abbrev pub PostedTermsMore : Type 0

@@ -7,15 +7,15 @@ ghost use Rattle.std.specs.List.Sorted.{IsPermutation, IsNonDecreasingBy};
 ghost use Rattle.history_model.specs.declared.stamped.StampedRow.{StampedRow};
 ghost use Rattle.history_model.specs.InOrder.{IsAscending, put};
 ghost use Rattle.history_model.specs.Private.{IsPlace};
-ghost use Rattle.history_model.specs.Queries.{is_above};
+ghost use Rattle.history_model.specs.Queries.{is_above, search_terms};
 ghost use Rattle.history_model.specs.History.{rows_at};
 ghost use Rattle.history_model.specs.Lists.{listed};
 ghost use Rattle.as_of_index.specs.Places.{Lists};
 ghost use Rattle.fault_counts.specs.Counting.{Counts, CountsDiskFault, CountsDamage};
 ghost use Rattle.as_of_index.specs.Private.Chosen.{chosen, chosen_cmp};
-ghost use Rattle.as_of_index.specs.Postings.{numbered};
+ghost use Rattle.as_of_index.specs.Private.Postings.{numbered};
 ghost use Rattle.fault_counts.specs.declared.fault.ReadFault.TheVariants as readfault;
-ghost use Rattle.term_prefix.specs.Terms.{PostsTerms, term_keys, terms_among};
+ghost use Rattle.term_prefix.specs.Pushed.{ArePosted};
 ghost use Rattle.term_prefix.specs.Private.{begun, chosen_at, is_behind, SaysTaken, SaysCandidate};
 ghost use Rattle.term_prefix.specs.Private.{IsOfDescription, AreOfDescriptions, AreBounds, AreKept};
 
@@ -274,7 +274,7 @@ fn keep_all(
     search: &Search,
 ) -> Result<Vec<Chosen>, AllocError>
     ensures { IfOk result (λ kept. (rows : List (List StampedRow)) → Lists index.now rows
-        → PostsTerms rows lists.now
+        → ArePosted rows lists.now
         → AreKept rows search.now.time search.now.after search.now.limit search.now.pin
         (begun rows prefix.now (numbered 0 lists.now))
         kept.items) }
@@ -288,10 +288,10 @@ fn keep_all(
 }
 
 /// The first rows by id, above `after` if that is given, of active descriptions at the date of
-/// which the folded term begins with the folded prefix, of the rows that the pin shows and of the
-/// versions that are posted. Of the posted terms that begin so, one with an id above `after` costs
-/// a bisection a list at most, and another none. Where a list has at most 128 times `limit` such
-/// terms, they are sorted by their rows first, which takes memory for as many.
+/// which the folded term begins with the folded prefix, of the rows that the pin shows. Of the
+/// posted terms that begin so, one with an id above `after` costs a bisection a list at most, and
+/// another none. Where a list has at most 128 times `limit` such terms, they are sorted by their
+/// rows first, which takes memory for as many.
 pub fn find<R: RowReader>(
     alloc: Global,
     terms: &Terms,
@@ -301,23 +301,21 @@ pub fn find<R: RowReader>(
     search: &Search,
 ) -> Result<Vec<Row>, ReadFault>
     ensures found { R.is_honest reader.old → Lists index.now (R.lists reader.old)
-        → PostsTerms (R.lists reader.old) terms.now
-        → IfOk result (λ rows. rows.items
-        ≡ terms_among (term_keys (R.lists reader.old) terms.now) prefix.now
+        → ArePosted (R.lists reader.old) terms.now
+        → IfOk result (λ rows. rows.items ≡ search_terms prefix.now
         search.now.time search.now.after search.now.limit
         (rows_at search.now.pin (listed (R.lists reader.old)))) }
     ensures undamaged { R.is_honest reader.old → Lists index.now (R.lists reader.old)
-        → PostsTerms (R.lists reader.old) terms.now → IfErr result (λ e. e ≢ readfault.Damaged) }
+        → ArePosted (R.lists reader.old) terms.now → IfErr result (λ e. e ≢ readfault.Damaged) }
     // No more is read than the rows that it answers take, each read once.
     ensures work { IfOk result (λ rows.
         R.work reader.new ≤ R.work reader.old + sum_by R.cost rows.items) }
     // Whatever it answers and whatever was read, no more is read than the rows that are to be found
     // take, each counted once.
     ensures work_always { Lists index.now (R.lists reader.old)
-        → PostsTerms (R.lists reader.old) terms.now
+        → ArePosted (R.lists reader.old) terms.now
         → R.work reader.new ≤ R.work reader.old + sum_by R.cost
-        (terms_among (term_keys (R.lists reader.old) terms.now) prefix.now
-        search.now.time search.now.after search.now.limit
+        (search_terms prefix.now search.now.time search.now.after search.now.limit
         (rows_at search.now.pin (listed (R.lists reader.old)))) }
     ensures lists { R.lists reader.new ≡ R.lists reader.old }
     ensures honesty { R.is_honest reader.old → R.is_honest reader.new }

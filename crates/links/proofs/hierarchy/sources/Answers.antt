@@ -1,8 +1,8 @@
 use Rattle.std.proofs.Common.{subst, take, take_all}
-use Rattle.as_of_index.specs.Postings.{numbered}
+use Rattle.as_of_index.specs.Private.Postings.{numbered}
 use Rattle.links.specs.declared.postings.Link.{Link}
-use Rattle.links.specs.Edges.{Edges, links_in}
-use Rattle.links.specs.Private.{GivesSource, AreSourcesTaken}
+use Rattle.links.specs.Edges.{Edges}
+use Rattle.links.specs.Private.{links_in, GivesSource, AreSourcesTaken}
 use Rattle.links.proofs.Numbering.{numbered-more}
 use Rattle.links.proofs.Collected.{none_taken, more_taken}
 use Rattle.links.proofs.hierarchy.sources.Goals as goal

@@ -1,9 +1,8 @@
 use Rattle.std.proofs.Common.{List, take}
 use Rattle.history_model.specs.declared.stamped.StampedRow.{StampedRow}
 use Rattle.as_of_index.specs.Places.{Lists}
-use Rattle.as_of_index.specs.Postings.{numbered}
-use Rattle.links.specs.Edges.{links_in}
-use Rattle.links.specs.Private.{AreSourcesTaken}
+use Rattle.as_of_index.specs.Private.Postings.{numbered}
+use Rattle.links.specs.Private.{links_in, AreSourcesTaken}
 use Rattle.links.proofs.hierarchy.sources.Given as goal
 
 abbrev pub invariant-loop-segment : goal.invariant-loop-segment

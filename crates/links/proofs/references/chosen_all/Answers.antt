@@ -1,8 +1,8 @@
 use Rattle.std.proofs.Common.{subst, take, take_all}
-use Rattle.as_of_index.specs.Postings.{numbered}
+use Rattle.as_of_index.specs.Private.Postings.{numbered}
 use Rattle.links.specs.declared.postings.Reference.{Reference}
-use Rattle.links.specs.Edges.{Edges, references_in}
-use Rattle.links.specs.Private.{GivesRanked, AreRankedTaken}
+use Rattle.links.specs.Edges.{Edges}
+use Rattle.links.specs.Private.{references_in, GivesRanked, AreRankedTaken}
 use Rattle.links.proofs.Numbering.{numbered-more}
 use Rattle.links.proofs.Collected.{none_taken, more_taken}
 use Rattle.links.proofs.references.chosen_all.Goals as goal

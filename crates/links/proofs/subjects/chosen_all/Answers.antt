@@ -1,5 +1,5 @@
 use Rattle.std.proofs.Common.{subst, take, take_all}
-use Rattle.as_of_index.specs.Postings.{numbered}
+use Rattle.as_of_index.specs.Private.Postings.{numbered}
 use Rattle.links.specs.declared.postings.Subject.{Subject}
 use Rattle.links.specs.Edges.{Edges, subject_rank}
 use Rattle.links.specs.Private.{subjects_in, GivesRow, AreRowsTaken}

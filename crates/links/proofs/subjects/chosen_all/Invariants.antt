@@ -1,7 +1,7 @@
 use Rattle.std.proofs.Common.{List, take}
 use Rattle.history_model.specs.declared.stamped.StampedRow.{StampedRow}
 use Rattle.as_of_index.specs.Places.{Lists}
-use Rattle.as_of_index.specs.Postings.{numbered}
+use Rattle.as_of_index.specs.Private.Postings.{numbered}
 use Rattle.links.specs.Private.{subjects_in, AreRowsTaken}
 use Rattle.links.proofs.subjects.chosen_all.Given as goal
 

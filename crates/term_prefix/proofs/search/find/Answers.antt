@@ -1,7 +1,7 @@
 use Rattle.std.specs.List.{sum_by}
 use Rattle.std.proofs.Common.{◌≡◌, ◌+◌, ◌≤◌, sym, subst, ◌∙◌, IfOk}
 use Rattle.as_of_index.specs.Chosen.{StandAtAll}
-use Rattle.as_of_index.specs.Postings.{numbered}
+use Rattle.as_of_index.specs.Private.Postings.{numbered}
 use Rattle.term_prefix.specs.Private.{AreKept, begun}
 use Rattle.term_prefix.proofs.Terming.{terms_from_kept, is_folded}
 use Rattle.term_prefix.proofs.search.find.Goals as goal

@@ -1,7 +1,7 @@
 use Rattle.std.proofs.Common.{◌++◌, map, subst, take, take_all}
 use Rattle.std.specs.Prelude.{flat_map}
 use Rattle.term_prefix.specs.declared.text.Term.{Term}
-use Rattle.as_of_index.specs.Postings.{numbered}
+use Rattle.as_of_index.specs.Private.Postings.{numbered}
 use Rattle.term_prefix.specs.Private.{begun, chosen_at, AreKept}
 use Rattle.term_prefix.proofs.FirstKept.{kept_same}
 use Rattle.term_prefix.proofs.Terming.{terms-more, begun_more, described_those}

@@ -1,56 +1,31 @@
-use Rattle.std.specs.List.{sum_by}
+use Rattle.std.proofs.Common.{refl, ap}
 use Rattle.std.specs.Option.{option_to_list}
-use Rattle.std.proofs.Common.{map, sym, ap, ◌∙◌}
-use Rattle.history_model.specs.History.{rows_at}
-use Rattle.history_model.specs.Lists.{listed}
+use Rattle.std.proofs.lemmas.Result.{IfOk-weaker}
 use Rattle.history_model.specs.Queries.{get}
-use Rattle.segment.specs.Standing.{places_of}
-use Rattle.blocks.proofs.Looked.{none_looks_up}
-use Rattle.history_store.specs.Queries.{is_listed}
-use Rattle.history_store.specs.Reading.{row_cost}
-use Rattle.history_store.proofs.Lent.{reader_honest, held_left}
-use Rattle.history_store.proofs.Querying.{answered_so, answered_query, answered_bytes, closed_query, through_cache, calls_stay, always_bytes}
+use Rattle.as_of_index.specs.Places.{Lists}
+use Rattle.history_store.proofs.Lent.{reader_honest, held_after}
+use Rattle.history_store.proofs.Querying.{rows_answered, closed_rows}
 use Rattle.history_store.proofs.store.Store.get.Goals as goal
 
 pub invariant_of-self : goal.invariant_of-self
 invariant_of-self g c =
-    held_left g.D.Disk.is_honest g.D.Disk.moments _ _ _ _ _ _ _ _ _ _ c.self.invariant.0 c.new-reader.ensures.disk c.new-reader.ensures.cache c.new-reader.ensures.entries c.new-reader.ensures.shown c.self.inside.merge c.get-read.new.reader.disk.now c.get-read.new.reader.cache.now c.self.invariant.1 c.get-read.ensures.stays.0
-    (λ up still. (c.get-read.ensures.honesty (reader_honest g.D.Disk.is_honest g.D.Disk.moments _ _ _ _ _ _ _ _ _ _ c.self.invariant.0 c.new-reader.ensures.disk c.new-reader.ensures.cache c.new-reader.ensures.entries c.new-reader.ensures.shown up still (g.met.D.Disk.now_is_image c.self.inside.disk up))).1)
+    let r = c.new-reader.ensures in
+    let now = c.get-read.new.reader in
+    held_after g.D.Disk.is_honest g.D.Disk.moments _ _ _ _ _ _ _ _ _ _ c.self.invariant.0 r.disk r.cache r.entries r.shown c.self.inside.merge now.disk.now now.cache.now now.entries.now now.shown.now c.self.invariant.1 c.get-read.ensures.stays.0
+    (g.met.D.Disk.now_is_image c.self.inside.disk) c.get-read.ensures.honesty
 
-pub returns-clause-found : goal.returns-clause-found
-returns-clause-found g c = rw (← c.self.view_is) (λ up.
-    let lent = reader_honest g.D.Disk.is_honest g.D.Disk.moments _ _ _ _ _ _ _ _ _ _ c.self.invariant.0 c.new-reader.ensures.disk c.new-reader.ensures.cache c.new-reader.ensures.entries c.new-reader.ensures.shown up c.if-self.false (g.met.D.Disk.now_is_image c.self.inside.disk up) in
-    answered_so _ _ c.get-read.result c.answered.result c.answered.ensures.same
-    (λ x is. is ∙ ap (λ l. get c.args.kind c.args.id c.args.time (rows_at c.args.pin (listed l))) c.new-reader.ensures.shown)
-    (c.get-read.ensures.found lent (c.places.ensures ∙ ap (map places_of) (sym c.new-reader.ensures.shown))))
+pub returns : goal.returns
+returns g c = record { answer = rw (← c.self.view_is) (
+    let r = c.new-reader.ensures in
+    let e = c.get-read.ensures in
+    let a = c.answered.ensures in
+    rows_answered g.D.Disk.is_honest g.D.Disk.moments g.D.Disk.failures g.D.Disk.bytes_read g.D.Disk.other_calls option_to_list (λ rows. option_to_list (get c.args.kind c.args.id c.args.time rows)) c.args.pin
+    (Lists c.places.result.now) _ c.answered.new.self c.self.inside.index c.new-reader.result.shown.now c.new-reader.result.entries.now
+    c.new-reader.result.disk.now c.get-read.new.reader.disk.now c.new-reader.result.cache.now c.get-read.new.reader.cache.now c.get-read.result c.answered.result
+    refl c.if-self.false r.disk r.cache r.entries r.shown
+    c.places.ensures (λ up. reader_honest g.D.Disk.is_honest g.D.Disk.moments _ _ _ _ _ _ _ _ _ _ c.self.invariant.0 r.disk r.cache r.entries r.shown up c.if-self.false (g.met.D.Disk.now_is_image c.self.inside.disk up))
+    (λ lent i. IfOk-weaker c.get-read.result _ _ (λ x is. ap option_to_list is) (e.found lent i)) e.undamaged e.work e.work_always
+    e.disk_faults e.stays.0 e.stays.5 e.stays.6 a.same a.left a.disk a.cache a.acknowledged) }
 
-pub returns-clause-query : goal.returns-clause-query
-returns-clause-query g c = rw (← c.self.view_is) (
-    answered_query g.D.Disk.is_honest g.D.Disk.moments g.D.Disk.failures _ c.answered.new.self c.new-reader.result.disk.now c.get-read.new.reader.disk.now c.get-read.new.reader.cache.now c.get-read.result c.answered.result
-    c.if-self.false c.new-reader.ensures.disk c.get-read.ensures.stays.0 c.get-read.ensures.disk_faults
-    (λ up.
-    let lent = reader_honest g.D.Disk.is_honest g.D.Disk.moments _ _ _ _ _ _ _ _ _ _ c.self.invariant.0 c.new-reader.ensures.disk c.new-reader.ensures.cache c.new-reader.ensures.entries c.new-reader.ensures.shown up c.if-self.false (g.met.D.Disk.now_is_image c.self.inside.disk up) in
-    c.get-read.ensures.undamaged lent (c.places.ensures ∙ ap (map places_of) (sym c.new-reader.ensures.shown)))
-    c.answered.ensures.same c.answered.ensures.left c.answered.ensures.disk c.answered.ensures.acknowledged)
-
-pub returns-clause-bytes_read : goal.returns-clause-bytes_read
-returns-clause-bytes_read g c = rw (← c.self.view_is) (
-    answered_bytes g.D.Disk.bytes_read _ _ c.new-reader.result.disk.now c.answered.new.self.disk c.get-read.new.reader.disk.now c.get-read.result c.answered.result c.answered.ensures.same c.new-reader.ensures.disk c.answered.ensures.disk c.get-read.ensures.work)
-
-pub returns-then-self-clause-query : goal.returns-then-self-clause-query
-returns-then-self-clause-query g c = rw (← c.self.view_is) (closed_query g.D.Disk.is_honest g.D.Disk.moments g.D.Disk.failures _ c.if-self.true)
-
-pub returns-clause-looked_up : goal.returns-clause-looked_up
-returns-clause-looked_up g c = rw (← c.self.view_is) (
-    through_cache g.D.Disk.bytes_read c.new-reader.result.entries.now c.self.inside.directory.entries c.new-reader.result.cache.now c.self.inside.cache c.get-read.new.reader.cache.now c.answered.new.self.cache c.new-reader.result.disk.now c.self.inside.disk c.get-read.new.reader.disk.now c.answered.new.self.disk
-    c.new-reader.ensures.entries c.new-reader.ensures.cache c.new-reader.ensures.disk c.answered.ensures.cache c.answered.ensures.disk c.get-read.ensures.stays.5)
-
-pub returns-then-self-clause-looked_up : goal.returns-then-self-clause-looked_up
-returns-then-self-clause-looked_up g c = rw (← c.self.view_is) (none_looks_up (is_listed c.self.inside.directory.entries) c.self.inside.cache (g.D.Disk.bytes_read c.self.inside.disk))
-
-pub returns-clause-other_calls : goal.returns-clause-other_calls
-returns-clause-other_calls g c = rw (← c.self.view_is) (calls_stay g.D.Disk.other_calls _ _ c.get-read.new.reader.disk.now _ c.new-reader.ensures.disk c.answered.ensures.disk c.get-read.ensures.stays.6)
-
-pub returns-clause-bytes_read_always : goal.returns-clause-bytes_read_always
-returns-clause-bytes_read_always g c = rw (← c.self.view_is) (
-    always_bytes g.D.Disk.bytes_read (λ l. sum_by row_cost (option_to_list (get c.args.kind c.args.id c.args.time (rows_at c.args.pin (listed l))))) _ _ c.self.inside.disk c.new-reader.result.disk.now c.answered.new.self.disk c.get-read.new.reader.disk.now c.new-reader.ensures.shown c.new-reader.ensures.disk c.answered.ensures.disk (c.get-read.ensures.work_always (c.places.ensures ∙ ap (map places_of) (sym c.new-reader.ensures.shown))))
+pub returns-then-self : goal.returns-then-self
+returns-then-self g c = record { answer = rw (← c.self.view_is) (closed_rows g.D.Disk.is_honest g.D.Disk.moments g.D.Disk.failures g.D.Disk.bytes_read g.D.Disk.other_calls option_to_list (λ rows. option_to_list (get c.args.kind c.args.id c.args.time rows)) c.args.pin _ c.if-self.true) }

@@ -1,16 +1,12 @@
-use Rattle.std.specs.List.{sum_by}
-use Rattle.std.proofs.Common.{◌+◌, ◌≤◌, subst, ◌∙◌}
-use Rattle.std.proofs.lemmas.Result.{IfOk-weaker}
-use Rattle.history_model.specs.History.{rows_at}
+use Rattle.std.proofs.Common.{subst}
 use Rattle.history_model.proofs.Paging.{search_from_the_first}
-use Rattle.history_store.specs.Reading.{row_cost}
+use Rattle.history_store.specs.Queries.{IsRowsQuery}
+use Rattle.history_store.proofs.Querying.{row_items}
 use Rattle.history_store.proofs.store.Store.terms.Goals as goal
 
-pub returns-clause-found : goal.returns-clause-found
-returns-clause-found g c = λ up.
-    IfOk-weaker c.search.result _ _ (λ rows is. is ∙ search_from_the_first c.args.prefix.now c.args.time c.args.limit (rows_at c.args.pin c.args.self.now.history.rows)) (c.search.ensures.found up)
-
-pub returns-clause-bytes_read_always : goal.returns-clause-bytes_read_always
-returns-clause-bytes_read_always g c =
-    subst (λ xs. g.D.Disk.bytes_read c.search.new.self.disk ≤ g.D.Disk.bytes_read c.args.self.now.disk + sum_by row_cost xs)
-    (search_from_the_first c.args.prefix.now c.args.time c.args.limit (rows_at c.args.pin c.args.self.now.history.rows)) c.search.ensures.bytes_read_always
+pub returns : goal.returns
+returns g c = record {
+  answer =
+      subst (λ wanted. IsRowsQuery c.search.result row_items wanted c.args.pin g.D.Disk.is_honest g.D.Disk.moments g.D.Disk.failures g.D.Disk.bytes_read g.D.Disk.other_calls c.args.self.now c.search.new.self)
+      (λ i rows. search_from_the_first c.args.prefix.now c.args.time c.args.limit rows i) c.search.ensures.answer;
+}

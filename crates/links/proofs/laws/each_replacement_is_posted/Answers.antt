@@ -1,5 +1,0 @@
-use Rattle.links.proofs.Posted.{each_replacement_is_posted}
-use Rattle.links.proofs.laws.each_replacement_is_posted.Goals as goal
-
-pub returns : goal.returns
-returns c = each_replacement_is_posted

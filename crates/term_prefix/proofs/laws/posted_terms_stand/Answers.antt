@@ -1,5 +1,0 @@
-use Rattle.term_prefix.proofs.Posted.{posted_terms_stand}
-use Rattle.term_prefix.proofs.laws.posted_terms_stand.Goals as goal
-
-pub returns : goal.returns
-returns c = posted_terms_stand
