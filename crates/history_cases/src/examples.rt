@@ -95,7 +95,8 @@ impl Examples {
     /// What an import brought.
     fn receipt(&self, words: &str) -> Answer {
         let imports = u32::from(self.imports);
-        let Some(receipt) = plain_history::import_receipt(imports, &self.rows, number(words)?) else {
+        let Some(receipt) = plain_history::import_receipt(imports, &self.rows, number(words)?)
+        else {
             return Ok(String::from_str(self.alloc, "none")?);
         };
         let new = receipt.new;
