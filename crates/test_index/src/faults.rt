@@ -142,7 +142,12 @@ fn an_association_is_read_only_where_it_is_answered(rt: HostRuntime) -> Result<(
     let rows = edges::made_rows(alloc)?;
     let made = index_imports(alloc, &rows, &[(1, 3), (4, 6)])?;
     let shown = plain_history::rows_at(alloc, 6, &rows)?;
-    let there = plain_history::replacements(alloc, &shown, sctid(ROOT)?, day(LAST_DAY)?)?.len() as u64;
+    let there = plain_history::replacements(
+        alloc,
+        &shown,
+        sctid(ROOT)?,
+        day(LAST_DAY)?,
+    )?.len() as u64;
     assert!(rt; there > 2, "{there} associations");
     let question = Question::Replacements(Asked::of(ROOT, LAST_DAY, 6)?);
     each_read_fails(&rt, alloc, &made, &question, there)

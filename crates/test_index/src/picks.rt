@@ -8,8 +8,8 @@ use crate::rows::{
 };
 use as_of_index::{Chosen, Index, MAX_LISTS, PlaceList, ReadFault, RowReader, laws, read_all};
 use history_model::StampedRow;
-use rf2_values::{Kind, Row};
 use index_support::{may_add, may_list};
+use rf2_values::{Kind, Row};
 use segment::RowPlace;
 use std::alloc::Global;
 use std::process::Abort;
