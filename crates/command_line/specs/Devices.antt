@@ -3,5 +3,5 @@ use Rattle.std.specs.Prelude.{ℕ}
 use Rattle.command_line.specs.declared.devices.FileDisks.{FileDisks}
 
 -- how many files were asked for
-abbrev pub files_asked : {R : Type 0} → FileDisks R → ℕ
+abbrev pub files_asked : {F R : Type 0} → FileDisks F R → ℕ
 files_asked files = files.asked
