@@ -24,6 +24,7 @@ mod starting;
 mod stepping;
 mod store;
 mod taken_blocks;
+mod upgrading;
 
 pub use history_model::{ImportReceipt, Receipt};
 pub use refusal::Refusal;

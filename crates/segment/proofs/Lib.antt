@@ -5,6 +5,7 @@ pub mod Found
 pub mod SegmentLaws
 pub mod Ascending
 pub mod Places
+pub mod Checksums
 pub mod Decoded
 pub mod Posting
 pub mod Unions

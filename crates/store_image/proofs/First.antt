@@ -36,14 +36,14 @@ unfolding of_first
 first_still_represents file h epoch entries = (
   λ s.
       let P : List ℕ → Type 0 = λ bytes. take (length bytes) s.content ≡ bytes in
-      let listing : IsListing (of_first epoch h.imports entries) = record { epoch = s.from_one; epoch_fits = s.epoch_fits; imports = s.imports_fit; count = s.few; entries = s.each; apart = s.entries_apart } in
+      let listing : IsListing (of_first epoch h.imports entries) = record { epoch = s.from_one; epoch_fits = s.epoch_fits; imports = s.imports_fit; count = s.few; entries = s.each; apart = s.entries_apart; forms = s.plain } in
       record {
         slot = s.slot;
         content = s.content;
         lists = s.lists;
         stands = s.stands;
         says = record {
-          lists_it = record { is = listing; front = subst P (same_bytes epoch h.imports entries) s.front };
+          lists_it = record { is = listing; front = subst P (same_bytes epoch h.imports entries) s.front; sum = tt };
           kept = record { listing = listing; segments = s.segments; apart = s.apart; history = s.history; kinds = λ i rows below. λ j row lower. was_kind _ (s.kinds_were i rows below j row lower) };
         };
         rows = s.rows;
@@ -62,6 +62,7 @@ first_still_represents file h epoch entries = (
         few = is.count;
         each = is.entries;
         entries_apart = is.apart;
+        plain = is.forms;
         front = subst P (sym (same_bytes epoch h.imports entries)) s.says.lists_it.front;
         segments = s.says.kept.segments;
         apart = s.says.kept.apart;

@@ -11,6 +11,7 @@ use Rattle.rf2_values.specs.Row.{kind_of}
 use Rattle.history_model.specs.declared.stamped.StampedRow.{StampedRow}
 use Rattle.history_model.specs.History.{History, IsHistory}
 use Rattle.history_model.specs.Lists.{AreLists, listed}
+use Rattle.checksum.specs.declared.form.Form.TheVariants as forms
 use Rattle.directory.specs.declared.entry.Entry.{Entry}
 use Rattle.directory.specs.declared.layout.Layout.TheVariants as layouts
 use Rattle.directory.specs.Places.{AreApart, extents_of}
@@ -44,6 +45,7 @@ pub record DidRepresent (file : List ℕ) (h : History) (epoch : ℕ) (entries :
   pub few : length entries ≤ 128
   pub each : AllByRecursion IsEntry entries
   pub entries_apart : AreApart (extents_of entries)
+  pub plain : AllByRecursion (λ (entry : Entry). entry.form ≡ forms.Plain) entries
   pub front : take (length (first_bytes epoch h.imports entries)) content
       ≡ first_bytes epoch h.imports entries
   pub segments : AreSegments entries lists

@@ -54,7 +54,7 @@ fn two_segments() -> [u8; 4096] {
 
 #[test]
 fn a_content_block_byte_for_byte(rt: HostRuntime) -> Result<(), Fail> {
-    let mut directory = Directory::new(rt.alloc())?;
+    let mut directory = Directory::new(rt.alloc(), Layout::Two)?;
     assert_eq!(rt; directory.epoch(), 1);
     assert_eq!(rt; directory.imports(), 0);
     assert_eq!(rt; directory.entries().len(), 0);
@@ -115,7 +115,7 @@ fn each_way_in_which_a_block_is_bad(rt: HostRuntime) -> Result<(), Fail> {
 
 #[test]
 fn entries_go_last_and_close_up(rt: HostRuntime) -> Result<(), Fail> {
-    let mut directory = Directory::new(rt.alloc())?;
+    let mut directory = Directory::new(rt.alloc(), Layout::Two)?;
     directory.add(FIRST);
     directory.add(SECOND);
     assert_eq!(rt; directory.entries(), [FIRST, SECOND].as_slice());
