@@ -38,7 +38,7 @@ pub(crate) fn open_and_decode(rt: &HostRuntime, path: &str) -> Option<u64> {
     let decoding = start_watch(rt)?;
     let mut rows: u64 = 0;
     for entry in directory.entries() {
-        let found = decode(rt.alloc(), segment_in(&bytes, entry)?).ok()?;
+        let found = decode(rt.alloc(), entry.form, segment_in(&bytes, entry)?).ok()?;
         rows = rows.saturating_add(found.len() as u64);
     }
     decoding.tell(rt, "decode, and give the rows back")?;

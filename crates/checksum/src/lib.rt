@@ -64,6 +64,3 @@ pub fn crc32c(bytes: &[u8]) -> u32
 {
     append(0, bytes)
 }
-
-#[cfg(test)]
-mod tests;

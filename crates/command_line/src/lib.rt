@@ -17,6 +17,7 @@ mod running;
 mod serving;
 mod system;
 mod telling;
+mod upgrading;
 mod words;
 
 pub use demonstration::SCRIPT;

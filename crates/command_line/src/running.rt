@@ -5,7 +5,7 @@ ghost use Rattle.command_line.specs.Endings.{report};
 ghost use Rattle.line_server.specs.Streams.{streams};
 ghost use Rattle.line_server.specs.Sources.{source_view};
 ghost use Rattle.store_life.specs.DeviceView.{device_view};
-ghost use Rattle.command_line.specs.Tasks.{IsImport, IsStatus, IsServing};
+ghost use Rattle.command_line.specs.Tasks.{IsImport, IsStatus, IsServing, IsUpgrade};
 ghost use Rattle.command_line.specs.Merging.{IsMergedOnDisk};
 ghost use Rattle.command_line.specs.Runs.{IsDoneAt, IsMadeAt, IsMissing, IsDemonstrated, Does};
 ghost use Rattle.command_line.specs.Runs.{IsRun, IsNoTask, IsExplained};
@@ -20,7 +20,9 @@ use crate::merging::merge;
 use crate::serving::{serve_device, serve_new};
 use crate::system::System;
 use crate::telling::{Context, Told, tell_figures, tell_why};
+use crate::upgrading::upgrade;
 use crate::words::{Refused, Task, task_of};
+use directory::Layout;
 use disk_model::MemDisk;
 use history_store::Refusal;
 use line_server::ServeFault;
@@ -96,7 +98,7 @@ fn perform<P: System, I: Read, O: Write, E: Write>(
         (O.contents output.old) (O.contents output.new)) }
 {
     match task {
-        Task::Init { store } => init_at(system, alloc, *store, output, faults),
+        Task::Init { store, layout } => init_at(system, alloc, *store, *layout, output, faults),
         Task::Import {
             store,
             releases,
@@ -112,20 +114,22 @@ fn perform<P: System, I: Read, O: Write, E: Write>(
         Task::Merge { store, segments } => {
             merge_at(system, alloc, *store, *segments, output, faults)
         }
+        Task::Upgrade { store } => upgrade_at(system, alloc, *store, output, faults),
         Task::Demo => (demo(alloc, output), None),
     }
 }
 
-/// Makes a store under a name. The name is seen to stay before anything is written, so that a store
+/// Makes a store of this version under a name. The name is seen to stay before anything is written, so that a store
 /// that was made is found after a stop.
 fn init_at<P: System, O: Write, E: Write>(
     system: &P,
     alloc: Global,
     path: &str,
+    layout: Layout,
     output: &mut O,
     faults: &mut E,
 ) -> Ended<P::Device>
-    ensures { IsMadeAt (record {
+    ensures { IsMadeAt layout (record {
       stands = P.stands system.now;
       withholds = P.withholds system.now;
       makes = P.makes system.now;
@@ -146,7 +150,7 @@ fn init_at<P: System, O: Write, E: Write>(
         let ended = refuse(alloc, output, Refusal::DiskFault, &mut told);
         return (ended, Some(device));
     }
-    let (ended, left) = init(alloc, device, output, &mut told);
+    let (ended, left) = init(alloc, device, layout, output, &mut told);
     let context = Context {
         store: path,
         last_error: system.last_error(&left),
@@ -285,6 +289,38 @@ fn merge_at<P: System, O: Write, E: Write>(
     match stands {
         Ok(device) => {
             let (ended, left) = merge(alloc, device, path, most, output, &mut told, faults);
+            let context = Context {
+                store: path,
+                last_error: system.last_error(&left),
+            };
+            tell_why(told, &context, faults);
+            (ended, Some(left))
+        }
+        Err(_) => (refuse(alloc, output, Refusal::DiskFault, &mut told), None),
+    }
+}
+
+/// Brings the store under a name to version 3.
+fn upgrade_at<P: System, O: Write, E: Write>(
+    system: &P,
+    alloc: Global,
+    path: &str,
+    output: &mut O,
+    faults: &mut E,
+) -> Ended<P::Device>
+    ensures { IsDoneAt (P.stands system.now path.now)
+        (λ device after. IsUpgrade
+        (device_view P.Device.is_honest P.Device.moments P.Device.failures P.Device.bytes_read)
+        device after
+        (report result.0 (O.contents output.old) (O.contents output.new)))
+        (IsMissing (report result.0 (O.contents output.old) (O.contents output.new))
+        × P.withholds system.now path.now) result.1 }
+{
+    let mut told = Told::new();
+    let had = system.device(path, faults);
+    match had {
+        Ok(device) => {
+            let (ended, left) = upgrade(alloc, device, output, &mut told);
             let context = Context {
                 store: path,
                 last_error: system.last_error(&left),

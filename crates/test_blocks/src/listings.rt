@@ -1,6 +1,7 @@
 //! Directories as values and as bytes, and where a segment finds room.
 
 use blocks::Extent;
+use checksum::Form;
 use directory::{Directory, DirectoryFault, Entry, Full, Layout, first_fit};
 use std::test::Fail;
 
@@ -18,12 +19,14 @@ const FIRST: Entry = Entry {
     first: 4,
     bytes: 46,
     rows: 1,
+    form: Form::Plain,
 };
 
 const SECOND: Entry = Entry {
     first: 5,
     bytes: 8192,
     rows: 3,
+    form: Form::Plain,
 };
 
 /// Both segments in one.
@@ -31,6 +34,7 @@ const BOTH: Entry = Entry {
     first: 8,
     bytes: 8238,
     rows: 4,
+    form: Form::Plain,
 };
 
 /// A block with these bytes in front, and another byte in the rest.
@@ -142,6 +146,7 @@ fn segment(first: u32, bytes: u32) -> Entry {
         first,
         bytes,
         rows: 1,
+        form: Form::Plain,
     }
 }
 
@@ -152,11 +157,13 @@ fn the_least_place_is_found(rt: HostRuntime) {
             first: 4,
             bytes: 46,
             rows: 1,
+            form: Form::Plain,
         },
         Entry {
             first: 6,
             bytes: 8192,
             rows: 1,
+            form: Form::Plain,
         },
     ];
     let reserved = Some(Extent {

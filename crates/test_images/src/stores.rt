@@ -4,10 +4,10 @@ ghost use Rattle.std.specs.Prelude.{◌≤◌};
 ghost use Rattle.disk_model.specs.MemDisk.{changes_of};
 
 use blocks::Slot;
-use directory::{Directory, Entry};
+use directory::{Directory, Entry, Layout};
 use disk_model::{Choice, Disk, DiskFault, MemDisk};
 use history_model::StampedRow;
-use segment::RowPlace;
+use segment::{Form, RowPlace};
 use std::alloc::{AllocError, Global};
 use std::test::Fail;
 use store_image::{
@@ -78,12 +78,14 @@ const FIRST: Entry = Entry {
     first: 4,
     bytes: 46,
     rows: 1,
+    form: Form::Plain,
 };
 
 const SECOND: Entry = Entry {
     first: 5,
     bytes: 46,
     rows: 1,
+    form: Form::Plain,
 };
 
 /// The segment of the rows of both.
@@ -91,6 +93,7 @@ const BOTH: Entry = Entry {
     first: 6,
     bytes: 92,
     rows: 2,
+    form: Form::Plain,
 };
 
 /// A store after two imports, and the directory that lists one segment in the place of both.
@@ -108,7 +111,7 @@ fn import_two(alloc: Global, second: &[u8; 46]) -> Result<Unmerged, Fail> {
     let Made {
         slot,
         mut directory,
-    } = make(alloc, &mut disk)?;
+    } = make(alloc, &mut disk, Layout::Two)?;
     directory.advance(1);
     directory.add(FIRST);
     let slot = add_segment(&mut disk, slot, &directory, FIRST, &ROOT)?;
@@ -158,7 +161,7 @@ fn patch_byte(alloc: Global, disk: &MemDisk, place: usize, byte: u8) -> Result<M
 fn an_empty_store(rt: HostRuntime) -> Result<(), Fail> {
     let mut disk = MemDisk::new(rt.alloc());
     assert_eq!(rt; check_empty(&mut disk), Ok(()));
-    let made = make(rt.alloc(), &mut disk)?;
+    let made = make(rt.alloc(), &mut disk, Layout::Two)?;
     assert_eq!(rt; made.slot, Slot::A);
     assert_eq!(rt; made.directory.epoch(), 1);
     assert_eq!(rt; disk.bytes().len(), 16384);
@@ -167,7 +170,7 @@ fn an_empty_store(rt: HostRuntime) -> Result<(), Fail> {
     assert_eq!(rt; store.directory.epoch(), 1);
     assert_eq!(rt; store.places.len(), 0);
     assert_eq!(rt; check_empty(&mut disk), Err(MakeFault::NotEmpty));
-    let again = make(rt.alloc(), &mut disk);
+    let again = make(rt.alloc(), &mut disk, Layout::Two);
     assert_eq!(rt; again.err(), Some(MakeFault::NotEmpty));
     Ok(())
 }
@@ -177,11 +180,11 @@ fn a_disk_that_cannot_be_looked_at_stays(rt: HostRuntime) -> Result<(), Fail> {
     let alloc = rt.alloc();
     let mut disk = MemDisk::from_bytes(alloc, vec![in alloc; 1, 2, 3]?);
     disk.set_read_break(0);
-    let refused = make(alloc, &mut disk);
+    let refused = make(alloc, &mut disk, Layout::Two);
     assert_eq!(rt; refused.err(), Some(MakeFault::DiskFault));
     assert_eq!(rt; disk.changes(), 0);
     assert_eq!(rt; disk.bytes(), [1, 2, 3].as_slice());
-    let refused = make(alloc, &mut disk);
+    let refused = make(alloc, &mut disk, Layout::Two);
     assert_eq!(rt; refused.err(), Some(MakeFault::NotEmpty));
     Ok(())
 }
@@ -192,7 +195,7 @@ fn an_import_byte_for_byte(rt: HostRuntime) -> Result<(), Fail> {
     let Made {
         slot,
         mut directory,
-    } = make(rt.alloc(), &mut disk)?;
+    } = make(rt.alloc(), &mut disk, Layout::Two)?;
     directory.advance(1);
     directory.add(FIRST);
     let slot = add_segment(&mut disk, slot, &directory, FIRST, &ROOT)?;

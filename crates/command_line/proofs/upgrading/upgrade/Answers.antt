@@ -1,0 +1,2 @@
+use Rattle.std.proofs.Common.{refl}
+use Rattle.command_line.proofs.upgrading.upgrade.Goals as goal
