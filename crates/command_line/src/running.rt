@@ -317,8 +317,8 @@ fn upgrade_at<P: System, O: Write, E: Write>(
         × P.withholds system.now path.now) result.1 }
 {
     let mut told = Told::new();
-    let had = system.device(path, faults);
-    match had {
+    let before = system.device(path, faults);
+    match before {
         Ok(device) => {
             let (ended, left) = upgrade(alloc, device, output, &mut told);
             let context = Context {

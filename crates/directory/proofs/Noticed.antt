@@ -20,7 +20,7 @@ all_joined : (P : ℕ → Type 0) (xs : List ℕ) (y : ℕ) (ys : List ℕ) → 
 all_joined P [] y ys all p others = (p, others)
 all_joined P (x ∷ xs) y ys all p others = (all.0, all_joined P xs y ys all.1 p others)
 
-all_take : (P : ℕ → Type 0) (n : ℕ) (xs : List ℕ) → AllByRecursion P xs → AllByRecursion P (take n xs)
+pub all_take : (P : ℕ → Type 0) (n : ℕ) (xs : List ℕ) → AllByRecursion P xs → AllByRecursion P (take n xs)
 all_take P zero xs all = tt
 all_take P (suc n) [] all = tt
 all_take P (suc n) (x ∷ xs) all = (all.0, all_take P n xs all.1)
@@ -31,14 +31,14 @@ same_past zero before after b c short = absurd (omega (arith, short))
 same_past (suc n) [] after b c short = refl
 same_past (suc n) (x ∷ before) after b c short = same_past n before after b c (omega (arith, short))
 
-taken_past : (n : ℕ) (before after : List ℕ) (b : ℕ) → length before < n → take n (before ++ b ∷ after) ≡ before ++ b ∷ take (n - (length before + 1)) after
+pub taken_past : (n : ℕ) (before after : List ℕ) (b : ℕ) → length before < n → take n (before ++ b ∷ after) ≡ before ++ b ∷ take (n - (length before + 1)) after
 taken_past zero before after b short = absurd (omega (arith, short))
 taken_past (suc n) [] after b short = let e : suc n - (0 + 1) ≡ n = omega arith in ap (λ (m : ℕ). b ∷ take m after) (sym e)
 taken_past (suc n) (x ∷ before) after b short =
     let e : suc n - (suc (length before) + 1) ≡ n - (length before + 1) = omega arith in
     ap (λ (l : List ℕ). x ∷ l) (taken_past n before after b (omega (arith, short)) ∙ ap (λ (m : ℕ). before ++ b ∷ take m after) (sym e))
 
-same_at : (before after : List ℕ) (b c i : ℕ) → i ≢ length before → get_or (before ++ b ∷ after) i 0 ≡ get_or (before ++ c ∷ after) i 0
+pub same_at : (before after : List ℕ) (b c i : ℕ) → i ≢ length before → get_or (before ++ b ∷ after) i 0 ≡ get_or (before ++ c ∷ after) i 0
 same_at [] after b c zero other = absurd (other refl)
 same_at [] after b c (suc i) other = refl
 same_at (x ∷ before) after b c zero other = refl

@@ -103,11 +103,11 @@ same_past zero before after b c short = absurd (omega (arith, short))
 same_past (suc n) [] after b c short = refl
 same_past (suc n) (x ∷ before) after b c short = same_past n before after b c (omega (arith, short))
 
-all_split : (P : ℕ → Type 0) (xs : List ℕ) (y : ℕ) (ys : List ℕ) → AllByRecursion P (xs ++ y ∷ ys) → AllByRecursion P xs × P y × AllByRecursion P ys
+pub all_split : (P : ℕ → Type 0) (xs : List ℕ) (y : ℕ) (ys : List ℕ) → AllByRecursion P (xs ++ y ∷ ys) → AllByRecursion P xs × P y × AllByRecursion P ys
 all_split P [] y ys all = (tt, all.0, all.1)
 all_split P (x ∷ xs) y ys all = let rest = all_split P xs y ys all.1 in ((all.0, rest.0), rest.1, rest.2)
 
-all_joined : (P : ℕ → Type 0) (xs : List ℕ) (y : ℕ) (ys : List ℕ) → AllByRecursion P xs → P y → AllByRecursion P ys → AllByRecursion P (xs ++ y ∷ ys)
+pub all_joined : (P : ℕ → Type 0) (xs : List ℕ) (y : ℕ) (ys : List ℕ) → AllByRecursion P xs → P y → AllByRecursion P ys → AllByRecursion P (xs ++ y ∷ ys)
 all_joined P [] y ys all p others = (p, others)
 all_joined P (x ∷ xs) y ys all p others = (all.0, all_joined P xs y ys all.1 p others)
 

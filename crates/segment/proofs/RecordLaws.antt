@@ -43,7 +43,7 @@ small_id kinds.Concrete n is = omega (arith, is.sctid.high)
 small_time : (t : ℕ) → IsTime t → t < 2 ^ 32
 small_time t is = omega (arith, is.year_to)
 
-common_fits : (s : StampedRow) → IsStamped s → AllByRecursion Fits (common_fields s)
+pub common_fits : (s : StampedRow) → IsStamped s → AllByRecursion Fits (common_fields s)
 common_fits s is =
     (small_kind (kind_of s.row), (small_id (kind_of s.row) s.row.id is.row.id, (small_time s.row.time is.row.time, (is.fits, (small_flag s.row.active, (omega (arith, is.row.module_id.sctid.high), tt))))))
 

@@ -1,8 +1,8 @@
 -- Rows as bytes: a record for each, and a segment of records in key order.
-use Rattle.std.specs.Prelude.{◌≡◌, ◌↔◌, ℕ, ◌+◌, ◌^◌, ◌<◌, ◌≤◌, Bool, true, false, List, [], ◌∷◌, ◌++◌}
+use Rattle.std.specs.Prelude.{◌≡◌, ◌≢◌, ◌↔◌, ◌⊎◌, ℕ, ◌+◌, ◌-◌, ◌^◌, ◌<◌, ◌≤◌, Bool, true, false, List, [], ◌∷◌, ◌++◌}
 use Rattle.std.specs.Prelude.{length, take, drop}
 use Rattle.std.specs.List.{AllByRecursion, flat_map}
-use Rattle.std.specs.Int.{Width, w8, w16, w32, w64, w128, to_be_bytes}
+use Rattle.std.specs.Int.{Width, w8, w16, w32, w64, w128, byte_len, to_be_bytes}
 use Rattle.rf2_values.specs.declared.row.Kind.{Kind}
 use Rattle.rf2_values.specs.declared.row.Kind.TheVariants as kinds
 use Rattle.rf2_values.specs.declared.row.Body.{Body}
@@ -151,3 +151,27 @@ ChangedByteIsNoticed = (s other : StampedRow) (before after : List ℕ) (byte ch
     → AllByRecursion (λ b. b < 256) (before ++ byte ∷ after) → changed < 256
     → record_in forms.Checked s ≡ before ++ byte ∷ after
     → record_in forms.Checked other ≡ before ++ changed ∷ after → byte ≡ changed
+
+-- the byte at a place of fields says how many bytes they have: of a text it is one of the two before
+-- it
+abbrev pub SaysLength : List Field → ℕ → Type 0
+SaysLength [] place = ⊥
+SaysLength (Number width n ∷ fields) place =
+    (byte_len width ≤ place) × SaysLength fields (place - byte_len width)
+SaysLength (Text text ∷ fields) place = (place < 2)
+    ⊎ ((2 + length text ≤ place) × SaysLength fields (place - (2 + length text)))
+
+-- the byte at a place of a checked record says how long it is: it is the kind, or of the number of
+-- bytes of a text
+abbrev pub IsOfLength : StampedRow → ℕ → Type 0
+IsOfLength s place = (place ≡ 4) ⊎ ((4 ≤ place) × SaysLength (fields_of s) (place - 4))
+
+-- where one byte of a checked record was changed that doesn't say how long it is, bytes that began
+-- with the record begin with the record of no row
+abbrev pub ChangedRecordIsNone : Type 0
+ChangedRecordIsNone = (s t : StampedRow) (x y before after : List ℕ) (byte changed : ℕ)
+    → IsStamped s → IsStamped t
+    → AllByRecursion (λ b. b < 256) (before ++ byte ∷ after) → changed < 256 → byte ≢ changed
+    → length before < length (record_of s) → (IsOfLength s (length before) → ⊥)
+    → record_in forms.Checked s ++ x ≡ before ++ byte ∷ after
+    → record_in forms.Checked t ++ y ≡ before ++ changed ∷ after → ⊥

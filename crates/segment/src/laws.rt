@@ -2,6 +2,7 @@
 
 ghost use Rattle.segment.specs.Records.{OneSegment, OneRecord, EachAtItsPlace, PiecesJoin};
 ghost use Rattle.segment.specs.Records.{EquallyLong, PlainIsAsBefore, ChangedByteIsNoticed};
+ghost use Rattle.segment.specs.Records.{ChangedRecordIsNone};
 ghost use Rattle.segment.specs.Standing.{EachStandsAtItsByte};
 
 /// Bytes spell at most one list of rows.
@@ -43,4 +44,10 @@ pub fn plain_is_as_before()
 /// A checked record in which one byte was changed is the record of no row.
 pub fn changed_byte_is_noticed()
     ensures { ChangedByteIsNoticed }
+{}
+
+/// Bytes that begin with a checked record in which one byte was changed that doesn't say how long it
+/// is begin with no record.
+pub fn changed_record_is_none()
+    ensures { ChangedRecordIsNone }
 {}
