@@ -3,6 +3,7 @@
 ghost use Rattle.std.specs.Prelude.{◌≡◌, ◌≢◌, ◌⊎◌, ◌↔◌, ◌+◌, ◌≤◌, ◌∷◌, [], false, true};
 ghost use Rattle.std.specs.Prelude.{IfErr, OnOk, OnErr};
 ghost use Rattle.disk_model.specs.Disk.{LeavesOnly};
+ghost use Rattle.directory.specs.declared.layout.Layout.TheVariants as layouts;
 
 use crate::preparing::in_version_three;
 use crate::refusal::Refusal;
@@ -10,8 +11,18 @@ use crate::store::Store;
 use directory::Layout;
 use disk_model::Disk;
 
+/// Whether it is version 3.
+fn is_three(layout: Layout) -> bool
+    ensures three { result ≡ true → layout ≡ layouts.Three }
+    ensures older { result ≡ false → layout ≢ layouts.Three }
+{
+    match layout {
+        Layout::One | Layout::Two => false,
+        Layout::Three => true,
+    }
+}
+
 impl<D: Disk> Store<D> {
-    ghost use Rattle.directory.specs.declared.layout.Layout.TheVariants as layouts;
     ghost use Rattle.blocks.specs.Calls.{MakesCalls};
     ghost use Rattle.blocks.specs.Outside.{SameOutside, StemsWithin};
     ghost use Rattle.blocks.specs.Slots.{slots_range};
@@ -72,7 +83,7 @@ impl<D: Disk> Store<D> {
         if self.needs_reopen {
             return Err(Refusal::ReopenNeeded);
         }
-        if matches!(self.directory.layout(), Layout::Three) {
+        if is_three(self.directory.layout()) {
             return Ok(());
         }
         if self.directory.epoch() == u64::MAX {

@@ -6,7 +6,7 @@ pub mod SegmentLaws
 pub mod Ascending
 pub mod Places
 pub mod Checksums
-mod Lengths
+pub mod Lengths
 pub mod Decoded
 pub mod Posting
 pub mod Unions

@@ -20,7 +20,7 @@ use Rattle.store_image.specs.Images.{Represents}
 use Rattle.store_image.specs.Damage.{IsDamaged}
 use Rattle.store_image.specs.Changed.{IsChanged, ChangedDirectoryIsDamaged, ChangedEpochShowsTheOther}
 
-all_drop : (P : ℕ → Type 0) (n : ℕ) (xs : List ℕ) → AllByRecursion P xs → AllByRecursion P (drop n xs)
+pub all_drop : (P : ℕ → Type 0) (n : ℕ) (xs : List ℕ) → AllByRecursion P xs → AllByRecursion P (drop n xs)
 all_drop P 0 xs all = all
 all_drop P (suc n) [] all = tt
 all_drop P (suc n) (x ∷ xs) all = all_drop P n xs all.1
@@ -118,3 +118,64 @@ changed_directory_is_damaged before after byte changed h epoch entries stands is
     let eight : (b : ℕ) → take 8 (content_of stands.slot (before ++ b ∷ after)) ≡ take 8 front = λ b. ap (take 8) (parts before after byte changed h epoch entries stands is le lt b) ∙ take-append-le 8 front (b ∷ rest) long in
     let same : epoch_of (content_of stands.slot (before ++ changed ∷ after)) ≡ epoch = ap (from_be_bytes w64) (eight changed ∙ sym (eight byte)) ∙ stands.stands.slot.0.epoch_is in
     damaged before after byte changed h epoch entries stands is le lt epoch same (above_still before after byte changed h epoch entries stands is le lt)
+
+-- ---- the epoch
+
+other_twice : (slot : Slot) → other (other slot) ≡ slot
+other_twice A = refl
+other_twice B = refl
+
+one_or_other : (slot one : Slot) → (one ≡ slot) ⊎ (one ≡ other slot)
+one_or_other A A = inl refl
+one_or_other A B = inr refl
+one_or_other B A = inr refl
+one_or_other B B = inl refl
+
+-- of two open slots with one epoch none is the greatest
+none_greatest : (file : List ℕ) (slot one : Slot) (k : ℕ) → IsOpen slot file → IsOpen (other slot) file → epoch_of (content_of (other slot) file) ≡ epoch_of (content_of slot file) → IsGreatest one k file → ⊥
+none_greatest file slot one k opened also same greatest = elim (one_or_other slot one) [
+  | inl is ↦
+      let g = subst (λ (s : Slot). IsGreatest s k file) is greatest in
+      let below = g.above also in
+      let at = g.epoch_is in
+      omega (arith, same, below, at)
+  | inr is ↦
+      let g = subst (λ (s : Slot). IsGreatest s k file) is greatest in
+      let above = subst (λ (s : Slot). IsOpen s file → epoch_of (content_of s file) < k) (other_twice slot) g.above in
+      let below = above opened in
+      let at = g.epoch_is in
+      omega (arith, same, below, at)
+]
+
+pub changed_epoch_shows_the_other : ChangedEpochShowsTheOther
+changed_epoch_shows_the_other before after byte changed h epoch entries stands is le short =
+    let slot = stands.slot in
+    let new = before ++ changed ∷ after in
+    let lt : length before < content_at slot + 4096 = omega (arith, short) in
+    let mine = epoch_of (content_of slot new) in
+    let others = epoch_of (content_of (other slot) new) in
+    let opened = open_still before after byte changed h epoch entries stands is le lt slot stands.stands.slot.0.open_gate in
+    elim (cases_eq (get_or new (gate_at (other slot)) 0) 165) [
+      | inr closed ↦ inl (damaged before after byte changed h epoch entries stands is le lt mine refl (λ also. absurd (closed also)))
+      | inl also ↦ elim (cases_lt others mine) [
+          | inl below ↦ inl (damaged before after byte changed h epoch entries stands is le lt mine refl (λ opened_too. below))
+          | inr not_below ↦ elim (cases_eq others mine) [
+              | inl equal ↦ inr (inl (λ current content was. none_greatest new slot current.slot current.epoch opened also equal was.0))
+              | inr apart ↦
+                  inr (inr (
+                    open_before before after byte changed h epoch entries stands is le lt (other slot) also,
+                    others,
+                    above_still before after byte changed h epoch entries stands is le lt also,
+                    (
+                      record {
+                        whole = whole_still before after byte changed h epoch entries stands is le lt;
+                        open_gate = also;
+                        epoch_is = refl;
+                        above = subst (λ (s : Slot). IsOpen s new → epoch_of (content_of s new) < others) (sym (other_twice slot)) (λ opened_too. omega (arith, not_below, apart));
+                      },
+                      other_still before after byte changed h epoch entries stands is le lt,
+                    ),
+                  ))
+            ]
+        ]
+    ]
