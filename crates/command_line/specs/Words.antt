@@ -92,6 +92,14 @@ program =
 
 -- ---- what is asked for
 
+-- the values of this making of a store were read
+abbrev pub IsInitOf : List Row → Task → Type 0
+IsInitOf rows (tasks.Init store layout) =
+    (first_of (codes "store") rows ≡ Some store.now)
+    × (text : Text) × (first_of (codes "layout") rows ≡ Some text)
+    × (number_of layout ≡ digits_value 10 (without_leading_plus text))
+IsInitOf rows task = ⊥
+
 -- the values of this import were read
 abbrev pub IsImportOf : List Row → Task → Type 0
 IsImportOf rows (tasks.Import store folder name quiet) =
@@ -105,9 +113,7 @@ IsImportOf rows task = ⊥
 abbrev pub Reads : Option (Text × List Row) → Task → Type 0
 Reads None task = ⊥
 Reads (Some read) (tasks.Init store layout) =
-    (read.0 ≡ codes "init") × (first_of (codes "store") read.1 ≡ Some store.now)
-    × (text : Text) × (first_of (codes "layout") read.1 ≡ Some text)
-    × (number_of layout ≡ digits_value 10 (without_leading_plus text))
+    (read.0 ≡ codes "init") × IsInitOf read.1 (tasks.Init store layout)
 Reads (Some read) (tasks.Import store folder name quiet) =
     (read.0 ≡ codes "import") × IsImportOf read.1 (tasks.Import store folder name quiet)
 Reads (Some read) (tasks.Serve store releases) =

@@ -5,7 +5,7 @@ ghost use Rattle.std.specs.Prelude.{string_bytes};
 ghost use Rattle.clap.specs.Matches.{found_of};
 ghost use Rattle.clap.specs.Simple.{new_app, subcommand_rows_of};
 ghost use Rattle.clap.specs.Walk.{first_of, rows_of};
-ghost use Rattle.command_line.specs.Words.{IsImportOf, Reads, AskFor, AskForNone};
+ghost use Rattle.command_line.specs.Words.{IsImportOf, IsInitOf, Reads, AskFor, AskForNone};
 ghost use Rattle.command_line.specs.Private.{IsArgument, IsCommand};
 ghost use Rattle.command_line.specs.Words.{wanted, option, optional, flag, segments_option};
 ghost use Rattle.command_line.specs.Words.{init_command, import_command, serve_command};
@@ -283,16 +283,7 @@ fn task_in<'a>(matches: &ArgMatches<'a>) -> Option<Task<'a>>
 {
     let (name, found) = matches.subcommand()?;
     match name {
-        "init" => {
-            let store = found.get_str("store")?;
-            match found.get_str("layout")?.parse() {
-                Ok(number) => Some(Task::Init {
-                    store,
-                    layout: layout_with(number)?,
-                }),
-                Err(_) => None,
-            }
-        }
+        "init" => init_of(found),
         "import" => import_of(found),
         "serve" => Some(Task::Serve {
             store: found.get_str("store")?,
@@ -313,6 +304,20 @@ fn task_in<'a>(matches: &ArgMatches<'a>) -> Option<Task<'a>>
         }),
         "demo" => Some(Task::Demo),
         _ => None,
+    }
+}
+
+/// The making of a store that the words ask for.
+fn init_of<'a>(found: &ArgMatches<'a>) -> Option<Task<'a>>
+    ensures { IfSome result (IsInitOf (rows_of (found_of found.now))) }
+{
+    let store = found.get_str("store")?;
+    match found.get_str("layout")?.parse() {
+        Ok(number) => {
+            let layout = layout_with(number)?;
+            Some(Task::Init { store, layout })
+        }
+        Err(_) => None,
     }
 }
 

@@ -1,5 +1,5 @@
 -- An upgrade to version 3.
-use Rattle.std.specs.Prelude.{Result, Ok, Err, OnOk}
+use Rattle.std.specs.Prelude.{Result, Ok, Err, OnOk, IfErr}
 use Rattle.std.proofs.Common.{◌≡◌, ◌≢◌, ◌⊎◌, inl, inr, ℕ, ◌+◌, ◌<◌, false, List, [], ◌∷◌, ◌++◌, length, map, refl, sym, ap, subst, ◌∙◌, arith}
 use Rattle.disk_model.specs.Disk.{Moments, LeavesOnly}
 use Rattle.lru.specs.LruCache.{LruCache}
@@ -81,6 +81,9 @@ six_calls layouts.Three other = absurd (other refl)
 pub calls_upgraded : (r : Result (Unit {0}) Refusal) (layout : Layout) (old new : Moments) → layout ≢ layouts.Three → MakesCalls r 6 old new → MakesCalls r (upgrade_calls layout) old new
 calls_upgraded r layout old new other calls = subst (λ n. MakesCalls r n old new) (sym (six_calls layout other)) calls
 
-pub not_at_once : {D : Type 0} (r : Result (Unit {0}) Refusal) (old new : StoreValue D) (next : DirectoryValue) → IsStep r old new (with_imports old.history next.imports) (catalog_of next old.catalog.merge) → (e : Refusal) → r ≡ Err e → e ≡ refusals.DiskFault
-not_at_once (Ok done) old new next step e is = absurd cc
-not_at_once (Err f) old new next step e is = (let same : f ≡ e = cc in sym same ∙ step.0)
+pub uncalled_upgraded : {D : Type 0} (r : Result (Unit {0}) Refusal) (old new : StoreValue D) (next : DirectoryValue) (a b : ℕ) → IsStep r old new (with_imports old.history next.imports) (catalog_of next old.catalog.merge) → IfErr r (λ e. e ≢ refusals.DiskFault → b ≡ a)
+uncalled_upgraded (Ok done) old new next a b step = tt
+uncalled_upgraded (Err e) old new next a b step = λ other. absurd (other step.0)
+
+pub no_calls : (layout : Layout) (n : ℕ) → layout ≡ layouts.Three → n ≡ n + upgrade_calls layout
+no_calls layout n is = subst (λ (v : Layout). n ≡ n + upgrade_calls v) (sym is) (omega arith)
