@@ -24,6 +24,7 @@ SCRIPTS = [
     ("try_hub.py",),
     ("soak.py", "12", "1"),
     ("soak.py", "12", "2"),
+    ("try_flips.py", "5000", "100"),
 ]
 NOT_RUN = 3
 
