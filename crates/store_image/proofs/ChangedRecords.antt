@@ -138,23 +138,23 @@ none_begins s behind (t ∷ more) P rest byte changed place is all bytes small d
     changed_record_is_none s t (segment_in forms.Checked behind) (segment_in forms.Checked more) P rest byte changed is all.0 bytes small differs (omega (arith, within, at)) (λ says. free (subst (IsOfLength s) at says))
     (sym (cons_join forms.Checked s behind) ∙ here) (sym (cons_join forms.Checked t more) ∙ sym there)
 
-no_rows_there : (s : StampedRow) (behind rows front : List StampedRow) (B rest : List ℕ) (byte changed place : ℕ) → AllByRecursion IsStamped (front ++ s ∷ behind) → AllByRecursion IsStamped rows
-    → AllByRecursion (λ b. b < 256) (B ++ byte ∷ rest) → changed < 256 → byte ≢ changed → place < length (record_of s) → (IsOfLength s place → ⊥) → length B ≡ length (segment_of front) + place
-    → segment_in forms.Checked (front ++ s ∷ behind) ≡ B ++ byte ∷ rest → segment_in forms.Checked rows ≡ B ++ changed ∷ rest → ⊥
-no_rows_there s behind rows front B rest byte changed place each others bytes small differs within free at is also =
+no_rows_there : (s : StampedRow) (behind rows front : List StampedRow) (part rest : List ℕ) (byte changed place : ℕ) → AllByRecursion IsStamped (front ++ s ∷ behind) → AllByRecursion IsStamped rows
+    → AllByRecursion (λ b. b < 256) (part ++ byte ∷ rest) → changed < 256 → byte ≢ changed → place < length (record_of s) → (IsOfLength s place → ⊥) → length part ≡ length (segment_of front) + place
+    → segment_in forms.Checked (front ++ s ∷ behind) ≡ part ++ byte ∷ rest → segment_in forms.Checked rows ≡ part ++ changed ∷ rest → ⊥
+no_rows_there s behind rows front part rest byte changed place each others bytes small differs within free at is also =
     let form : Form = forms.Checked in
     let m = length (segment_in form front) in
-    let room : m ≤ length B = omega (arith, at, length-segment_in form front) in
-    let P = drop m B in
-    let placed : length P ≡ place = omega (arith, length-drop m B, at, length-segment_in form front) in
-    let joined : segment_in form front ++ segment_in form (s ∷ behind) ≡ B ++ byte ∷ rest = sym (pieces_join form front (s ∷ behind)) ∙ is in
-    let parts : segment_in form (s ∷ behind) ≡ P ++ byte ∷ rest = sym (drop_at (segment_in form front) (segment_in form (s ∷ behind)) m refl) ∙ ap (drop m) joined ∙ drop-append-le m B (byte ∷ rest) room in
-    let first : segment_in form front ≡ take m B = sym (take_at (segment_in form front) (segment_in form (s ∷ behind)) m refl) ∙ ap (take m) joined ∙ take-append-le m B (byte ∷ rest) room in
-    let whole : segment_in form front ++ (P ++ changed ∷ rest) ≡ B ++ changed ∷ rest =
-    ap (λ (l : List ℕ). l ++ (P ++ changed ∷ rest)) first ∙ sym (append_assoc (take m B) P (changed ∷ rest)) ∙ ap (λ (l : List ℕ). l ++ changed ∷ rest) (take-append-drop m B) in
+    let room : m ≤ length part = omega (arith, at, length-segment_in form front) in
+    let P = drop m part in
+    let placed : length P ≡ place = omega (arith, length-drop m part, at, length-segment_in form front) in
+    let joined : segment_in form front ++ segment_in form (s ∷ behind) ≡ part ++ byte ∷ rest = sym (pieces_join form front (s ∷ behind)) ∙ is in
+    let parts : segment_in form (s ∷ behind) ≡ P ++ byte ∷ rest = sym (drop_at (segment_in form front) (segment_in form (s ∷ behind)) m refl) ∙ ap (drop m) joined ∙ drop-append-le m part (byte ∷ rest) room in
+    let first : segment_in form front ≡ take m part = sym (take_at (segment_in form front) (segment_in form (s ∷ behind)) m refl) ∙ ap (take m) joined ∙ take-append-le m part (byte ∷ rest) room in
+    let whole : segment_in form front ++ (P ++ changed ∷ rest) ≡ part ++ changed ∷ rest =
+    ap (λ (l : List ℕ). l ++ (P ++ changed ∷ rest)) first ∙ sym (append_assoc (take m part) P (changed ∷ rest)) ∙ ap (λ (l : List ℕ). l ++ changed ∷ rest) (take-append-drop m part) in
     let split = split_rows front s behind each in
     let more = goes_on form front rows (P ++ changed ∷ rest) split.0 others (whole ∙ sym also) in
-    let fits = subst (AllByRecursion (λ b. b < 256)) (drop-append-le m B (byte ∷ rest) room) (all_drop (λ b. b < 256) m (B ++ byte ∷ rest) bytes) in
+    let fits = subst (AllByRecursion (λ b. b < 256)) (drop-append-le m part (byte ∷ rest) room) (all_drop (λ b. b < 256) m (part ++ byte ∷ rest) bytes) in
     none_begins s behind more.0 P rest byte changed place split.1 more.3 fits small differs within free placed parts more.2
 
 -- ---- a whole store
@@ -190,17 +190,17 @@ changed_record_is_no_store before after byte changed h epoch entries s place sta
     let other_one = segment_at (before ++ changed ∷ after) store.1.1.1 r.lists there.number there.entry r.says.kept.segments r.stands.pieces_are found in
     let form = there.entry.form in
     let n = there.entry.bytes in
-    let B = drop start before in
+    let part = drop start before in
     let past : start ≤ length before = omega (arith, there.at_is) in
-    let at_B : length B ≡ length (segment_of there.front) + place = omega (arith, length-drop start before, there.at_is) in
-    let inside : length B < n = omega (arith, at_B, there.within, record_inside there.front there.behind s, at_here.0.bytes) in
-    let rest = take (n - (length B + 1)) after in
-    let one : segment_in form (there.front ++ s ∷ there.behind) ≡ B ++ byte ∷ rest =
+    let at_part : length part ≡ length (segment_of there.front) + place = omega (arith, length-drop start before, there.at_is) in
+    let inside : length part < n = omega (arith, at_part, there.within, record_inside there.front there.behind s, at_here.0.bytes) in
+    let rest = take (n - (length part + 1)) after in
+    let one : segment_in form (there.front ++ s ∷ there.behind) ≡ part ++ byte ∷ rest =
     sym at_here.1.bytes ∙ ap (λ k. take k (drop start (before ++ byte ∷ after))) (length-segment_in form (there.front ++ s ∷ there.behind) ∙ at_here.0.bytes) ∙ window_of start n before after byte past inside in
-    let two : segment_in form other_one.0 ≡ B ++ changed ∷ rest =
+    let two : segment_in form other_one.0 ≡ part ++ changed ∷ rest =
     sym other_one.2.1.bytes ∙ ap (λ k. take k (drop start (before ++ changed ∷ after))) (length-segment_in form other_one.0 ∙ other_one.2.0.bytes) ∙ window_of start n before after changed past inside in
-    let bytes : AllByRecursion (λ b. b < 256) (B ++ byte ∷ rest) =
+    let bytes : AllByRecursion (λ b. b < 256) (part ++ byte ∷ rest) =
     subst (AllByRecursion (λ b. b < 256)) (window_of start n before after byte past inside) (all_take (λ b. b < 256) n (drop start (before ++ byte ∷ after)) (all_drop (λ b. b < 256) start (before ++ byte ∷ after) is.bytes)) in
-    no_rows_there s there.behind other_one.0 there.front B rest byte changed place at_here.0.is.each other_one.2.0.is.each bytes is.small is.differs there.within free at_B
-    (subst (λ (f : Form). segment_in f (there.front ++ s ∷ there.behind) ≡ B ++ byte ∷ rest) there.checked one)
-    (subst (λ (f : Form). segment_in f other_one.0 ≡ B ++ changed ∷ rest) there.checked two)
+    no_rows_there s there.behind other_one.0 there.front part rest byte changed place at_here.0.is.each other_one.2.0.is.each bytes is.small is.differs there.within free at_part
+    (subst (λ (f : Form). segment_in f (there.front ++ s ∷ there.behind) ≡ part ++ byte ∷ rest) there.checked one)
+    (subst (λ (f : Form). segment_in f other_one.0 ≡ part ++ changed ∷ rest) there.checked two)
