@@ -37,10 +37,12 @@ from itertools import zip_longest
 from pathlib import Path
 from typing import Callable, Iterator, NamedTuple, Sequence
 
-from try_program import SCRIPTS
 from unproved import FAST_BUILD, FAST_RUN, Builder, bytes_of, kit_folder, run_program, status_of
 
 TOP = Path(__file__).resolve().parent.parent
+sys.path.append(str(TOP / "bench" / "trials"))
+from try_program import SCRIPTS  # noqa: E402
+
 PROGRAM = "sctd"
 
 PROGRAM_OF = "program of "
@@ -61,11 +63,11 @@ LINES_TOLD = 40
 DOCUMENT_CHECK = re.compile(r"^python3 bench/([^|\n]+) \|\| \{", re.MULTILINE)
 # The folder that such a check may write to, as it is called there.
 WRITTEN = '"$faults/crate"'
-SOAK = "soak.py"
+SOAK = "trials/soak.py"
 # A soak of so many seconds, with a seed; those of .ci/run are shorter, and two.
 LONG_SOAK = (SOAK, "20", "1")
 # Trials that .ci/run doesn't make, or makes by themselves.
-OTHER_TRIALS = (("try_gateway.py",), ("try_failed_sync.py",))
+OTHER_TRIALS = (("trials/try_gateway.py",), ("trials/try_failed_sync.py",))
 # The last line of a script that counts what it tried.
 COUNTED = re.compile(r"(\d+) passed, (\d+) failed(?:, (\d+) skipped)?$")
 # What of a crate is built and run.

@@ -17,7 +17,7 @@ import tempfile
 from collections import namedtuple
 
 ROOT = os.path.dirname(os.path.dirname(os.path.dirname(os.path.abspath(__file__))))
-sys.path.insert(0, os.path.join(ROOT, "bench"))
+sys.path.insert(0, os.path.join(ROOT, "bench", "trials"))
 from try_gateway import python_with_h11  # noqa: E402
 
 SECONDS = 300
@@ -175,6 +175,20 @@ FAULTS = [
         "test_value_sets test_releases",
     ),
     Fault(
+        "a namespace is a translation",
+        "fhir/translation.py",
+        'Map("MOVED TO", DISJOINT)',
+        'Map("MOVED TO", INEXACT)',
+        "test_value_sets",
+    ),
+    Fault(
+        "what was a kind of the target is taken for the same",
+        "fhir/translation.py",
+        'Map("WAS A", WIDER)',
+        'Map("WAS A", EQUIVALENT)',
+        "test_value_sets",
+    ),
+    Fault(
         "the case of a display never counts",
         "snomed.py",
         "    return row.term == text\n",
@@ -266,6 +280,22 @@ FAULTS = [
         "test_validation",
     ),
     Fault(
+        "an answer has no date",
+        "http.py",
+        '            "Date: " + formatdate(usegmt=True),\n',
+        "",
+        "test_requests",
+    ),
+    Fault(
+        "a refusal of the page doesn't tell its pin",
+        "app.py",
+        "        response = refusal(problem, fhir)\n",
+        "        response = refusal(problem, fhir)\n"
+        "        if not fhir:\n"
+        "            return response\n",
+        "test_page",
+    ),
+    Fault(
         "an answer may have any length",
         "app.py",
         "if len(response.body) > limits.ANSWER_BYTES:",
@@ -315,6 +345,62 @@ FAULTS = [
         "test_page",
     ),
     Fault(
+        "what the store doesn't have is shown as inactive",
+        "page_record.py",
+        'said = status if target else "not in the store"',
+        "said = status",
+        "test_page",
+    ),
+    Fault(
+        "a list of replacements that isn't whole doesn't say so",
+        "page_record.py",
+        "*([tag(\"p\", aside(MORE_STEPS))] if turn else [])",
+        "*[]",
+        "test_page",
+    ),
+    Fault(
+        "the history passes over another target",
+        "page_history.py",
+        "    if old == new:\n",
+        "    if bool(old) == bool(new):\n",
+        "test_page",
+    ),
+    Fault(
+        "concepts that are called alike are one in the history",
+        "page_history.py",
+        "Said(what, row.target, names.of(row.target))",
+        'Said(what, "", names.of(row.target))',
+        "test_page",
+    ),
+    Fault(
+        "a time of day that there isn't is read",
+        "fhir/versions.py",
+        "(T([01][0-9]|2[0-3]):[0-5][0-9]",
+        "(T[0-9]{2}:[0-9]{2}",
+        "test_lookup",
+    ),
+    Fault(
+        "a format that a client refuses is sent",
+        "app.py",
+        " if not UNWANTED.search(kind)]",
+        "]",
+        "test_requests",
+    ),
+    Fault(
+        "the first of two formats counts",
+        "app.py",
+        "    if len(formats) > 1:\n",
+        "    if False:\n",
+        "test_requests",
+    ),
+    Fault(
+        "the end of a gateway removes the socket of another one",
+        "__main__.py",
+        " and own and file_of(found.listen) == own:",
+        ":",
+        "test_hub",
+    ),
+    Fault(
         "a style that the policy forbids",
         "page.html",
         "<header>",
@@ -344,7 +430,8 @@ def failed(root, python, program, tests):
     found = []
     for test in tests.split():
         if test == PAGE:
-            words, folder = [sys.executable, os.path.join(root, "bench", PAGE), program], root
+            page = os.path.join(root, "bench", "trials", PAGE)
+            words, folder = [sys.executable, page, program], root
         else:
             hub = os.path.join(root, "examples", "hub.py")
             words, folder = [python, "-m", "tests", program, hub, test], os.path.join(

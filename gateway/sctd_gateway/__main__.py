@@ -72,6 +72,14 @@ def clear_path(path: str) -> None:
     raise OSError("another program listens on it")
 
 
+def file_of(path: str) -> tuple[int, int] | None:
+    """What tells the file that has this name from any other; None where there is none."""
+    with contextlib.suppress(FileNotFoundError):
+        found = os.lstat(path)
+        return found.st_dev, found.st_ino
+    return None
+
+
 async def serve(found: argparse.Namespace) -> int:
     app = App(Pool(found.socket), Edition(found.edition))
     server = http.Server(app.answer, refused_request, log=found.log)
@@ -80,6 +88,7 @@ async def serve(found: argparse.Namespace) -> int:
     except OSError as error:
         print("sctd_gateway: %s: %s" % (found.listen, error), file=sys.stderr)
         return 1
+    own = file_of(found.listen)
     end = asyncio.Event()
     for number in (signal.SIGTERM, signal.SIGINT):
         asyncio.get_running_loop().add_signal_handler(number, end.set)
@@ -87,10 +96,9 @@ async def serve(found: argparse.Namespace) -> int:
     await end.wait()
     listens.close()
     await server.stop()
-    if "/" in found.listen:
-        # (From 3.13 on Python has removed it already.)
-        with contextlib.suppress(FileNotFoundError):
-            os.unlink(found.listen)
+    # (From 3.13 on Python has removed it already, and another gateway may have made its own.)
+    if "/" in found.listen and own and file_of(found.listen) == own:
+        os.unlink(found.listen)
     return 0
 
 

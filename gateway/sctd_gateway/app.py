@@ -6,7 +6,7 @@ import json
 import re
 import sys
 import traceback
-from collections.abc import AsyncIterator
+from collections.abc import AsyncIterator, Awaitable
 from contextlib import asynccontextmanager
 from pathlib import Path
 from urllib.parse import parse_qsl, unquote
@@ -55,6 +55,8 @@ ACCEPTED = {
     "application/json",
     "application/fhir+json",
 }
+# What a client says that it doesn't take.
+UNWANTED = re.compile(r";[ \t]*q=0(\.0*)?[ \t]*(;|\Z)", re.I)
 BODIES = ("application/json", "application/fhir+json")
 # What FHIR calls a request that isn't one.
 ISSUES = {
@@ -84,18 +86,11 @@ class App:
         """An answer whatever happens, within the time that there is for one."""
         try:
             async with asyncio.timeout(limits.SCTD_SECONDS):
-                response = await self.of_one_pin(request)
+                return await self.of_one_pin(request)
         except http.Left:
             raise
         except Exception as error:
             return refusal(problem_of(error), is_fhir(request.target))
-        if len(response.body) > limits.ANSWER_BYTES:
-            much = too_costly(
-                "the answer would have more than %d bytes: ask for fewer concepts"
-                % limits.ANSWER_BYTES
-            )
-            return refusal(much, is_fhir(request.target))
-        return response
 
     async def of_one_pin(self, request: http.Request) -> http.Response:
         while True:
@@ -159,18 +154,11 @@ class App:
             asked += posted(request.body)
         query = Query(asked, operation.parameters)
         async with self.view(request, pin, operation.is_walk) as view:
-            return await self.operated(operation, view, query)
+            return await told_of(view, True, self.operated(operation, view, query))
 
     async def operated(self, operation: Operation, view: View, query: Query) -> http.Response:
-        """The answer of an operation, or its refusal, which is of the same pin."""
-        try:
-            resource = await operation.answer(Request(self.edition, view, query))
-            response = http.Response(200, FHIR, dumped(resource), SAFE)
-        except Problem as problem:
-            response = refusal(problem, True)
-        except TooCostly as error:
-            response = refusal(too_costly(str(error)), True)
-        return told_of(view, response)
+        resource = await operation.answer(Request(self.edition, view, query))
+        return http.Response(200, FHIR, dumped(resource), SAFE)
 
     async def page(
         self, request: http.Request, pin: int | None, path: str, given: list[Given]
@@ -179,21 +167,36 @@ class App:
         if len(words) < len(given) or not words.keys() <= set(PAGES[path]):
             raise invalid("a word of the address isn't known, or stands twice")
         async with self.view(request, pin, is_walk=path == "/") as view:
-            if path == "/health":
-                body, kind = dumped({"pin": view.pin, "latest": view.latest}), JSON
-            elif path == "/suggest":
-                found = await page.suggestions(
-                    view, words.get("text", "").strip(), words.get("date", "")
-                )
-                body, kind = json.dumps(found).encode(), JSON
-            else:
-                form = page.form_of(words)
-                body, kind = await page.answer(self.edition, view, form, pin is not None), HTML
-            return told_of(view, http.Response(200, kind, body, SAFE))
+            return await told_of(view, False, self.shown(view, path, words, pin is not None))
+
+    async def shown(
+        self, view: View, path: str, words: dict[str, str], is_pinned: bool
+    ) -> http.Response:
+        """One of the pages."""
+        if path == "/health":
+            body, kind = dumped({"pin": view.pin, "latest": view.latest}), JSON
+        elif path == "/suggest":
+            text, date = words.get("text", "").strip(), words.get("date", "")
+            body, kind = json.dumps(await page.suggestions(view, text, date)).encode(), JSON
+        else:
+            form = page.form_of(words)
+            body, kind = await page.answer(self.edition, view, form, is_pinned), HTML
+        return http.Response(200, kind, body, SAFE)
 
 
-def told_of(view: View, response: http.Response) -> http.Response:
-    """The response with the pin that it is of."""
+async def told_of(view: View, fhir: bool, answer: Awaitable[http.Response]) -> http.Response:
+    """An answer, or its refusal, with the pin that it is of."""
+    try:
+        response = await answer
+        if len(response.body) > limits.ANSWER_BYTES:
+            raise TooCostly(
+                "the answer would have more than %d bytes: ask for fewer concepts"
+                % limits.ANSWER_BYTES
+            )
+    except Problem as problem:
+        response = refusal(problem, fhir)
+    except TooCostly as error:
+        response = refusal(too_costly(str(error)), fhir)
     pin = (("X-Sctd-Pin", str(view.pin)), ("X-Sctd-Receipt", view.receipt))
     return response._replace(headers=response.headers + pin)
 
@@ -213,9 +216,11 @@ def pairs_of(words: str) -> list[Given]:
 def check_format(request: http.Request, given: list[Given]) -> None:
     """Refuses a request that takes no JSON. A `+` in an address is a space, also of `fhir+json`."""
     formats = [value.replace(" ", "+") for name, value in given if name == FORMAT]
+    if len(formats) > 1:
+        raise invalid("%s is given more than once" % FORMAT)
     accepted = formats[0] if formats else request.headers.get("accept") or "*/*"
-    kinds = {kind.partition(";")[0].strip().lower() for kind in accepted.split(",")}
-    if not kinds & ACCEPTED:
+    wanted = [kind for kind in accepted.split(",") if not UNWANTED.search(kind)]
+    if not ACCEPTED.intersection(kind.partition(";")[0].strip().lower() for kind in wanted):
         raise Problem(406, "not-supported", "answers are JSON only")
 
 

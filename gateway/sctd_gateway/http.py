@@ -11,6 +11,7 @@ import re
 import sys
 import time
 from collections.abc import Awaitable, Callable, Iterable
+from email.utils import formatdate
 from http import HTTPStatus
 from typing import NamedTuple
 
@@ -190,6 +191,7 @@ class Client:
     async def send(self, response: Response, stays: bool, with_body: bool) -> None:
         lines = [
             "HTTP/1.1 %d %s" % (response.status, HTTPStatus(response.status).phrase),
+            "Date: " + formatdate(usegmt=True),
             "Content-Type: " + response.kind,
             "Content-Length: %d" % len(response.body),
         ]

@@ -1,6 +1,7 @@
 """The history of a concept on the page: what its releases changed, by day."""
 
 from collections.abc import Iterable, Mapping
+from typing import NamedTuple
 
 from .markup import Html, aside, joined, tag, term, time
 from .snomed import (
@@ -68,24 +69,44 @@ def other_codes(timeline: Timeline) -> Iterable[str]:
                 yield row.target
 
 
+class Said(NamedTuple):
+    """What a row says of the concept: in which respect, a code or a term, and what to call it."""
+
+    what: str
+    said: str
+    shown: str
+
+
+def said_by(row: AnyRow | None, names: Names) -> Said | None:
+    """What a row about the concept says, if it is active."""
+    if row is None or isinstance(row, Concept) or row.active != "1":
+        return None
+    if isinstance(row, Description):
+        what = "Name" if row.type == FULLY_SPECIFIED_NAME else "Synonym"
+        return Said(what, row.term, row.term)
+    if isinstance(row, Association):
+        what = names.of_refset(row.refset)
+    else:
+        what = names.of_attribute(row.type)
+    return Said(what, row.target, names.of(row.target))
+
+
 def changes(before: AnyRow | None, row: AnyRow, names: Names) -> list[Html]:
     """What a row changed against the one before it, in words."""
-    was, is_active = before is not None and before.active == "1", row.active == "1"
     if isinstance(row, Concept):
         return concept_changes(before, row)
-    if isinstance(row, Description):
-        what, shown = ("Name" if row.type == FULLY_SPECIFIED_NAME else "Synonym"), row.term
-        if was and is_active and isinstance(before, Description) and before.term != row.term:
-            return [joined(what, " changed: ", term(before.term), ARROW, term(row.term))]
-    elif isinstance(row, Association):
-        what, shown = names.of_refset(row.refset), names.of(row.target)
-    else:
-        what, shown = names.of_attribute(row.type), names.of(row.target)
-    if was == is_active:
+    old, new = said_by(before, names), said_by(row, names)
+    if old == new:
         return []
-    if isinstance(row, Association) and is_active:
-        return [joined(what, ": ", term(shown))]
-    return [joined(what, " added: " if is_active else " withdrawn: ", term(shown))]
+    if old and new and old.what == new.what:
+        # Two concepts that are called alike are told by their codes.
+        pair = (old.said, new.said) if old.shown == new.shown else (old.shown, new.shown)
+        return [joined(new.what, " changed: ", term(pair[0]), ARROW, term(pair[1]))]
+    found = [joined(old.what, " withdrawn: ", term(old.shown))] if old else []
+    if new:
+        added = ": " if isinstance(row, Association) else " added: "
+        found.append(joined(new.what, added, term(new.shown)))
+    return found
 
 
 def concept_changes(before: AnyRow | None, row: Concept) -> list[Html]:

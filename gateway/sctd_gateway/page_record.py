@@ -30,6 +30,7 @@ REFSETS = {refset: one.name.capitalize() for refset, one in MAPS.items()} | {
 }
 REFSET_ORDER = {refset: place for place, refset in enumerate(REFSETS)}
 ATTRIBUTE_TAG = " (attribute)"
+MORE_STEPS = "This isn\u2019t whole: inactive concepts at its end may lead further."
 
 # The entries of one row of the table: what tells each from others, and what is shown.
 Entries = dict[str, Html]
@@ -253,7 +254,9 @@ async def replacements(view: View, code: str, day: str) -> Html:
             one for one in targets if one not in seen and one in known and not known[one].is_active
         ]
         seen.update(turn)
-    return tag("ul", *steps) if steps else tag("p", "No association says what took its place.")
+    if not steps:
+        return tag("p", "No association says what took its place.")
+    return joined(tag("ul", *steps), *([tag("p", aside(MORE_STEPS))] if turn else []))
 
 
 def refset_place(row: Association) -> int:
@@ -266,6 +269,7 @@ def replacement(
     """One association, and in whose place its target is where that isn't the record's concept."""
     link = tag("a", term(names[row.target]), href=address(q=row.target, date=with_hyphens(day)))
     status = "active" if target and target.is_active else "inactive"
+    said = status if target else "not in the store"
     source = [" in the place of ", term(names[row.source])] if row.source != code else []
     return tag(
         "li",
@@ -275,7 +279,7 @@ def replacement(
         " ",
         aside(row.target),
         " ",
-        tag("span", status, class_=status),
+        tag("span", said, class_=status),
         *source,
     )
 

@@ -4,4 +4,4 @@ import sys
 from pathlib import Path
 
 # For the SCTIDs of made-up releases.
-sys.path.append(str(Path(__file__).resolve().parents[2] / "bench"))
+sys.path.append(str(Path(__file__).resolve().parents[2] / "bench" / "measurements"))

@@ -210,7 +210,7 @@ def properties(snapshot: Snapshot, code: str) -> dict[str, set[str]]:
 
 def compared(program: str, hub: str, rows: int, days: int, seed: int) -> Counter[str]:
     """How many answers were alike, of a made release on so many days."""
-    make = Path(__file__).resolve().parents[2] / "bench" / "make_release.py"
+    make = Path(__file__).resolve().parents[2] / "bench" / "measurements" / "make_release.py"
     with tempfile.TemporaryDirectory() as folder:
         root = Path(folder)
         store, questions = str(root / "store"), str(root / "questions")

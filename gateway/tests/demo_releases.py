@@ -12,7 +12,9 @@ FULLY_SPECIFIED, SYNONYM = "900000000000003001", "900000000000013009"
 CASE_INSENSITIVE = "900000000000448009"
 IS_A, INFERRED, MODIFIER = "116680003", "900000000000011006", "900000000000451002"
 SAME_AS, REPLACED_BY = "900000000000527005", "900000000000526001"
-POSSIBLY_EQUIVALENT_TO = "900000000000523009"
+POSSIBLY_EQUIVALENT_TO, ALTERNATIVE = "900000000000523009", "900000000000530003"
+MOVED_TO, WAS_A, SIMILAR_TO = "900000000000524003", "900000000000528000", "900000000000529008"
+POSSIBLY_REPLACED_BY, PARTIALLY_EQUIVALENT_TO = "1186921001", "1186924009"
 FIRST_DAY = "20150131"
 ROOT = "138875005"
 LONG_TERM = "X" * 20_000
@@ -133,6 +135,7 @@ def make(folder: Path) -> dict[str, str]:
     replacements(maker)
     drug(maker)
     hostile(maker)
+    vague_associations(maker)
     maker.write(folder)
     return maker.codes
 
@@ -230,12 +233,30 @@ def replacements(maker: Maker) -> None:
         status=DEFINED,
     )
     maker.row(radius, "20220731", "0", DEFINED)
-    # In the place of this one a release names what is no concept.
+    # In the place of this one a release names what is no concept, and one that nothing tells of.
     lost = maker.concept("lost", FIRST_DAY, parents=())
     name = maker.term(lost, FIRST_DAY, "Lost (finding)", FULLY_SPECIFIED)
     maker.row(lost, "20170731", "0", PRIMITIVE)
     maker.association(100, "20170731", SAME_AS, lost, name)
+    maker.association(101, "20170731", REPLACED_BY, lost, maker.new("0"))
     maker.association(99, "20220731", SAME_AS, radius, later)
+
+
+def vague_associations(maker: Maker) -> None:
+    """A retired concept with an association of each kind that doesn't say what took its place."""
+    vague = maker.concept("vague", FIRST_DAY, "Injury of wrist NOS (disorder)", parents=())
+    name = "Extension Namespace 1000154 (namespace concept)"
+    namespace = maker.concept("namespace", FIRST_DAY, name, parents=())
+    maker.row(vague, "20170731", "0", PRIMITIVE)
+    maker.association(120, "20170731", MOVED_TO, vague, namespace)
+    for number, refset, target in (
+        (121, WAS_A, "injury"),
+        (122, SIMILAR_TO, "limb"),
+        (123, ALTERNATIVE, "limb"),
+        (124, POSSIBLY_REPLACED_BY, "limb"),
+        (125, PARTIALLY_EQUIVALENT_TO, "limb"),
+    ):
+        maker.association(number, "20170731", refset, vague, maker.codes[target])
 
 
 def drug(maker: Maker) -> None:

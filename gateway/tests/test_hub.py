@@ -194,6 +194,16 @@ class Start(unittest.TestCase):
             os.unlink(gateway.socket)
             self.assertEqual((gateway.stop(), gateway.told()), (0, ""))
 
+    def test_end_where_another_listens_by_then(self) -> None:
+        with tempfile.TemporaryDirectory() as one, tempfile.TemporaryDirectory() as other:
+            gateway = Gateway("/nowhere", Path(one))
+            os.unlink(gateway.socket)
+            later = Gateway("/nowhere", Path(other), gateway.socket)
+            self.assertEqual(gateway.stop(), 0)
+            self.assertEqual(later.send("GET", "/page.css").status, 200)
+            self.assertEqual(later.stop(), 0)
+            self.assertFalse(os.path.exists(later.socket))
+
     def test_places_that_are_taken(self) -> None:
         with socket.create_server(("127.0.0.1", 0)) as taken:
             place = "127.0.0.1:%d" % taken.getsockname()[1]

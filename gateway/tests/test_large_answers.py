@@ -63,6 +63,8 @@ class LargeAnswers(unittest.TestCase):
         self.assertEqual(self.lookup("large")[0], 200)
         status, said = self.lookup("too large")
         self.assertEqual((status, issue(said)), (422, "too-costly"))
+        target = "/fhir/CodeSystem/$lookup?system=%s&code=%s" % (SCT, self.codes["too large"])
+        self.assertEqual(self.house.gateway.send("GET", target).headers.get("x-sctd-pin"), "4")
 
     def test_more_concepts_than_a_page(self) -> None:
         status, said = self.expand("page")

@@ -40,7 +40,12 @@ class Lookup(unittest.TestCase):
             )
 
     def test_date_of_a_record(self) -> None:
-        for date in ("2018-01-01", "2018-01-01T23:59:00+01:00", "2018-01-01T00:00:00.5Z"):
+        for date in (
+            "2018-01-01",
+            "2018-01-01T23:59:00+01:00",
+            "2018-01-01T00:00:00.5Z",
+            "2018-01-01T23:59:60-14:00",
+        ):
             said = self.ask("wrist", date=date)[1]
             self.assertEqual(told(said, "version"), [version("20180101")], date)
 
@@ -92,6 +97,10 @@ class Lookup(unittest.TestCase):
             "2018-01-01 ",
             "2018-01-01T",
             "2018-01-01Tnoon",
+            "2018-01-01T24:00:00Z",
+            "2018-01-01T23:60:00Z",
+            "2018-01-01T23:59:61Z",
+            "2018-01-01T23:59:00+14:01",
             "0018-01-01",
             "\u0662018-01-01",
         ):

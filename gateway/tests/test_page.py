@@ -1,11 +1,44 @@
 """The page for people."""
 
+import asyncio
 import json
 import re
 import unittest
+from collections.abc import Iterable, Sequence
 from urllib.parse import urlencode
 
+from make_release import sctid
+from sctd_gateway import limits
+from sctd_gateway.page_history import Names, changes
+from sctd_gateway.page_record import replacements
+from sctd_gateway.snomed import IS_A, Association, Concept, Relationship
+from sctd_gateway.store import AnyRow, View
+
+from .demo_releases import REPLACED_BY
 from .house import Shared
+
+class Chain(View):
+    """A store in which each concept but the last was replaced by the next."""
+
+    def __init__(self, codes: list[str]) -> None:
+        self.codes = codes
+
+    async def associations(self, codes: Sequence[str], day: str) -> list[list[Association]]:
+        return [self.next(self.codes.index(code)) for code in codes]
+
+    def next(self, place: int) -> list[Association]:
+        both = self.codes[place : place + 2]
+        return [Association("m", "20200101", "1", "1", REPLACED_BY, *both)] if len(both) > 1 else []
+
+    async def concepts(
+        self, codes: Sequence[str], day: str, keep: bool = True
+    ) -> list[Concept | None]:
+        last = self.codes[-1]
+        return [Concept(one, "20200101", str(int(one == last)), "1", "1") for one in codes]
+
+    async def names(self, codes: Iterable[str], day: str) -> dict[str, str]:
+        return {code: code for code in codes}
+
 
 # Markup that only a text of the store or of a client could have brought.
 FOREIGN = re.compile(r"<script(?! src=\"page.js\" defer>)|<img|</textarea><s|onfocus='|<b>bold")
@@ -44,6 +77,41 @@ class Page(unittest.TestCase):
         found = re.search(r"Same as</b>: <a href=[^>]*><bdi>([0-9]+)</bdi>", text)
         assert found, (status, text)
         self.assertEqual((status, found[1][-3:-1]), (200, "01"))
+
+    def test_a_replacement_that_the_store_does_not_have(self) -> None:
+        text = self.page(q=self.codes["lost"])[1]
+        entries = re.findall(r"<li><b>(Replaced by|Same as)</b>: (.*?)</li>", text)
+        self.assertEqual(sorted(name for name, _ in entries), ["Replaced by", "Same as"])
+        for _, entry in entries:
+            self.assertIn("not in the store", entry)
+            self.assertNotIn("inactive<", entry)
+
+    def test_many_steps_to_what_took_its_place(self) -> None:
+        """A list that isn't whole says so."""
+        most = limits.REPLACEMENT_STEPS
+        for count, is_whole in ((most, True), (most + 1, False)):
+            chain = [str(sctid(9_000 + number, "00")) for number in range(count + 1)]
+            html = asyncio.run(replacements(Chain(chain), chain[0], "20200101"))
+            self.assertEqual(html.count("Replaced by"), most)
+            self.assertEqual("isn\u2019t whole" not in html, is_whole, count)
+
+    def test_a_component_that_names_another_concept_from_then_on(self) -> None:
+        """A version may have another target, or another type, and stay active."""
+        called = {"11": "Eleven", "12": "Twelve", "111": "Eleven", "7": "Site"}
+        names = Names(called, {REPLACED_BY: "Replaced by"})
+        member = Association("m", "20200131", "1", "1", REPLACED_BY, "10", "11")
+        part = Relationship("r", "20200131", "1", "1", "10", "11", "0", IS_A, "i", "m")
+        cases: list[tuple[AnyRow, AnyRow, list[str]]] = [
+            (member, member._replace(target="12"), ["Replaced by changed: Eleven \u2192 Twelve"]),
+            (part, part._replace(target="12"), ["Parent changed: Eleven \u2192 Twelve"]),
+            (part, part._replace(type="7"), ["Parent withdrawn: Eleven", "Site added: Eleven"]),
+            (part, part._replace(group="1"), []),
+            (part, part._replace(target="12", active="0"), ["Parent withdrawn: Eleven"]),
+            (part, part._replace(target="111"), ["Parent changed: 11 \u2192 111"]),
+        ]
+        for before, after, told in cases:
+            found = [re.sub(r"</?bdi>", "", one) for one in changes(before, after, names)]
+            self.assertEqual(found, told, after)
 
     def test_day_before_and_day_of(self) -> None:
         for date, status in (("2021-01-30", "active"), ("2021-01-31", "inactive")):
@@ -111,6 +179,17 @@ class Page(unittest.TestCase):
         self.assertIn(
             'href="pin/3/?q=%s&amp;date=2025-01-01&amp;' % limb,
             self.page(q=limb, date="2025-01-01")[1],
+        )
+
+    def test_a_refusal_tells_its_pin(self) -> None:
+        send = self.house.gateway.send
+        for target in ("/?q=1&date=2018-02-31", "/suggest?text=", "/suggest?text=a&date=x"):
+            answer = send("GET", target)
+            self.assertEqual((answer.status, answer.headers.get("x-sctd-pin")), (400, "3"), target)
+        headers = send("GET", "/pin/2/?q=1&date=x").headers
+        self.assertEqual(
+            (headers.get("x-sctd-pin"), headers.get("x-sctd-receipt")),
+            ("2", "RECEIPT 2: OK 2 18 20210131"),
         )
 
     def test_two_dates_of_one_day(self) -> None:

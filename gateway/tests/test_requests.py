@@ -1,7 +1,9 @@
 """Requests as they come: paths, methods, formats, bodies, heads."""
 
 import asyncio
+import datetime
 import json
+import re
 import tempfile
 import unittest
 
@@ -27,6 +29,9 @@ PARAMETERS = json.dumps(
         ],
     }
 ).encode()
+
+# How long an answer may have been on its way.
+LATE_SECONDS = 30
 
 # Heads that are wrong in themselves.
 HEADS = (
@@ -195,6 +200,9 @@ class Requests(unittest.TestCase):
             ("*/*", 200),
             ("text/json", 200),
             ("text/html, application/fhir+json;q=0.9", 200),
+            ("application/fhir+json; q=0", 406),
+            ("text/html, */*;q=0.000", 406),
+            ("application/fhir+json;q=0.001", 200),
         ):
             self.assertEqual(
                 self.gateway.send("GET", "/fhir/metadata", headers={"Accept": kind}).status, status
@@ -209,6 +217,7 @@ class Requests(unittest.TestCase):
             self.assertEqual(self.gateway.fhir("metadata", _format=kind)[0], status, kind)
         answer = self.gateway.send("GET", "/fhir/metadata?_format=xml")
         self.assertEqual(issue(answer.json()), "not-supported")
+        self.assertEqual(self.gateway.fhir("metadata", _format=["json", "xml"])[0], 400)
 
     def test_bodies(self) -> None:
         head = b'{"resourceType":"Parameters","parameter":['
@@ -379,6 +388,22 @@ class Requests(unittest.TestCase):
             self.assertNotIn("unsafe", headers["content-security-policy"])
             self.assertEqual(headers["x-content-type-options"], "nosniff")
             self.assertEqual(headers["cache-control"], "private, no-store")
+
+    def test_each_answer_has_its_date(self) -> None:
+        for request, status in (
+            (GET + b"Connection: close\r\n\r\n", 200),
+            (b"GET /nothing HTTP/1.0\r\n\r\n", 404),
+            (b"POST /health HTTP/1.0\r\nContent-Length: 0\r\n\r\n", 405),
+            (b"nonsense\r\n\r\n", 400),
+            (GET + b"A: " + b"b" * 20_000 + b"\r\n\r\n", 431),
+        ):
+            head = self.gateway.raw(request).partition(b"\r\n\r\n")[0].decode()
+            dates = re.findall(r"^Date: (.*)\r$", head, re.M)
+            self.assertEqual((head.split(" ")[1], len(dates)), (str(status), 1), head)
+            # As RFC 9110 has it: `Sun, 06 Nov 1994 08:49:37 GMT`.
+            made = datetime.datetime.strptime(dates[0], "%a, %d %b %Y %H:%M:%S GMT")
+            now = datetime.datetime.now(datetime.timezone.utc).replace(tzinfo=None)
+            self.assertLess(abs((now - made).total_seconds()), LATE_SECONDS)
 
     def test_head_is_answered_like_get(self) -> None:
         get, head = (self.gateway.send(method, "/fhir/metadata") for method in ("GET", "HEAD"))

@@ -3,6 +3,7 @@
 import unittest
 from typing import Any
 
+from . import demo_releases as demo
 from .house import SCT, Json, Shared, issue, parts_of, told, version
 
 
@@ -171,6 +172,29 @@ class Translate(unittest.TestCase):
             [(one["equivalence"], one["concept"]["code"]) for one in found],
             [("equal", self.codes["radius2"])],
         )
+
+    def test_what_each_association_says(self) -> None:
+        """As the definitions of the reference sets and of ConceptMapEquivalence have it."""
+        for refset, target, equivalence in (
+            (demo.WAS_A, "injury", "wider"),
+            (demo.SIMILAR_TO, "limb", "relatedto"),
+            (demo.ALTERNATIVE, "limb", "inexact"),
+            (demo.POSSIBLY_REPLACED_BY, "limb", "inexact"),
+            (demo.PARTIALLY_EQUIVALENT_TO, "limb", "inexact"),
+        ):
+            said = self.ask(refset, "vague")[1]
+            self.assertEqual(told(said, "result"), [True], refset)
+            self.assertEqual(self.matches(said), [(equivalence, self.codes[target])], refset)
+
+    def test_a_namespace_is_no_translation(self) -> None:
+        said = self.ask(demo.MOVED_TO, "vague")[1]
+        self.assertEqual(told(said, "result"), [False])
+        self.assertIn("namespace", told(said, "message")[0])
+        self.assertEqual(self.matches(said), [("disjoint", self.codes["namespace"])])
+
+    def matches(self, said: Json) -> list[tuple[str, str]]:
+        found = parts_of(said, "match")
+        return [(one["equivalence"], one["concept"]["code"]) for one in found]
 
     def test_before(self) -> None:
         said = self.ask("900000000000526001", version=version("20210130"))[1]

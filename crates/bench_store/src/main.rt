@@ -1,5 +1,5 @@
 //! Does one piece of work on a store in a file, for the drivers that measure it
-//! (bench/measure.py, bench/measure_merge.py, bench/measure_segments.py).
+//! (measure.py, measure_merge.py and measure_segments.py in bench/measurements).
 //! Without words it does nothing.
 #![tactic(auto)]
 

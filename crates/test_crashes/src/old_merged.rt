@@ -40,8 +40,8 @@ fn moved(alloc: Global) -> Result<(Example, Receipt), Refusal> {
 
 /// Whether these bytes stand on a disk at a place.
 fn has_at(disk: &MemDisk, from: usize, bytes: &[u8]) -> bool {
-    match disk.bytes().get(from..from + bytes.len()) {
-        Some(found) => found == bytes,
+    match disk.bytes().get(from..) {
+        Some(rest) => rest.starts_with(bytes),
         None => false,
     }
 }

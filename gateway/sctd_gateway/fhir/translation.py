@@ -11,25 +11,35 @@ from .valuesets import is_of_snomed
 PARAMETERS = frozenset("url code system version coding reverse targetsystem date".split())
 
 
+# What a target means beside the code, as R4's ConceptMapEquivalence has it.
+EQUAL, EQUIVALENT, INEXACT, RELATED = "equal", "equivalent", "inexact", "relatedto"
+WIDER, DISJOINT = "wider", "disjoint"
+
+
 class Map(NamedTuple):
-    """An implicit concept map: the name of its association, and what FHIR says that it means."""
+    """An implicit concept map: the name of its association, and what that says of its target."""
 
     name: str
     equivalence: str
 
 
-# The equivalences of the first four are those that R4 gives; the others, which it doesn't name, say
-# no more than that there is an association.
+# R4 gives the equivalences of the first four. It doesn't name the others, which have the code that
+# says as much as the definition of the reference set, and no more:
+# - MOVED TO names the namespace that takes care of the concept from then on. That is no meaning of
+#   a record, so no code is translated by it.
+# - WAS A names a concept of which the code was a kind. (`subsumes` would say that it still is.)
+# - SIMILAR TO says that the meanings overlap, and not in which way.
+# - The last two leave it uncertain where the meanings part, as POSSIBLY EQUIVALENT TO does.
 MAPS = {
-    "900000000000526001": Map("REPLACED BY", "equivalent"),
-    "900000000000527005": Map("SAME AS", "equal"),
-    "900000000000523009": Map("POSSIBLY EQUIVALENT TO", "inexact"),
-    "900000000000530003": Map("ALTERNATIVE", "inexact"),
-    "900000000000524003": Map("MOVED TO", "inexact"),
-    "900000000000528000": Map("WAS A", "inexact"),
-    "900000000000529008": Map("SIMILAR TO", "inexact"),
-    "1186921001": Map("POSSIBLY REPLACED BY", "inexact"),
-    "1186924009": Map("PARTIALLY EQUIVALENT TO", "inexact"),
+    "900000000000526001": Map("REPLACED BY", EQUIVALENT),
+    "900000000000527005": Map("SAME AS", EQUAL),
+    "900000000000523009": Map("POSSIBLY EQUIVALENT TO", INEXACT),
+    "900000000000530003": Map("ALTERNATIVE", INEXACT),
+    "900000000000524003": Map("MOVED TO", DISJOINT),
+    "900000000000528000": Map("WAS A", WIDER),
+    "900000000000529008": Map("SIMILAR TO", RELATED),
+    "1186921001": Map("POSSIBLY REPLACED BY", INEXACT),
+    "1186924009": Map("PARTIALLY EQUIVALENT TO", INEXACT),
 }
 FORM = "fhir_cm="
 
@@ -47,13 +57,19 @@ async def translate(request: Request) -> Json:
     said = (await view.associations([coding.code], moment.day))[0]
     targets = [row.target for row in said if row.refset == refset]
     names = await view.names(targets, moment.day)
-    if not targets:
-        message = "the code has no %s association on that day" % MAPS[refset].name
-        return parameters(
-            [parameter("result", valueBoolean=False), parameter("message", valueString=message)]
-        )
+    why = why_not(MAPS[refset], bool(targets))
+    message = [parameter("message", valueString=why)] if why else []
     matches = [match(url, refset, moment.version, target, names[target]) for target in targets]
-    return parameters([parameter("result", valueBoolean=True), *matches])
+    return parameters([parameter("result", valueBoolean=not why), *message, *matches])
+
+
+def why_not(used: Map, has_targets: bool) -> str:
+    """Why a code isn't translated by this map, or nothing."""
+    if not has_targets:
+        return "the code has no %s association on that day" % used.name
+    if used.equivalence == DISJOINT:
+        return "%s names a namespace, which is no meaning of the code" % used.name
+    return ""
 
 
 def map_of(url: str) -> tuple[str, str]:

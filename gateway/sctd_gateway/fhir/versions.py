@@ -16,10 +16,11 @@ from ..store import View
 from .inputs import SCT
 
 VERSION = re.compile(r"http://snomed\.info/sct(?:/([0-9]+)(?:/version/([0-9]+))?)?\Z", re.ASCII)
-# A date of FHIR that has a day, with or without a time.
+# A date of FHIR that has a day, with or without a time. The last second of a minute may be a 61st.
 DATE = re.compile(
     r"([0-9]{4})-([0-9]{2})-([0-9]{2})"
-    r"(T[0-9]{2}:[0-9]{2}(:[0-9]{2}(\.[0-9]+)?)?(Z|[+-][0-9]{2}:[0-9]{2})?)?\Z",
+    r"(T([01][0-9]|2[0-3]):[0-5][0-9](:([0-5][0-9]|60)(\.[0-9]+)?)?"
+    r"(Z|[+-]((0[0-9]|1[0-3]):[0-5][0-9]|14:00))?)?\Z",
     re.ASCII,
 )
 

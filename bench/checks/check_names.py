@@ -1,55 +1,59 @@
 #!/usr/bin/env python3
-"""Checks that the documents name only what is there: functions and types as `crate::name`, and files
-of this repository by their paths.
+"""Checks that the documents name only what is there: functions and types as `crate::name`, and
+files of this repository by their paths.
 
 check_names.py
 
 It also checks that no module, type or trait of the sources has the name of a crate, which `rt ci`
-refuses only once it comes to that crate.
+refuses only once it comes to that crate, and that bench/README.md has each script of bench/.
 
-It reads README.md, CHANGELOG.md and docs/*.md. Of each text between backquotes that begins with the
-name of a crate and `::`, each further word has to stand in that crate's src/ or specs/, where
-`crate::{one, other}` names two. Each text that ends with .rt, .antt, .py, .md, .rs or .service and
-has a slash has to be the path of a file, from the top of the repository, from crates/ or from a crate's
-folder. What isn't there is said in a line of its own on standard error, and the status is 1 then. PROMISES.md is
-checked further by check_promises.py. Nothing is built. Standard library alone.
+It reads README.md, CHANGELOG.md, docs/*.md and bench/README.md. Of each text between backquotes
+that begins with the name of a crate and `::`, each further word has to stand in that crate's src/
+or specs/, where `crate::{one, other}` names two. Each text that ends with .rt, .antt, .py, .md, .rs
+or .service and has a slash has to be the path of a file, from the top of the repository, from
+crates/ or from a crate's folder. What isn't there is said in a line of its own on standard error,
+and the status is 1 then. PROMISES.md is checked further by check_promises.py. Nothing is built.
+Standard library alone.
 """
 
 import glob
 import os
 import re
 import sys
+from collections.abc import Iterator
 
-ROOT = os.path.dirname(os.path.dirname(os.path.abspath(__file__)))
+ROOT = os.path.dirname(os.path.dirname(os.path.dirname(os.path.abspath(__file__))))
 QUOTED = re.compile(r"`([^`]+)`")
 NAMED = re.compile(r"(?<![\w:])(\w+)::((?:\w+::)*)(\{[^}]*\}|\w+)")
 PATH = re.compile(r"[\w.-]+(?:/[\w.-]+)+\.(?:rt|antt|py|md|rs|service)$")
 ITEM = re.compile(r"^\s*(?:pub(?:\([a-z]+\))? )?(mod|struct|enum|trait|type) (\w+)", re.M)
+INDEX = "bench/README.md"
+HEADING = re.compile(r"^## (\w+)", re.M)
 # What is named as an example of a path or of a release, and not as a file of this repository.
 EXAMPLES = ("releases/",)
 
 
-def text_of(path):
+def text_of(path: str) -> str:
     with open(path, encoding="utf-8") as file:
         return file.read()
 
 
-def words_of(crate):
+def words_of(crate: str) -> set[str]:
     """The words of a crate's sources and definitions."""
     folder = os.path.join(ROOT, "crates", crate)
-    found = set()
+    found: set[str] = set()
     for pattern in ("/src/**/*.rt", "/specs/**/*.antt"):
         for path in glob.glob(folder + pattern, recursive=True):
             found.update(re.findall(r"\w+", text_of(path)))
     return found
 
 
-def is_file(path):
+def is_file(path: str) -> bool:
     """Whether it is a path from the top, from crates/ or, as `src/..`, from some crate."""
     return any(glob.glob(os.path.join(ROOT, top, path)) for top in ("", "crates", "crates/*"))
 
 
-def faults_of(text, words):
+def faults_of(text: str, words: dict[str, set[str]]) -> Iterator[str]:
     """What a document names that isn't there."""
     for quoted in QUOTED.findall(re.sub(r"```.*?```", "", text, flags=re.S)):
         quoted = " ".join(quoted.split())
@@ -62,7 +66,7 @@ def faults_of(text, words):
             yield quoted + ": there is no such file"
 
 
-def named_as_crates(crates):
+def named_as_crates(crates: list[str]) -> Iterator[str]:
     """The items of the sources that are named as a crate."""
     for path in sorted(glob.glob(ROOT + "/crates/*/src/**/*.rt", recursive=True)):
         for kind, name in ITEM.findall(text_of(path)):
@@ -70,18 +74,39 @@ def named_as_crates(crates):
                 yield "%s: %s %s: a crate has that name" % (os.path.relpath(path, ROOT), kind, name)
 
 
-def main():
+def scripts_listed(text: str) -> Iterator[str]:
+    """The scripts that the index of bench/ has, by their paths in bench/."""
+    parts = HEADING.split(text)
+    folders = ["", *(name + "/" for name in parts[1::2])]
+    for folder, part in zip(folders, parts[::2]):
+        for line in part.split("\n"):
+            if line.startswith("| `"):
+                cell = re.split(r"(?<!\\)\|", line)[1]
+                yield from (folder + name for name in re.findall(r"`([\w.]+\.(?:py|rs))\b", cell))
+
+
+def scripts_not_listed() -> Iterator[str]:
+    """Where the index of bench/ differs from its scripts."""
+    found = {os.path.relpath(path, ROOT + "/bench")
+             for path in glob.glob(ROOT + "/bench/**/*", recursive=True)
+             if path.endswith((".py", ".rs"))}
+    listed = set(scripts_listed(text_of(os.path.join(ROOT, INDEX))))
+    yield from (INDEX + ": it has no line for " + name for name in sorted(found - listed))
+    yield from (INDEX + ": there is no " + name for name in sorted(listed - found))
+
+
+def main() -> int:
     crates = [os.path.basename(path) for path in glob.glob(ROOT + "/crates/*")]
     words = {crate: words_of(crate) for crate in crates}
     count, lost = 0, 0
-    documents = [ROOT + "/README.md", ROOT + "/CHANGELOG.md"]
+    documents = [os.path.join(ROOT, name) for name in ("README.md", "CHANGELOG.md", INDEX)]
     for path in documents + sorted(glob.glob(ROOT + "/docs/*.md")):
         text = text_of(path)
         count += len(QUOTED.findall(text))
         for fault in faults_of(text, words):
             lost += 1
             print("%s: %s" % (os.path.relpath(path, ROOT), fault), file=sys.stderr)
-    for fault in named_as_crates(crates):
+    for fault in (*named_as_crates(crates), *scripts_not_listed()):
         lost += 1
         print(fault, file=sys.stderr)
     print("quoted texts: %d, of what isn't there: %d" % (count, lost), file=sys.stderr)

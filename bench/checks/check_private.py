@@ -23,7 +23,7 @@ import os
 import re
 import sys
 
-ROOT = os.path.dirname(os.path.dirname(os.path.abspath(__file__)))
+ROOT = os.path.dirname(os.path.dirname(os.path.dirname(os.path.abspath(__file__))))
 
 USE = re.compile(r"\s*(?:pub )?(?:ghost )?use (?P<path>[^\s;{]+?)(?:\.\{(?P<names>[^}]*)\})?"
                  r"(?: as (?P<alias>\S+?))?;?\s*$")

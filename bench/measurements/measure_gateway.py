@@ -25,7 +25,9 @@ import sys
 import tempfile
 import time
 
-from try_gateway import GATEWAY, ROOT, python_with_h11
+BENCH = os.path.dirname(os.path.dirname(os.path.abspath(__file__)))
+sys.path.append(os.path.join(BENCH, "trials"))
+from try_gateway import GATEWAY, ROOT, python_with_h11  # noqa: E402
 
 PROCESSES = 2
 FEW_CODES = 200
@@ -179,7 +181,7 @@ def concepts(folder):
 
 def make_store(options, folder, store):
     """A store with a made release."""
-    make = [sys.executable, os.path.join(ROOT, "bench", "make_release.py"), folder]
+    make = [sys.executable, os.path.join(BENCH, "measurements", "make_release.py"), folder]
     release = os.path.join(folder, "full")
     for words in (
         [*make, str(options.rows)],

@@ -22,7 +22,7 @@ import sys
 from collections.abc import Iterator
 from dataclasses import dataclass
 
-TOP = os.path.dirname(os.path.dirname(os.path.abspath(__file__)))
+TOP = os.path.dirname(os.path.dirname(os.path.dirname(os.path.abspath(__file__))))
 
 # The folders of a crate that hold edits: CI tries those of the first, try_edits.py all.
 MUST_FAIL, EDITS = "must-fail", "edits"
@@ -205,7 +205,7 @@ def main(words: list[str]) -> int:
     count, wrong = 0, 0
     for crate in sorted(os.listdir(os.path.join(TOP, "crates"))):
         edits = [edit for folder in FOLDERS for edit in edits_of(crate, folder)]
-        stale = [f"{fault}: run python3 bench/try_edits.py {crate}"
+        stale = [f"{fault}: run python3 bench/faults/try_edits.py {crate}"
                  for fault in faults_of_record(crate)]
         for fault in [*faults_of_files(crate), *faults_of_edits(edits), *stale]:
             wrong += 1

@@ -20,7 +20,7 @@ import os
 import re
 import sys
 
-ROOT = os.path.dirname(os.path.dirname(os.path.abspath(__file__)))
+ROOT = os.path.dirname(os.path.dirname(os.path.dirname(os.path.abspath(__file__))))
 DOCUMENT = "docs/PROMISES.md"
 PARTS = ("- ", "  - Clause: ", "  - Shown by: ")
 # The folders of a crate that hold edits, and the one of them whose edits CI tries.

@@ -46,8 +46,10 @@ from dataclasses import dataclass
 from importlib.machinery import SourceFileLoader
 from typing import Any
 
-import check_edits
-from check_edits import EDITS, FOLDERS, MUST_FAIL, TOP, Change, Edit, Misfit, read, texts_with
+sys.path.append(os.path.join(os.path.dirname(os.path.dirname(os.path.abspath(__file__))), "checks"))
+import check_edits  # noqa: E402
+from check_edits import EDITS, FOLDERS, MUST_FAIL, TOP, Change, Edit  # noqa: E402
+from check_edits import Misfit, read, texts_with  # noqa: E402
 
 # The statement that does nothing, and in how many functions it is tried before the edits.
 PLANTED = " let planted = 0u8; let _ = planted;"

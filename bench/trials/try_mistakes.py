@@ -23,7 +23,7 @@ import tempfile
 
 # How long a call may take.
 SECONDS = 10
-ROOT = os.path.dirname(os.path.dirname(os.path.abspath(__file__)))
+ROOT = os.path.dirname(os.path.dirname(os.path.dirname(os.path.abspath(__file__))))
 CONCEPTS = "sct2_Concept_Full_INT_20200131.txt"
 COLUMNS = "id\teffectiveTime\tactive\tmoduleId\tdefinitionStatusId\n"
 ROOT_ROW = "138875005\t%s\t1\t900000000000207008\t900000000000074008\n"

@@ -15,7 +15,7 @@ import os
 import subprocess
 import sys
 
-ROOT = os.path.dirname(os.path.dirname(os.path.abspath(__file__)))
+ROOT = os.path.dirname(os.path.dirname(os.path.dirname(os.path.abspath(__file__))))
 GATEWAY = os.path.join(ROOT, "gateway")
 SYSTEM_PYTHON = "/usr/bin/python3"
 SECONDS = 170
@@ -102,7 +102,7 @@ def types():
 def page(program):
     """Whether the page is as it has to be: 1 passed, 1 failed, or 1 skipped."""
     done = subprocess.run(
-        [sys.executable, os.path.join(ROOT, "bench", "try_page.py"), program],
+        [sys.executable, os.path.join(ROOT, "bench", "trials", "try_page.py"), program],
         stdin=subprocess.DEVNULL,
         capture_output=True,
         text=True,

@@ -24,7 +24,8 @@ import subprocess
 import sys
 import tempfile
 
-sys.path.insert(0, os.path.dirname(os.path.abspath(__file__)))
+BENCH = os.path.dirname(os.path.dirname(os.path.abspath(__file__)))
+sys.path.append(os.path.join(BENCH, "measurements"))
 import make_release  # noqa: E402
 
 BLOCK = 4096

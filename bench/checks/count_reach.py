@@ -12,15 +12,16 @@ clauses that are meters, and the lines of sources and proofs.
 A word is reached as `check_private.py` says, and for a function that is no law also by what the
 traits in its head ensure. Lines of a definition are those that have text besides a comment. A
 clause is a meter if it counts reads, calls or failures, or says what becomes of the blocks in
-memory, and hands none of that on to a word that says more. Crates of tests and of measurements
-count for specs and proofs alone. Nothing is built. Standard library alone.
+memory, and hands none of that on to a word that says more. Product crates are those that `sctd`
+uses, by crates.txt; the others count for specs and proofs alone. Nothing is built. Standard library
+alone.
 """
 
 import glob
 import os
 import re
 import sys
-from typing import Any, Iterator, List, NamedTuple, Optional, Tuple
+from typing import Any, Dict, Iterable, Iterator, List, NamedTuple, Optional, Set, Tuple
 
 import check_private
 from check_private import Item, Project, RustModule
@@ -44,7 +45,7 @@ METER_NAMES = re.compile(r"ensures (?:cache|same_cache|keeps|capacity|looked_up|
 # A clause that hands on what a disk is, or a system, to a word that says more than counts.
 HANDS_ON = re.compile(r"device_view|\.moments \w+(?:\.\w+)*\.failures|\bP\.stands")
 
-NO_PRODUCT = re.compile(r"(?:test|bench)_|line_support$|folder_run$")
+QUESTIONS = "history_store/src/queries.rt"
 
 
 class Found(NamedTuple):
@@ -114,6 +115,23 @@ def reach_of(project: Project) -> Tuple[int, int]:
     return len(reached), sum(line_count(word.text) for word in reached)
 
 
+def product_crates() -> Set[str]:
+    """The crates that the program uses, itself or through others."""
+    used: Dict[str, List[str]] = {}
+    with open(os.path.join(ROOT, "crates.txt"), encoding="utf-8") as file:
+        for line in file:
+            name, colon, uses = line.partition("#")[0].partition(":")
+            if colon:
+                used[name.strip()] = uses.split()
+    product, left = set(), ["sctd"]
+    while left:
+        name = left.pop()
+        if name in used and name not in product:
+            product.add(name)
+            left += used[name]
+    return product
+
+
 def functions_in(items: List[Item]) -> Iterator[Item]:
     """The functions among items, and those of traits, impls and modules in them."""
     for item in items:
@@ -123,13 +141,12 @@ def functions_in(items: List[Item]) -> Iterator[Item]:
             yield from functions_in(item.items)
 
 
-def clauses_of(project: Project) -> Iterator[Tuple[str, str]]:
-    """The clauses of functions of product crates: the head of each, and its term."""
-    for name, crate in project.crates.items():
-        if not NO_PRODUCT.match(name):
-            for module in crate.root.all():
-                for item in functions_in(module.items):
-                    yield from item.clauses
+def clauses_of(project: Project) -> Iterator[List[Tuple[str, str]]]:
+    """The clauses of each function of product crates: the head of each clause, and its term."""
+    for name in product_crates():
+        for module in project.crates[name].root.all():
+            for item in functions_in(module.items):
+                yield item.clauses
 
 
 def is_meter(head: str, term: str) -> bool:
@@ -138,14 +155,21 @@ def is_meter(head: str, term: str) -> bool:
     return head.startswith("ensures") and bool(named)
 
 
-def lines_in(folder: str, is_product: bool) -> int:
-    """How many lines the files of a folder of all crates have, or of all product crates."""
+def lines_in(folder: str, crates: Iterable[str]) -> int:
+    """How many lines the files of a folder of these crates have."""
     total = 0
-    for path in glob.glob(os.path.join(ROOT, "crates", "*", folder, "**"), recursive=True):
-        crate = os.path.relpath(path, os.path.join(ROOT, "crates")).split(os.sep)[0]
-        if path.endswith((".rt", ".antt")) and not (is_product and NO_PRODUCT.match(crate)):
-            total += check_private.text_of(path).count("\n")
+    for crate in crates:
+        for path in glob.glob(os.path.join(ROOT, "crates", crate, folder, "**"), recursive=True):
+            if path.endswith((".rt", ".antt")):
+                total += check_private.text_of(path).count("\n")
     return total
+
+
+def ensured_by(name: str) -> int:
+    """How many clauses say what a function ensures."""
+    found = Reach((name,)).function(name)
+    assert found is not None
+    return sum(1 for head, _ in found.item.clauses if head.startswith("ensures"))
 
 
 def rows() -> Iterator[Tuple[str, Any]]:
@@ -154,12 +178,26 @@ def rows() -> Iterator[Tuple[str, Any]]:
         yield "words and lines that %s reaches" % title, reach_of(Reach(names))
     project = Project()
     yield "public words, and their lines", reach_of(project)
-    yield "lines of specs/ in all", lines_in("specs", False)
-    clauses = list(clauses_of(project))
-    meters = sum(1 for clause in clauses if is_meter(*clause))
-    yield "clauses that are meters, and clauses in all", (meters, len(clauses))
-    yield "lines of src/ in product crates", lines_in("src", True)
-    yield "lines of proofs/ in all crates", lines_in("proofs", False)
+    every_crate = list(project.crates)
+    yield "lines of specs/", lines_in("specs", every_crate)
+    functions = list(clauses_of(project))
+    clauses = [clause for function in functions for clause in function]
+    yield "clauses that are meters, and clauses in all", (
+        sum(1 for clause in clauses if is_meter(*clause)),
+        len(clauses),
+    )
+    most = max(
+        sum(1 for head, _ in function if head.startswith("ensures")) for function in functions
+    )
+    yield "what `Store::import` ensures, and the function with most", (
+        ensured_by("history_store::Store::import"),
+        most,
+    )
+    yield "lines of `%s`" % QUESTIONS, check_private.text_of(
+        os.path.join(ROOT, "crates", QUESTIONS)
+    ).count("\n")
+    yield "lines of src/ in product crates", lines_in("src", product_crates())
+    yield "lines of proofs/", lines_in("proofs", every_crate)
 
 
 def shown(counted: Any) -> str:

@@ -28,7 +28,7 @@ from typing import Iterator, NamedTuple, Optional, Tuple
 TICKS = os.sysconf("SC_CLK_TCK")
 PARTS = ("library", "tests", "edits", "run")
 BETWEEN_LOOKS = 1.0
-TOP = os.path.dirname(os.path.dirname(os.path.abspath(__file__)))
+TOP = os.path.dirname(os.path.dirname(os.path.dirname(os.path.abspath(__file__))))
 DOCUMENT = os.path.join(TOP, "docs", "PERFORMANCE.md")
 EDITS = os.path.join(TOP, "crates", "*", "must-fail", "*.edit")
 CRATES = os.path.join(TOP, "crates", "*", "src")

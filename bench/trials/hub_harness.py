@@ -10,9 +10,10 @@ import subprocess
 import sys
 import time
 
-import make_release as rf2
+ROOT = os.path.dirname(os.path.dirname(os.path.dirname(os.path.abspath(__file__))))
+sys.path.append(os.path.join(ROOT, "bench", "measurements"))
+import make_release as rf2  # noqa: E402
 
-ROOT = os.path.dirname(os.path.dirname(os.path.abspath(__file__)))
 RELEASES = os.path.join(ROOT, "docs", "releases")
 # What is around the scripts: Python keeps their output until they flush it, as it mostly does.
 AROUND = {name: value for name, value in os.environ.items() if name != "PYTHONUNBUFFERED"}

@@ -21,7 +21,7 @@ import sys
 import tempfile
 import time
 
-ROOT = os.path.dirname(os.path.dirname(os.path.abspath(__file__)))
+ROOT = os.path.dirname(os.path.dirname(os.path.dirname(os.path.abspath(__file__))))
 RELEASES = os.path.join(ROOT, "docs", "releases")
 UNIT = os.path.join(ROOT, "examples", "sctd.service")
 BLOCK = 4096

@@ -8,8 +8,7 @@ import random
 import subprocess
 import sys
 
-import make_release as rf2
-from hub_harness import AROUND, SECONDS, Client, Hub, Wrong, concept, concept_id, same
+from hub_harness import AROUND, SECONDS, Client, Hub, Wrong, concept, concept_id, rf2, same
 from hub_harness import write_release
 
 ADDED = ["active_then", "name_then", "active_now", "name_now", "replaced_by",

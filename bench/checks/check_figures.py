@@ -5,7 +5,8 @@ check_figures.py [--renew]
 
 FIGURES names each of them with the command that prints it: the document, the text around the
 number, and the command, which bash runs at the top of the repository. The text stands in its
-document just once, and its number has to be the one that is printed. And a number of edits, tests,
+document just once, and its number has to be the one that is printed. TABLES names commands that print rows
+of a table: each row has to stand in its document as it is printed. And a number of edits, tests,
 cases in files or crates that stands in a document without being in FIGURES is an error, but for the
 rows of dated measurements. --renew writes what the commands print into the documents. Nothing is
 built, and it takes a second or two; what there is to say goes to standard error. The status is 1
@@ -19,7 +20,7 @@ import subprocess
 import sys
 from collections import namedtuple
 
-ROOT = os.path.dirname(os.path.dirname(os.path.abspath(__file__)))
+ROOT = os.path.dirname(os.path.dirname(os.path.dirname(os.path.abspath(__file__))))
 
 # A document, a text in which {} stands for the number, and the command that prints it.
 Figure = namedtuple("Figure", "document text command")
@@ -30,7 +31,12 @@ TESTS = "grep -rhE '^ *#\\[test\\]' --include=*.rt crates/*/src | wc -l"
 CASES = "grep -hE '^case ' crates/*/data/cases/* | wc -l"
 CRATES = "ls -d crates/*/ | wc -l"
 # The definitions that the contract of an answer rests on.
-REACH = "python3 bench/count_reach.py line_server::answer | sed -nE 's/.*: ([0-9]+) words.*/\\1/p'"
+REACH = (
+    "python3 bench/checks/count_reach.py line_server::answer"
+    " | sed -nE 's/.*: ([0-9]+) words.*/\\1/p'"
+)
+# The calls that always_refused.py plants.
+CALLS = "grep -c '^    Call(' bench/faults/always_refused.py"
 # All functions of src/, those of traits and the tests' helpers too, less the tests themselves.
 FUNCTIONS = (
     "echo $(( $(grep -rhE '^ *(pub(\\([a-z]+\\))? )?fn ' --include=*.rt crates/*/src | wc -l)"
@@ -106,9 +112,8 @@ FIGURES = [
     Figure(RELIABILITY, "refused: at least {} lines in", asked_for(RUNS, "runs.most", ",")),
     Figure(RELIABILITY, "runs of {} lines, each with 16 bytes more",
            number_in("line_support/src/script.rt", "const SCRIPT: \\[Turn; ")),
-    Figure(RELIABILITY, "| {} calls, one by one", "grep -c '^    Call(' bench/always_refused.py"),
-    Figure(RELIABILITY, "makes each of {} public calls",
-           "grep -c '^    Call(' bench/always_refused.py"),
+    Figure(RELIABILITY, "| {} calls, one by one", CALLS),
+    Figure(RELIABILITY, "makes each of {} public calls", CALLS),
     Figure(RELIABILITY, "| {} lengths",
            reckoned(number_in(CHANGED, "assert_eq!\\(rt; bytes.len\\(\\), "), "n + 1")),
     Figure(RELIABILITY, "| A field changed | {}, and one",
@@ -119,6 +124,10 @@ FIGURES = [
     Figure(RELIABILITY, "all {} bytes of a disk",
            number_in(CHANGED, "assert_eq!\\(rt; disk.bytes\\(\\).len\\(\\), ")),
 ]
+
+# A document, and a command that prints rows of a table in it: what is counted, and its numbers.
+Table = namedtuple("Table", "document command")
+TABLES = [Table("docs/ARCHITECTURE.md", "python3 bench/checks/count_reach.py")]
 
 # What has to be in FIGURES wherever it stands, and the rows that say what was so on a day.
 COUNTED = re.compile(
@@ -181,6 +190,23 @@ def checked(name, text, known, wrong):
     return text
 
 
+def checked_table(table, text, wrong):
+    """The document with the rows of a table as they are; what isn't so is added to `wrong`."""
+    done = subprocess.run(["bash", "-c", table.command], cwd=ROOT, stdout=subprocess.PIPE,
+                          check=False, text=True)
+    rows = done.stdout.splitlines()
+    if done.returncode or not rows:
+        wrong.append("%s: no rows are printed by: %s" % table)
+    for row in rows:
+        front = row[: row.index("|", 1) + 1]
+        found = re.findall("^%s.*$" % re.escape(front), text, re.M)
+        if found != [row]:
+            wrong.append("%s: %r stands there, and %r is printed by: %s"
+                         % (table.document, found, row, table.command))
+        text = re.sub("^%s.*$" % re.escape(front), lambda match: row, text, flags=re.M)
+    return text
+
+
 def main(words):
     if words not in ([], ["--renew"]):
         print(__doc__.strip(), file=sys.stderr)
@@ -192,12 +218,16 @@ def main(words):
         with open(path, encoding="utf-8", newline="") as file:
             text = file.read()
         renewed = checked(name, text, known, wrong)
+        for table in TABLES:
+            if table.document == name:
+                renewed = checked_table(table, renewed, wrong)
         if words and renewed != text:
             with open(path, "w", encoding="utf-8", newline="") as file:
                 file.write(renewed)
     for sentence in wrong:
         print(sentence, file=sys.stderr)
-    print("%d figures, %d not so" % (len(FIGURES), len(wrong)), file=sys.stderr)
+    print("%d figures and %d tables, %d not so" % (len(FIGURES), len(TABLES), len(wrong)),
+          file=sys.stderr)
     return 1 if wrong else 0
 
 

@@ -31,9 +31,9 @@ import tempfile
 from pathlib import Path
 from typing import Iterable, Iterator, NamedTuple
 
-from unproved import Builder, bytes_of, kit_folder, run_program, status_of
-
-TOP = Path(__file__).resolve().parent.parent
+TOP = Path(__file__).resolve().parents[2]
+sys.path.append(str(TOP / "bench"))
+from unproved import Builder, bytes_of, kit_folder, run_program, status_of  # noqa: E402
 
 # How long a test may take, and a program of cases, with the checks of `rt try` in it.
 SECONDS = 120
@@ -280,7 +280,9 @@ class Sources:
         if body:
             return re.search(r"^ +%s\b" % variant, body[1], re.MULTILINE) is not None
         origin = origin_of(text, name, "pub use")
-        return origin not in (None, crate, "crate") and self.has_variant(origin, name, variant)
+        if origin is None or origin in (crate, "crate"):
+            return False
+        return self.has_variant(origin, name, variant)
 
 
 def origin_of(text: str, name: str, word: str = "use") -> str | None:

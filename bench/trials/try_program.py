@@ -5,36 +5,37 @@ try_program.py PROGRAM [PASSED FAILED]
 
 Each script of the list below is run with PROGRAM, the built `sctd`. One that can't be run on this
 machine says why and ends with status 3: it is skipped, and not counted as passed. PASSED and FAILED
-are what `rt ci` counted; the last line is `N passed, M failed` of both together, and the status is 1
-where something failed. Standard library alone.
+are what `rt ci` counted; the last line is `N passed, M failed` of both together, and the status is
+1 where something failed. Standard library alone.
 """
 
 import os
 import subprocess
 import sys
 import time
+from collections.abc import Sequence
 
-HERE = os.path.dirname(os.path.abspath(__file__))
-# Each script and its further words, none of which takes longer than this many seconds.
+BENCH = os.path.dirname(os.path.dirname(os.path.abspath(__file__)))
+# Each script of bench/ and its further words, none of which takes longer than this many seconds.
 LONGEST = 180
-SCRIPTS = [
-    ("check_guide.py",),
-    ("try_mistakes.py",),
-    ("check_syncs.py",),
-    ("try_hub.py",),
-    ("soak.py", "12", "1"),
-    ("soak.py", "12", "2"),
-    ("try_flips.py", "5000", "100"),
+SCRIPTS: list[tuple[str, ...]] = [
+    ("checks/check_guide.py",),
+    ("trials/try_mistakes.py",),
+    ("trials/check_syncs.py",),
+    ("trials/try_hub.py",),
+    ("trials/soak.py", "12", "1"),
+    ("trials/soak.py", "12", "2"),
+    ("trials/try_flips.py", "5000", "100"),
 ]
 NOT_RUN = 3
 
 
-def tried(program, script, words):
-    """The status of a script, and the end of what it printed."""
+def tried(program: str, script: str, words: Sequence[str]) -> tuple[int, float, list[str]]:
+    """The status of a script, the seconds that it took, and the lines that it printed."""
     begun = time.monotonic()
     try:
         done = subprocess.run(
-            [sys.executable, os.path.join(HERE, script), program, *words], timeout=LONGEST,
+            [sys.executable, os.path.join(BENCH, script), program, *words], timeout=LONGEST,
             stdin=subprocess.DEVNULL, stdout=subprocess.PIPE, stderr=subprocess.STDOUT, check=False)
         status, printed = done.returncode, done.stdout
     except subprocess.TimeoutExpired as late:
@@ -44,7 +45,8 @@ def tried(program, script, words):
     return status, took, lines
 
 
-def main(words):
+def main(words: list[str]) -> int:
+    assert __doc__
     if len(words) not in (1, 3):
         print(__doc__.strip(), file=sys.stderr)
         return 2
