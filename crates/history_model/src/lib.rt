@@ -7,6 +7,8 @@ mod ghost_rows;
 pub mod laws;
 pub mod listing;
 pub mod plain;
+pub mod plain_audit;
+pub mod plain_hierarchy;
 mod receipt;
 mod shown;
 mod stamped;
