@@ -215,8 +215,8 @@ impl Index {
         }
     }
 
-    /// The place of the row with this number in a list, if there is one that the pin shows, whatever
-    /// the date. It makes no bisection, and reads no row.
+    /// The place of the row with this number in a list, if there is one and the pin shows it,
+    /// whatever the date. It makes no bisection, and reads no row.
     pub fn shown_at(&self, segment: usize, number: u32, pin: u32) -> Option<RowPlace>
         ensures { (at : RowPlace) → (result ≡ Some at)
             ↔ ((item_at self.now segment number ≡ Some at) × (at.import ≤ pin)) }

@@ -89,8 +89,8 @@ abbrev pub AreRanked : List (List StampedRow) → ℕ → ℕ → ℕ → List (
 AreRanked lists date pin d xs kept =
     (all : List Chosen) × AreRankedTaken lists date pin d xs all × AreOnce ranked_cmp all kept
 
--- what is to be read for a reference of list n, seen from its target: its place, with refset and what
--- it refers to
+-- what is to be read for a reference of list n, seen from its target: its place, with refset and
+-- what it refers to
 abbrev pub ranked_back : ℕ → Reference → RowPlace → Chosen
 ranked_back n r at = record { segment = n; at = at; refset = r.refset; target = r.referenced }
 
@@ -109,7 +109,8 @@ AreReplacedTaken lists date pin = AreTaken (GivesRankedBack lists date pin) (λ 
 abbrev pub AreReplaced : List (List StampedRow) → ℕ → ℕ → ℕ → List (ℕ × Reference) → List Chosen
     → Type 0
 AreReplaced lists date pin target xs kept =
-    (all : List Chosen) × AreReplacedTaken lists date pin target xs all × AreOnce ranked_cmp all kept
+    (all : List Chosen) × AreReplacedTaken lists date pin target xs all
+    × AreOnce ranked_cmp all kept
 
 -- a subject whose row is current gives what is to be read
 abbrev pub GivesRow : List (List StampedRow) → ℕ → ℕ → ℕ → Subject → Chosen → Type 0

@@ -1,6 +1,7 @@
 //! Which concepts are above a concept.
 
-ghost use Rattle.std.specs.Prelude.{◌≡◌, ◌≢◌, ◌+◌, ◌≤◌, ◌∷◌, ℕ, List, map, IfOk, IfErr, MatchOption, true, false};
+ghost use Rattle.std.specs.Prelude.{◌≡◌, ◌≢◌, ◌+◌, ◌≤◌, ◌∷◌, ℕ, List, map, true, false};
+ghost use Rattle.std.specs.Prelude.{IfOk, IfErr, MatchOption};
 ghost use Rattle.std.specs.List.{filter, sum_by};
 ghost use Rattle.history_model.specs.History.{rows_at};
 ghost use Rattle.history_model.specs.Lists.{listed};
@@ -187,8 +188,8 @@ pub fn ancestors<R: RowReader>(
         R.work reader.new ≤ R.work reader.old + sum_by (λ c. sum_by R.cost
         (about kinds.Relationship c time (rows_at pin (listed (R.lists reader.old)))))
         (concept ∷ ids.items)) }
-    // Whatever it answers, an honest reader has read no more than the relationships take of which the
-    // concept is the source, or one that is to be found.
+    // Whatever it answers, an honest reader has read no more than the relationships take of which
+    // the concept is the source, or one that is to be found.
     ensures work_always { R.is_honest reader.old → Lists index.now (R.lists reader.old)
         → EachPosted (R.lists reader.old) links.now → (ids : List ℕ)
         → AreAncestors concept time (rows_at pin (listed (R.lists reader.old))) ids

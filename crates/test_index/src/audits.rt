@@ -66,7 +66,12 @@ fn compare_timelines(
             asked.id,
             asked.pin,
         )?;
-        assert!(rt; is_same(&found, &plain_audit::timeline(alloc, shown, kind, asked.id)?));
+        assert!(rt;
+            is_same(
+                &found,
+                &plain_audit::timeline(alloc, shown, kind, asked.id)?
+            )
+        );
         answered = answered.saturating_add(found.len());
     }
     Ok(answered)
