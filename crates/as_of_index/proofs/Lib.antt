@@ -24,3 +24,4 @@ pub mod Turns
 pub mod OneNumber
 pub mod Unions
 pub mod Shown
+pub mod Changed

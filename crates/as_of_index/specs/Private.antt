@@ -6,3 +6,4 @@ pub mod Current
 pub mod Chosen
 pub mod Merging
 pub mod Numbers
+pub mod Walk
