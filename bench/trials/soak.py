@@ -5,12 +5,12 @@ soak.py PROGRAM [SECONDS [SEED [FOLDER]]]
 
 PROGRAM is the built `sctd` (crates/sctd/out/sctd). It serves a store in FOLDER (a fresh folder
 below the system's temporary one, where none is given) for SECONDS (60 where none are given).
-Runs with an odd SEED begin with a store of version 1 of the layout. Sessions import random
-releases, some of them faulty or contradicting, ask at random dates and pins, merge in steps and
-trim, in batches of lines that are sent at once. From time to time a second `sctd import` is tried
-on the file. Some batches, and some openings, are cut short by `kill -9` at a random moment; then
-the program serves the same file again. A model in this script answers each line too. What has to
-hold:
+A run begins with a store of version 2, 1 or 3 of the layout, by the rest of SEED divided by 3.
+Sessions import random releases, some of them faulty or contradicting, ask at random dates and pins,
+merge in steps and trim, in batches of lines that are sent at once. From time to time a second `sctd
+import` is tried on the file, and the store is upgraded, in version 3 to no effect. Some upgrades,
+some batches, and some openings, are cut short by `kill -9` at a random moment; then the program
+serves the same file again. A model in this script answers each line too. What has to hold:
 
 - each reply is the model's, byte for byte, as far as replies came;
 - after a kill the store is what the model is after the first so many of the lines that were sent,
@@ -461,7 +461,7 @@ class Soak:
         self.counts = dict.fromkeys(
             "openings kills_in_openings kills_in_batches lines imports imports_cut_kept "
             "imports_cut_lost publications publications_cut_kept publications_cut_lost trims "
-            "dumps seconds_refused".split(),
+            "dumps seconds_refused upgrades upgrades_cut".split(),
             0,
         )
 
@@ -665,10 +665,11 @@ class Soak:
         return [next(iter(shown[name].values()))[1][0] for name in self.model.kinds[kind].ids]
 
     def run(self, seconds):
-        made = self.ended(["init", "--store", self.store])
+        layout = ["--layout", "3"] if self.seed % 3 == 2 else []
+        made = self.ended(["init", "--store", self.store] + layout)
         if made.returncode or made.stdout != b"OK\n":
             raise Wrong("init: %r, status %d" % (made.stdout, made.returncode))
-        if self.seed % 2:
+        if self.seed % 3 == 1:
             self.make_version_one()
         self.start()
         begun = time.monotonic()
@@ -678,6 +679,8 @@ class Soak:
                 self.killed_batch()
             elif what < 0.3:
                 self.second_import()
+            elif what < 0.31:
+                self.upgrade()
             else:
                 lines, replies, states = self.batch()
                 self.ask(lines, replies)
@@ -698,6 +701,23 @@ class Soak:
                 file.seek(at - 7)
                 if file.read(7) == b"SCTHIST":
                     file.write(VERSION_ONE)
+
+    def upgrade(self):
+        """Between two servers the store is upgraded, perhaps after an upgrade that was killed."""
+        status, rest = self.served.end()
+        if rest or status:
+            raise Wrong("before an upgrade: %r, status %d" % (rest[:300], status))
+        words = ["upgrade", "--store", self.store]
+        if self.chance.random() < 0.5:
+            cut = Program([self.program] + words)
+            time.sleep(self.chance.random() * 0.02)
+            cut.kill()
+            self.counts["upgrades_cut"] += 1
+        done = self.ended(words)
+        if (done.returncode, done.stdout) != (0, b"OK\n"):
+            raise Wrong("upgrade: %r, status %d" % (done.stdout, done.returncode))
+        self.counts["upgrades"] += 1
+        self.start_again([self.model.state], 0)
 
     def second_import(self):
         """A second program on the file is refused, and changes nothing."""

@@ -26,6 +26,7 @@ SCRIPTS: list[tuple[str, ...]] = [
     ("trials/refuse_growths.py", "script"),
     ("trials/soak.py", "12", "1"),
     ("trials/soak.py", "12", "2"),
+    ("trials/try_flips.py", "5000", "100"),
 ]
 NOT_RUN = 3
 

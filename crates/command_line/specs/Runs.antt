@@ -3,6 +3,7 @@ use Rattle.std.specs.Prelude.{◌≡◌, ◌≢◌, ◌⊎◌, ◌≤◌, ℕ, L
 use Rattle.std.specs.Prelude.{⊤}
 use Rattle.std.specs.Io.KnownBytes.{Keeps}
 use Rattle.store_life.specs.DeviceView.{DeviceView, device_view}
+use Rattle.directory.specs.declared.layout.Layout.{Layout}
 use Rattle.disk_model.specs.Change.{made}
 use Rattle.disk_model.specs.Disk.{raised_by}
 use Rattle.disk_model.specs.MemDisk.{memory_moments, failure_count, bytes_read_of}
@@ -26,6 +27,7 @@ use Rattle.command_line.specs.Endings.{Report, report, Tells}
 use Rattle.command_line.specs.Words.{AskFor, AskForNone}
 use Rattle.command_line.specs.Merging.{IsMergedOnDisk}
 use Rattle.command_line.specs.Tasks.{IsMade, IsImport, IsStatus, IsServing, IsServingNew}
+use Rattle.command_line.specs.Tasks.{IsUpgrade}
 
 -- What the words can name, as clauses see it: which device stands under a name, or is made there,
 -- and whether it can't be had; whether the name stays; and the releases of each folder, if they are
@@ -55,13 +57,13 @@ IsDoneAt {D} had done missing left =
     ((device : D) × (after : D) × had device × done device after × (left ≡ Some after))
     ⊎ (missing × (left ≡ None))
 
--- A store was made on what stands under a name or was made there, once it was seen that the name
+-- A store of this version was made on what stands under a name or was made there, once it was seen that the name
 -- stays. What was had under a name that isn't seen to stay was left as it was, and that was told;
 -- and so it was if nothing can be had there.
-abbrev pub IsMadeAt : {D : Type 0} → SystemView D → List ℕ → Option D → Report → Type 0
-IsMadeAt {D} system name left report =
+abbrev pub IsMadeAt : {D : Type 0} → Layout → SystemView D → List ℕ → Option D → Report → Type 0
+IsMadeAt {D} layout system name left report =
     ((device : D) × (after : D) × system.makes name device × system.keeps name
-    × IsMade system.device device after report × (left ≡ Some after))
+    × IsMade layout system.device device after report × (left ≡ Some after))
     ⊎ ((device : D) × system.makes name device × system.loses name × IsMissing report
     × (left ≡ Some device))
     ⊎ (system.denies name × IsMissing report × (left ≡ None))
@@ -82,8 +84,8 @@ pub record IsDemonstrated (script : List ℕ) (report : Report) : Type 0 where
 -- has no device
 abbrev pub Does : {D : Type 0} → SystemView D → List ℕ → Task → Option D
     → Result Ending ServeFault → Streams → Type 0
-Does system script (tasks.Init store) left ended streams =
-    IsMadeAt system store.now left (report ended streams.old streams.new)
+Does system script (tasks.Init store layout) left ended streams =
+    IsMadeAt layout system store.now left (report ended streams.old streams.new)
     × (streams.rest ≡ streams.input)
 Does system script (tasks.Import store releases name quiet) left ended streams =
     IsDoneAt (system.stands store.now)
@@ -106,6 +108,11 @@ Does system script (tasks.Merge store segments) left ended streams =
     IsDoneAt (system.stands store.now)
     (λ device after. IsMergedOnDisk system.device segments device after
     (report ended streams.old streams.new))
+    (IsMissing (report ended streams.old streams.new) × system.withholds store.now) left
+    × (streams.rest ≡ streams.input)
+Does system script (tasks.Upgrade store) left ended streams =
+    IsDoneAt (system.stands store.now)
+    (λ device after. IsUpgrade system.device device after (report ended streams.old streams.new))
     (IsMissing (report ended streams.old streams.new) × system.withholds store.now) left
     × (streams.rest ≡ streams.input)
 Does system script tasks.Demo left ended streams =

@@ -1,10 +1,15 @@
 -- What each task does.
 use Rattle.std.specs.Prelude.{◌≡◌, ◌⊎◌, ℕ, List, [], ◌++◌, codes, Option, Result, Ok, Err}
+use Rattle.directory.specs.declared.layout.Layout.{Layout}
+use Rattle.directory.specs.declared.layout.Layout.TheVariants as layouts
 use Rattle.store_life.specs.DeviceView.{DeviceView}
+use Rattle.store_life.specs.Life.{IsCall, Other}
+use Rattle.history_store.specs.declared.refusal.Refusal.{Refusal}
 use Rattle.history_store.specs.declared.refusal.Refusal.TheVariants.{OutOfMemory}
 use Rattle.history_store.specs.StoreValue.{StoreValue}
 use Rattle.history_store.specs.Answers.{StoreOr, device_of}
 use Rattle.history_store.specs.Openings.{IsMaking, IsOpening}
+use Rattle.history_store.specs.Upgrading.{IsUpgradingOf}
 use Rattle.line_server.specs.declared.refusal.LineRefusal.{LineRefusal}
 use Rattle.line_server.specs.declared.refusal.LineRefusal.TheVariants.{Store}
 use Rattle.line_server.specs.declared.serving.ServeFault.{ServeFault}
@@ -26,11 +31,11 @@ abbrev pub making_told : {D : Type 0} → StoreOr D → Result Answer LineRefusa
 making_told (Ok store) = Ok (AllDone [])
 making_told (Err e) = Err (Store e.0)
 
--- a store was made, that was told, and the device was left so
-pub record IsMade {D : Type 0} (view : DeviceView D) (device left : D) (report : Report)
-    : Type 0 where
+-- a store of this version was made, that was told, and the device was left so
+pub record IsMade {D : Type 0} (layout : Layout) (view : DeviceView D) (device left : D)
+    (report : Report) : Type 0 where
   pub had : StoreOr D
-  pub making : IsMaking had view.is_honest view.moments view.failures device
+  pub making : IsMaking layout had view.is_honest view.moments view.failures device
   pub left_so : left ≡ device_of had
   pub told : Tells report (making_told had)
 
@@ -92,6 +97,29 @@ abbrev pub IsStatus : {D : Type 0} → DeviceView D → D → D → Report → T
 IsStatus view device left report =
     IsOnOpened view (TellsStatus view left report) device left report
 
+-- ---- upgrade
+
+-- what is told of an upgrade: that it was done, or why not
+abbrev pub upgrade_told : Result (Unit {0}) Refusal → Result Answer LineRefusal
+upgrade_told (Ok done) = Ok (AllDone [])
+upgrade_told (Err e) = Err (Store e)
+
+-- the store was brought to version 3, or it was refused; that was told, and the device was left as
+-- it then was
+pub record Upgrades {D : Type 0} (view : DeviceView D) (left : D) (report : Report)
+    (store : StoreValue D) : Type 0 where
+  pub result : Result (Unit {0}) Refusal
+  pub after : StoreValue D
+  pub answer : IsUpgradingOf result store after
+  pub call : IsCall view store Other after
+  pub told : Tells report (upgrade_told result)
+  pub left_so : left ≡ after.disk
+
+-- the store was opened from this device, and brought to version 3
+abbrev pub IsUpgrade : {D : Type 0} → DeviceView D → D → D → Report → Type 0
+IsUpgrade view device left report =
+    IsOnOpened view (Upgrades view left report) device left report
+
 -- ---- serve
 
 -- how the task ended, by what serving answered
@@ -133,5 +161,5 @@ pub record IsServing {D : Type 0} (source : SourceView) (view : DeviceView D) (d
 pub record IsServingNew {D : Type 0} (source : SourceView) (view : DeviceView D) (device left : D)
     (ended : Result Ending ServeFault) (streams : Streams) : Type 0 where
   pub had : StoreOr D
-  pub making : IsMaking had view.is_honest view.moments view.failures device
+  pub making : IsMaking layouts.Two had view.is_honest view.moments view.failures device
   pub serves : Serves source view had left ended streams

@@ -9,6 +9,7 @@ use Rattle.clap.specs.Values.{kind_of}
 use Rattle.clap.specs.declared.builder.value_parser.ValueParser.TheVariants.{Unsigned}
 use Rattle.clap.specs.declared.builder.action.ArgAction.TheVariants.{Set, SetTrue}
 use Rattle.std.specs.Prelude.{[], ◌∷◌, false}
+use Rattle.directory.specs.Listings.{number_of}
 use Rattle.command_line.specs.Paths.{IsNamed}
 use Rattle.command_line.specs.declared.words.Task.{Task}
 use Rattle.command_line.specs.declared.words.Task.TheVariants as tasks
@@ -33,8 +34,17 @@ optional id = record (option id) { required = false }
 abbrev pub flag : Text → Rule
 flag id = record (new_rule id) { long = Some id; action = Some SetTrue }
 
+-- the option `--layout`: 2 or 3, and 2 if it isn't given
+abbrev pub layout_option : Rule
+layout_option = record (option (codes "layout")) {
+  parser = Some (Unsigned 2 3);
+  defaults = codes "2" ∷ [];
+  required = false;
+}
+
 abbrev pub init_command : App
-init_command = with_rule (new_app (codes "init")) (option (codes "store"))
+init_command =
+    with_rule (with_rule (new_app (codes "init")) (option (codes "store"))) layout_option
 
 abbrev pub serve_command : App
 serve_command = with_rule (with_rule (new_app (codes "serve")) (option (codes "store")))
@@ -61,6 +71,9 @@ abbrev pub merge_command : App
 merge_command =
     with_rule (with_rule (new_app (codes "merge")) (option (codes "store"))) segments_option
 
+abbrev pub upgrade_command : App
+upgrade_command = with_rule (new_app (codes "upgrade")) (option (codes "store"))
+
 abbrev pub demo_command : App
 demo_command = new_app (codes "demo")
 
@@ -74,10 +87,18 @@ empty_program = record {
 abbrev pub program : App
 program =
     with_subcommand (with_subcommand (with_subcommand (with_subcommand (with_subcommand
-    (with_subcommand empty_program init_command.top) import_command.top) serve_command.top)
-    status_command.top) merge_command.top) demo_command.top
+    (with_subcommand (with_subcommand empty_program init_command.top) import_command.top)
+    serve_command.top) status_command.top) merge_command.top) upgrade_command.top) demo_command.top
 
 -- ---- what is asked for
+
+-- the values of this making of a store were read
+abbrev pub IsInitOf : List Row → Task → Type 0
+IsInitOf rows (tasks.Init store layout) =
+    (first_of (codes "store") rows ≡ Some store.now)
+    × (text : Text) × (first_of (codes "layout") rows ≡ Some text)
+    × (number_of layout ≡ digits_value 10 (without_leading_plus text))
+IsInitOf rows task = ⊥
 
 -- the values of this import were read
 abbrev pub IsImportOf : List Row → Task → Type 0
@@ -91,8 +112,8 @@ IsImportOf rows task = ⊥
 -- a command was read with the values of this task
 abbrev pub Reads : Option (Text × List Row) → Task → Type 0
 Reads None task = ⊥
-Reads (Some read) (tasks.Init store) =
-    (read.0 ≡ codes "init") × (first_of (codes "store") read.1 ≡ Some store.now)
+Reads (Some read) (tasks.Init store layout) =
+    (read.0 ≡ codes "init") × IsInitOf read.1 (tasks.Init store layout)
 Reads (Some read) (tasks.Import store folder name quiet) =
     (read.0 ≡ codes "import") × IsImportOf read.1 (tasks.Import store folder name quiet)
 Reads (Some read) (tasks.Serve store releases) =
@@ -104,6 +125,8 @@ Reads (Some read) (tasks.Merge store segments) =
     (read.0 ≡ codes "merge") × (first_of (codes "store") read.1 ≡ Some store.now)
     × (text : Text) × (first_of (codes "segments") read.1 ≡ Some text)
     × (segments ≡ digits_value 10 (without_leading_plus text))
+Reads (Some read) (tasks.Upgrade store) =
+    (read.0 ≡ codes "upgrade") × (first_of (codes "store") read.1 ≡ Some store.now)
 Reads (Some read) tasks.Demo = read.0 ≡ codes "demo"
 
 -- the words, of which the first is the program's name, are in order and ask for the task

@@ -8,8 +8,9 @@ pub(crate) const PROGRAM: &str = "Examples:
 
 The guide goes from an unpacked release to the first answers: docs/GUIDE.md";
 
-pub(crate) const INIT: &str = "Example:
+pub(crate) const INIT: &str = "Examples:
   sctd init --store terms.store
+  sctd init --layout 3 --store terms.store
 
 The guide tells more: docs/GUIDE.md, \"A store\"";
 
@@ -63,7 +64,8 @@ pub(crate) const STATUS: &str = "Example:
 
 The answer is OK, the numbers of imports, rows and segments, and a - (no merge is in
 progress). Standard error tells the version of the layout, the length of the file, how
-many blocks the store needs, and the greatest effective time of a row.
+many blocks the store needs, the greatest effective time of a row, and in layout
+version 3 how many segments have no checksums.
 
 The guide tells more: docs/GUIDE.md, \"Importing a release\"";
 
@@ -71,6 +73,12 @@ pub(crate) const MERGE: &str = "Example:
   sctd merge --store terms.store --segments 10
 
 The guide tells more: docs/GUIDE.md, \"Merges\"";
+
+pub(crate) const UPGRADE: &str = "Examples:
+  sctd upgrade --store terms.store
+  sctd merge --store terms.store
+
+The guide tells more: docs/GUIDE.md, \"Upgrading to layout 3\"";
 
 pub(crate) const DEMO: &str = "Example:
   sctd demo

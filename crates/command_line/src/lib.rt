@@ -17,6 +17,7 @@ mod progress;
 mod running;
 mod serving;
 mod telling;
+mod upgrading;
 mod words;
 
 pub use demonstration::SCRIPT;

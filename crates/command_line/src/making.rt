@@ -6,23 +6,26 @@ ghost use Rattle.store_life.specs.DeviceView.{device_view};
 
 use crate::endings::{Ending, refuse, tell_done};
 use crate::telling::Told;
+use directory::Layout;
 use disk_model::Disk;
 use history_store::Store;
 use line_server::ServeFault;
 use std::alloc::Global;
 use std::io::Write;
 
-/// Makes a store on a device, and tells it. The device comes back.
+/// Makes a store of this version on a device, and tells it. The device comes back.
 pub(crate) fn init<D: Disk + Drop, O: Write>(
     alloc: Global,
     device: D,
+    layout: Layout,
     output: &mut O,
     told: &mut Told,
 ) -> (Result<Ending, ServeFault>, D)
-    ensures { IsMade (device_view D.is_honest D.moments D.failures D.bytes_read) device result.1
+    ensures { IsMade layout
+        (device_view D.is_honest D.moments D.failures D.bytes_read) device result.1
         (report result.0 (O.contents output.old) (O.contents output.new)) }
 {
-    match Store::create(alloc, device) {
+    match Store::create_in(alloc, device, layout) {
         Ok(store) => (tell_done(alloc, output, told), store.close()),
         Err((refusal, device)) => (refuse(alloc, output, refusal, told), device),
     }

@@ -5,7 +5,7 @@ ghost use Rattle.command_line.specs.Endings.{report};
 ghost use Rattle.line_server.specs.Streams.{streams};
 ghost use Rattle.line_server.specs.Sources.{source_view};
 ghost use Rattle.store_life.specs.DeviceView.{device_view};
-ghost use Rattle.command_line.specs.Tasks.{IsImport, IsStatus, IsServing};
+ghost use Rattle.command_line.specs.Tasks.{IsImport, IsStatus, IsServing, IsUpgrade};
 ghost use Rattle.command_line.specs.Merging.{IsMergedOnDisk};
 ghost use Rattle.command_line.specs.Runs.{IsDoneAt, IsMadeAt, IsMissing, IsDemonstrated, Does};
 ghost use Rattle.command_line.specs.Runs.{IsRun, IsNoTask, IsExplained, AsksFor};
@@ -21,7 +21,9 @@ use crate::making::init;
 use crate::merging::merge;
 use crate::serving::{serve_device, serve_new};
 use crate::telling::{Context, Told, tell_figures, tell_why};
+use crate::upgrading::upgrade;
 use crate::words::{Refused, Task, task_of};
+use directory::Layout;
 use disk_model::MemDisk;
 use history_store::Refusal;
 use line_server::ServeFault;
@@ -102,7 +104,9 @@ fn perform<V: Devices, F: Folders, I: Read, O: Write, E: Write>(
     ensures asked { AsksFor task.now (V.asked devices.old) (V.asked devices.new) }
 {
     match task {
-        Task::Init { store } => init_at(devices, folders, alloc, *store, output, faults),
+        Task::Init { store, layout } => {
+            init_at(devices, folders, alloc, *store, *layout, output, faults)
+        }
         Task::Import {
             store,
             releases,
@@ -120,21 +124,23 @@ fn perform<V: Devices, F: Folders, I: Read, O: Write, E: Write>(
         Task::Merge { store, segments } => {
             merge_at(devices, alloc, *store, *segments, output, faults)
         }
+        Task::Upgrade { store } => upgrade_at(devices, alloc, *store, output, faults),
         Task::Demo => (demo(alloc, output), None),
     }
 }
 
-/// Makes a store under a name. The name is seen to stay before anything is written, so that a store
-/// that was made is found after a stop.
+/// Makes a store of this version under a name. The name is seen to stay before anything is
+/// written, so that a store that was made is found after a stop.
 fn init_at<V: Devices, F: Folders, O: Write, E: Write>(
     devices: &mut V,
     folders: &F,
     alloc: Global,
     path: &str,
+    layout: Layout,
     output: &mut O,
     faults: &mut E,
 ) -> Ended<V::Device>
-    ensures made { IsMadeAt (record {
+    ensures made { IsMadeAt layout (record {
       stands = V.stands devices.old;
       withholds = V.withholds devices.old;
       makes = V.makes devices.old;
@@ -156,7 +162,7 @@ fn init_at<V: Devices, F: Folders, O: Write, E: Write>(
         let ended = refuse(alloc, output, Refusal::DiskFault, &mut told);
         return (ended, Some(device));
     }
-    let (ended, left) = init(alloc, device, output, &mut told);
+    let (ended, left) = init(alloc, device, layout, output, &mut told);
     let context = Context {
         store: path,
         last_error: devices.last_error(&left),
@@ -301,6 +307,39 @@ fn merge_at<V: Devices, O: Write, E: Write>(
     match stands {
         Ok(device) => {
             let (ended, left) = merge(alloc, device, path, most, output, &mut told, faults);
+            let context = Context {
+                store: path,
+                last_error: devices.last_error(&left),
+            };
+            tell_why(told, &context, faults);
+            (ended, Some(left))
+        }
+        Err(_) => (refuse(alloc, output, Refusal::DiskFault, &mut told), None),
+    }
+}
+
+/// Brings the store under a name to version 3.
+fn upgrade_at<V: Devices, O: Write, E: Write>(
+    devices: &mut V,
+    alloc: Global,
+    path: &str,
+    output: &mut O,
+    faults: &mut E,
+) -> Ended<V::Device>
+    ensures done { IsDoneAt (V.stands devices.old path.now)
+        (λ device after. IsUpgrade
+        (device_view V.Device.is_honest V.Device.moments V.Device.failures V.Device.bytes_read)
+        device after
+        (report result.0 (O.contents output.old) (O.contents output.new)))
+        (IsMissing (report result.0 (O.contents output.old) (O.contents output.new))
+        × V.withholds devices.old path.now) result.1 }
+    ensures asked { V.asked devices.new ≡ raised_by (V.asked devices.old) 1 }
+{
+    let mut told = Told::new();
+    let before = devices.device(path, faults);
+    match before {
+        Ok(device) => {
+            let (ended, left) = upgrade(alloc, device, output, &mut told);
             let context = Context {
                 store: path,
                 last_error: devices.last_error(&left),

@@ -109,12 +109,14 @@ pub(crate) fn tell_why<E: Write>(told: Told, context: &Context<'_>, faults: &mut
     let _ = write_why(told, context, faults);
 }
 
-/// What is told of a store that was opened: the version of its layout, how
-/// many blocks it needs, and the greatest effective time of a row.
+/// What is told of a store that was opened: the version of its layout, how many of its segments
+/// have no checksums, how many blocks it needs, and the greatest effective time of a row.
 #[derive(Clone, Copy)]
 pub(crate) struct Figures {
-    /// The version of the layout: 1 or 2.
+    /// The version of the layout: 1, 2 or 3.
     pub layout: u32,
+    /// How many segments have no checksums, which is told in version 3.
+    pub plain: u32,
     /// How many blocks of 4,096 bytes the store needs.
     pub blocks: u64,
     /// The greatest effective time of a row, if there is a row.
@@ -148,6 +150,9 @@ fn write_figures<E: Write>(
     if let Some(latest) = figures.latest {
         let day = latest.value();
         write!(faults, ", latest effective time {day}")?;
+    }
+    if figures.layout >= 3 {
+        write!(faults, ", segments without checksums: {}", figures.plain)?;
     }
     writeln!(faults)
 }

@@ -5,11 +5,13 @@ ghost use Rattle.std.specs.Prelude.{string_bytes};
 ghost use Rattle.clap.specs.Matches.{found_of};
 ghost use Rattle.clap.specs.Simple.{new_app, subcommand_rows_of};
 ghost use Rattle.clap.specs.Walk.{first_of, rows_of};
-ghost use Rattle.command_line.specs.Words.{IsImportOf, Reads, AskFor, AskForNone};
+ghost use Rattle.command_line.specs.Words.{IsImportOf, IsInitOf, Reads, AskFor, AskForNone};
 ghost use Rattle.command_line.specs.Private.{IsArgument, IsCommand};
 ghost use Rattle.command_line.specs.Words.{wanted, option, optional, flag, segments_option};
 ghost use Rattle.command_line.specs.Words.{init_command, import_command, serve_command};
-ghost use Rattle.command_line.specs.Words.{status_command, merge_command, demo_command};
+ghost use Rattle.command_line.specs.Words.{status_command, merge_command, upgrade_command};
+ghost use Rattle.command_line.specs.Words.{demo_command, layout_option};
+ghost use Rattle.directory.specs.Listings.{number_of};
 ghost use Rattle.command_line.specs.Words.{empty_program, program};
 
 use crate::helps;
@@ -17,17 +19,19 @@ use crate::paths::place_of;
 use clap::builder::ValueParser;
 use clap::error::ErrorKind;
 use clap::{Arg, ArgAction, ArgMatches, Command, Error};
+use directory::Layout;
 use std::alloc::{AllocError, Global};
 
 /// The version of the program, and the versions of a store's layout that it opens.
-const VERSION: &str = "1.0.0, opens layout versions 1 and 2";
+const VERSION: &str = "1.0.0, opens layout versions 1, 2 and 3";
 
 /// What the program is to do.
 #[derive(Clone, Copy, Debug, PartialEq, Eq)]
 pub enum Task<'a> {
-    /// Make a store in a file.
+    /// Make a store of this version in a file.
     Init {
         store: &'a str,
+        layout: Layout,
     },
     /// Import the release in the folder `name` below `releases`.
     /// If `quiet`, people are told of nothing but what may be wrong.
@@ -50,6 +54,10 @@ pub enum Task<'a> {
     Merge {
         store: &'a str,
         segments: u32,
+    },
+    /// Bring a store to version 3.
+    Upgrade {
+        store: &'a str,
     },
     /// Answer the lines of a script, on a store in memory.
     Demo,
@@ -162,6 +170,19 @@ fn segments<'a>(alloc: Global) -> Arg<'a>
         .action(ArgAction::Set)
 }
 
+/// The option that says in which version of the layout a store is made.
+fn layout<'a>(alloc: Global) -> Arg<'a>
+    ensures { IsArgument layout_option result }
+{
+    Arg::new(alloc, "layout")
+        .long("layout")
+        .value_name("N")
+        .help("The version of the store's layout, 2 or 3; 3 has checksums")
+        .value_parser(ValueParser::Unsigned(2, 3))
+        .default_value("2")
+        .action(ArgAction::Set)
+}
+
 /// A command without arguments, and what its help begins and ends with.
 fn new_command<'a>(alloc: Global, name: &'a str, about: &'a str, examples: &'a str) -> Command<'a>
     ensures { IsCommand (new_app name.now) result }
@@ -173,7 +194,9 @@ fn init<'a>(alloc: Global) -> Result<Command<'a>, AllocError>
     ensures { IfOk result (IsCommand init_command) }
 {
     let about = "Makes a store in a new or empty file";
-    new_command(alloc, "init", about, helps::INIT).arg(store(alloc))
+    new_command(alloc, "init", about, helps::INIT)
+        .arg(store(alloc))?
+        .arg(layout(alloc))
 }
 
 fn import<'a>(alloc: Global) -> Result<Command<'a>, AllocError>
@@ -213,6 +236,13 @@ fn merge<'a>(alloc: Global) -> Result<Command<'a>, AllocError>
         .arg(segments(alloc))
 }
 
+fn upgrade<'a>(alloc: Global) -> Result<Command<'a>, AllocError>
+    ensures { IfOk result (IsCommand upgrade_command) }
+{
+    let about = "Brings a store to layout version 3, which has checksums; there is no way back";
+    new_command(alloc, "upgrade", about, helps::UPGRADE).arg(store(alloc))
+}
+
 fn demo<'a>(alloc: Global) -> Command<'a>
     ensures { IsCommand demo_command result }
 {
@@ -243,6 +273,7 @@ fn commands<'a>(alloc: Global) -> Result<Command<'a>, AllocError>
         .subcommand(serve(alloc)?)?
         .subcommand(status(alloc)?)?
         .subcommand(merge(alloc)?)?
+        .subcommand(upgrade(alloc)?)?
         .subcommand(demo(alloc))
 }
 
@@ -252,9 +283,7 @@ fn task_in<'a>(matches: &ArgMatches<'a>) -> Option<Task<'a>>
 {
     let (name, found) = matches.subcommand()?;
     match name {
-        "init" => Some(Task::Init {
-            store: found.get_str("store")?,
-        }),
+        "init" => init_of(found),
         "import" => import_of(found),
         "serve" => Some(Task::Serve {
             store: found.get_str("store")?,
@@ -270,7 +299,35 @@ fn task_in<'a>(matches: &ArgMatches<'a>) -> Option<Task<'a>>
                 Err(_) => None,
             }
         }
+        "upgrade" => Some(Task::Upgrade {
+            store: found.get_str("store")?,
+        }),
         "demo" => Some(Task::Demo),
+        _ => None,
+    }
+}
+
+/// The making of a store that the words ask for.
+fn init_of<'a>(found: &ArgMatches<'a>) -> Option<Task<'a>>
+    ensures { IfSome result (IsInitOf (rows_of (found_of found.now))) }
+{
+    let store = found.get_str("store")?;
+    match found.get_str("layout")?.parse() {
+        Ok(number) => {
+            let layout = layout_with(number)?;
+            Some(Task::Init { store, layout })
+        }
+        Err(_) => None,
+    }
+}
+
+/// The version of the layout with this number, if a store is made in it.
+fn layout_with(number: u32) -> Option<Layout>
+    ensures { IfSome result (λ layout. number_of layout ≡ number) }
+{
+    match number {
+        2 => Some(Layout::Two),
+        3 => Some(Layout::Three),
         _ => None,
     }
 }

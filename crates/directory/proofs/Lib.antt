@@ -4,3 +4,4 @@ pub mod Jumps
 pub mod Written
 pub mod Reading
 pub mod Adding
+pub mod Noticed

@@ -1,6 +1,7 @@
 ghost use Rattle.std.specs.Prelude.{◌≡◌, ◌↔◌};
 
 use blocks::{BLOCK_LIMIT, Extent};
+use checksum::Form;
 
 /// The first block that a segment may lie in: the four before it hold the two slots.
 pub(crate) const DATA_START: u32 = 4;
@@ -14,6 +15,8 @@ pub struct Entry {
     pub bytes: u32,
     /// How many rows these bytes spell, each with the number of the import that stamped it.
     pub rows: u32,
+    /// How their records begin.
+    pub form: Form,
 }
 
 impl Entry {

@@ -1,8 +1,8 @@
 ghost use Rattle.std.specs.Prelude.{◌≡◌, ◌+◌, ◌-◌, ◌≤◌, ◌<◌, ◌^◌, ◌++◌, [], length, replicate};
 ghost use Rattle.std.specs.Prelude.{IfOk, MatchResult};
 
-use crate::decoding::{read_entries, split_header};
-use crate::encoding::{write_entries, write_header};
+use crate::decoding::{has_sum, have_forms, read_entries, split_header};
+use crate::encoding::{write_entries, write_header, write_sum};
 use crate::entry::Entry;
 use crate::layout::Layout;
 use std::alloc::{AllocError, Global};
@@ -70,20 +70,19 @@ impl From<AllocError> for DirectoryFault {
 }
 
 impl Directory {
-    ghost use Rattle.directory.specs.Listings.{DirectoryValue, IsListing, number_of, upgraded};
+    ghost use Rattle.directory.specs.Listings.{DirectoryValue, IsListing, number_of, of_three, upgraded};
     ghost use Rattle.directory.specs.Listings.{with_entry, with_two_replaced, with_two_back};
-    ghost use Rattle.directory.specs.Content.{Lists, listing_bytes};
-    ghost use Rattle.directory.specs.declared.layout.Layout.TheVariants as layouts;
+    ghost use Rattle.directory.specs.Content.{Lists, listing_bytes, summed};
     ghost use Rattle.directory.specs.declared.listing.DirectoryFault.TheVariants as faults;
 
-    /// The directory of a new store: version 2, epoch 1, no imports, no entries.
-    pub fn new(alloc: Global) -> Result<Directory, AllocError>
+    /// The directory of a new store in this version: epoch 1, no imports, no entries.
+    pub fn new(alloc: Global, layout: Layout) -> Result<Directory, AllocError>
         ensures { IfOk result
-            (λ d. d ≡ record { layout = layouts.Two; epoch = 1; imports = 0; entries = [] }) }
+            (λ d. d ≡ record { layout = layout; epoch = 1; imports = 0; entries = [] }) }
     {
         let entries = Vec::with_capacity(alloc, MOST_PLACES)?;
         Ok(Directory {
-            layout: Layout::Two,
+            layout,
             epoch: 1,
             imports: 0,
             entries,
@@ -115,6 +114,12 @@ impl Directory {
             return Err(DirectoryFault::BadDirectory);
         };
         let entries = read_entries(alloc, rest, header.count)?;
+        if !have_forms(header.layout, entries.as_slice()) {
+            return Err(DirectoryFault::BadDirectory);
+        }
+        if !has_sum(header.layout, block) {
+            return Err(DirectoryFault::BadDirectory);
+        }
         Ok(Directory {
             layout: header.layout,
             epoch: header.epoch,
@@ -126,7 +131,19 @@ impl Directory {
     /// Writes the content block that lists it.
     pub fn encode(&self, block: &mut [u8; 4096])
         ensures lists { Lists block.new self.now }
-        ensures bytes { block.new ≡ listing_bytes self.now
+        ensures bytes { block.new ≡ summed self.now.layout (listing_bytes self.now
+            ++ replicate (4096 - length (listing_bytes self.now)) 0) }
+    {
+        self.write_listing(block);
+        match self.layout {
+            Layout::One | Layout::Two => {}
+            Layout::Three => write_sum(block),
+        }
+    }
+
+    /// Writes what the content block lists, and zeros behind it.
+    fn write_listing(&self, block: &mut [u8; 4096])
+        ensures { block.new ≡ listing_bytes self.now
             ++ replicate (4096 - length (listing_bytes self.now)) 0 }
     {
         block.fill(0);
@@ -154,11 +171,18 @@ impl Directory {
         self.layout.number()
     }
 
-    /// Makes it one of version 2. The epoch stays.
+    /// Makes it one of the version in which it is written next. The epoch stays.
     pub fn upgrade(&mut self)
         ensures { self.new ≡ upgraded self.old }
     {
-        self.layout = Layout::Two;
+        self.layout = self.layout.next();
+    }
+
+    /// Makes it one of version 3. The epoch stays.
+    pub fn upgrade_to_three(&mut self)
+        ensures { self.new ≡ of_three self.old }
+    {
+        self.layout = Layout::Three;
     }
 
     /// The number of its publication: 1 for a new store, and one more for each that follows.

@@ -97,6 +97,7 @@ sum_below (e ∷ entries) each =
 few_entries : (layout : Layout) → most_entries layout ≤ 250
 few_entries layouts.One = omega arith
 few_entries layouts.Two = omega arith
+few_entries layouts.Three = omega arith
 
 -- they can be counted
 pub few_places : (d : DirectoryValue) (index : List (List RowPlace)) (lists : List (List StampedRow)) → IsKept d lists → Lists index lists → length (joined index) < 18446744073709551616

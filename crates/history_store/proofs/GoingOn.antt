@@ -15,11 +15,15 @@ use Rattle.blocks.specs.Outside.{SameOutside}
 use Rattle.history_model.specs.declared.stamped.StampedRow.{StampedRow}
 use Rattle.history_model.specs.Lists.{union}
 use Rattle.directory.specs.declared.entry.Entry.{Entry}
-use Rattle.directory.specs.Listings.{DirectoryValue, IsEntry}
+use Rattle.directory.specs.declared.layout.Layout.{Layout}
+use Rattle.directory.specs.declared.layout.Layout.TheVariants as layouts
+use Rattle.directory.specs.Listings.{DirectoryValue, HasForm, IsEntry, next_layout}
 use Rattle.directory.specs.Places.{AreBeside, extent_of, extents_of}
 use Rattle.directory.specs.Fit.{fit}
 use Rattle.directory.proofs.Fitting.{fit_is_apart}
-use Rattle.segment.specs.Records.{segment_of}
+use Rattle.segment.specs.Records.{segment_in, segment_of}
+use Rattle.segment.proofs.SegmentLaws.{length-segment_in}
+use Rattle.store_image.specs.Next.{RisesTo}
 use Rattle.store_image.proofs.Beside.{blocks_cover, one_ends}
 use Rattle.store_image.proofs.Unlisted.{begins_elsewhere}
 use Rattle.history_store.specs.declared.merge_in_progress.MergeInProgress.{MergeInProgress}
@@ -33,8 +37,8 @@ use Rattle.segment_index.proofs.Built.{segment_within}
 
 module _ (d : DirectoryValue) (lists : List (List StampedRow)) (i j : ℕ) (entry : Entry) (output : OutputRows) (is : IsMergeOf d lists i j entry output) where
   -- what is written fits
-  pub written_fits : length (segment_of (taken_rows output)) ≤ entry.bytes
-  written_fits = omega (arith, segment_within output.taken (union output.a output.b), is.segment.bytes)
+  pub written_fits : length (segment_in entry.form (taken_rows output)) ≤ entry.bytes
+  written_fits = omega (arith, length-segment_in entry.form (taken_rows output), segment_within output.taken (union output.a output.b), is.segment.bytes)
 
 -- ---- what is written stays
 
@@ -55,7 +59,7 @@ outside_entry entry other i is is_other beside ge lt = elim (one_ends (extent_of
 written_published : (d : DirectoryValue) (lists : List (List StampedRow)) (merge : Option MergeInProgress) (slot : Slot) (old new : List ℕ) → IsMergingOf d lists merge → SameOutside (slot_range slot ∷ []) old new → IsWritten merge old → IsWritten merge new
 written_published d lists None slot old new is same written = tt
 written_published d lists (Some m) slot old new is same written =
-    begins_elsewhere (extent_of m.entry) (slot_range slot ∷ []) (segment_of (taken_rows m.output)) old new same
+    begins_elsewhere (extent_of m.entry) (slot_range slot ∷ []) (segment_in m.entry.form (taken_rows m.output)) old new same
     (λ i ge lt. All-cons (IsOutside i) (slot_range slot) [] (outside_slot m.entry slot i is.is_entry ge) (All-nil (IsOutside i))) written
 
 -- while a segment is added beside it
@@ -64,21 +68,34 @@ written_added : (d : DirectoryValue) (lists : List (List StampedRow)) (merge : O
 written_added d lists None other slot old new is is_other beside same written = tt
 written_added d lists (Some m) other slot old new is is_other beside same written =
     let fits = written_fits d lists m.i m.j m.entry m.output is in
-    begins_elsewhere (extent_of m.entry) (byte_range (extent_of other) ∷ slot_range slot ∷ []) (segment_of (taken_rows m.output)) old new same
+    begins_elsewhere (extent_of m.entry) (byte_range (extent_of other) ∷ slot_range slot ∷ []) (segment_in m.entry.form (taken_rows m.output)) old new same
     (λ i ge lt. All-cons (IsOutside i) (byte_range (extent_of other)) (slot_range slot ∷ []) (outside_entry m.entry other i is.is_entry is_other (beside m refl) ge (omega (arith, lt, fits)))
     (All-cons (IsOutside i) (slot_range slot) [] (outside_slot m.entry slot i is.is_entry ge) (All-nil (IsOutside i)))) written
 
 -- ---- it goes on beside the next directory
 
-pub merging_on : (d e : DirectoryValue) (lists : List (List StampedRow)) (merge : Option MergeInProgress) → e.entries ≡ d.entries → IsMergingOf d lists merge → IsMergingOf e lists merge
-merging_on d e lists None same is = tt
-merging_on d e lists (Some m) same is = record {
+-- what has a form that a version has, has one that the next ones have
+pub form_next : (layout : Layout) (entry : Entry) → HasForm layout entry → HasForm (next_layout layout) entry
+form_next layouts.One entry has = has
+form_next layouts.Two entry has = has
+form_next layouts.Three entry has = has
+
+pub form_risen : (layout next : Layout) (entry : Entry) → RisesTo layout next → HasForm layout entry → HasForm next entry
+form_risen layout next entry rises has = elim rises [
+  | inl same ↦ subst (λ (v : Layout). HasForm v entry) (sym same) (form_next layout entry has)
+  | inr three ↦ subst (λ (v : Layout). HasForm v entry) (sym three) tt
+]
+
+pub merging_on : (d e : DirectoryValue) (lists : List (List StampedRow)) (merge : Option MergeInProgress) → e.entries ≡ d.entries → ((entry : Entry) → HasForm d.layout entry → HasForm e.layout entry) → IsMergingOf d lists merge → IsMergingOf e lists merge
+merging_on d e lists None same forms is = tt
+merging_on d e lists (Some m) same forms is = record {
   below = is.below;
   within = subst (λ (l : List Entry). m.j < length l) (sym same) is.within;
   a_is = is.a_is;
   b_is = is.b_is;
   segment = is.segment;
   is_entry = is.is_entry;
+  has_form = forms m.entry is.has_form;
   beside = subst (λ (l : List Entry). AllByRecursion (AreBeside (extent_of m.entry)) (extents_of l)) (sym same) is.beside;
 }
 
@@ -104,16 +121,17 @@ all_pushed : (P : Extent → Type 0) (entries : List Entry) (other : Entry) → 
 all_pushed P [] other all is = (is, tt)
 all_pushed P (e ∷ es) other all is = (all.0, all_pushed P es other all.1 is)
 
-merging_added : (d e : DirectoryValue) (lists : List (List StampedRow)) (more : List StampedRow) (merge : Option MergeInProgress) (other : Entry) → e.entries ≡ d.entries ++ other ∷ [] → ((m : MergeInProgress) → merge ≡ Some m → AreBeside (extent_of m.entry) (extent_of other))
+merging_added : (d e : DirectoryValue) (lists : List (List StampedRow)) (more : List StampedRow) (merge : Option MergeInProgress) (other : Entry) → e.entries ≡ d.entries ++ other ∷ [] → e.layout ≡ next_layout d.layout → ((m : MergeInProgress) → merge ≡ Some m → AreBeside (extent_of m.entry) (extent_of other))
     → IsMergingOf d lists merge → IsMergingOf e (lists ++ more ∷ []) merge
-merging_added d e lists more None other same beside is = tt
-merging_added d e lists more (Some m) other same beside is = record {
+merging_added d e lists more None other same version beside is = tt
+merging_added d e lists more (Some m) other same version beside is = record {
   below = is.below;
   within = subst (λ (l : List Entry). m.j < length l) (sym same) (let long = length-append d.entries (other ∷ []) in omega (arith, long, is.within));
   a_is = get_pushed lists m.output.a more m.i is.a_is;
   b_is = get_pushed lists m.output.b more m.j is.b_is;
   segment = is.segment;
   is_entry = is.is_entry;
+  has_form = form_risen d.layout e.layout m.entry (inl version) is.has_form;
   beside = subst (λ (l : List Entry). AllByRecursion (AreBeside (extent_of m.entry)) (extents_of l)) (sym same) (all_pushed (AreBeside (extent_of m.entry)) d.entries other is.beside (beside m refl));
 }
 
@@ -122,25 +140,25 @@ merging_added d e lists more (Some m) other same beside is = record {
 -- after reads
 pub merge_read : (was is : Type 0) (old new : Moments) (d : DirectoryValue) (lists : List (List StampedRow)) (merge : Option MergeInProgress) (needs : Bool) → HasMerge was old.state.now d lists merge needs → MomentsStay was is old new → HasMerge is new.state.now d lists merge needs
 merge_read was is old new d lists merge needs held stays = record {
-  merging = merging_on d d lists merge refl held.merging;
+  merging = held.merging;
   written = λ up still. let before = stays.0.1 up in subst (λ (m : Moments). IsWritten merge m.state.now) (sym (stays.1 before)) (held.written before still);
 }
 
 -- after the publication of the same entries
 pub merge_repeated : (before after : Type 0) (old new : List ℕ) (slot : Slot) (d e : DirectoryValue) (lists : List (List StampedRow)) (merge : Option MergeInProgress) (needs : Bool) → HasMerge before old d lists merge needs → (after → before)
-    → e.entries ≡ d.entries → (before → SameOutside (slot_range slot ∷ []) old new) → HasMerge after new e lists merge needs
-merge_repeated before after old new slot d e lists merge needs held back same elsewhere = record {
-  merging = merging_on d e lists merge same held.merging;
+    → e.entries ≡ d.entries → RisesTo d.layout e.layout → (before → SameOutside (slot_range slot ∷ []) old new) → HasMerge after new e lists merge needs
+merge_repeated before after old new slot d e lists merge needs held back same rises elsewhere = record {
+  merging = merging_on d e lists merge same (λ entry has. form_risen d.layout e.layout entry rises has) held.merging;
   written = λ up still. written_published d lists merge slot old new held.merging (elsewhere (back up)) (held.written (back up) still);
 }
 
 -- after a segment was added beside it
 pub merge_added : (before after : Type 0) (old new : List ℕ) (slot : Slot) (d e : DirectoryValue) (entry : Entry) (lists nlists : List (List StampedRow)) (more : List StampedRow) (merge : Option MergeInProgress) (needs : Bool) → HasMerge before old d lists merge needs → (after → before)
-    → e.entries ≡ d.entries ++ entry ∷ [] → IsEntry entry → IsPlacedAt d (merge_of merge) more entry → (before → SameOutside (byte_range (extent_of entry) ∷ slot_range slot ∷ []) old new) → nlists ≡ lists ++ more ∷ [] → HasMerge after new e nlists merge needs
-merge_added before after old new slot d e entry lists nlists more merge needs held back entries is_entry placed elsewhere lists_are =
+    → e.entries ≡ d.entries ++ entry ∷ [] → e.layout ≡ next_layout d.layout → IsEntry entry → IsPlacedAt d (merge_of merge) more entry → (before → SameOutside (byte_range (extent_of entry) ∷ slot_range slot ∷ []) old new) → nlists ≡ lists ++ more ∷ [] → HasMerge after new e nlists merge needs
+merge_added before after old new slot d e entry lists nlists more merge needs held back entries version is_entry placed elsewhere lists_are =
     let beside = beside_reserved d merge more entry placed in
     record {
-      merging = subst (λ l. IsMergingOf e l merge) (sym lists_are) (merging_added d e lists more merge entry entries beside held.merging);
+      merging = subst (λ l. IsMergingOf e l merge) (sym lists_are) (merging_added d e lists more merge entry entries version beside held.merging);
       written = λ up still. written_added d lists merge entry slot old new held.merging is_entry beside (elsewhere (back up)) (held.written (back up) still);
     }
 

@@ -7,7 +7,7 @@ use Rattle.history_model.specs.InOrder.{in_order}
 use Rattle.history_model.specs.Lists.{AreLists, listed, union}
 use Rattle.history_model.proofs.Unions.{length-union}
 use Rattle.directory.specs.declared.entry.Entry.{Entry}
-use Rattle.directory.specs.declared.layout.Layout.TheVariants as layouts
+use Rattle.directory.specs.declared.layout.Layout.{Layout}
 use Rattle.directory.specs.Listings.{DirectoryValue}
 use Rattle.history_store.specs.declared.preparing.Prepared.{Prepared}
 use Rattle.history_store.specs.Catalog.{Catalog, catalog_of}
@@ -36,9 +36,9 @@ counted_extended old mid new fresh p k number n repeated still prep shown some h
       with_new = λ one. (p.entry, ap (λ (s : Catalog). s.entries) catalog ∙ ap (λ (d : DirectoryValue). d.entries) prep.prepared.directory_is ∙ ap (λ (s : Catalog). s.entries ++ p.entry ∷ []) still.catalog, entry_rows ∙ long ∙ sym count);
     }
 
-pub counted_repeated : {D : Type 0} (old mid new : StoreValue D) (fresh : List RowValue) (imports epoch number n repeated : ℕ) → IsStill old mid → fresh ≡ [] → new.history ≡ record { imports = imports; rows = mid.history.rows } → new.catalog ≡ record { layout = layouts.Two; epoch = epoch; entries = mid.catalog.entries; merge = mid.catalog.merge } → n ≡ length fresh
+pub counted_repeated : {D : Type 0} (old mid new : StoreValue D) (fresh : List RowValue) (layout : Layout) (imports epoch number n repeated : ℕ) → IsStill old mid → fresh ≡ [] → new.history ≡ record { imports = imports; rows = mid.history.rows } → new.catalog ≡ record { layout = layout; epoch = epoch; entries = mid.catalog.entries; merge = mid.catalog.merge } → n ≡ length fresh
     → IsCounted old new (record { number = number; new = n; repeated = repeated })
-counted_repeated old mid new fresh imports epoch number n repeated still none history catalog count =
+counted_repeated old mid new fresh layout imports epoch number n repeated still none history catalog count =
     let zero : n ≡ 0 = count ∙ ap length none in
     let all : length new.history.rows ≡ length mid.history.rows = ap (λ (h : History). length h.rows) history in
     let before = ap (λ (h : History). length h.rows) still.history in

@@ -28,6 +28,7 @@ pub mod StepWrites
 mod ImportCounts
 mod KeptBlocks
 mod ImportReads
+mod Upgraded
 mod ImportWrites
 mod OtherCalls
 pub mod LatestTimes

@@ -17,8 +17,8 @@ use Rattle.as_of_index.proofs.Hinted.{IsAscending-drop}
 use Rattle.directory.specs.declared.entry.Entry.{Entry}
 use Rattle.directory.specs.Listings.{DirectoryValue}
 use Rattle.directory.specs.Places.{extent_of}
-use Rattle.segment.specs.Records.{segment_of}
-use Rattle.segment.proofs.SegmentLaws.{pieces_join}
+use Rattle.segment.specs.Records.{segment_in, segment_of}
+use Rattle.segment.proofs.SegmentLaws.{length-segment_in, pieces_join}
 use Rattle.as_of_index.proofs.Ordered.{IsAscending-take}
 use Rattle.segment_index.specs.Output.{taken_rows, left_rows, left_count, with_more}
 use Rattle.segment_index.proofs.Built.{segment_within}
@@ -43,9 +43,9 @@ has_rows (e ∷ entries) [] k rows now are holds found = absurd are
 has_rows (e ∷ entries) (x ∷ lists) zero rows now are holds found =
     let same : x ≡ rows = cc in
     subst (λ l. HasRows (e ∷ entries) zero l now) same
-    (record { entry = e; entry_is = refl; segment = are.0; stands = (All-head (λ p. Holds p now) (start_of (extent_of e), segment_of x) (pieces_of entries lists) holds).bytes })
+    (record { entry = e; entry_is = refl; segment = are.0; stands = (All-head (λ p. Holds p now) (start_of (extent_of e), segment_in e.form x) (pieces_of entries lists) holds).bytes })
 has_rows (e ∷ entries) (x ∷ lists) (suc k) rows now are holds found =
-    let on = has_rows entries lists k rows now are.1 (All-tail (λ p. Holds p now) (start_of (extent_of e), segment_of x) (pieces_of entries lists) holds) found in
+    let on = has_rows entries lists k rows now are.1 (All-tail (λ p. Holds p now) (start_of (extent_of e), segment_in e.form x) (pieces_of entries lists) holds) found in
     record { entry = on.entry; entry_is = on.entry_is; segment = on.segment; stands = on.stands }
 
 has_joined : (lists : List (List StampedRow)) (k : ℕ) (rows : List StampedRow) (s : StampedRow) → slice_get lists k ≡ Some rows → Has rows s → Has (joined lists) s
@@ -93,8 +93,8 @@ module _ (d : DirectoryValue) (lists : List (List StampedRow)) (m : MergeInProgr
         | inr q ↦ has_joined lists m.j m.output.b s is.b_is q
       ])
 
-  are_next : (now : List ℕ) → AreThere d.entries lists now → BeginsWith (extent_of m.entry) (segment_of (taken_rows m.output)) now
-      → AreNext n (catalog_of d (merge_of (Some m))) (record { i = m.i; j = m.j; output = extent_of m.entry; left = left_count m.output }) (taken_rows m.output) (take n rest) now
+  are_next : (now : List ℕ) → AreThere d.entries lists now → BeginsWith (extent_of m.entry) (segment_in m.entry.form (taken_rows m.output)) now
+      → AreNext n (catalog_of d (merge_of (Some m))) (record { i = m.i; j = m.j; output = extent_of m.entry; form = m.entry.form; left = left_count m.output }) (taken_rows m.output) (take n rest) now
   are_next now there behind = record {
     a = m.output.a;
     b = m.output.b;
@@ -108,10 +108,10 @@ module _ (d : DirectoryValue) (lists : List (List StampedRow)) (m : MergeInProgr
     count_left = omega (arith, length-drop n rest, rest_count);
   }
 
-  pub writes_next : {T E : Type 0} (result : Result T E) (old new : Moments) → AreThere d.entries lists old.state.now → BeginsWith (extent_of m.entry) (segment_of (taken_rows m.output)) old.state.now
-      → IsOneWrite result (start_of (extent_of m.entry) + length (segment_of (taken_rows m.output))) (segment_of (take n rest)) old new → WritesNext result n (catalog_of d (merge_of (Some m))) (history_of d lists) old new
+  pub writes_next : {T E : Type 0} (result : Result T E) (old new : Moments) → AreThere d.entries lists old.state.now → BeginsWith (extent_of m.entry) (segment_in m.entry.form (taken_rows m.output)) old.state.now
+      → IsOneWrite result (start_of (extent_of m.entry) + length (segment_in m.entry.form (taken_rows m.output))) (segment_in m.entry.form (take n rest)) old new → WritesNext result n (catalog_of d (merge_of (Some m))) (history_of d lists) old new
   writes_next {T} {E} result old new there behind one = record {
-    merge = record { i = m.i; j = m.j; output = extent_of m.entry; left = left_count m.output };
+    merge = record { i = m.i; j = m.j; output = extent_of m.entry; form = m.entry.form; left = left_count m.output };
     goes_on = refl;
     taken = taken_rows m.output;
     rows = take n rest;
@@ -130,8 +130,9 @@ module _ (d : DirectoryValue) (lists : List (List StampedRow)) (m : MergeInProgr
 
   pub part_fits : length (segment_of (taken_rows m.output)) + length (segment_of (take n rest)) ≤ m.entry.bytes
   part_fits =
-      let join = ap (λ (l : List StampedRow). length (segment_of l)) grown ∙ ap length (pieces_join (taken_rows m.output) (take n rest)) ∙ length-append (segment_of (taken_rows m.output)) (segment_of (take n rest)) in
-      omega (arith, join, segment_within (m.output.taken + min n (left_count m.output)) all_rows, is.segment.bytes)
+      let form = m.entry.form in
+      let join = ap (λ (l : List StampedRow). length (segment_in form l)) grown ∙ ap length (pieces_join form (taken_rows m.output) (take n rest)) ∙ length-append (segment_in form (taken_rows m.output)) (segment_in form (take n rest)) in
+      omega (arith, join, length-segment_in form (taken_rows (with_more n m.output)), length-segment_in form (taken_rows m.output), length-segment_in form (take n rest), segment_within (m.output.taken + min n (left_count m.output)) all_rows, is.segment.bytes)
 
   pub next_ascend : IsAscending stamped_cmp (take n rest)
   next_ascend = IsAscending-take stamped_cmp rest n (IsAscending-drop stamped_cmp m.output.taken all_rows (IsAscending-union m.output.a m.output.b))

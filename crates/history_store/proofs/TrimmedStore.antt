@@ -16,7 +16,7 @@ use Rattle.history_model.specs.declared.stamped.StampedRow.{StampedRow}
 use Rattle.directory.specs.declared.entry.Entry.{Entry}
 use Rattle.directory.specs.Listings.{DirectoryValue, IsListing}
 use Rattle.directory.specs.Places.{extent_of, extents_of, taken}
-use Rattle.segment.specs.Records.{segment_of}
+use Rattle.segment.specs.Records.{segment_in}
 use Rattle.store_image.specs.OnDisk.{IsOnDisk}
 use Rattle.store_image.specs.Trimmed.{EndBelow}
 use Rattle.store_image.specs.Ahead.{BeginsWith}
@@ -27,7 +27,7 @@ use Rattle.history_store.specs.MergeInProgress.{IsMergingOf, IsWritten, HasMerge
 use Rattle.history_store.specs.StoreValue.{IsHeld}
 use Rattle.history_store.specs.Merging.{end_of_taken}
 use Rattle.segment_index.specs.Output.{taken_rows}
-use Rattle.history_store.proofs.GoingOn.{written_fits, merging_on}
+use Rattle.history_store.proofs.GoingOn.{written_fits}
 use Rattle.history_store.proofs.EndOf.{end_within, entries_within, end_reserved, ends_below}
 
 blocks_cover : (bytes : ℕ) → bytes ≤ 4096 * div_ceil bytes 4096
@@ -46,8 +46,8 @@ written_cut d lists None entries len old new is below cut written = tt
 written_cut d lists (Some m) entries len old new is below cut written =
     let fits = written_fits d lists m.i m.j m.entry m.output is in
     let end = end_reserved entries (extent_of m.entry) in
-    let P : List ℕ → Type 0 = λ l. BeginsWith (extent_of m.entry) (segment_of (taken_rows m.output)) l in
-    subst P (sym cut) (begins_cut (extent_of m.entry) (segment_of (taken_rows m.output)) old len is.is_entry.first (omega (arith, fits, end, below, blocks_cover m.entry.bytes)) written)
+    let P : List ℕ → Type 0 = λ l. BeginsWith (extent_of m.entry) (segment_in m.entry.form (taken_rows m.output)) l in
+    subst P (sym cut) (begins_cut (extent_of m.entry) (segment_in m.entry.form (taken_rows m.output)) old len is.is_entry.first (omega (arith, fits, end, below, blocks_cover m.entry.bytes)) written)
 
 -- nothing that is taken ends above the last block
 pub end_limit : (d : DirectoryValue) (lists : List (List StampedRow)) (merge : Option MergeInProgress) → IsListing d → IsMergingOf d lists merge → end_of_taken (extents_of d.entries ++ option_to_list (reserved_by (merge_of merge))) ≤ 4194304
@@ -75,6 +75,6 @@ trimmed_held before after old new cache left slot d lists needs end held back on
 pub trimmed_merge : (before after : Type 0) (old new : List ℕ) (d : DirectoryValue) (lists : List (List StampedRow)) (merge : Option MergeInProgress) (needs : Bool) (end : ℕ) → HasMerge before old d lists merge needs → (after → before)
     → end ≡ end_of_taken (taken d.entries (reserved_by (merge_of merge))) → (before → new ≡ take (4096 * end) old) → HasMerge after new d lists merge needs
 trimmed_merge before after old new d lists merge needs end held back is cut = record {
-  merging = merging_on d d lists merge refl held.merging;
+  merging = held.merging;
   written = λ up still. written_cut d lists merge d.entries (4096 * end) old new held.merging (omega (arith, is)) (cut (back up)) (held.written (back up) still);
 }

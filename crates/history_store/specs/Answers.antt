@@ -12,9 +12,8 @@ use Rattle.history_model.specs.History.{History, IsHistory, Accepts, after_relea
 use Rattle.history_model.specs.History.{no_history, full}
 use Rattle.history_model.specs.Lists.{new_rows}
 use Rattle.directory.specs.declared.layout.Layout.{Layout}
-use Rattle.directory.specs.declared.layout.Layout.TheVariants as layouts
 use Rattle.directory.specs.declared.entry.Entry.{Entry}
-use Rattle.directory.specs.Listings.{most_entries}
+use Rattle.directory.specs.Listings.{most_entries, next_layout}
 use Rattle.import_check.specs.declared.release.Release.{Release}
 use Rattle.import_check.specs.Release.{IsReleaseOf, IsFaultOfRelease, HasContradiction}
 use Rattle.import_check.specs.NewRows.{IsRead}
@@ -65,10 +64,10 @@ IsMakingCause refusals.DiskFault = Unit {0}
 IsMakingCause refusals.NotEmpty = Unit {0}
 IsMakingCause _ = ⊥
 
--- a new store: nothing is imported, and it has no segment
-pub record IsNew {D : Type 0} (s : StoreValue D) : Type 0 where
+-- a new store in this version: nothing is imported, and it has no segment
+pub record IsNew {D : Type 0} (layout : Layout) (s : StoreValue D) : Type 0 where
   pub history : s.history ≡ no_history
-  pub catalog : s.catalog ≡ record { layout = layouts.Two; epoch = 1; entries = []; merge = None }
+  pub catalog : s.catalog ≡ record { layout = layout; epoch = 1; entries = []; merge = None }
   pub open_still : s.needs_reopen ≡ false
 
 -- every refusal but the failed device leaves the device as it was, and what a stop may leave of it
@@ -83,9 +82,9 @@ SyncsOnce moments (Err e) disk = (moments e.1 ≡ synced (moments disk))
     ⊎ ((e.0 ≡ refusals.DiskFault) × (moments e.1 ≡ moments disk))
 
 -- a store is made on an empty disk alone
-abbrev pub IsMakingOf : {D : Type 0} → StoreOr D → List ℕ → Type 0
-IsMakingOf (Ok store) bytes = (length bytes ≡ 0) × IsNew store
-IsMakingOf (Err e) bytes = IsNotMade e.0 bytes
+abbrev pub IsMakingOf : {D : Type 0} → Layout → StoreOr D → List ℕ → Type 0
+IsMakingOf layout (Ok store) bytes = (length bytes ≡ 0) × IsNew layout store
+IsMakingOf layout (Err e) bytes = IsNotMade e.0 bytes
 
 -- why no store is opened of bytes: why they aren't loaded, as a refusal
 abbrev pub IsNotOpened : Refusal → List ℕ → Type 0
@@ -195,17 +194,19 @@ IsImportOf (Ok receipt) old new release =
     × (old.needs_reopen ≡ false) × (new.needs_reopen ≡ false)
 IsImportOf (Err e) old new release = IsImportRefusal e old release × IsRefused e old new
 
--- the bytes represent the history with an accepted release, in version 2
-pub record RepresentsWith (h : History) (release : Release) (c : List ℕ) : Type 0 where
+-- the bytes represent the history with an accepted release, in this version
+pub record RepresentsWith (layout : Layout) (h : History) (release : Release) (c : List ℕ)
+    : Type 0 where
   pub rows : List RowValue
   pub is_release : IsReleaseOf release rows
   pub accepted : Accepts h rows
-  pub stands : RepresentsAs layouts.Two (after_release h rows) c
+  pub stands : RepresentsAs layout (after_release h rows) c
 
 -- what a stop inside an import may leave: the history
--- from before in its version, or the one after it in version 2
+-- from before in its version, or the one after it in the next
 abbrev pub IsBeforeOrAfter : Layout → History → Release → List ℕ → Type 0
-IsBeforeOrAfter layout h release c = RepresentsAs layout h c ⊎ RepresentsWith h release c
+IsBeforeOrAfter layout h release c =
+    RepresentsAs layout h c ⊎ RepresentsWith (next_layout layout) h release c
 
 -- The bytes are what a stop may have left before an import, but for the slots and the segment of
 -- the new rows, which goes to the first place that has room for it; and the release would be taken.
@@ -269,7 +270,7 @@ abbrev pub IsImportOnAnyDisk : {D : Type 0} → Result Receipt Refusal → Store
     → Release → Type 0
 IsImportOnAnyDisk (Ok receipt) old new release = (new.history.imports ≡ old.history.imports + 1)
     × (receipt.number ≡ new.history.imports) × (old.needs_reopen ≡ false)
-    × (new.needs_reopen ≡ false) × (new.catalog.layout ≡ layouts.Two)
+    × (new.needs_reopen ≡ false) × (new.catalog.layout ≡ next_layout old.catalog.layout)
 IsImportOnAnyDisk (Err e) old new release = IsRefusalOnAnyDisk e old release × IsRefused e old new
 
 -- what a taken import adds, on every disk: as many rows as the receipt calls new,

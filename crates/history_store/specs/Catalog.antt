@@ -1,23 +1,25 @@
 -- The catalog of a store: where its segments lie, and what an import adds to it. It holds no row.
 use Rattle.std.specs.Prelude.{◌≡◌, ◌⊎◌, ℕ, ◌+◌, ◌^◌, ◌<◌, ◌≤◌, List, [], ◌∷◌, ◌++◌, length, sum_by}
-use Rattle.std.specs.Prelude.{Option, Some, None}
+use Rattle.std.specs.Prelude.{Option, Some, None, Bool, true, false, count_by}
 use Rattle.blocks.specs.declared.extent.Extent.{Extent}
 use Rattle.blocks.specs.Extents.{block_count}
 use Rattle.history_model.specs.declared.stamped.StampedRow.{StampedRow}
 use Rattle.directory.specs.declared.entry.Entry.{Entry}
 use Rattle.directory.specs.declared.layout.Layout.{Layout}
-use Rattle.directory.specs.declared.layout.Layout.TheVariants as layouts
-use Rattle.directory.specs.Listings.{DirectoryValue, most_entries}
+use Rattle.checksum.specs.declared.form.Form.{Form}
+use Rattle.checksum.specs.declared.form.Form.TheVariants as forms
+use Rattle.directory.specs.Listings.{DirectoryValue, form_of, most_entries, next_layout}
 use Rattle.directory.specs.Places.{extent_of}
 use Rattle.directory.specs.Fit.{fit}
 use Rattle.segment.specs.Records.{segment_of}
 
 -- a merge that goes on: the numbers of its two segments, from 0 on,
--- where its output is to lie, and how many rows are left
+-- where its output is to lie and in which form, and how many rows are left
 pub record Merge : Type 0 where
   pub i : ℕ
   pub j : ℕ
   pub output : Extent
+  pub form : Form
   pub left : ℕ
 
 pub record Catalog : Type 0 where
@@ -36,31 +38,47 @@ catalog_of d merge =
 abbrev pub blocks_in_use : List Entry → ℕ
 blocks_in_use entries = 4 + sum_by (λ entry. block_count (extent_of entry)) entries
 
+-- whether segments of this form have no checksums
+abbrev pub is_plain_form : Form → Bool
+is_plain_form forms.Plain = true
+is_plain_form forms.Checked = false
+
+-- how many segments have no checksums
+abbrev pub plain_count : List Entry → ℕ
+plain_count entries = count_by (λ entry. is_plain_form entry.form) entries
+
 -- the extent that a merge reserves
 abbrev pub reserved_by : Option Merge → Option Extent
 reserved_by None = None
 reserved_by (Some merge) = Some merge.output
 
--- the segment of these rows, from this block on
-abbrev pub entry_at : ℕ → List StampedRow → Entry
-entry_at first rows = record { first = first; bytes = length (segment_of rows); rows = length rows }
+-- the segment of these rows in this form, from this block on
+abbrev pub entry_at : Form → ℕ → List StampedRow → Entry
+entry_at form first rows = record {
+  first = first;
+  bytes = length (segment_of rows);
+  rows = length rows;
+  form = form;
+}
 
 -- the first place where a segment of these rows finds room
 abbrev pub place_for : List StampedRow → Catalog → Option ℕ
 place_for rows catalog =
-    fit (block_count (extent_of (entry_at 0 rows))) catalog.entries (reserved_by catalog.merge)
+    fit (block_count (record { first = 0; bytes = length (segment_of rows) })) catalog.entries
+    (reserved_by catalog.merge)
 
 -- a segment of these rows is added, at the first place where it finds room. The version from
--- before says how many entries there may be, and it is 2 afterwards.
+-- before says how many entries there may be and which form the segment has, and the next one is
+-- written.
 pub record IsPlaced (rows : List StampedRow) (catalog next : Catalog) : Type 0 where
   pub few : length catalog.entries < most_entries catalog.layout
   pub short : length (segment_of rows) < 2 ^ 32
   pub first : ℕ
   pub place : place_for rows catalog ≡ Some first
   pub next_is : next ≡ record {
-    layout = layouts.Two;
+    layout = next_layout catalog.layout;
     epoch = catalog.epoch + 1;
-    entries = catalog.entries ++ entry_at first rows ∷ [];
+    entries = catalog.entries ++ entry_at (form_of catalog.layout) first rows ∷ [];
     merge = catalog.merge;
   }
 
@@ -68,7 +86,7 @@ pub record IsPlaced (rows : List StampedRow) (catalog next : Catalog) : Type 0 w
 abbrev pub IsCatalogAfter : List StampedRow → Catalog → Catalog → Type 0
 IsCatalogAfter [] catalog next =
     next ≡ record {
-      layout = layouts.Two;
+      layout = next_layout catalog.layout;
       epoch = catalog.epoch + 1;
       entries = catalog.entries;
       merge = catalog.merge;

@@ -10,6 +10,7 @@ pub mod Queries
 pub mod Written
 pub mod Calls
 pub mod MergeAnswers
+pub mod Upgrading
 pub mod Refusals
 pub mod Laws
 pub mod Private

@@ -6,9 +6,9 @@ use Rattle.std.specs.List.{AllByRecursion}
 use Rattle.history_model.specs.declared.stamped.StampedRow.{StampedRow}
 use Rattle.history_model.specs.Lists.{union}
 use Rattle.directory.specs.declared.entry.Entry.{Entry}
-use Rattle.directory.specs.Listings.{DirectoryValue, IsEntry}
+use Rattle.directory.specs.Listings.{DirectoryValue, HasForm, IsEntry}
 use Rattle.directory.specs.Places.{AreBeside, extent_of, extents_of}
-use Rattle.segment.specs.Records.{segment_of}
+use Rattle.segment.specs.Records.{segment_in}
 use Rattle.segment_index.specs.Output.{OutputRows, taken_rows, left_count}
 use Rattle.store_image.specs.Kept.{IsSegmentOf}
 use Rattle.store_image.specs.Ahead.{BeginsWith}
@@ -19,7 +19,13 @@ use Rattle.history_store.specs.Catalog.{Merge}
 abbrev pub merge_of : Option MergeInProgress → Option Merge
 merge_of None = None
 merge_of (Some m) =
-    Some (record { i = m.i; j = m.j; output = extent_of m.entry; left = left_count m.output })
+    Some (record {
+      i = m.i;
+      j = m.j;
+      output = extent_of m.entry;
+      form = m.entry.form;
+      left = left_count m.output;
+    })
 
 -- The output is going to have the rows of both lists. Its extent shares no block with a segment
 -- that is listed.
@@ -31,6 +37,7 @@ pub record IsMergeOf (d : DirectoryValue) (lists : List (List StampedRow)) (i j 
   pub b_is : slice_get lists j ≡ Some output.b
   pub segment : IsSegmentOf entry (union output.a output.b)
   pub is_entry : IsEntry entry
+  pub has_form : HasForm d.layout entry
   pub beside : AllByRecursion (AreBeside (extent_of entry)) (extents_of d.entries)
 
 -- a merge that goes on is of two of the segments that are listed
@@ -41,7 +48,8 @@ IsMergingOf d lists (Some m) = IsMergeOf d lists m.i m.j m.entry m.output
 -- a read gives what was written of the output; a stop may still lose it
 abbrev pub IsWritten : Option MergeInProgress → List ℕ → Type 0
 IsWritten None now = Unit {0}
-IsWritten (Some m) now = BeginsWith (extent_of m.entry) (segment_of (taken_rows m.output)) now
+IsWritten (Some m) now =
+    BeginsWith (extent_of m.entry) (segment_in m.entry.form (taken_rows m.output)) now
 
 -- A merge that goes on is of two of these segments. As long
 -- as no call has failed, a read gives what was written of it.

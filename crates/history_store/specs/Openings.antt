@@ -4,6 +4,7 @@ use Rattle.disk_model.specs.Disk.{Moments, IsImage, LeavesOnly}
 use Rattle.blocks.specs.Calls.{MakesCalls}
 use Rattle.blocks.specs.Outside.{StemsWithin}
 use Rattle.blocks.specs.Slots.{slots_range}
+use Rattle.directory.specs.declared.layout.Layout.{Layout}
 use Rattle.store_image.specs.Answers.{IsNewStore}
 use Rattle.store_image.specs.Asked.{StopsAt}
 use Rattle.store_image.specs.declared.fault.LoadFault.{LoadFault}
@@ -14,13 +15,13 @@ use Rattle.history_store.specs.Answers.{StoreOr, IsNew, IsReady, IsMakingOf, IsM
 use Rattle.history_store.specs.Answers.{IsOpeningOf, IsOpeningCause, HandsBack, SyncsOnce}
 use Rattle.history_store.specs.Answers.{CountsOpening, device_of}
 
--- A store was made on a device, or it is said why there is none and the device comes back.
-pub record IsMaking {D : Type 0} (result : StoreOr D) (is_honest : D → Type 0)
+-- A store was made in this version on a device, or it is said why there is none and the device comes back.
+pub record IsMaking {D : Type 0} (layout : Layout) (result : StoreOr D) (is_honest : D → Type 0)
     (moments_of : D → Moments) (failures_of : D → ℕ) (device : D) : Type 0 where
   -- it is made exactly on a device of no bytes, unless memory runs out or the device fails
-  pub exact : is_honest device → IsMakingOf result (moments_of device).state.now
+  pub exact : is_honest device → IsMakingOf layout result (moments_of device).state.now
   -- on every device what is made is a new store, and it is refused with 1, 2 or 4 alone
-  pub new : IfOk result IsNew
+  pub new : IfOk result (IsNew layout)
   pub causes : IfErr result (λ e. IsMakingCause e.0)
   -- refused for any other reason than the device, it leaves whatever a stop may leave as it was
   pub refused : is_honest device → HandsBack moments_of result device
@@ -34,7 +35,7 @@ pub record IsMaking {D : Type 0} (result : StoreOr D) (is_honest : D → Type 0)
   pub calls : is_honest device
       → MakesCalls result 9 (moments_of device) (moments_of (device_of result))
   -- a read of a new store gives its two slots, and nothing behind them
-  pub bytes : is_honest device → IfOk result (λ s. IsNewStore (moments_of s.disk).state.now)
+  pub bytes : is_honest device → IfOk result (λ s. IsNewStore layout (moments_of s.disk).state.now)
   -- whatever a stop leaves from now on represents the empty history
   pub acknowledged : is_honest device → IfOk result (IsAcknowledged moments_of)
   -- on every device the store begins with no block in memory

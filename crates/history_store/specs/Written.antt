@@ -11,7 +11,7 @@ use Rattle.history_model.specs.History.{History, stamped_cmp}
 use Rattle.history_model.specs.Lists.{union}
 use Rattle.directory.specs.declared.entry.Entry.{Entry}
 use Rattle.directory.specs.Places.{extent_of, extents_of}
-use Rattle.segment.specs.Records.{segment_of}
+use Rattle.segment.specs.Records.{segment_in}
 use Rattle.store_image.specs.Kept.{IsSegmentOf}
 use Rattle.store_image.specs.Ahead.{BeginsWith}
 use Rattle.history_store.specs.Catalog.{Merge, Catalog, reserved_by}
@@ -40,7 +40,7 @@ pub record HasRows (entries : List Entry) (number : ℕ) (rows : List StampedRow
   pub entry : Entry
   pub entry_is : slice_get entries number ≡ Some entry
   pub segment : IsSegmentOf entry rows
-  pub stands : BeginsWith (extent_of entry) (segment_of rows) now
+  pub stands : BeginsWith (extent_of entry) (segment_in entry.form rows) now
 
 -- The rows that a merge takes next, up to n. Those that were taken before, these and
 -- those that are left after them are the rows of its two segments, in key order.
@@ -51,7 +51,7 @@ pub record AreNext (n : ℕ) (catalog : Catalog) (merge : Merge) (taken rows : L
   pub b : List StampedRow
   pub first : HasRows catalog.entries merge.i a now
   pub second : HasRows catalog.entries merge.j b now
-  pub behind : BeginsWith merge.output (segment_of taken) now
+  pub behind : BeginsWith merge.output (segment_in merge.form taken) now
   pub left : List StampedRow
   pub all : taken ++ rows ++ left ≡ union a b
   pub ascending : IsAscending stamped_cmp (taken ++ rows ++ left)
@@ -61,7 +61,8 @@ pub record AreNext (n : ℕ) (catalog : Catalog) (merge : Merge) (taken rows : L
 -- the records of rows, written behind those of the rows that were taken before
 abbrev pub after_part : Merge → List StampedRow → List StampedRow → DiskState → DiskState
 after_part merge taken rows state =
-    after_write state (start_of merge.output + length (segment_of taken)) (segment_of rows)
+    after_write state (start_of merge.output + length (segment_in merge.form taken))
+    (segment_in merge.form rows)
 
 -- One write puts the records of the next rows, which are rows of the history, behind those of
 -- the rows that were taken before. After an error this write failed, or none was made.

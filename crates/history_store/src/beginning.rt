@@ -85,6 +85,7 @@ pub(crate) fn begin(
             first,
             bytes,
             rows: a.rows + b.rows,
+            form: directory.layout().form(),
         },
         output: IndexMerge::new(alloc, index, i, j),
     })

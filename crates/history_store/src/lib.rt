@@ -24,7 +24,9 @@ mod starting;
 mod stepping;
 mod store;
 mod taken_blocks;
+mod upgrading;
 
+pub use directory::Layout;
 pub use history_model::{ImportReceipt, Receipt};
 pub use refusal::Refusal;
 pub use store::Store;

@@ -19,7 +19,7 @@ use crate::posting::Posting;
 use crate::refusal::Refusal;
 use as_of_index::RowPlace;
 use blocks::{BlockCache, Slot};
-use directory::Directory;
+use directory::{Directory, Layout};
 use disk_model::Disk;
 use history_model::GhostRows;
 use segment_index::StoreIndex;
@@ -69,14 +69,19 @@ pub(crate) fn room_for(
     Ok(Room { index, cache })
 }
 
-/// Makes a store on an empty disk.
-pub(crate) fn start<D: Disk>(alloc: Global, disk: &mut D) -> Result<Started, Refusal>
-    ensures empty { IfOk result (λ s. (s.directory ≡ empty_listing) × (s.index ≡ [])
+/// Makes a store in this version on an empty disk.
+pub(crate) fn start<D: Disk>(
+    alloc: Global,
+    disk: &mut D,
+    layout: Layout,
+) -> Result<Started, Refusal>
+    ensures empty { IfOk result (λ s. (s.directory ≡ empty_listing layout) × (s.index ≡ [])
         × (s.cache ≡ no_blocks)) }
     ensures made { D.is_honest disk.old → OnOk result (length (D.moments disk.old).state.now ≡ 0) }
     ensures on_disk { D.is_honest disk.old
         → IfOk result (λ s. IsOnDisk (D.moments disk.new).state s.slot s.directory []) }
-    ensures bytes { D.is_honest disk.old → OnOk result (IsNewStore (D.moments disk.new).state.now) }
+    ensures bytes { D.is_honest disk.old
+        → OnOk result (IsNewStore layout (D.moments disk.new).state.now) }
     ensures untouched { D.is_honest disk.old → 1 ≤ length (D.moments disk.old).state.now
         → D.moments disk.new ≡ D.moments disk.old }
     ensures why { D.is_honest disk.old
@@ -99,7 +104,7 @@ pub(crate) fn start<D: Disk>(alloc: Global, disk: &mut D) -> Result<Started, Ref
     check_empty(disk)?;
     let index = StoreIndex::new(alloc)?;
     let cache = BlockCache::new(alloc, KEPT_BLOCKS)?;
-    let Made { slot, directory } = make(alloc, disk)?;
+    let Made { slot, directory } = make(alloc, disk, layout)?;
     Ok(Started {
         slot,
         directory,

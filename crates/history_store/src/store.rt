@@ -5,7 +5,7 @@ ghost use Rattle.std.specs.List.{sum_by};
 ghost use Rattle.std.specs.Prelude.{IfOk, IfErr, OnOk, OnErr, true, false};
 ghost use Rattle.disk_model.specs.Disk.{IsImage, EachImage, LeavesOnly, raised_by};
 
-use crate::counting::{blocks_in_use, row_count};
+use crate::counting::{blocks_in_use, plain_count, row_count};
 use crate::known::find_new_rows;
 use crate::latest::latest_time;
 use crate::merge_in_progress::MergeInProgress;
@@ -16,7 +16,7 @@ use crate::refusal::Refusal;
 use crate::starting::{Room, Started, room_for, start};
 use as_of_index::ReadFault;
 use blocks::{BlockCache, Slot};
-use directory::Directory;
+use directory::{Directory, Layout};
 use disk_model::Disk;
 use history_model::Receipt;
 use import_check::{ImportFault, NewRows, Release};
@@ -67,7 +67,7 @@ impl<D: Disk> Store<D> {
     ghost use Rattle.history_model.specs.History.{full};
     ghost use Rattle.history_model.specs.Brought.{IsLatestDay};
     ghost use Rattle.directory.specs.declared.layout.Layout.TheVariants as layouts;
-    ghost use Rattle.directory.specs.Listings.{number_of};
+    ghost use Rattle.directory.specs.Listings.{next_layout, number_of};
     ghost use Rattle.rf2_values.specs.Row.{RowValue};
     ghost use Rattle.import_check.specs.Known.{already_known};
     ghost use Rattle.import_check.specs.Release.{IsReleaseOf};
@@ -75,10 +75,10 @@ impl<D: Disk> Store<D> {
     ghost use Rattle.import_check.specs.NewRows.{IsAcceptedAs, IsRead};
     ghost use Rattle.import_check.specs.NewRows.{IsApart};
     ghost use Rattle.store_image.specs.Images.{Represents, RepresentsAs};
-    ghost use Rattle.history_store.specs.Catalog.{catalog_of, blocks_in_use};
+    ghost use Rattle.history_store.specs.Catalog.{catalog_of, blocks_in_use, plain_count};
     ghost use Rattle.history_store.specs.StoreValue.{IsAcknowledged};
-    ghost use Rattle.history_store.specs.Private.StoreValue.{with_rows};
-    ghost use Rattle.history_store.specs.Prepared.{IsNotSpent};
+    ghost use Rattle.history_store.specs.Private.StoreValue.{directory_of, with_imports, with_rows};
+    ghost use Rattle.history_store.specs.Private.Publishing.{IsRelisting};
     ghost use Rattle.history_store.specs.Private.Prepared.{IsPreparedFor};
     ghost use Rattle.blocks.specs.Calls.{MakesCalls};
     ghost use Rattle.blocks.specs.Outside.{SameOutside, StemsWithin};
@@ -98,10 +98,21 @@ impl<D: Disk> Store<D> {
     ghost use Rattle.history_store.specs.Queries.{ImportsThroughCache};
     ghost use Rattle.history_store.specs.declared.refusal.Refusal.TheVariants as refusals;
 
-    /// Makes a store on an empty disk. The length of the disk is looked
-    /// at first, then all memory is taken, then the disk is written.
+    /// Makes a store of version 2 on an empty disk, as `create_in` does.
     pub fn create(alloc: Global, disk: D) -> Result<Store<D>, (Refusal, D)>
-        ensures made { IsMaking result D.is_honest D.moments D.failures disk }
+        ensures made { IsMaking layouts.Two result D.is_honest D.moments D.failures disk }
+        ensures bytes_read { D.bytes_read (device_of result) ≡ D.bytes_read disk }
+        ensures other_calls { D.other_calls (device_of result) ≤ D.other_calls disk + 11 }
+        ensures looked { IfErr result (λ e. e.0 ≢ refusals.DiskFault
+            → D.other_calls e.1 ≤ D.other_calls disk + 2) }
+    {
+        Store::create_in(alloc, disk, Layout::Two)
+    }
+
+    /// Makes a store of this version on an empty disk. The length of the disk is looked
+    /// at first, then all memory is taken, then the disk is written.
+    pub fn create_in(alloc: Global, disk: D, layout: Layout) -> Result<Store<D>, (Refusal, D)>
+        ensures made { IsMaking layout result D.is_honest D.moments D.failures disk }
         // On every disk, and whatever it answers, nothing is read. The length is asked for twice,
         // and nine calls are made; refused for any other reason than the device, none of the nine.
         ensures bytes_read { D.bytes_read (device_of result) ≡ D.bytes_read disk }
@@ -110,7 +121,7 @@ impl<D: Disk> Store<D> {
             → D.other_calls e.1 ≤ D.other_calls disk + 2) }
     {
         let mut disk = disk;
-        match start(alloc, &mut disk) {
+        match start(alloc, &mut disk, layout) {
             Ok(
                 Started {
                     slot,
@@ -220,29 +231,16 @@ impl<D: Disk> Store<D> {
     }
 
     /// Publishes the next directory, which lists the same segments.
-    fn publish_without_segment(&mut self, next: Directory) -> Result<(), Refusal>
+    pub(crate) fn publish_without_segment(&mut self, next: Directory) -> Result<(), Refusal>
         requires still { self.old.needs_reopen ≡ false }
-        requires room { IsNotSpent self.old.history.imports self.old.catalog.epoch }
-        requires next { next ≡ record {
-          layout = layouts.Two;
-          epoch = self.old.catalog.epoch + 1;
-          imports =
-              self.old.history.imports + 1;
-          entries = self.old.catalog.entries;
-        } }
+        requires next { IsRelisting (directory_of self.old) next }
         ensures step { IsStep result self.old self.new
-            (record { imports = self.old.history.imports + 1; rows = self.old.history.rows })
-            (record {
-              layout = layouts.Two;
-              epoch = self.old.catalog.epoch + 1;
-              entries = self.old.catalog.entries;
-              merge =
-                  self.old.catalog.merge;
-            }) }
+            (with_imports self.old.history next.imports)
+            (catalog_of next self.old.catalog.merge) }
         ensures any_moment { D.is_honest self.old.disk
             → LeavesOnly (D.moments self.old.disk) (D.moments self.new.disk)
-            (λ c. RepresentsAs self.old.catalog.layout self.old.history c ⊎ RepresentsAs layouts.Two
-            (record { imports = self.old.history.imports + 1; rows = self.old.history.rows }) c) }
+            (λ c. RepresentsAs self.old.catalog.layout self.old.history c
+            ⊎ RepresentsAs next.layout (with_imports self.old.history next.imports) c) }
         ensures refused { D.is_honest self.old.disk
             → KeepsMoments D.moments result self.old self.new }
         ensures elsewhere { D.is_honest self.old.disk → OnOk result
@@ -287,7 +285,8 @@ impl<D: Disk> Store<D> {
             (catalog_of prepared.directory self.old.catalog.merge) }
         ensures any_moment { D.is_honest self.old.disk
             → LeavesOnly (D.moments self.old.disk) (D.moments self.new.disk)
-            (λ c. RepresentsAs self.old.catalog.layout self.old.history c ⊎ RepresentsAs layouts.Two
+            (λ c. RepresentsAs self.old.catalog.layout self.old.history c
+            ⊎ RepresentsAs (next_layout self.old.catalog.layout)
             (with_rows self.old.history prepared.index) c) }
         ensures refused { D.is_honest self.old.disk
             → KeepsMoments D.moments result self.old self.new }
@@ -341,7 +340,7 @@ impl<D: Disk> Store<D> {
         ensures kept { IsImportOnAnyDisk result self.old self.new release }
         ensures counted { IfOk result (IsCounted self.old self.new) }
         // A stop at any moment leaves the history from before, in the version
-        // from before, or that with the release, in version 2.
+        // from before, or that with the release, in the next.
         ensures any_moment { D.is_honest self.old.disk → self.old.needs_reopen ≡ false
             → LeavesOnly (D.moments self.old.disk) (D.moments self.new.disk)
             (IsBeforeOrAfter self.old.catalog.layout self.old.history release) }
@@ -417,8 +416,8 @@ impl<D: Disk> Store<D> {
         self.directory.imports()
     }
 
-    /// The version of the layout on the disk: 1 for a store that was made
-    /// with version 1 and has published nothing since, and else 2.
+    /// The version of the layout on the disk: 1 for a store that was made with version 1 and has
+    /// published nothing since, 3 for one that was made in version 3 or upgraded, and else 2.
     pub fn version(&self) -> u32
         ensures { result ≡ number_of self.now.catalog.layout }
     {
@@ -430,6 +429,13 @@ impl<D: Disk> Store<D> {
         ensures { result ≡ length self.now.catalog.entries }
     {
         self.directory.entries().len() as u32
+    }
+
+    /// How many of the listed segments have no checksums: in versions 1 and 2 all of them.
+    pub fn plain_segments(&self) -> u32
+        ensures { result ≡ plain_count self.now.catalog.entries }
+    {
+        plain_count(self.directory.entries())
     }
 
     /// How many blocks of the disk the store needs: those of the slots, which hold the directory,

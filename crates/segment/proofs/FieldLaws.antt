@@ -44,7 +44,7 @@ cut_again front rest n len =
 
 -- ---- a number
 
-number_some : (w : Width) (bytes : List ℕ) (p : ℕ × List ℕ) → IsBytes bytes → number_at w bytes ≡ Some p → Parts bytes (to_be_bytes w p.0) p.1
+pub number_some : (w : Width) (bytes : List ℕ) (p : ℕ × List ℕ) → IsBytes bytes → number_at w bytes ≡ Some p → Parts bytes (to_be_bytes w p.0) p.1
 unfolding number_at
 number_some w bytes p fits e =
     let c = bind_some (cut_at (byte_len w) bytes) (λ parts. Some (from_be_bytes w parts.0, parts.1)) p e in
@@ -54,7 +54,7 @@ number_some w bytes p fits e =
     let there : Parts bytes (to_be_bytes w made.0) made.1 = subst (λ (front : List ℕ). Parts bytes front c.0.1) (sym back) k.0 in
     subst (λ (q : ℕ × List ℕ). Parts bytes (to_be_bytes w q.0) q.1) (some_is made p c.2) there
 
-number_again_at : (w : Width) (n : ℕ) (rest : List ℕ) → n < limit w → number_at w (to_be_bytes w n ++ rest) ≡ Some (n, rest)
+pub number_again_at : (w : Width) (n : ℕ) (rest : List ℕ) → n < limit w → number_at w (to_be_bytes w n ++ rest) ≡ Some (n, rest)
 unfolding number_at
 number_again_at w n rest fits =
     let cut = cut_again (to_be_bytes w n) rest (byte_len w) (number_length w n) in

@@ -1,5 +1,5 @@
 -- What is found among the fields is found among the bytes.
-use Rattle.std.proofs.Common.{◌≡◌, ℕ, ◌+◌, List, [], ◌∷◌, ◌++◌, length, Some, None, Result, Err, refl, sym, ap, subst, ◌∙◌}
+use Rattle.std.proofs.Common.{◌≡◌, ℕ, ◌+◌, List, [], ◌∷◌, ◌++◌, length, Option, Some, None, Result, Err, refl, sym, ap, subst, ◌∙◌}
 use Rattle.std.specs.Borrow.{Bor}
 use Rattle.std.specs.Int.{w8, w32, w64, w128}
 use Rattle.std.proofs.lemmas.List.Concat.{flat_map-append}
@@ -9,13 +9,15 @@ use Rattle.segment.specs.declared.fault.SegmentFault.{SegmentFault}
 use Rattle.segment.specs.declared.fault.SegmentFault.TheVariants as faults
 use Rattle.rf2_values.specs.Row.{kind_of}
 use Rattle.history_model.specs.declared.stamped.StampedRow.{StampedRow}
+use Rattle.checksum.specs.declared.form.Form.{Form}
+use Rattle.checksum.specs.declared.form.Form.TheVariants as forms
 use Rattle.segment.specs.declared.raw.RawCommon.{RawCommon}
-use Rattle.segment.specs.Records.{Field, Number, field_bytes, spelled, kind_code, active_code, common_fields, body_fields, fields_of, record_of, IsStamped}
+use Rattle.segment.specs.Records.{Field, Number, field_bytes, spelled, kind_code, active_code, common_fields, body_fields, fields_of, head_of, record_of, record_in, IsStamped}
 use Rattle.segment.specs.Private.Reading.{fields_at, all_at, common_forms, body_forms, raw_common_fields, record_bytes_at}
-use Rattle.segment.specs.Private.Finding.{Finds, IsBodyIn, IsRowIn, FindsRecord}
+use Rattle.segment.specs.Private.Finding.{Finds, IsBodyIn, IsRowIn, FindsRecord, IsSplit, Splits}
 use Rattle.segment.proofs.Numbers.{IsBytes}
 use Rattle.segment.proofs.FieldLaws.{fields_some, all_some, record_bytes_some}
-use Rattle.segment.proofs.RecordLaws.{body_again, common_again, parts_are, row_fits, same_bodies, some_fields, record_again}
+use Rattle.segment.proofs.RecordLaws.{body_again, common_again, parts_are, row_fits, same_bodies, some_fields, record_again, plain_record, same_behind, behind_head}
 
 -- ---- the fields that each record has
 
@@ -71,23 +73,30 @@ passed_on {X} {Y} Inner P Outer Q r faults.BadSegment same none give =
 
 -- ---- the record that bytes begin with
 
-pub record_missing : (bytes : List ℕ) → record_bytes_at bytes ≡ None → (s : StampedRow) (rest : List ℕ) → IsStamped s → bytes ≡ record_of s ++ rest → ⊥
+record_missing : (bytes : List ℕ) → record_bytes_at bytes ≡ None → (s : StampedRow) (rest : List ℕ) → IsStamped s → bytes ≡ record_of s ++ rest → ⊥
 record_missing bytes none s rest is e = let read = ap record_bytes_at e ∙ record_again s rest is in absurd cc
 
-pub record_there : (bytes fields rest : List ℕ) → record_bytes_at bytes ≡ Some (fields, rest) → (s : StampedRow) (other : List ℕ) → IsStamped s → bytes ≡ record_of s ++ other
-    → (fields ≡ spelled (fields_of s)) × (rest ≡ other)
-record_there bytes fields rest read s other is e = parts_are fields (spelled (fields_of s)) rest other (sym read ∙ ap record_bytes_at e ∙ record_again s other is)
+plain_at : (bytes : List ℕ) (s : StampedRow) (rest : List ℕ) → bytes ≡ record_in forms.Plain s ++ rest → bytes ≡ record_of s ++ rest
+plain_at bytes s rest e = e ∙ ap (λ (l : List ℕ). l ++ rest) (plain_record s)
 
-pub record_found : (bytes fields rest : List ℕ) (s : StampedRow) → IsBytes bytes → record_bytes_at bytes ≡ Some (fields, rest) → IsRowIn fields s → IsStamped s × (bytes ≡ record_of s ++ rest)
-unfolding record_of
-record_found bytes fields rest s fits read is =
-    let parts = record_bytes_some bytes (fields, rest) fits read in
-    (is.0, parts.0.whole ∙ ap (λ (l : List ℕ). (field_bytes (Number w32 (4 + length l)) ++ l) ++ rest) is.1)
+-- by the length of a record its fields are found
+pub plain_splits : (bytes : List ℕ) (r : Option (List ℕ × List ℕ)) → IsBytes bytes → record_bytes_at bytes ≡ r → Splits forms.Plain bytes r
+plain_splits bytes None fits read = λ s rest is e. record_missing bytes read s rest is (plain_at bytes s rest e)
+plain_splits bytes (Some p) fits read = record {
+  whole = (record_bytes_some bytes p fits read).0.whole;
+  only = λ s other is e. (parts_are p.0 (spelled (fields_of s)) p.1 other (sym read ∙ ap record_bytes_at (plain_at bytes s other e) ∙ record_again s other is)).0;
+}
 
-pub record_refused : (bytes fields rest : List ℕ) (r : Result (StampedRow × Bor (List ℕ)) SegmentFault) (f : SegmentFault) → record_bytes_at bytes ≡ Some (fields, rest)
-    → (e : SegmentFault) × (r ≡ Err e) × (e ≡ f) → Finds IsStamped (IsRowIn fields) (Err f) → FindsRecord bytes r
-record_refused bytes fields rest r faults.OutOfMemory read same none =
-    subst (FindsRecord bytes) (sym (same.1 ∙ ap (λ (g : SegmentFault). Err g) same.2)) tt
-record_refused bytes fields rest r faults.BadSegment read same none =
-    subst (FindsRecord bytes) (sym (same.1 ∙ ap (λ (g : SegmentFault). Err g) same.2))
-    (λ s other is e. none s is (is, (record_there bytes fields rest read s other is e).0))
+-- a row of the fields that were found has its record there
+pub record_found : (form : Form) (bytes fields rest : List ℕ) (s : StampedRow) → IsSplit form bytes fields rest → IsRowIn fields s → IsStamped s × (bytes ≡ record_in form s ++ rest)
+unfolding record_in
+record_found form bytes fields rest s split is =
+    (is.0, split.whole ∙ ap (λ (l : List ℕ). (field_bytes (Number w32 (head_of form l)) ++ l) ++ rest) is.1)
+
+pub record_refused : (form : Form) (bytes fields rest : List ℕ) (r : Result (StampedRow × Bor (List ℕ)) SegmentFault) (f : SegmentFault) → IsSplit form bytes fields rest
+    → (e : SegmentFault) × (r ≡ Err e) × (e ≡ f) → Finds IsStamped (IsRowIn fields) (Err f) → FindsRecord form bytes r
+record_refused form bytes fields rest r faults.OutOfMemory split same none =
+    subst (FindsRecord form bytes) (sym (same.1 ∙ ap (λ (g : SegmentFault). Err g) same.2)) tt
+record_refused form bytes fields rest r faults.BadSegment split same none =
+    subst (FindsRecord form bytes) (sym (same.1 ∙ ap (λ (g : SegmentFault). Err g) same.2))
+    (λ s other is e. none s is (is, split.only s other is e))

@@ -5,6 +5,8 @@ pub mod Found
 pub mod SegmentLaws
 pub mod Ascending
 pub mod Places
+pub mod Checksums
+pub mod Lengths
 pub mod Decoded
 pub mod Posting
 pub mod Unions

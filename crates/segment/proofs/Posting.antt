@@ -5,10 +5,12 @@ use Rattle.rf2_values.specs.Key.{key_of}
 use Rattle.history_model.specs.declared.stamped.StampedRow.{StampedRow}
 use Rattle.history_model.specs.InOrder.{Has}
 use Rattle.segment.specs.declared.place.RowPlace.{RowPlace}
-use Rattle.segment.specs.Records.{record_of, segment_of, IsSegment, IsRecordAt}
+use Rattle.checksum.specs.declared.form.Form.{Form}
+use Rattle.checksum.specs.declared.form.Form.TheVariants as forms
+use Rattle.segment.specs.Records.{record_of, segment_of, IsSegmentIn, IsRecordAt}
 use Rattle.segment.specs.Standing.{record_len, row_place, with_places, EachStandsAtItsByte}
 use Rattle.segment.proofs.Places.{each_at_its_place}
-use Rattle.segment.proofs.SegmentLaws.{segment_push, no_rows}
+use Rattle.segment.proofs.SegmentLaws.{push_plain, no_rows_plain}
 
 -- what a place says of its row
 pub record Says (p : RowPlace) (s : StampedRow) : Type 0 where
@@ -59,7 +61,7 @@ between at (r ∷ rows) x h = elim h [
     before = [];
     after = rows;
     rows_are = refl;
-    at_is = (let a = at_byte r at in let none = ap length no_rows in omega arith);
+    at_is = (let a = at_byte r at in let none = ap length no_rows_plain in omega arith);
   })
   | inr t ↦
       let w = between (at + record_len r) rows x t in
@@ -71,20 +73,20 @@ between at (r ∷ rows) x h = elim h [
       }
 ]
 
-pub record_there : (rows : List StampedRow) (bytes : List ℕ) (s : StampedRow) (p : RowPlace) → IsSegment rows bytes → Has (with_places 0 rows) (s, p) → IsRecordAt bytes p.at s (p.at + p.bytes)
-record_there rows bytes s p is h =
+pub record_there : (form : Form) (rows : List StampedRow) (bytes : List ℕ) (s : StampedRow) (p : RowPlace) → IsSegmentIn form rows bytes → Has (with_places 0 rows) (s, p) → IsRecordAt form bytes p.at s (p.at + p.bytes)
+record_there form rows bytes s p is h =
     let w = between 0 rows (s, p) h in
     let b = says 0 rows (s, p) h in
-    let there = each_at_its_place w.before w.after s bytes (subst (λ l. IsSegment l bytes) w.rows_are is) in
+    let there = each_at_its_place form w.before w.after s bytes (subst (λ l. IsSegmentIn form l bytes) w.rows_are is) in
     let at_is : p.at ≡ length (segment_of w.before) = (let e = w.at_is in omega arith) in
     let next_is : length (segment_of (w.before ++ s ∷ [])) ≡ p.at + p.bytes = (
-    let e = ap length (segment_push w.before s) ∙ length-append (segment_of w.before) (record_of s) in
+    let e = ap length (push_plain w.before s) ∙ length-append (segment_of w.before) (record_of s) in
     let l = b.bytes_are in
     omega arith) in
-    subst (λ n. IsRecordAt bytes n s (p.at + p.bytes)) (sym at_is) (subst (λ n. IsRecordAt bytes (length (segment_of w.before)) s n) next_is there)
+    subst (λ n. IsRecordAt form bytes n s (p.at + p.bytes)) (sym at_is) (subst (λ n. IsRecordAt form bytes (length (segment_of w.before)) s n) next_is there)
 
 pub each_stands_at_its_byte : EachStandsAtItsByte
-each_stands_at_its_byte lists segment at s rows bytes stands list_is is =
+each_stands_at_its_byte form lists segment at s rows bytes stands list_is is =
     let same : rows ≡ stands.rows = (let e = sym list_is ∙ stands.list_is in cc) in
     let b = says 0 stands.rows (s, at) stands.there in
-    record { key_is = b.key_is; import_is = b.import_is; record_is = record_there stands.rows bytes s at (subst (λ l. IsSegment l bytes) same is) stands.there }
+    record { key_is = b.key_is; import_is = b.import_is; record_is = record_there form stands.rows bytes s at (subst (λ l. IsSegmentIn form l bytes) same is) stands.there }

@@ -1,9 +1,9 @@
 -- A record is read as its row, and as no other.
-use Rattle.std.proofs.Common.{◌≡◌, ℕ, ◌+◌, ◌^◌, ◌<◌, ◌≤◌, Bool, true, false, List, [], ◌∷◌, ◌++◌, length, map, Option, Some, refl, sym, ap, ◌∙◌, append_assoc, arith}
+use Rattle.std.proofs.Common.{◌≡◌, ℕ, ◌+◌, ◌^◌, ◌<◌, ◌≤◌, Bool, true, false, List, [], ◌∷◌, ◌++◌, length, map, drop, Option, Some, refl, sym, ap, ◌∙◌, append_assoc, arith}
 use Rattle.std.specs.Prelude.{decimal}
 use Rattle.std.specs.List.{AllByRecursion}
 use Rattle.std.specs.Int.{w8, w16, w32, w64, w128, byte_len, to_be_bytes}
-use Rattle.std.proofs.lemmas.List.{length-append}
+use Rattle.std.proofs.lemmas.List.{length-append, drop_at}
 use Rattle.std.proofs.lemmas.List.Concat.{flat_map-append}
 use Rattle.rf2_values.specs.declared.row.Kind.{Kind}
 use Rattle.rf2_values.specs.declared.row.Kind.TheVariants as kinds
@@ -13,7 +13,9 @@ use Rattle.rf2_values.specs.Row.{RowValue, IsVersion, IsBody, IsIdOf, kind_of, k
 use Rattle.rf2_values.specs.Time.{IsTime}
 use Rattle.rf2_values.proofs.Lengths.{length-line}
 use Rattle.history_model.specs.declared.stamped.StampedRow.{StampedRow}
-use Rattle.segment.specs.Records.{Field, Number, Text, field_bytes, spelled, kind_code, active_code, common_fields, body_fields, fields_of, record_of, IsStamped}
+use Rattle.checksum.specs.declared.form.Form.{Form}
+use Rattle.checksum.specs.declared.form.Form.TheVariants as forms
+use Rattle.segment.specs.Records.{head_of, record_in, Field, Number, Text, field_bytes, spelled, kind_code, active_code, common_fields, body_fields, fields_of, record_of, IsStamped}
 use Rattle.segment.specs.Private.Reading.{form_of, Fits, fields_at, all_at, common_forms, body_forms, record_bytes_at, fixed_len, texts_len}
 use Rattle.segment.proofs.Numbers.{number_length}
 use Rattle.segment.proofs.FieldLaws.{fields_again, all_again, record_bytes_again}
@@ -41,7 +43,7 @@ small_id kinds.Concrete n is = omega (arith, is.sctid.high)
 small_time : (t : ℕ) → IsTime t → t < 2 ^ 32
 small_time t is = omega (arith, is.year_to)
 
-common_fits : (s : StampedRow) → IsStamped s → AllByRecursion Fits (common_fields s)
+pub common_fits : (s : StampedRow) → IsStamped s → AllByRecursion Fits (common_fields s)
 common_fits s is =
     (small_kind (kind_of s.row), (small_id (kind_of s.row) s.row.id is.row.id, (small_time s.row.time is.row.time, (is.fits, (small_flag s.row.active, (omega (arith, is.row.module_id.sctid.high), tt))))))
 
@@ -271,7 +273,7 @@ record_is s =
     let same : 4 + length (spelled (fields_of s)) ≡ length (record_of s) = omega (arith, length-record s, length-fields s) in
     ap (λ (n : ℕ). field_bytes (Number w32 n) ++ spelled (fields_of s)) same
 
-record_length : (s : StampedRow) → IsStamped s → 4 + length (spelled (fields_of s)) < 2 ^ 32
+pub record_length : (s : StampedRow) → IsStamped s → 4 + length (spelled (fields_of s)) < 2 ^ 32
 record_length s is = omega (arith, length-fields s, row_room s.row is.row)
 
 -- a record that bytes begin with is read
@@ -279,25 +281,63 @@ pub record_again : (s : StampedRow) (rest : List ℕ) → IsStamped s → record
 unfolding record_of
 record_again s rest is = record_bytes_again (spelled (fields_of s)) rest (record_length s is)
 
+-- a plain record
+pub plain_record : (s : StampedRow) → record_in forms.Plain s ≡ record_of s
+unfolding record_in record_of
+plain_record s = refl
+
+pub length-record_in : (form : Form) (s : StampedRow) → length (record_in form s) ≡ length (record_of s)
+unfolding record_in
+length-record_in form s =
+    let front = field_bytes (Number w32 (head_of form (spelled (fields_of s)))) in
+    omega (arith, length-append front (spelled (fields_of s)), length-field (Number w32 (head_of form (spelled (fields_of s)))), length-fields s, length-record s)
+
+-- the fields of a row with others behind them
+pub common_behind : (s : StampedRow) (x : List ℕ) → IsStamped s → fields_at common_forms (spelled (fields_of s) ++ x) ≡ Some (common_fields s, spelled (body_fields s.row.body) ++ x)
+common_behind s x is =
+    let joined : spelled (fields_of s) ≡ spelled (common_fields s) ++ spelled (body_fields s.row.body) = flat_map-append field_bytes (common_fields s) (body_fields s.row.body) in
+    ap (λ (l : List ℕ). fields_at common_forms (l ++ x)) joined
+    ∙ ap (fields_at common_forms) (append_assoc (spelled (common_fields s)) (spelled (body_fields s.row.body)) x)
+    ∙ fields_again (common_fields s) (spelled (body_fields s.row.body) ++ x) (common_fits s is)
+
+pub body_behind : (b : Body) (x : List ℕ) → AllByRecursion Fits (body_fields b) → fields_at (body_forms (kind_of_body b)) (spelled (body_fields b) ++ x) ≡ Some (body_fields b, x)
+body_behind b x fits = ap (λ forms. fields_at forms (spelled (body_fields b) ++ x)) (sym (forms_are b)) ∙ fields_again (body_fields b) x fits
+
+-- no bytes begin with the fields of two rows
+pub same_behind : (s t : StampedRow) (x y : List ℕ) → IsStamped s → IsStamped t → spelled (fields_of s) ++ x ≡ spelled (fields_of t) ++ y → (s ≡ t) × (x ≡ y)
+same_behind s t x y is other e =
+    let both = sym (common_behind s x is) ∙ ap (fields_at common_forms) e ∙ common_behind t y other in
+    let parts = parts_are (common_fields s) (common_fields t) (spelled (body_fields s.row.body) ++ x) (spelled (body_fields t.row.body) ++ y) both in
+    let same = parts.0 in
+    let codes : kind_code (kind_of s.row) ≡ kind_code (kind_of t.row) = cc in
+    let kind_is : kind_of s.row ≡ kind_of t.row = code_kind (kind_of s.row) (kind_of t.row) codes in
+    let again = sym (body_behind s.row.body x (row_fits s.row is.row)) ∙ ap (λ (k : Kind). fields_at (body_forms k) (spelled (body_fields s.row.body) ++ x)) kind_is ∙ ap (fields_at (body_forms (kind_of t.row))) parts.1 ∙ body_behind t.row.body y (row_fits t.row other.row) in
+    let bodies = parts_are (body_fields s.row.body) (body_fields t.row.body) x y again in
+    (same_rows s t same (same_bodies s.row.body t.row.body bodies.0), bodies.1)
+
+-- what stands behind the four bytes that a record begins with
+pub behind_head : (form : Form) (s : StampedRow) (x : List ℕ) → drop 4 (record_in form s ++ x) ≡ spelled (fields_of s) ++ x
+unfolding record_in
+behind_head form s x =
+    let front = field_bytes (Number w32 (head_of form (spelled (fields_of s)))) in
+    ap (drop 4) (append_assoc front (spelled (fields_of s)) x) ∙ drop_at front (spelled (fields_of s) ++ x) 4 (length-field (Number w32 (head_of form (spelled (fields_of s)))))
+
 -- no bytes begin with two records
-pub same_records : (s t : StampedRow) (x y : List ℕ) → IsStamped s → IsStamped t → record_of s ++ x ≡ record_of t ++ y → (s ≡ t) × (x ≡ y)
-same_records s t x y is other e =
-    let both = sym (record_again s x is) ∙ ap record_bytes_at e ∙ record_again t y other in
-    let parts = parts_are (spelled (fields_of s)) (spelled (fields_of t)) x y both in
-    (same_spelled s t is other parts.0, parts.1)
+pub same_records : (form : Form) (s t : StampedRow) (x y : List ℕ) → IsStamped s → IsStamped t → record_in form s ++ x ≡ record_in form t ++ y → (s ≡ t) × (x ≡ y)
+same_records form s t x y is other e =
+    same_behind s t x y is other (sym (behind_head form s x) ∙ ap (drop 4) e ∙ behind_head form t y)
 
-regroup : (o l k i t n a m z : List ℕ) → (((((((o ++ l) ++ k) ++ i) ++ t) ++ n) ++ a) ++ m) ++ z ≡ o ++ (l ++ (k ++ (i ++ (t ++ (n ++ (a ++ (m ++ z)))))))
-regroup o l k i t n a m z = simp append_assoc
+regroup : (o k i t n a m z : List ℕ) → ((((((o ++ k) ++ i) ++ t) ++ n) ++ a) ++ m) ++ z ≡ o ++ (k ++ (i ++ (t ++ (n ++ (a ++ (m ++ z))))))
+regroup o k i t n a m z = simp append_assoc
 
--- what is put at the end, field after field, is the record
-pub record_appended : (s : StampedRow) (len kind id time import active module_id : ℕ) (b : Body)
-    → len ≡ length (record_of s) → kind ≡ kind_code (kind_of s.row) → id ≡ s.row.id → time ≡ s.row.time → import ≡ s.import → active ≡ active_code s.row.active → module_id ≡ s.row.module_id → b ≡ s.row.body
-    → (o o1 o2 o3 o4 o5 o6 o7 out : List ℕ)
-    → o1 ≡ o ++ field_bytes (Number w32 len) → o2 ≡ o1 ++ field_bytes (Number w8 kind) → o3 ≡ o2 ++ field_bytes (Number w128 id) → o4 ≡ o3 ++ field_bytes (Number w32 time)
+-- what is put at the end, field after field, are the fields of the record
+pub fields_appended : (s : StampedRow) (kind id time import active module_id : ℕ) (b : Body)
+    → kind ≡ kind_code (kind_of s.row) → id ≡ s.row.id → time ≡ s.row.time → import ≡ s.import → active ≡ active_code s.row.active → module_id ≡ s.row.module_id → b ≡ s.row.body
+    → (o o2 o3 o4 o5 o6 o7 out : List ℕ)
+    → o2 ≡ o ++ field_bytes (Number w8 kind) → o3 ≡ o2 ++ field_bytes (Number w128 id) → o4 ≡ o3 ++ field_bytes (Number w32 time)
     → o5 ≡ o4 ++ field_bytes (Number w32 import) → o6 ≡ o5 ++ field_bytes (Number w8 active) → o7 ≡ o6 ++ field_bytes (Number w64 module_id) → out ≡ o7 ++ spelled (body_fields b)
-    → out ≡ o ++ record_of s
-record_appended s len kind id time import active module_id b len_is kind_is id_is time_is import_is active_is module_is body_is o o1 o2 o3 o4 o5 o6 o7 out e1 e2 e3 e4 e5 e6 e7 e8 =
-    let l = field_bytes (Number w32 (length (record_of s))) in
+    → out ≡ o ++ spelled (fields_of s)
+fields_appended s kind id time import active module_id b kind_is id_is time_is import_is active_is module_is body_is o o2 o3 o4 o5 o6 o7 out e2 e3 e4 e5 e6 e7 e8 =
     let k = field_bytes (Number w8 (kind_code (kind_of s.row))) in
     let i = field_bytes (Number w128 s.row.id) in
     let t = field_bytes (Number w32 s.row.time) in
@@ -305,6 +345,5 @@ record_appended s len kind id time import active module_id b len_is kind_is id_i
     let a = field_bytes (Number w8 (active_code s.row.active)) in
     let m = field_bytes (Number w64 s.row.module_id) in
     let z = spelled (body_fields s.row.body) in
-    let whole : out ≡ (((((((o ++ l) ++ k) ++ i) ++ t) ++ n) ++ a) ++ m) ++ z = cc in
-    let grouped : (((((((o ++ l) ++ k) ++ i) ++ t) ++ n) ++ a) ++ m) ++ z ≡ o ++ (l ++ (k ++ (i ++ (t ++ (n ++ (a ++ (m ++ z))))))) = regroup o l k i t n a m z in
-    whole ∙ grouped ∙ ap (λ (end : List ℕ). o ++ end) (sym (record_is s))
+    let whole : out ≡ ((((((o ++ k) ++ i) ++ t) ++ n) ++ a) ++ m) ++ z = cc in
+    whole ∙ regroup o k i t n a m z

@@ -4,62 +4,103 @@ use Rattle.std.specs.List.{AllByRecursion, flat_map}
 use Rattle.std.proofs.lemmas.List.{take_more, append-nil, length-append}
 use Rattle.std.proofs.lemmas.List.Concat.{flat_map-append}
 use Rattle.history_model.specs.declared.stamped.StampedRow.{StampedRow}
-use Rattle.segment.specs.Records.{record_of, segment_of, IsStamped, OneSegment, PiecesJoin}
-use Rattle.segment.proofs.RecordLaws.{same_records, length-record}
+use Rattle.checksum.specs.declared.form.Form.{Form}
+use Rattle.checksum.specs.declared.form.Form.TheVariants as forms
+use Rattle.segment.specs.Records.{record_of, record_in, segment_of, segment_in, IsStamped, IsSegment, IsSegmentIn, OneSegment, PiecesJoin, EquallyLong, PlainIsAsBefore}
+use Rattle.segment.proofs.RecordLaws.{same_records, length-record, length-record_in, plain_record}
 
 -- ---- one more record
 
-pub segment_push : (rows : List StampedRow) (s : StampedRow) → segment_of (rows ++ s ∷ []) ≡ segment_of rows ++ record_of s
-unfolding segment_of
-segment_push rows s = flat_map-append record_of rows (s ∷ []) ∙ ap (λ (end : List ℕ). flat_map record_of rows ++ end) (append-nil (record_of s))
+pub segment_push : (form : Form) (rows : List StampedRow) (s : StampedRow) → segment_in form (rows ++ s ∷ []) ≡ segment_in form rows ++ record_in form s
+unfolding segment_in
+segment_push form rows s = flat_map-append (record_in form) rows (s ∷ []) ∙ ap (λ (end : List ℕ). flat_map (record_in form) rows ++ end) (append-nil (record_in form s))
 
 pub taken_more : (rows : List StampedRow) (i : ℕ) (s : StampedRow) → i < length rows → s ≡ get_or rows i s → take (i + 1) rows ≡ take i rows ++ s ∷ []
 taken_more rows i s lt is = take_more rows i s lt ∙ ap (λ (t : StampedRow). take i rows ++ t ∷ []) (sym is)
 
-pub segment_more : (rows : List StampedRow) (i : ℕ) (s : StampedRow) → i < length rows → s ≡ get_or rows i s → segment_of (take (i + 1) rows) ≡ segment_of (take i rows) ++ record_of s
-segment_more rows i s lt is = ap segment_of (taken_more rows i s lt is) ∙ segment_push (take i rows) s
+pub segment_more : (form : Form) (rows : List StampedRow) (i : ℕ) (s : StampedRow) → i < length rows → s ≡ get_or rows i s → segment_in form (take (i + 1) rows) ≡ segment_in form (take i rows) ++ record_in form s
+segment_more form rows i s lt is = ap (segment_in form) (taken_more rows i s lt is) ∙ segment_push form (take i rows) s
 
 pub all_push : {X : Type 0} (P : X → Type 0) (xs : List X) (x : X) → AllByRecursion P xs → P x → AllByRecursion P (xs ++ x ∷ [])
 all_push P [] x all p = (p, tt)
 all_push P (y ∷ ys) x all p = (all.0, all_push P ys x all.1 p)
 
-pub no_rows : segment_of [] ≡ []
-unfolding segment_of
-no_rows = refl
+pub no_rows : (form : Form) → segment_in form [] ≡ []
+unfolding segment_in
+no_rows form = refl
 
 -- ---- bytes are one segment
 
-some_bytes : (s : StampedRow) (rest : List ℕ) → 0 < length (record_of s ++ rest)
-some_bytes s rest = omega (arith, length-append (record_of s) rest, length-record s)
+some_bytes : (form : Form) (s : StampedRow) (rest : List ℕ) → 0 < length (record_in form s ++ rest)
+some_bytes form s rest = omega (arith, length-append (record_in form s) rest, length-record s, length-record_in form s)
 
-pub no_record : (s : StampedRow) (rest : List ℕ) → record_of s ++ rest ≡ [] → ⊥
-no_record s rest e = let none = ap length e in omega (arith, some_bytes s rest, none)
+pub no_record : (form : Form) (s : StampedRow) (rest : List ℕ) → record_in form s ++ rest ≡ [] → ⊥
+no_record form s rest e = let none = ap length e in omega (arith, some_bytes form s rest, none)
 
 -- where bytes begin with the records of some rows, they are the first of the segment
-pub goes_on : (rows others : List StampedRow) (rest : List ℕ) → AllByRecursion IsStamped rows → AllByRecursion IsStamped others → segment_of rows ++ rest ≡ segment_of others
-    → (more : List StampedRow) × (others ≡ rows ++ more) × (rest ≡ segment_of more) × AllByRecursion IsStamped more
-unfolding segment_of
-goes_on [] others rest each all e = (others, refl, e, all)
-goes_on (r ∷ rows) [] rest each all e = absurd (no_record r (flat_map record_of rows ++ rest) (sym (append_assoc (record_of r) (flat_map record_of rows) rest) ∙ e))
-goes_on (r ∷ rows) (o ∷ others) rest each all e =
-    let same = same_records r o (flat_map record_of rows ++ rest) (flat_map record_of others) each.0 all.0 (sym (append_assoc (record_of r) (flat_map record_of rows) rest) ∙ e) in
-    let tail = goes_on rows others rest each.1 all.1 same.1 in
+pub goes_on : (form : Form) (rows others : List StampedRow) (rest : List ℕ) → AllByRecursion IsStamped rows → AllByRecursion IsStamped others → segment_in form rows ++ rest ≡ segment_in form others
+    → (more : List StampedRow) × (others ≡ rows ++ more) × (rest ≡ segment_in form more) × AllByRecursion IsStamped more
+unfolding segment_in
+goes_on form [] others rest each all e = (others, refl, e, all)
+goes_on form (r ∷ rows) [] rest each all e = absurd (no_record form r (flat_map (record_in form) rows ++ rest) (sym (append_assoc (record_in form r) (flat_map (record_in form) rows) rest) ∙ e))
+goes_on form (r ∷ rows) (o ∷ others) rest each all e =
+    let same = same_records form r o (flat_map (record_in form) rows ++ rest) (flat_map (record_in form) others) each.0 all.0 (sym (append_assoc (record_in form r) (flat_map (record_in form) rows) rest) ∙ e) in
+    let tail = goes_on form rows others rest each.1 all.1 same.1 in
     (tail.0, ap (λ (t : StampedRow). t ∷ others) (sym same.0) ∙ ap (λ (l : List StampedRow). r ∷ l) tail.1, tail.2, tail.3)
 
-pub nothing_more : (more : List StampedRow) → [] ≡ segment_of more → more ≡ []
-unfolding segment_of
-nothing_more [] e = refl
-nothing_more (m ∷ more) e = absurd (no_record m (flat_map record_of more) (sym e))
+pub nothing_more : (form : Form) (more : List StampedRow) → [] ≡ segment_in form more → more ≡ []
+unfolding segment_in
+nothing_more form [] e = refl
+nothing_more form (m ∷ more) e = absurd (no_record form m (flat_map (record_in form) more) (sym e))
 
 -- a segment whose bytes are the records of some rows is of these rows
-pub same_segment : (rows others : List StampedRow) → AllByRecursion IsStamped rows → AllByRecursion IsStamped others → segment_of rows ≡ segment_of others → others ≡ rows
-same_segment rows others each all e =
-    let more = goes_on rows others [] each all (append-nil (segment_of rows) ∙ e) in
-    more.1 ∙ ap (λ (l : List StampedRow). rows ++ l) (nothing_more more.0 more.2) ∙ append-nil rows
+pub same_segment : (form : Form) (rows others : List StampedRow) → AllByRecursion IsStamped rows → AllByRecursion IsStamped others → segment_in form rows ≡ segment_in form others → others ≡ rows
+same_segment form rows others each all e =
+    let more = goes_on form rows others [] each all (append-nil (segment_in form rows) ∙ e) in
+    more.1 ∙ ap (λ (l : List StampedRow). rows ++ l) (nothing_more form more.0 more.2) ∙ append-nil rows
 
 pub one_segment : OneSegment
-one_segment rows others bytes is other = sym (same_segment rows others is.each other.each (sym is.bytes_are ∙ other.bytes_are))
+one_segment form rows others bytes is other = sym (same_segment form rows others is.each other.each (sym is.bytes_are ∙ other.bytes_are))
 
 pub pieces_join : PiecesJoin
+unfolding segment_in
+pieces_join form rows others = flat_map-append (record_in form) rows others
+
+-- ---- both forms
+
+pub plain_segment : (rows : List StampedRow) → segment_in forms.Plain rows ≡ segment_of rows
+unfolding segment_in segment_of
+plain_segment [] = refl
+plain_segment (s ∷ rows) = ap (λ (l : List ℕ). l ++ segment_in forms.Plain rows) (plain_record s) ∙ ap (λ (l : List ℕ). record_of s ++ l) (plain_segment rows)
+
+pub length-segment_in : (form : Form) (rows : List StampedRow) → length (segment_in form rows) ≡ length (segment_of rows)
+unfolding segment_in segment_of
+length-segment_in form [] = refl
+length-segment_in form (s ∷ rows) =
+    let rest = length-segment_in form rows in
+    omega (arith, rest, length-record_in form s, length-append (record_in form s) (segment_in form rows), length-append (record_of s) (segment_of rows))
+
+each_equally : (form : Form) (rows : List StampedRow) → AllByRecursion (λ s. length (record_in form s) ≡ length (record_of s)) rows
+each_equally form [] = tt
+each_equally form (s ∷ rows) = (length-record_in form s, each_equally form rows)
+
+pub equally_long : EquallyLong
+equally_long form rows = (each_equally form rows, length-segment_in form rows)
+
+pub plain_is_as_before : PlainIsAsBefore
+plain_is_as_before rows bytes = (
+  λ is. record { each = is.each; ascending = is.ascending; bytes_are = is.bytes_are ∙ plain_segment rows },
+  λ is. record { each = is.each; ascending = is.ascending; bytes_are = is.bytes_are ∙ sym (plain_segment rows) },
+)
+
+-- the same of plain segments under their own names
+pub push_plain : (rows : List StampedRow) (s : StampedRow) → segment_of (rows ++ s ∷ []) ≡ segment_of rows ++ record_of s
 unfolding segment_of
-pieces_join rows others = flat_map-append record_of rows others
+push_plain rows s = flat_map-append record_of rows (s ∷ []) ∙ ap (λ (end : List ℕ). flat_map record_of rows ++ end) (append-nil (record_of s))
+
+pub more_plain : (rows : List StampedRow) (i : ℕ) (s : StampedRow) → i < length rows → s ≡ get_or rows i s → segment_of (take (i + 1) rows) ≡ segment_of (take i rows) ++ record_of s
+more_plain rows i s lt is = ap segment_of (taken_more rows i s lt is) ∙ push_plain (take i rows) s
+
+pub no_rows_plain : segment_of [] ≡ []
+unfolding segment_of
+no_rows_plain = refl

@@ -1,8 +1,8 @@
 -- Rows as bytes: a record for each, and a segment of records in key order.
-use Rattle.std.specs.Prelude.{◌≡◌, ℕ, ◌+◌, ◌^◌, ◌<◌, ◌≤◌, Bool, true, false, List, [], ◌∷◌, ◌++◌}
+use Rattle.std.specs.Prelude.{◌≡◌, ◌≢◌, ◌↔◌, ◌⊎◌, ℕ, ◌+◌, ◌-◌, ◌^◌, ◌<◌, ◌≤◌, Bool, true, false, List, [], ◌∷◌, ◌++◌}
 use Rattle.std.specs.Prelude.{length, take, drop}
 use Rattle.std.specs.List.{AllByRecursion, flat_map}
-use Rattle.std.specs.Int.{Width, w8, w16, w32, w64, w128, to_be_bytes}
+use Rattle.std.specs.Int.{Width, w8, w16, w32, w64, w128, byte_len, to_be_bytes}
 use Rattle.rf2_values.specs.declared.row.Kind.{Kind}
 use Rattle.rf2_values.specs.declared.row.Kind.TheVariants as kinds
 use Rattle.rf2_values.specs.declared.row.Body.{Body}
@@ -11,6 +11,9 @@ use Rattle.rf2_values.specs.Row.{IsVersion, kind_of}
 use Rattle.history_model.specs.declared.stamped.StampedRow.{StampedRow}
 use Rattle.history_model.specs.InOrder.{IsAscending}
 use Rattle.history_model.specs.History.{stamped_cmp}
+use Rattle.checksum.specs.Crc32c.{crc32c}
+use Rattle.checksum.specs.declared.form.Form.{Form}
+use Rattle.checksum.specs.declared.form.Form.TheVariants as forms
 
 -- what a record is made of: a number in the bytes of its width, the
 -- highest first, or a text after the number of its bytes in two bytes
@@ -66,6 +69,17 @@ fields_of s = common_fields s ++ body_fields s.row.body
 unfoldable pub record_of : StampedRow → List ℕ
 record_of s = field_bytes (Number w32 (4 + length (spelled (fields_of s)))) ++ spelled (fields_of s)
 
+-- what a record begins with, in four bytes: in a plain segment with the length of the whole record,
+-- in a checked one with the checksum of its fields, whose length they say themselves
+abbrev pub head_of : Form → List ℕ → ℕ
+head_of forms.Plain fields = 4 + length fields
+head_of forms.Checked fields = crc32c fields
+
+-- the record of a row in a segment of this form
+unfoldable pub record_in : Form → StampedRow → List ℕ
+record_in form s =
+    field_bytes (Number w32 (head_of form (spelled (fields_of s)))) ++ spelled (fields_of s)
+
 -- what has a record: a row that a line may hold, and a number of an import
 pub record IsStamped (s : StampedRow) : Type 0 where
   pub row : IsVersion s.row
@@ -76,36 +90,88 @@ pub record IsStamped (s : StampedRow) : Type 0 where
 unfoldable pub segment_of : List StampedRow → List ℕ
 segment_of rows = flat_map record_of rows
 
+unfoldable pub segment_in : Form → List StampedRow → List ℕ
+segment_in form rows = flat_map (record_in form) rows
+
 -- the bytes are the records of these rows, in strictly ascending key order
+pub record IsSegmentIn (form : Form) (rows : List StampedRow) (bytes : List ℕ) : Type 0 where
+  pub each : AllByRecursion IsStamped rows
+  pub ascending : IsAscending stamped_cmp rows
+  pub bytes_are : bytes ≡ segment_in form rows
+
 pub record IsSegment (rows : List StampedRow) (bytes : List ℕ) : Type 0 where
   pub each : AllByRecursion IsStamped rows
   pub ascending : IsAscending stamped_cmp rows
   pub bytes_are : bytes ≡ segment_of rows
 
 -- the row's record begins at the place, and the next would begin at next
-pub record IsRecordAt (bytes : List ℕ) (place : ℕ) (s : StampedRow) (next : ℕ) : Type 0 where
+pub record IsRecordAt (form : Form) (bytes : List ℕ) (place : ℕ) (s : StampedRow)
+    (next : ℕ) : Type 0 where
   pub is : IsStamped s
   pub next_is : next ≡ place + length (record_of s)
-  pub bytes_are : take (length (record_of s)) (drop place bytes) ≡ record_of s
+  pub bytes_are : take (length (record_of s)) (drop place bytes) ≡ record_in form s
 
 -- bytes are the segment of one list of rows at most
 abbrev pub OneSegment : Type 0
-OneSegment = (rows others : List StampedRow) (bytes : List ℕ) → IsSegment rows bytes
-    → IsSegment others bytes → rows ≡ others
+OneSegment = (form : Form) (rows others : List StampedRow) (bytes : List ℕ)
+    → IsSegmentIn form rows bytes → IsSegmentIn form others bytes → rows ≡ others
 
 -- at a place is the record of one row at most
 abbrev pub OneRecord : Type 0
-OneRecord = (bytes : List ℕ) (place : ℕ) (s other : StampedRow) (next after : ℕ)
-    → IsRecordAt bytes place s next → IsRecordAt bytes place other after
+OneRecord = (form : Form) (bytes : List ℕ) (place : ℕ) (s other : StampedRow) (next after : ℕ)
+    → IsRecordAt form bytes place s next → IsRecordAt form bytes place other after
     → (s ≡ other) × (next ≡ after)
 
 -- in a segment a row's record stands where those of the rows before it end
 abbrev pub EachAtItsPlace : Type 0
-EachAtItsPlace = (before after : List StampedRow) (s : StampedRow) (bytes : List ℕ)
-    → IsSegment (before ++ s ∷ after) bytes
-    → IsRecordAt bytes (length (segment_of before)) s (length (segment_of (before ++ s ∷ [])))
+EachAtItsPlace =
+    (form : Form) (before after : List StampedRow) (s : StampedRow) (bytes : List ℕ)
+    → IsSegmentIn form (before ++ s ∷ after) bytes
+    → IsRecordAt form bytes (length (segment_of before)) s (length (segment_of (before ++ s ∷ [])))
 
 -- the records of two lists of rows, one after the other, are those of the lists joined
 abbrev pub PiecesJoin : Type 0
-PiecesJoin = (rows others : List StampedRow)
-    → segment_of (rows ++ others) ≡ segment_of rows ++ segment_of others
+PiecesJoin = (form : Form) (rows others : List StampedRow)
+    → segment_in form (rows ++ others) ≡ segment_in form rows ++ segment_in form others
+
+-- a record is equally long in each form, and so is a segment
+abbrev pub EquallyLong : Type 0
+EquallyLong = (form : Form) (rows : List StampedRow)
+    → AllByRecursion (λ s. length (record_in form s) ≡ length (record_of s)) rows
+    × (length (segment_in form rows) ≡ length (segment_of rows))
+
+-- a plain segment is what it was before there were checked ones
+abbrev pub PlainIsAsBefore : Type 0
+PlainIsAsBefore = (rows : List StampedRow) (bytes : List ℕ)
+    → IsSegmentIn forms.Plain rows bytes ↔ IsSegment rows bytes
+
+-- a checked record in which one byte was changed is the record of no row
+abbrev pub ChangedByteIsNoticed : Type 0
+ChangedByteIsNoticed = (s other : StampedRow) (before after : List ℕ) (byte changed : ℕ)
+    → AllByRecursion (λ b. b < 256) (before ++ byte ∷ after) → changed < 256
+    → record_in forms.Checked s ≡ before ++ byte ∷ after
+    → record_in forms.Checked other ≡ before ++ changed ∷ after → byte ≡ changed
+
+-- the byte at a place of fields says how many bytes they have: of a text it is one of the two before
+-- it
+abbrev pub SaysLength : List Field → ℕ → Type 0
+SaysLength [] place = ⊥
+SaysLength (Number width n ∷ fields) place =
+    (byte_len width ≤ place) × SaysLength fields (place - byte_len width)
+SaysLength (Text text ∷ fields) place = (place < 2)
+    ⊎ ((2 + length text ≤ place) × SaysLength fields (place - (2 + length text)))
+
+-- the byte at a place of a checked record says how long it is: it is the kind, or of the number of
+-- bytes of a text
+abbrev pub IsOfLength : StampedRow → ℕ → Type 0
+IsOfLength s place = (place ≡ 4) ⊎ ((4 ≤ place) × SaysLength (fields_of s) (place - 4))
+
+-- where one byte of a checked record was changed that doesn't say how long it is, bytes that began
+-- with the record begin with the record of no row
+abbrev pub ChangedRecordIsNone : Type 0
+ChangedRecordIsNone = (s t : StampedRow) (x y before after : List ℕ) (byte changed : ℕ)
+    → IsStamped s → IsStamped t
+    → AllByRecursion (λ b. b < 256) (before ++ byte ∷ after) → changed < 256 → byte ≢ changed
+    → length before < length (record_of s) → (IsOfLength s (length before) → ⊥)
+    → record_in forms.Checked s ++ x ≡ before ++ byte ∷ after
+    → record_in forms.Checked t ++ y ≡ before ++ changed ∷ after → ⊥

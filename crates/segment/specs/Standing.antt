@@ -4,7 +4,8 @@ use Rattle.rf2_values.specs.Key.{key_of}
 use Rattle.history_model.specs.declared.stamped.StampedRow.{StampedRow}
 use Rattle.history_model.specs.InOrder.{Has}
 use Rattle.segment.specs.declared.place.RowPlace.{RowPlace}
-use Rattle.segment.specs.Records.{record_of, IsSegment, IsRecordAt}
+use Rattle.checksum.specs.declared.form.Form.{Form}
+use Rattle.segment.specs.Records.{record_of, IsSegmentIn, IsRecordAt}
 
 -- how many bytes the record of a row has
 abbrev pub record_len : StampedRow → ℕ
@@ -32,14 +33,14 @@ pub record StandsAt (lists : List (List StampedRow)) (segment : ℕ) (at : RowPl
 
 -- what a place says of the row that stands there, and
 -- where the row's record is in the bytes of its list
-pub record IsPlaceIn (bytes : List ℕ) (at : RowPlace) (s : StampedRow) : Type 0 where
+pub record IsPlaceIn (form : Form) (bytes : List ℕ) (at : RowPlace) (s : StampedRow) : Type 0 where
   pub key_is : at.key ≡ key_of s.row
   pub import_is : at.import ≡ s.import
-  pub record_is : IsRecordAt bytes at.at s (at.at + at.bytes)
+  pub record_is : IsRecordAt form bytes at.at s (at.at + at.bytes)
 
 -- where a row stands, its record is at that byte of the segment
 abbrev pub EachStandsAtItsByte : Type 0
-EachStandsAtItsByte = (lists : List (List StampedRow)) (segment : ℕ) (at : RowPlace)
+EachStandsAtItsByte = (form : Form) (lists : List (List StampedRow)) (segment : ℕ) (at : RowPlace)
     (s : StampedRow) (rows : List StampedRow) (bytes : List ℕ)
-    → StandsAt lists segment at s → slice_get lists segment ≡ Some rows → IsSegment rows bytes
-    → IsPlaceIn bytes at s
+    → StandsAt lists segment at s → slice_get lists segment ≡ Some rows → IsSegmentIn form rows bytes
+    → IsPlaceIn form bytes at s

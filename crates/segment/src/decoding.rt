@@ -1,24 +1,37 @@
 //! Rows, from the bytes of their records.
 
 ghost use Rattle.std.specs.Prelude.{◌≡◌, ◌↔◌, ℕ, List, [], ◌∷◌, ◌++◌, IfOk, MatchResult, IsTrue};
+ghost use Rattle.std.specs.Option.{option_map};
 ghost use Rattle.history_model.specs.declared.stamped.StampedRow.{StampedRow};
 ghost use Rattle.history_model.specs.InOrder.{IsAscending};
 ghost use Rattle.history_model.specs.History.{stamped_cmp};
 ghost use Rattle.segment.specs.declared.fault.SegmentFault.TheVariants as faults;
-ghost use Rattle.segment.specs.Records.{IsSegment, IsRecordAt};
-ghost use Rattle.segment.specs.Private.Finding.{FindsRecord};
+ghost use Rattle.segment.specs.Records.{IsSegmentIn, IsRecordAt};
+ghost use Rattle.segment.specs.Private.Finding.{FindsRecord, Splits};
 
+use crate::checked::read_checked_bytes;
 use crate::fault::SegmentFault;
 use crate::fields::read_record_bytes;
 use crate::row::read_row;
+use checksum::Form;
 use history_model::StampedRow;
 use std::alloc::Global;
 
-/// The row whose record bytes begin with, and the bytes after the record.
-fn next_record(alloc: Global, bytes: &[u8]) -> Result<(StampedRow, &[u8]), SegmentFault>
-    ensures { FindsRecord bytes.now result }
+/// The fields of the record that bytes begin with, and the bytes after the record.
+fn split_record(form: Form, bytes: &[u8]) -> Option<(&[u8], &[u8])>
+    ensures { Splits form bytes.now (option_map (λ p. (p.0.now, p.1.now)) result) }
 {
-    let Some((record, rest)) = read_record_bytes(bytes) else {
+    match form {
+        Form::Plain => read_record_bytes(bytes),
+        Form::Checked => read_checked_bytes(bytes),
+    }
+}
+
+/// The row whose record bytes begin with, and the bytes after the record.
+fn next_record(alloc: Global, form: Form, bytes: &[u8]) -> Result<(StampedRow, &[u8]), SegmentFault>
+    ensures { FindsRecord form bytes.now result }
+{
+    let Some((record, rest)) = split_record(form, bytes) else {
         return Err(SegmentFault::BadSegment);
     };
     let row = read_row(alloc, record)?;
@@ -37,15 +50,15 @@ fn comes_after(rows: &[StampedRow], row: &StampedRow) -> bool
 }
 
 /// The rows of a segment: what `encode` makes, and nothing else.
-pub fn decode(alloc: Global, bytes: &[u8]) -> Result<Vec<StampedRow>, SegmentFault>
-    ensures found { IfOk result (λ rows. IsSegment rows.items bytes.now) }
-    ensures only { (rows : List StampedRow) → IsSegment rows bytes.now
+pub fn decode(alloc: Global, form: Form, bytes: &[u8]) -> Result<Vec<StampedRow>, SegmentFault>
+    ensures found { IfOk result (λ rows. IsSegmentIn form rows.items bytes.now) }
+    ensures only { (rows : List StampedRow) → IsSegmentIn form rows bytes.now
         → MatchResult result (λ found. found.items ≡ rows) (λ e. e ≡ faults.OutOfMemory) }
 {
     let mut rows = Vec::new(alloc);
     let mut rest = bytes;
     while !rest.is_empty() {
-        let (row, after) = next_record(alloc, rest)?;
+        let (row, after) = next_record(alloc, form, rest)?;
         if !comes_after(&rows, &row) {
             return Err(SegmentFault::BadSegment);
         }
@@ -58,16 +71,17 @@ pub fn decode(alloc: Global, bytes: &[u8]) -> Result<Vec<StampedRow>, SegmentFau
 /// The row of the record at a place, and the place after the record.
 pub fn record_at(
     alloc: Global,
+    form: Form,
     bytes: &[u8],
     place: usize,
 ) -> Result<(StampedRow, usize), SegmentFault>
-    ensures found { IfOk result (λ r. IsRecordAt bytes.now place r.0 r.1) }
-    ensures only { (s : StampedRow) (next : ℕ) → IsRecordAt bytes.now place s next
+    ensures found { IfOk result (λ r. IsRecordAt form bytes.now place r.0 r.1) }
+    ensures only { (s : StampedRow) (next : ℕ) → IsRecordAt form bytes.now place s next
         → MatchResult result (λ r. (r.0 ≡ s) × (r.1 ≡ next)) (λ e. e ≡ faults.OutOfMemory) }
 {
     let Some((_, rest)) = bytes.split_at_checked(place) else {
         return Err(SegmentFault::BadSegment);
     };
-    let (row, after) = next_record(alloc, rest)?;
+    let (row, after) = next_record(alloc, form, rest)?;
     Ok((row, bytes.len() - after.len()))
 }

@@ -8,10 +8,12 @@ ghost use Rattle.rf2_values.specs.Row.{line_limit};
 ghost use Rattle.history_model.specs.InOrder.{IsAscending};
 ghost use Rattle.history_model.specs.History.{stamped_cmp};
 ghost use Rattle.segment.specs.Records.{spelled, kind_code, active_code, body_fields, record_of};
-ghost use Rattle.segment.specs.Records.{segment_of, IsStamped, IsSegment};
+ghost use Rattle.segment.specs.Records.{fields_of, head_of, record_in};
+ghost use Rattle.segment.specs.Records.{segment_of, IsStamped, IsSegmentIn};
 ghost use Rattle.segment.specs.Private.Reading.{Fits, fixed_len, texts_len};
 
 use crate::writing::{put_text, put_u8, put_u32, put_u64, put_u128};
+use checksum::{Form, crc32c};
 use history_model::StampedRow;
 use rf2_values::{Body, Concrete, Description, Kind, Relationship};
 use std::alloc::{AllocError, Global};
@@ -127,13 +129,13 @@ fn put_body(out: &mut Vec<u8>, body: &Body) -> Result<(), AllocError>
     }
 }
 
-fn put_record(out: &mut Vec<u8>, stamped: &StampedRow) -> Result<(), AllocError>
+/// The fields of a record.
+fn put_fields(out: &mut Vec<u8>, stamped: &StampedRow) -> Result<(), AllocError>
     requires { 1 ≤ stamped.now.import }
-    ensures bytes { OnOk result (out.new.items ≡ out.old.items ++ record_of stamped.now) }
+    ensures bytes { OnOk result (out.new.items ≡ out.old.items ++ spelled (fields_of stamped.now)) }
     ensures stamped { OnOk result (IsStamped stamped.now) }
 {
     let row = &stamped.row;
-    put_u32(out, record_len(stamped))?;
     put_u8(out, code_of(row.kind()))?;
     put_u128(out, row.id)?;
     put_u32(out, row.time.value())?;
@@ -141,6 +143,36 @@ fn put_record(out: &mut Vec<u8>, stamped: &StampedRow) -> Result<(), AllocError>
     put_u8(out, code_of_active(row.active))?;
     put_u64(out, row.module_id.value())?;
     put_body(out, &row.body)
+}
+
+/// What stands before these fields.
+fn head(form: Form, fields: &[u8]) -> u32
+    requires { 4 + length fields.now < 2 ^ 32 }
+    ensures { result ≡ head_of form fields.now }
+{
+    match form {
+        Form::Plain => 4 + fields.len() as u32,
+        Form::Checked => crc32c(fields),
+    }
+}
+
+/// Adds the record of a row. Its fields are made in `fields` first, where rows of one segment share
+/// the memory.
+pub fn put_record(
+    out: &mut Vec<u8>,
+    fields: &mut Vec<u8>,
+    form: Form,
+    stamped: &StampedRow,
+) -> Result<(), AllocError>
+    requires { 1 ≤ stamped.now.import }
+    ensures bytes { OnOk result (out.new.items ≡ out.old.items ++ record_in form stamped.now) }
+    ensures stamped { OnOk result (IsStamped stamped.now) }
+{
+    fields.clear();
+    put_fields(fields, stamped)?;
+    put_u32(out, head(form, fields.as_slice()))?;
+    out.extend_from_slice(fields.as_slice())?;
+    Ok(())
 }
 
 /// How many bytes the segment of these rows has: exactly, or `u64::MAX` where it has more.
@@ -155,14 +187,15 @@ pub fn encoded_len(rows: &[StampedRow]) -> u64
 }
 
 /// The segment of rows that are in key order.
-pub fn encode(alloc: Global, rows: &[StampedRow]) -> Result<Vec<u8>, AllocError>
+pub fn encode(alloc: Global, form: Form, rows: &[StampedRow]) -> Result<Vec<u8>, AllocError>
     requires ascending { IsAscending stamped_cmp rows.now }
     requires from_one { AllByRecursion (λ s. 1 ≤ s.import) rows.now }
-    ensures { IfOk result (λ bytes. IsSegment rows.now bytes.items) }
+    ensures { IfOk result (λ bytes. IsSegmentIn form rows.now bytes.items) }
 {
     let mut out = Vec::with_capacity(alloc, encoded_len(rows) as usize)?;
+    let mut fields = Vec::new(alloc);
     for stamped in rows {
-        put_record(&mut out, stamped)?;
+        put_record(&mut out, &mut fields, form, stamped)?;
     }
     Ok(out)
 }

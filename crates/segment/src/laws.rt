@@ -1,6 +1,8 @@
 //! Laws of the definitions, each the contract of a function that does nothing.
 
 ghost use Rattle.segment.specs.Records.{OneSegment, OneRecord, EachAtItsPlace, PiecesJoin};
+ghost use Rattle.segment.specs.Records.{EquallyLong, PlainIsAsBefore, ChangedByteIsNoticed};
+ghost use Rattle.segment.specs.Records.{ChangedRecordIsNone};
 ghost use Rattle.segment.specs.Standing.{EachStandsAtItsByte};
 
 /// Bytes spell at most one list of rows.
@@ -27,4 +29,25 @@ pub fn pieces_join()
 /// list's segment, and the place has its key and its number.
 pub fn each_stands_at_its_byte()
     ensures { EachStandsAtItsByte }
+{}
+
+/// A record is equally long in each form, and so is a segment.
+pub fn equally_long()
+    ensures { EquallyLong }
+{}
+
+/// A plain segment is what it was before there were checked ones.
+pub fn plain_is_as_before()
+    ensures { PlainIsAsBefore }
+{}
+
+/// A checked record in which one byte was changed is the record of no row.
+pub fn changed_byte_is_noticed()
+    ensures { ChangedByteIsNoticed }
+{}
+
+/// Bytes that begin with a checked record in which one byte was changed that doesn't say how long it
+/// is begin with no record.
+pub fn changed_record_is_none()
+    ensures { ChangedRecordIsNone }
 {}

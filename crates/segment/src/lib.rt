@@ -1,6 +1,7 @@
 //! Segments: rows as bytes, one record after the other in key order.
 #![tactic(auto)]
 
+mod checked;
 mod columns;
 mod decoding;
 mod encoding;
@@ -12,8 +13,9 @@ mod raw;
 mod row;
 mod writing;
 
+pub use checksum::Form;
 pub use decoding::{decode, record_at};
-pub use encoding::{encode, encoded_len};
+pub use encoding::{encode, encoded_len, put_record};
 pub use fault::SegmentFault;
 pub use history_model::StampedRow;
 pub use place::RowPlace;

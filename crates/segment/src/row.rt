@@ -1,6 +1,7 @@
 //! Rows, from the fields of their records.
 
-ghost use Rattle.std.specs.Prelude.{◌≡◌, ⊤, ◌≤◌};
+ghost use Rattle.std.specs.Prelude.{◌≡◌, ⊤, ◌≤◌, IfSome, IfNone};
+ghost use Rattle.rf2_values.specs.declared.row.Kind.{Kind};
 ghost use Rattle.rf2_values.specs.Time.{IsTime};
 ghost use Rattle.rf2_values.specs.Row.{IsVersion, IsBody, version};
 ghost use Rattle.segment.specs.Records.{kind_code, active_code, IsStamped};
@@ -17,16 +18,26 @@ use history_model::StampedRow;
 use rf2_values::{Body, EffectiveTime, Kind, Row, Sctid};
 use std::alloc::Global;
 
+pub(crate) fn kind_with_code(code: u8) -> Option<Kind>
+    ensures known { IfSome result (λ kind. kind_code kind ≡ code) }
+    ensures unknown { IfNone result ((kind : Kind) → kind_code kind ≡ code → ⊥) }
+{
+    match code {
+        1 => Some(Kind::Concept),
+        2 => Some(Kind::Description),
+        3 => Some(Kind::Relationship),
+        4 => Some(Kind::Association),
+        5 => Some(Kind::Concrete),
+        _ => None,
+    }
+}
+
 fn kind_of_code(code: u8) -> Result<Kind, SegmentFault>
     ensures { Finds (λ _. ⊤) (λ kind. kind_code kind ≡ code) result }
 {
-    match code {
-        1 => Ok(Kind::Concept),
-        2 => Ok(Kind::Description),
-        3 => Ok(Kind::Relationship),
-        4 => Ok(Kind::Association),
-        5 => Ok(Kind::Concrete),
-        _ => Err(SegmentFault::BadSegment),
+    match kind_with_code(code) {
+        Some(kind) => Ok(kind),
+        None => Err(SegmentFault::BadSegment),
     }
 }
 

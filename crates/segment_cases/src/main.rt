@@ -2,6 +2,7 @@
 //! are refused.
 #![tactic(auto)]
 
+mod checksums;
 mod examples;
 mod records;
 mod rows;

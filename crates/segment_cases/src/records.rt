@@ -2,7 +2,7 @@
 
 use case_files::{Answer, NoAnswer, unquoted};
 use case_values::{first_word, line_of, number};
-use segment::{SegmentFault, decode, record_at};
+use segment::{Form, SegmentFault, decode, record_at};
 use std::alloc::{AllocError, Global};
 
 /// How many bytes stand in a line.
@@ -22,7 +22,7 @@ pub fn spell_bytes(alloc: Global, bytes: &[u8]) -> Answer {
 }
 
 /// A fault, where it isn't that memory ran out.
-fn spell_fault(alloc: Global, fault: SegmentFault) -> Answer {
+pub fn spell_fault(alloc: Global, fault: SegmentFault) -> Answer {
     match fault {
         SegmentFault::OutOfMemory => Err(NoAnswer::OutOfMemory),
         _ => Ok(format!(in alloc; "{fault:?}")?),
@@ -31,7 +31,7 @@ fn spell_fault(alloc: Global, fault: SegmentFault) -> Answer {
 
 /// How many rows a segment has, or its fault.
 pub fn count_rows(alloc: Global, bytes: &[u8]) -> Answer {
-    match decode(alloc, bytes) {
+    match decode(alloc, Form::Plain, bytes) {
         Ok(rows) => {
             let count = rows.len();
             Ok(format!(in alloc; "{count} rows")?)
@@ -42,7 +42,7 @@ pub fn count_rows(alloc: Global, bytes: &[u8]) -> Answer {
 
 /// The row whose record begins at a place, its import, and where the next record begins.
 pub fn spell_record(alloc: Global, bytes: &[u8], place: usize) -> Answer {
-    match record_at(alloc, bytes, place) {
+    match record_at(alloc, Form::Plain, bytes, place) {
         Ok((stamped, next)) => {
             let line = line_of(alloc, &stamped.row)?;
             let import = stamped.import;

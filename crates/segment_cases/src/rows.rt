@@ -7,7 +7,7 @@ ghost use Rattle.history_model.specs.History.{stamped_cmp};
 
 use case_files::NoAnswer;
 use history_model::StampedRow;
-use segment::encode;
+use segment::{Form, encode};
 use std::alloc::Global;
 
 /// Whether the row's key is above those of rows in key order.
@@ -35,11 +35,11 @@ fn are_in_order(rows: &[StampedRow]) -> bool
 }
 
 /// The segment of rows, which have to be in key order.
-pub fn segment_of(alloc: Global, rows: &[StampedRow]) -> Result<Vec<u8>, NoAnswer> {
+pub fn segment_of(alloc: Global, form: Form, rows: &[StampedRow]) -> Result<Vec<u8>, NoAnswer> {
     if !are_in_order(rows) {
         return Err(NoAnswer::NoQuestion);
     }
-    Ok(encode(alloc, rows)?)
+    Ok(encode(alloc, form, rows)?)
 }
 
 /// Whether these are the same rows.

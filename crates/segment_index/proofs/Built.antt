@@ -7,7 +7,7 @@ use Rattle.history_model.specs.History.{stamped_cmp}
 use Rattle.segment.specs.declared.place.RowPlace.{RowPlace}
 use Rattle.segment.specs.Records.{record_of, segment_of}
 use Rattle.segment.specs.Standing.{record_len, row_place, with_places, places_of}
-use Rattle.segment.proofs.SegmentLaws.{segment_push, no_rows}
+use Rattle.segment.proofs.SegmentLaws.{push_plain, no_rows_plain}
 use Rattle.segment.proofs.RecordLaws.{length-record}
 use Rattle.as_of_index.specs.Places.{place_cmp}
 use Rattle.as_of_index.specs.Postings.{posted_all}
@@ -26,7 +26,7 @@ none_built rows places terms links none no_places no_terms no_links = record {
   places_are = no_places ∙ sym (ap places_of none);
   terms_are = no_terms ∙ sym (ap terms_of none);
   links_are = no_links ∙ sym (ap links_of none);
-  bytes_are = sym (ap (λ (l : List StampedRow). length (segment_of l)) none ∙ ap length no_rows);
+  bytes_are = sym (ap (λ (l : List StampedRow). length (segment_of l)) none ∙ ap length no_rows_plain);
 }
 
 -- ---- one row more
@@ -64,7 +64,7 @@ pub built_push : (rows next : List StampedRow) (places more : List RowPlace) (te
 built_push rows next places more terms terms' links links' bytes bytes' number row place is place_is number_is next_is more_is terms_is links_is bytes_is =
     let with : with_places 0 next ≡ with_places 0 rows ++ (row, place) ∷ [] = ap (with_places 0) next_is ∙ placed_push rows row bytes place is.bytes_are place_is in
     let len = ap (λ (p : RowPlace). p.bytes) place_is ∙ place_bytes row bytes in
-    let whole = ap (λ (l : List StampedRow). length (segment_of l)) next_is ∙ ap length (segment_push rows row) ∙ length-append (segment_of rows) (record_of row) in
+    let whole = ap (λ (l : List StampedRow). length (segment_of l)) next_is ∙ ap length (push_plain rows row) ∙ length-append (segment_of rows) (record_of row) in
     let last : 0 + length rows ≡ number = omega (arith, number_is) in
     record {
       places_are = more_is ∙ ap (λ (p : List RowPlace). p ++ place ∷ []) is.places_are ∙ sym (ap (map (λ (x : StampedRow × RowPlace). x.1)) with ∙ map-append (λ (x : StampedRow × RowPlace). x.1) (with_places 0 rows) ((row, place) ∷ []));
@@ -77,7 +77,7 @@ built_push rows next places more terms terms' links links' bytes bytes' number r
 pub ends_within : (rows : List StampedRow) (row : StampedRow) (at : ℕ) (place : RowPlace) → at ≡ length (segment_of rows) → place ≡ row_place row at → at + place.bytes ≡ length (segment_of (rows ++ row ∷ []))
 ends_within rows row at place here is =
     let len = ap (λ (p : RowPlace). p.bytes) is ∙ place_bytes row at in
-    let whole = ap length (segment_push rows row) ∙ length-append (segment_of rows) (record_of row) in
+    let whole = ap length (push_plain rows row) ∙ length-append (segment_of rows) (record_of row) in
     omega (arith, len, whole, here)
 
 -- ---- the first rows

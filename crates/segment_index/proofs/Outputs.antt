@@ -11,7 +11,8 @@ use Rattle.history_model.proofs.Unions.{sum_by-union, length-union}
 use Rattle.segment.specs.declared.place.RowPlace.{RowPlace}
 use Rattle.segment.specs.Records.{record_of, segment_of}
 use Rattle.segment.specs.Standing.{record_len, places_of}
-use Rattle.segment.proofs.SegmentLaws.{pieces_join}
+use Rattle.checksum.specs.declared.form.Form.TheVariants as forms
+use Rattle.segment.proofs.SegmentLaws.{pieces_join, plain_segment}
 use Rattle.merge.specs.declared.MergeProgress.{MergeProgress}
 use Rattle.merge.specs.declared.Taken.{Taken}
 use Rattle.merge.specs.Merged.{IsOf, IsNew, count_left, rows_left, StandsTaken}
@@ -128,7 +129,7 @@ drop_min (suc n) [] = let none : min (suc n) 0 ≡ 0 = omega arith in ap (λ (i 
 drop_min (suc n) (x ∷ xs) = let less : min (suc n) (length (x ∷ xs)) ≡ suc (min n (length xs)) = omega arith in ap (λ (i : ℕ). drop i (x ∷ xs)) less ∙ drop_min n xs
 
 segment_append : (xs ys : List StampedRow) → length (segment_of (xs ++ ys)) ≡ length (segment_of xs) + length (segment_of ys)
-segment_append xs ys = ap length (pieces_join xs ys) ∙ length-append (segment_of xs) (segment_of ys)
+segment_append xs ys = ap length (sym (plain_segment (xs ++ ys)) ∙ pieces_join forms.Plain xs ys ∙ (λ i. plain_segment xs i ++ plain_segment ys i)) ∙ length-append (segment_of xs) (segment_of ys)
 
 bytes_then : (a b : List StampedRow) (old : MergeMark) (taken : List Taken) (n : ℕ) {places : List RowPlace} {was : Option OutputPostings} → IsOutput a b old places was → AllZip (StandsTaken a b) taken (take n (drop old.rows (union a b)))
     → old.bytes + sum_by (λ (t : Taken). t.place.bytes) taken ≡ length (segment_of (take old.rows (union a b) ++ take n (drop old.rows (union a b))))

@@ -1,9 +1,10 @@
 //! Calls of a store, and what it shows.
 //!
-//! - `begin`, `step ROWS`, `publish`, `abandon` and `trim` answer what the call does: a number, or
-//!   `done`;
-//! - `imports`, `rows`, `segments`, `blocks`, `left`, `closed` and `latest` answer what the store
-//!   shows: `blocks` is how many blocks of the disk it needs, `left` how many rows of a merge are
+//! - `begin`, `step ROWS`, `publish`, `abandon`, `upgrade` and `trim` answer what the call does: a
+//!   number, or `done`;
+//! - `imports`, `rows`, `segments`, `version`, `plain`, `blocks`, `left`, `closed` and `latest`
+//!   answer what the store shows: `version` is that of its layout, `plain` how many segments have no
+//!   checksums, `blocks` how many blocks of the disk it needs, `left` how many rows of a merge are
 //!   left, `closed` whether it has to be opened again, and `latest` its latest day;
 //! - `receipt NUMBER` answers what an import brought.
 //!
@@ -86,6 +87,8 @@ fn show(alloc: Global, store: &Example, word: &str) -> Answer {
         "imports" => Some(u64::from(store.imports())),
         "rows" => Some(store.row_count()),
         "segments" => Some(u64::from(store.segments())),
+        "version" => Some(u64::from(store.version())),
+        "plain" => Some(u64::from(store.plain_segments())),
         "blocks" => Some(store.blocks_in_use()),
         "left" => store.merge_left(),
         "closed" => Some(u64::from(store.needs_reopen())),
@@ -106,6 +109,7 @@ pub fn call(alloc: Global, store: &mut Example, word: &str, words: &str) -> Answ
         ("begin", "") => spell_count(alloc, store.merge_begin()),
         ("publish", "") => spell_done(alloc, store.merge_publish()),
         ("abandon", "") => spell_done(alloc, store.merge_abandon()),
+        ("upgrade", "") => spell_done(alloc, store.upgrade()),
         ("trim", "") => spell_count(alloc, store.trim()),
         (_, "") => show(alloc, store, word),
         _ => Err(NoAnswer::NoQuestion),

@@ -6,23 +6,26 @@
 //! - `patch FROM TO BYTE` puts a byte at all places from one up to another, and `break CALLS` lets
 //!   the changing call behind so many fail, before the store is opened.
 //!
-//! - `bytes FROM TO` answers the bytes of the disk from one place up to another, in base 16.
+//! - `bytes FROM TO` answers the bytes of the disk from one place up to another, in base 16;
+//! - `turned FROM TO BITS` answers how many bytes from one place up to another, each turned over by
+//!   itself in these bits, leave a disk that isn't opened as a store, since it is damaged.
 //!
 //! `changes` closes it and answers how many changing calls were made of the disk: then comes a new
-//! store.
+//! store. `new` begins with a new store, too, and `new-in-three` with one of version 3.
 
 use crate::contents::lists;
 use case_files::{Answer, NoAnswer};
 use case_values::{first_word, number};
 use disk_model::MemDisk;
+use history_store::Refusal;
 use std::alloc::Global;
-use test_support::patch;
+use test_support::{Example, patch};
 
 /// Whether the store is closed and opened again for this word.
 pub fn reopens(word: &str) -> bool {
     matches!(
         word,
-        "open" | "length" | "lists" | "bytes" | "patch" | "break"
+        "open" | "length" | "lists" | "bytes" | "turned" | "patch" | "break"
     )
 }
 
@@ -36,6 +39,37 @@ fn spell_bytes(alloc: Global, bytes: &[u8]) -> Answer {
     Ok(text)
 }
 
+/// Whether the bytes are those of a damaged store.
+fn is_damaged(alloc: Global, bytes: &[u8]) -> Result<bool, NoAnswer> {
+    match Example::of_bytes(alloc, bytes) {
+        Ok(_) => Ok(false),
+        Err(Refusal::OutOfMemory) => Err(NoAnswer::OutOfMemory),
+        Err(refusal) => Ok(refusal.code() == 8),
+    }
+}
+
+/// How many bytes of a disk leave a damaged store, each turned over by itself.
+fn count_turned(alloc: Global, bytes: &[u8], words: &str) -> Answer {
+    let (from, words) = first_word(words)?;
+    let (to, bits) = first_word(words)?;
+    let (from, to): (usize, usize) = (number(from)?, number(to)?);
+    let bits: u8 = number(bits)?;
+    let mut damaged = 0;
+    let mut count = 0;
+    for place in from..to {
+        let mut turned = bytes.to_vec(alloc)?;
+        let Some(byte) = turned.get_mut(place) else {
+            return Err(NoAnswer::NoQuestion);
+        };
+        *byte ^= bits;
+        count += 1;
+        if is_damaged(alloc, turned.as_slice())? {
+            damaged += 1;
+        }
+    }
+    Ok(format!(in alloc; "{damaged} of {count} damaged")?)
+}
+
 /// What is asked of the bytes of a disk.
 pub fn ask_disk(alloc: Global, bytes: &[u8], word: &str, words: &str) -> Answer {
     match (word, words) {
@@ -47,6 +81,7 @@ pub fn ask_disk(alloc: Global, bytes: &[u8], word: &str, words: &str) -> Answer 
             let is_so = lists(alloc, bytes, words)?;
             Ok(String::from_str(alloc, if is_so { "yes" } else { "no" })?)
         }
+        ("turned", words) => count_turned(alloc, bytes, words),
         ("bytes", words) => {
             let (from, to) = first_word(words)?;
             let bytes = bytes.get(number(from)?..number(to)?);

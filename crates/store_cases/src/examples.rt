@@ -78,6 +78,10 @@ impl Answers for Examples {
                 self.store = None;
                 Ok(String::from_str(alloc, "done")?)
             }
+            "new-in-three" => {
+                self.store = Some(store_of(Example::new_in_three(alloc))?);
+                Ok(String::from_str(alloc, "done")?)
+            }
             "at" => ask_at(alloc, self.store()?, rest),
             "changes" => {
                 let changes = self.close()?.changes();

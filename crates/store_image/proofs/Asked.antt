@@ -6,6 +6,7 @@ use Rattle.blocks.specs.declared.slots.SlotFault.{SlotFault}
 use Rattle.blocks.specs.declared.slots.SlotFault.TheVariants as slots
 use Rattle.blocks.specs.Slots.{IsCurrentWith, slots_read}
 use Rattle.directory.specs.declared.entry.Entry.{Entry}
+use Rattle.directory.specs.declared.layout.Layout.TheVariants as layouts
 use Rattle.directory.specs.declared.listing.DirectoryFault.{DirectoryFault}
 use Rattle.directory.specs.declared.listing.DirectoryFault.TheVariants as directories
 use Rattle.directory.specs.Listings.{DirectoryValue, IsListing}
@@ -40,7 +41,7 @@ stops_in faults.Damaged number entries i d bytes_before here bytes calls_before 
 
 none_listed : MayBeListed []
 none_listed = (
-  empty_listing,
+  empty_listing layouts.Two,
   [],
   record {
     epoch = omega arith;
@@ -49,6 +50,7 @@ none_listed = (
     count = omega arith;
     entries = tt;
     apart = tt;
+    forms = tt;
   },
   refl,
 )

@@ -20,6 +20,7 @@ use Rattle.history_model.specs.Lists.{AreLists}
 use Rattle.segment.specs.declared.place.RowPlace.{RowPlace}
 use Rattle.segment.specs.Standing.{places_of}
 use Rattle.segment.proofs.SegmentLaws.{one_segment}
+use Rattle.checksum.specs.declared.form.Form.TheVariants as forms
 use Rattle.store_image.specs.declared.fault.Damage.TheVariants as damages
 use Rattle.store_image.specs.declared.fault.LoadFault.{LoadFault}
 use Rattle.store_image.specs.declared.fault.LoadFault.TheVariants as loading
@@ -72,7 +73,7 @@ number_of places lists entries same are = ap length same ∙ length-map lists pl
 -- ---- the first segment that is broken
 
 none : Entry
-none = record { first = 0; bytes = 0; rows = 0 }
+none = record { first = 0; bytes = 0; rows = 0; form = forms.Plain }
 
 at_middle : (before behind : List Entry) (entry d : Entry) → get_or (before ++ entry ∷ behind) (length before) d ≡ entry
 at_middle [] behind entry d = refl

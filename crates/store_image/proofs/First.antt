@@ -1,21 +1,24 @@
--- What stood for a history before there was a second version of the layout.
+-- What stood for a history before there was a second version of the layout, or a third one.
 use Rattle.std.specs.Prelude.{take}
 use Rattle.std.proofs.Common.{◌≡◌, ℕ, List, length, refl, sym, subst}
 use Rattle.rf2_values.specs.declared.row.Kind.{Kind}
 use Rattle.rf2_values.specs.declared.row.Kind.TheVariants as kinds
 use Rattle.directory.specs.declared.entry.Entry.{Entry}
+use Rattle.directory.specs.declared.layout.Layout.{Layout}
 use Rattle.directory.specs.declared.layout.Layout.TheVariants as layouts
 use Rattle.directory.specs.Listings.{DirectoryValue, IsListing}
 use Rattle.directory.specs.Content.{listing_bytes, header_bytes, mark}
 use Rattle.store_image.specs.Kept.{HasKind}
-use Rattle.store_image.specs.First.{FirstStillRepresents, IsFirstKind, first_bytes}
+use Rattle.store_image.specs.First.{FirstStillRepresents, SecondStillRepresents, IsFirstKind, bytes_then}
 
-of_first : ℕ → ℕ → List Entry → DirectoryValue
-of_first epoch imports entries = record { layout = layouts.One; epoch = epoch; imports = imports; entries = entries }
+of_then : Layout → ℕ → ℕ → List Entry → DirectoryValue
+of_then layout epoch imports entries = record { layout = layout; epoch = epoch; imports = imports; entries = entries }
 
-same_bytes : (epoch imports : ℕ) (entries : List Entry) → first_bytes epoch imports entries ≡ listing_bytes (of_first epoch imports entries)
-unfolding of_first listing_bytes header_bytes mark
-same_bytes epoch imports entries = refl
+same_bytes : (layout : Layout) (epoch imports : ℕ) (entries : List Entry) → bytes_then (mark layout) epoch imports entries ≡ listing_bytes (of_then layout epoch imports entries)
+unfolding of_then listing_bytes header_bytes mark
+same_bytes layouts.One epoch imports entries = refl
+same_bytes layouts.Two epoch imports entries = refl
+same_bytes layouts.Three epoch imports entries = refl
 
 was_kind : (k : Kind) → IsFirstKind k → HasKind layouts.One k
 was_kind kinds.Concept is = tt
@@ -32,18 +35,18 @@ is_kind kinds.Association is = tt
 is_kind kinds.Concrete is = absurd is
 
 pub first_still_represents : FirstStillRepresents
-unfolding of_first
+unfolding of_then mark
 first_still_represents file h epoch entries = (
   λ s.
       let P : List ℕ → Type 0 = λ bytes. take (length bytes) s.content ≡ bytes in
-      let listing : IsListing (of_first epoch h.imports entries) = record { epoch = s.from_one; epoch_fits = s.epoch_fits; imports = s.imports_fit; count = s.few; entries = s.each; apart = s.entries_apart } in
+      let listing : IsListing (of_then layouts.One epoch h.imports entries) = record { epoch = s.from_one; epoch_fits = s.epoch_fits; imports = s.imports_fit; count = s.few; entries = s.each; apart = s.entries_apart; forms = s.plain } in
       record {
         slot = s.slot;
         content = s.content;
         lists = s.lists;
         stands = s.stands;
         says = record {
-          lists_it = record { is = listing; front = subst P (same_bytes epoch h.imports entries) s.front };
+          lists_it = record { is = listing; front = subst P (same_bytes layouts.One epoch h.imports entries) s.front; sum = tt };
           kept = record { listing = listing; segments = s.segments; apart = s.apart; history = s.history; kinds = λ i rows below. λ j row lower. was_kind _ (s.kinds_were i rows below j row lower) };
         };
         rows = s.rows;
@@ -62,10 +65,52 @@ first_still_represents file h epoch entries = (
         few = is.count;
         each = is.entries;
         entries_apart = is.apart;
-        front = subst P (sym (same_bytes epoch h.imports entries)) s.says.lists_it.front;
+        plain = is.forms;
+        front = subst P (sym (same_bytes layouts.One epoch h.imports entries)) s.says.lists_it.front;
         segments = s.says.kept.segments;
         apart = s.says.kept.apart;
         kinds_were = λ i rows below. λ j row lower. is_kind _ (s.says.kept.kinds i rows below j row lower);
+        history = s.says.kept.history;
+        rows = s.rows;
+      },
+)
+
+pub second_still_represents : SecondStillRepresents
+unfolding of_then mark
+second_still_represents file h epoch entries = (
+  λ s.
+      let P : List ℕ → Type 0 = λ bytes. take (length bytes) s.content ≡ bytes in
+      let listing : IsListing (of_then layouts.Two epoch h.imports entries) = record { epoch = s.from_one; epoch_fits = s.epoch_fits; imports = s.imports_fit; count = s.few; entries = s.each; apart = s.entries_apart; forms = s.plain } in
+      record {
+        slot = s.slot;
+        content = s.content;
+        lists = s.lists;
+        stands = s.stands;
+        says = record {
+          lists_it = record { is = listing; front = subst P (same_bytes layouts.Two epoch h.imports entries) s.front; sum = tt };
+          kept = record { listing = listing; segments = s.segments; apart = s.apart; history = s.history; kinds = λ i rows below. λ j row lower. tt };
+        };
+        rows = s.rows;
+      },
+  λ s.
+      let P : List ℕ → Type 0 = λ bytes. take (length bytes) s.content ≡ bytes in
+      let is = s.says.lists_it.is in
+      record {
+        slot = s.slot;
+        content = s.content;
+        lists = s.lists;
+        stands = s.stands;
+        from_one = is.epoch;
+        epoch_fits = is.epoch_fits;
+        imports_fit = is.imports;
+        few = is.count;
+        each = is.entries;
+        entries_apart = is.apart;
+        plain = is.forms;
+        front = subst P (sym (same_bytes layouts.Two epoch h.imports entries)) s.says.lists_it.front;
+        segments = s.says.kept.segments;
+        apart = s.says.kept.apart;
+        kinds_were = λ i rows below. λ j row lower. tt;
         history = s.says.kept.history;
         rows = s.rows;
       },

@@ -9,13 +9,14 @@ use Rattle.history_model.specs.declared.stamped.StampedRow.{StampedRow}
 use Rattle.history_model.specs.InOrder.{IsAscending}
 use Rattle.history_model.specs.History.{stamped_cmp}
 use Rattle.history_model.proofs.Keys.{stamped_total}
+use Rattle.checksum.specs.declared.form.Form.{Form}
 use Rattle.segment.specs.declared.place.RowPlace.{RowPlace}
-use Rattle.segment.specs.Records.{record_of, segment_of, IsStamped, IsSegment}
+use Rattle.segment.specs.Records.{record_in, record_of, segment_in, segment_of, IsStamped, IsSegmentIn}
 use Rattle.segment.specs.Standing.{record_len, row_place, with_places, places_of}
 use Rattle.segment.proofs.Ascending.{ascends_push, ascends_front, last_below, last_split}
 use Rattle.segment.proofs.Decoded.{reads_on}
-use Rattle.segment.proofs.RecordLaws.{same_records}
-use Rattle.segment.proofs.SegmentLaws.{segment_push, all_push, no_rows, goes_on}
+use Rattle.segment.proofs.RecordLaws.{same_records, length-record_in}
+use Rattle.segment.proofs.SegmentLaws.{push_plain, all_push, no_rows_plain, goes_on, length-segment_in}
 use Rattle.store_image.specs.declared.fault.RowsFault.{RowsFault}
 use Rattle.store_image.specs.declared.fault.RowsFault.TheVariants as faults
 use Rattle.store_image.specs.Private.Reading.{HasRecord, IsNoRecord, AreReadTo, BeginsWith, IsNotNext}
@@ -38,7 +39,7 @@ first_len s rows = length-append (record_of s) (segment_of rows)
 
 with_more_from : (at : ℕ) (rows : List StampedRow) (s : StampedRow) → with_places at (rows ++ s ∷ []) ≡ with_places at rows ++ (s, row_place s (at + length (segment_of rows))) ∷ []
 with_more_from at [] s =
-    let none = ap length no_rows in
+    let none = ap length no_rows_plain in
     let same : at ≡ at + length (segment_of []) = omega (arith, none) in
     ap (λ n. (s, row_place s n) ∷ []) same
 with_more_from at (r ∷ rows) s =
@@ -105,7 +106,7 @@ module _ (places : List RowPlace) (rows : List StampedRow) (s : StampedRow) (are
 pub more_are_read : (at next imports : ℕ) (places after : List RowPlace) (rows more : List StampedRow) (s : StampedRow) (place : RowPlace) → AreReadTo at imports places rows → IsStamped s → next ≡ at + length (record_of s) → s.import ≤ imports
     → IsAscending stamped_cmp (rows ++ s ∷ []) → place ≡ row_place s at → after ≡ places ++ place ∷ [] → more ≡ rows ++ s ∷ [] → AreReadTo next imports after more
 more_are_read at next imports places after rows more s place read is next_is low up place_is after_is more_is =
-    let long = ap length (segment_push rows s) ∙ length-append (segment_of rows) (record_of s) in
+    let long = ap length (push_plain rows s) ∙ length-append (segment_of rows) (record_of s) in
     subst (λ (r : List StampedRow). AreReadTo next imports after r) (sym more_is) (record {
       places_are = after_is ∙ ap (λ p. places ++ p ∷ []) place_is ∙ ap (λ (l : List RowPlace). l ++ row_place s at ∷ []) read.places_are ∙ sym (places_more at rows s read.at_is);
       at_is = omega (arith, next_is, read.at_is, long);
@@ -122,57 +123,57 @@ pub one_more : (rows more : List StampedRow) (s : StampedRow) → more ≡ rows 
 one_more rows more s is = let long = ap length is in omega (arith, long, length-append rows (s ∷ []))
 
 -- what stands behind a front
-behind : (at : ℕ) (rows : List StampedRow) (bytes rest : List ℕ) → at ≡ length (segment_of rows) → bytes ≡ segment_of rows ++ rest → drop at bytes ≡ rest
-behind at rows bytes rest is begins = ap (drop at) begins ∙ drop_at (segment_of rows) rest at (sym is)
+behind : (form : Form) (at : ℕ) (rows : List StampedRow) (bytes rest : List ℕ) → at ≡ length (segment_of rows) → bytes ≡ segment_in form rows ++ rest → drop at bytes ≡ rest
+behind form at rows bytes rest is begins = ap (drop at) begins ∙ drop_at (segment_in form rows) rest at (length-segment_in form rows ∙ sym is)
 
-record_and_rest : (at : ℕ) (bytes : List ℕ) (s : StampedRow) → HasRecord bytes at s → drop at bytes ≡ record_of s ++ drop (length (record_of s)) (drop at bytes)
-record_and_rest at bytes s has = sym (take-append-drop (length (record_of s)) (drop at bytes)) ∙ ap (λ (front : List ℕ). front ++ drop (length (record_of s)) (drop at bytes)) has.1
+record_and_rest : (form : Form) (at : ℕ) (bytes : List ℕ) (s : StampedRow) → HasRecord form bytes at s → drop at bytes ≡ record_in form s ++ drop (length (record_of s)) (drop at bytes)
+record_and_rest form at bytes s has = sym (take-append-drop (length (record_of s)) (drop at bytes)) ∙ ap (λ (front : List ℕ). front ++ drop (length (record_of s)) (drop at bytes)) has.1
 
-pub begins_more : (at : ℕ) (rows more : List StampedRow) (s : StampedRow) (bytes : List ℕ) → at ≡ length (segment_of rows) → HasRecord bytes at s → more ≡ rows ++ s ∷ [] → BeginsWith rows bytes → BeginsWith more bytes
-begins_more at rows more s bytes is has more_is begins =
+pub begins_more : (form : Form) (at : ℕ) (rows more : List StampedRow) (s : StampedRow) (bytes : List ℕ) → at ≡ length (segment_of rows) → HasRecord form bytes at s → more ≡ rows ++ s ∷ [] → BeginsWith form rows bytes → BeginsWith form more bytes
+begins_more form at rows more s bytes is has more_is begins =
     let after = drop (length (record_of s)) (drop at bytes) in
-    let here = sym (behind at rows bytes begins.0 is begins.1) ∙ record_and_rest at bytes s has in
-    (after, reads_on rows bytes begins.0 after s begins.1 here ∙ ap (λ (r : List StampedRow). segment_of r ++ after) (sym more_is))
+    let here = sym (behind form at rows bytes begins.0 is begins.1) ∙ record_and_rest form at bytes s has in
+    (after, reads_on form rows bytes begins.0 after s begins.1 here ∙ ap (λ (r : List StampedRow). segment_in form r ++ after) (sym more_is))
 
 -- ---- why no row is read
 
 -- the row that a segment of more rows has next
-pub record IsNext (at : ℕ) (rows others : List StampedRow) (bytes : List ℕ) : Type 0 where
+pub record IsNext (form : Form) (at : ℕ) (rows others : List StampedRow) (bytes : List ℕ) : Type 0 where
   pub row : StampedRow
   pub later : List StampedRow
   pub whole : others ≡ rows ++ row ∷ later
-  pub has : HasRecord bytes at row
+  pub has : HasRecord form bytes at row
 
-next_of : (at : ℕ) (rows others more : List StampedRow) (bytes rest : List ℕ) → drop at bytes ≡ rest → length rows < length others → others ≡ rows ++ more → rest ≡ segment_of more → AllByRecursion IsStamped more → IsNext at rows others bytes
-unfolding segment_of
-next_of at rows others [] bytes rest here more_rows whole rest_is each =
+next_of : (form : Form) (at : ℕ) (rows others more : List StampedRow) (bytes rest : List ℕ) → drop at bytes ≡ rest → length rows < length others → others ≡ rows ++ more → rest ≡ segment_in form more → AllByRecursion IsStamped more → IsNext form at rows others bytes
+unfolding segment_in
+next_of form at rows others [] bytes rest here more_rows whole rest_is each =
     let long = ap length whole in
     absurd (omega (arith, long, more_rows, length-append rows []))
-next_of at rows others (m ∷ more) bytes rest here more_rows whole rest_is each = record {
+next_of form at rows others (m ∷ more) bytes rest here more_rows whole rest_is each = record {
   row = m;
   later = more;
   whole = whole;
-  has = (each.0, ap (take (length (record_of m))) (here ∙ rest_is) ∙ take_at (record_of m) (segment_of more) (length (record_of m)) refl);
+  has = (each.0, ap (take (length (record_of m))) (here ∙ rest_is) ∙ take_at (record_in form m) (segment_in form more) (length (record_of m)) (length-record_in form m));
 }
 
-module _ (at imports : ℕ) (places : List RowPlace) (rows : List StampedRow) (bytes : List ℕ) (read : AreReadTo at imports places rows) where
-  next_there : BeginsWith rows bytes → (others : List StampedRow) → IsSegment others bytes → length rows < length others → IsNext at rows others bytes
+module _ (form : Form) (at imports : ℕ) (places : List RowPlace) (rows : List StampedRow) (bytes : List ℕ) (read : AreReadTo at imports places rows) where
+  next_there : BeginsWith form rows bytes → (others : List StampedRow) → IsSegmentIn form others bytes → length rows < length others → IsNext form at rows others bytes
   next_there begins others is more_rows =
-      let on = goes_on rows others begins.0 read.each is.each (sym begins.1 ∙ is.bytes_are) in
-      next_of at rows others on.0 bytes begins.0 (behind at rows bytes begins.0 read.at_is begins.1) more_rows on.1 on.2 on.3
+      let on = goes_on form rows others begins.0 read.each is.each (sym begins.1 ∙ is.bytes_are) in
+      next_of form at rows others on.0 bytes begins.0 (behind form at rows bytes begins.0 read.at_is begins.1) more_rows on.1 on.2 on.3
 
-  pub no_record : (e : RowsFault) → IsNoRecord e bytes at → IsNotNext e imports rows bytes
+  pub no_record : (e : RowsFault) → IsNoRecord form e bytes at → IsNotNext form e imports rows bytes
   no_record faults.OutOfMemory none = tt
   no_record faults.DiskFault none = tt
   no_record faults.Damaged none = λ begins others is numbered more_rows.
       let next = next_there begins others is more_rows in none next.row next.has
 
   -- the row that was read is the next one of any segment that is there
-  same_next : (s : StampedRow) → HasRecord bytes at s → (others : List StampedRow) (next : IsNext at rows others bytes) → next.row ≡ s
+  same_next : (s : StampedRow) → HasRecord form bytes at s → (others : List StampedRow) (next : IsNext form at rows others bytes) → next.row ≡ s
   same_next s has others next =
-      (same_records next.row s _ _ next.has.0 has.0 (sym (record_and_rest at bytes next.row next.has) ∙ record_and_rest at bytes s has)).0
+      (same_records form next.row s _ _ next.has.0 has.0 (sym (record_and_rest form at bytes next.row next.has) ∙ record_and_rest form at bytes s has)).0
 
-  pub above_number : (s : StampedRow) → HasRecord bytes at s → imports < s.import → IsNotNext faults.Damaged imports rows bytes
+  pub above_number : (s : StampedRow) → HasRecord form bytes at s → imports < s.import → IsNotNext form faults.Damaged imports rows bytes
   above_number s has above begins others is numbered more_rows =
       let next = next_there begins others is more_rows in
       let each = recursion_from_All (λ (t : StampedRow). t.import ≤ imports) others numbered in
@@ -184,7 +185,7 @@ module _ (at imports : ℕ) (places : List RowPlace) (rows : List StampedRow) (b
       middle [] x later all = all.0
       middle (r ∷ rows) x later all = middle rows x later all.1
 
-  pub out_of_order : (s : StampedRow) → HasRecord bytes at s → (IsAscending stamped_cmp (rows ++ s ∷ []) → ⊥) → IsNotNext faults.Damaged imports rows bytes
+  pub out_of_order : (s : StampedRow) → HasRecord form bytes at s → (IsAscending stamped_cmp (rows ++ s ∷ []) → ⊥) → IsNotNext form faults.Damaged imports rows bytes
   out_of_order s has not begins others is numbered more_rows =
       let next = next_there begins others is more_rows in
       let up = ascends_front stamped_cmp rows next.row next.later (subst (λ (l : List StampedRow). IsAscending stamped_cmp l) next.whole is.ascending) in

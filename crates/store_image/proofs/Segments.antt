@@ -10,10 +10,11 @@ use Rattle.directory.specs.declared.entry.Entry.{Entry}
 use Rattle.directory.specs.Listings.{IsEntry}
 use Rattle.directory.specs.Places.{extent_of}
 use Rattle.history_model.specs.declared.stamped.StampedRow.{StampedRow}
+use Rattle.checksum.specs.declared.form.Form.{Form}
 use Rattle.segment.specs.declared.place.RowPlace.{RowPlace}
-use Rattle.segment.specs.Records.{record_of, segment_of, IsSegment}
+use Rattle.segment.specs.Records.{record_of, segment_in, segment_of, IsSegmentIn}
 use Rattle.segment.specs.Standing.{with_places}
-use Rattle.segment.proofs.SegmentLaws.{no_rows, goes_on}
+use Rattle.segment.proofs.SegmentLaws.{no_rows, no_rows_plain, goes_on, length-segment_in}
 use Rattle.store_image.specs.declared.fault.RowsFault.{RowsFault}
 use Rattle.store_image.specs.declared.fault.RowsFault.TheVariants as faults
 use Rattle.store_image.specs.Pieces.{Holds, HoldsAll}
@@ -34,7 +35,7 @@ pub disk_ends : (imports : ℕ) (entry : Entry) (file : List ℕ) → length fil
 disk_ends imports entry file short rows is numbered =
     let within = is.1.within in
     let long = is.0.bytes in
-    absurd (omega (arith, short, within, long))
+    absurd (omega (arith, short, within, long, length-segment_in entry.form rows))
 
 pub too_many_rows : (imports : ℕ) (entry : Entry) (file : List ℕ) → entry.bytes < 46 * entry.rows → IsNotReadAt faults.Damaged imports entry file
 too_many_rows imports entry file many rows is numbered =
@@ -44,27 +45,27 @@ too_many_rows imports entry file many rows is numbered =
 
 -- ---- one segment
 
-at_segment : (file : List ℕ) (entry : Entry) (rows : List StampedRow) → IsAt file entry rows → IsSegment rows (bytes_of (extent_of entry) file)
+at_segment : (file : List ℕ) (entry : Entry) (rows : List StampedRow) → IsAt file entry rows → IsSegmentIn entry.form rows (bytes_of (extent_of entry) file)
 at_segment file entry rows is = record {
   each = is.0.is.each;
   ascending = is.0.is.ascending;
-  bytes_are = ap (λ n. take n (drop (start_of (extent_of entry)) file)) (sym is.0.bytes) ∙ is.1.bytes;
+  bytes_are = ap (λ n. take n (drop (start_of (extent_of entry)) file)) (sym (length-segment_in entry.form rows ∙ is.0.bytes)) ∙ is.1.bytes;
 }
 
 pub none_read : (imports : ℕ) (places : List RowPlace) (rows : List StampedRow) → places ≡ [] → rows ≡ [] → AreReadTo 0 imports places rows
 none_read imports places rows places_are none =
     subst (λ (r : List StampedRow). AreReadTo 0 imports places r) (sym none) (record {
       places_are = places_are;
-      at_is = sym (ap length no_rows);
+      at_is = sym (ap length no_rows_plain);
       each = tt;
       ascending = tt;
       numbered = All-nil (λ (s : StampedRow). s.import ≤ imports);
     })
 
-pub none_begins : (rows : List StampedRow) (bytes : List ℕ) → rows ≡ [] → BeginsWith rows bytes
-none_begins rows bytes none = (bytes, sym (ap (λ (l : List ℕ). l ++ bytes) (ap segment_of none ∙ no_rows)))
+pub none_begins : (form : Form) (rows : List StampedRow) (bytes : List ℕ) → rows ≡ [] → BeginsWith form rows bytes
+none_begins form rows bytes none = (bytes, sym (ap (λ (l : List ℕ). l ++ bytes) (ap (segment_in form) none ∙ no_rows form)))
 
-pub not_next : (e : RowsFault) (imports : ℕ) (entry : Entry) (rows : List StampedRow) (file : List ℕ) → IsNotNext e imports rows (bytes_of (extent_of entry) file) → BeginsWith rows (bytes_of (extent_of entry) file) → length rows < entry.rows → IsNotReadAt e imports entry file
+pub not_next : (e : RowsFault) (imports : ℕ) (entry : Entry) (rows : List StampedRow) (file : List ℕ) → IsNotNext entry.form e imports rows (bytes_of (extent_of entry) file) → BeginsWith entry.form rows (bytes_of (extent_of entry) file) → length rows < entry.rows → IsNotReadAt e imports entry file
 not_next faults.OutOfMemory imports entry rows file why begins more = tt
 not_next faults.DiskFault imports entry rows file why begins more = tt
 not_next faults.Damaged imports entry rows file why begins more = λ others is numbered.
@@ -75,11 +76,11 @@ nothing : {X : Type 0} (xs : List X) → length xs ≡ 0 → xs ≡ []
 nothing [] none = refl
 nothing (x ∷ xs) none = absurd (omega (arith, none))
 
-pub wrong_end : (at imports : ℕ) (entry : Entry) (places : List RowPlace) (rows : List StampedRow) (file : List ℕ) → AreReadTo at imports places rows → length rows ≡ entry.rows → (at ≡ entry.bytes → ⊥) → BeginsWith rows (bytes_of (extent_of entry) file)
+pub wrong_end : (at imports : ℕ) (entry : Entry) (places : List RowPlace) (rows : List StampedRow) (file : List ℕ) → AreReadTo at imports places rows → length rows ≡ entry.rows → (at ≡ entry.bytes → ⊥) → BeginsWith entry.form rows (bytes_of (extent_of entry) file)
     → IsNotReadAt faults.Damaged imports entry file
 wrong_end at imports entry places rows file read count wrong begins others is numbered =
     let segment = at_segment file entry others is in
-    let on = goes_on rows others begins.0 read.each segment.each (sym begins.1 ∙ segment.bytes_are) in
+    let on = goes_on entry.form rows others begins.0 read.each segment.each (sym begins.1 ∙ segment.bytes_are) in
     let others_count = is.0.count in
     let long = ap length on.1 in
     let none = nothing on.0 (omega (arith, count, others_count, long, length-append rows on.0)) in
@@ -93,14 +94,14 @@ segment_found imports entry places rows read count = record {
   count = count;
 }
 
-pub at_found : (file : List ℕ) (entry : Entry) (rows : List StampedRow) → IsEntry entry → IsSegmentOf entry rows → BeginsWith rows (bytes_of (extent_of entry) file) → IsAt file entry rows
+pub at_found : (file : List ℕ) (entry : Entry) (rows : List StampedRow) → IsEntry entry → IsSegmentOf entry rows → BeginsWith entry.form rows (bytes_of (extent_of entry) file) → IsAt file entry rows
 at_found file entry rows is found begins =
     let start = start_of (extent_of entry) in
     let long = ap length begins.1 in
-    let bytes = found.bytes in
+    let bytes : length (segment_in entry.form rows) ≡ entry.bytes = length-segment_in entry.form rows ∙ found.bytes in
     let most = length-take entry.bytes (drop start file) in
-    let rest_none = nothing begins.0 (omega (arith, long, most, bytes, length-append (segment_of rows) begins.0)) in
-    let same : bytes_of (extent_of entry) file ≡ segment_of rows = begins.1 ∙ ap (λ (l : List ℕ). segment_of rows ++ l) rest_none ∙ append-nil (segment_of rows) in
+    let rest_none = nothing begins.0 (omega (arith, long, most, bytes, length-append (segment_in entry.form rows) begins.0, length-segment_in entry.form rows)) in
+    let same : bytes_of (extent_of entry) file ≡ segment_in entry.form rows = begins.1 ∙ ap (λ (l : List ℕ). segment_in entry.form rows ++ l) rest_none ∙ append-nil (segment_in entry.form rows) in
     let whole = ap length same in
     let first = is.first in
     let some = is.bytes in (
@@ -124,9 +125,9 @@ pub entry_there : (imports : ℕ) (file : List ℕ) (entries : List Entry) (list
 entry_there imports file [] lists i d lt are numbered held = absurd (omega (arith, lt))
 entry_there imports file (e ∷ entries) [] i d lt are numbered held = absurd are
 entry_there imports file (e ∷ entries) (rows ∷ lists) zero d lt are numbered held =
-    record { rows = rows; at = (are.0, All-head (λ piece. Holds piece file) (start_of (extent_of e), segment_of rows) (pieces_of entries lists) held); numbered = numbered.0 }
+    record { rows = rows; at = (are.0, All-head (λ piece. Holds piece file) (start_of (extent_of e), segment_in e.form rows) (pieces_of entries lists) held); numbered = numbered.0 }
 entry_there imports file (e ∷ entries) (rows ∷ lists) (suc i) d lt are numbered held =
-    entry_there imports file entries lists i d (omega (arith, lt)) are.1 numbered.1 (All-tail (λ piece. Holds piece file) (start_of (extent_of e), segment_of rows) (pieces_of entries lists) held)
+    entry_there imports file entries lists i d (omega (arith, lt)) are.1 numbered.1 (All-tail (λ piece. Holds piece file) (start_of (extent_of e), segment_in e.form rows) (pieces_of entries lists) held)
 
 all_pushed : {X : Type 0} (P : X → Type 0) (xs : List X) (x : X) → AllByRecursion P xs → P x → AllByRecursion P (xs ++ x ∷ [])
 all_pushed P [] x all p = (p, tt)
@@ -163,7 +164,7 @@ module _ (entries : List Entry) (i : ℕ) (d : Entry) (lists more : List (List S
   more_held file are held is =
       let P : List (ℕ × List ℕ) → Type 0 = λ l. HoldsAll l file in
       let pieces = ap (λ l. pieces_of (take (i + 1) entries) l) more_is ∙ ap (λ (l : List Entry). pieces_of l (lists ++ rows ∷ [])) front ∙ pieces_of-push (take i entries) lists (get_or entries i d) rows are in
-      subst P (sym pieces) (All-push (λ piece. Holds piece file) (pieces_of (take i entries) lists) (start_of (extent_of (get_or entries i d)), segment_of rows) held is.1)
+      subst P (sym pieces) (All-push (λ piece. Holds piece file) (pieces_of (take i entries) lists) (start_of (extent_of (get_or entries i d)), segment_in (get_or entries i d).form rows) held is.1)
 
   pub more_segments_taken : (segments : List (List (StampedRow × RowPlace))) → (segments ++ map (with_places 0) lists) ++ with_places 0 rows ∷ [] ≡ segments ++ map (with_places 0) more
   more_segments_taken segments = append_assoc segments (map (with_places 0) lists) (with_places 0 rows ∷ []) ∙ ap (λ l. segments ++ l) (sym (map-push (with_places 0) lists rows) ∙ sym (ap (map (with_places 0)) more_is))

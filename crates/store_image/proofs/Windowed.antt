@@ -10,11 +10,12 @@ use Rattle.rf2_values.specs.Row.{kind_of}
 use Rattle.history_model.specs.declared.stamped.StampedRow.{StampedRow}
 use Rattle.blocks.specs.declared.extent.Extent.{Extent}
 use Rattle.store_image.specs.Private.Reading.{bytes_of}
+use Rattle.checksum.specs.declared.form.Form.{Form}
 use Rattle.segment.specs.declared.fault.SegmentFault.{SegmentFault}
 use Rattle.segment.specs.declared.fault.SegmentFault.TheVariants as segments
-use Rattle.segment.specs.Records.{record_of, IsStamped, IsRecordAt}
+use Rattle.segment.specs.Records.{record_in, record_of, IsStamped, IsRecordAt}
 use Rattle.segment.specs.Private.Reading.{fixed_len}
-use Rattle.segment.proofs.RecordLaws.{record_size, row_room, length-record}
+use Rattle.segment.proofs.RecordLaws.{record_size, row_room, length-record, length-record_in}
 use Rattle.store_image.specs.declared.window.Window.{Window}
 use Rattle.store_image.specs.Private.Reading.{of_segment}
 use Rattle.store_image.specs.Private.Reading.{HasRecord, HasNoRecord, IsNoRecord, Sees, IsFull, bytes_in}
@@ -52,20 +53,20 @@ part_fits m from k n bytes piece is long some =
     omega (arith, there, long, some, length-take n (drop k (take m (drop from bytes))), length-drop k (take m (drop from bytes)), length-take m (drop from bytes))
 
 -- a record in a window is in the segment
-pub record_out : (m from at : ℕ) (bytes window : List ℕ) (s : StampedRow) → from ≤ at → window ≡ take m (drop from bytes) → HasRecord window (at - from) s → HasRecord bytes at s
-record_out m from at bytes window s le sees has =
+pub record_out : (form : Form) (m from at : ℕ) (bytes window : List ℕ) (s : StampedRow) → from ≤ at → window ≡ take m (drop from bytes) → HasRecord form window (at - from) s → HasRecord form bytes at s
+record_out form m from at bytes window s le sees has =
     let L = length (record_of s) in
-    let is : take L (drop (at - from) (take m (drop from bytes))) ≡ record_of s = ap (λ w. take L (drop (at - from) w)) (sym sees) ∙ has.1 in
-    let fits = part_fits m from (at - from) L bytes (record_of s) is refl (omega (arith, record_least s)) in
+    let is : take L (drop (at - from) (take m (drop from bytes))) ≡ record_in form s = ap (λ w. take L (drop (at - from) w)) (sym sees) ∙ has.1 in
+    let fits = part_fits m from (at - from) L bytes (record_in form s) is (length-record_in form s) (omega (arith, record_least s)) in
     let place : from + (at - from) ≡ at = omega (arith, le) in
     (has.0, ap (λ i. take L (drop i bytes)) (sym place) ∙ sym (part_within m from (at - from) L bytes fits) ∙ is)
 
 -- a record of the segment is in a full window that begins with it
-pub record_in : (m at : ℕ) (bytes window : List ℕ) (s : StampedRow) → window ≡ take m (drop at bytes) → (length (drop at bytes) ≤ m) ⊎ (131072 ≤ m) → HasRecord bytes at s → HasRecord window (at - at) s
-record_in m at bytes window s sees full has =
+pub record_kept : (form : Form) (m at : ℕ) (bytes window : List ℕ) (s : StampedRow) → window ≡ take m (drop at bytes) → (length (drop at bytes) ≤ m) ⊎ (131072 ≤ m) → HasRecord form bytes at s → HasRecord form window (at - at) s
+record_kept form m at bytes window s sees full has =
     let L = length (record_of s) in
     let place : at + (at - at) ≡ at = omega arith in
-    let same : take L (drop (at + (at - at)) bytes) ≡ record_of s = ap (λ i. take L (drop i bytes)) place ∙ has.1 in (
+    let same : take L (drop (at + (at - at)) bytes) ≡ record_in form s = ap (λ i. take L (drop i bytes)) place ∙ has.1 in (
       has.0,
       ap (λ w. take L (drop (at - at) w)) sees ∙ elim full [
         | inl all ↦ ap (λ w. take L (drop (at - at) w)) (take_all m (drop at bytes) all) ∙ ap (take L) (drop-drop (at - at) at bytes) ∙ same
@@ -74,22 +75,22 @@ record_in m at bytes window s sees full has =
     )
 
 -- a record ends where its bytes do
-pub record_ends : (m at next : ℕ) (bytes : List ℕ) (s : StampedRow) → IsRecordAt (take m bytes) at s next → next ≤ m
-record_ends m at next bytes s is =
+pub record_ends : (form : Form) (m at next : ℕ) (bytes : List ℕ) (s : StampedRow) → IsRecordAt form (take m bytes) at s next → next ≤ m
+record_ends form m at next bytes s is =
     let long = ap length is.bytes_are in
-    omega (arith, is.next_is, long, record_least s, length-take (length (record_of s)) (drop at (take m bytes)), length-drop at (take m bytes), length-take m bytes)
+    omega (arith, is.next_is, long, length-record_in form s, record_least s, length-take (length (record_of s)) (drop at (take m bytes)), length-drop at (take m bytes), length-take m bytes)
 
 -- what a window has is the segment's
-pub found_in : (w : Window) (extent : Extent) (at : ℕ) (file : List ℕ) (s : StampedRow) → w.extent ≡ extent → w.from ≤ at → Sees w file → HasRecord (bytes_in w) (at - w.from) s → HasRecord (bytes_of extent file) at s
-found_in w extent at file s same le sees has =
-    subst (λ (e : Extent). HasRecord (bytes_of e file) at s) same (record_out w.len w.from at (bytes_of w.extent file) (bytes_in w) s le sees.bytes has)
+pub found_in : (form : Form) (w : Window) (extent : Extent) (at : ℕ) (file : List ℕ) (s : StampedRow) → w.extent ≡ extent → w.from ≤ at → Sees w file → HasRecord form (bytes_in w) (at - w.from) s → HasRecord form (bytes_of extent file) at s
+found_in form w extent at file s same le sees has =
+    subst (λ (e : Extent). HasRecord form (bytes_of e file) at s) same (record_out form w.len w.from at (bytes_of w.extent file) (bytes_in w) s le sees.bytes has)
 
 -- and what a full one doesn't have isn't there
-pub not_found_in : (e : SegmentFault) (w : Window) (extent : Extent) (at : ℕ) (file : List ℕ) → w.extent ≡ extent → w.from ≡ at → Sees w file → IsFull w file → HasNoRecord e (bytes_in w) (at - w.from) → IsNoRecord (of_segment e) (bytes_of extent file) at
-not_found_in segments.OutOfMemory w extent at file same from sees full none = tt
-not_found_in segments.BadSegment w extent at file same from sees full none = λ s has.
-    let here : HasRecord (bytes_of w.extent file) w.from s = subst (λ n. HasRecord (bytes_of w.extent file) n s) (sym from) (subst (λ (e : Extent). HasRecord (bytes_of e file) at s) (sym same) has) in
-    none s (subst (λ n. HasRecord (bytes_in w) (n - w.from) s) from (record_in w.len w.from (bytes_of w.extent file) (bytes_in w) s sees.bytes full here))
+pub not_found_in : (form : Form) (e : SegmentFault) (w : Window) (extent : Extent) (at : ℕ) (file : List ℕ) → w.extent ≡ extent → w.from ≡ at → Sees w file → IsFull w file → HasNoRecord form e (bytes_in w) (at - w.from) → IsNoRecord form (of_segment e) (bytes_of extent file) at
+not_found_in form segments.OutOfMemory w extent at file same from sees full none = tt
+not_found_in form segments.BadSegment w extent at file same from sees full none = λ s has.
+    let here : HasRecord form (bytes_of w.extent file) w.from s = subst (λ n. HasRecord form (bytes_of w.extent file) n s) (sym from) (subst (λ (e : Extent). HasRecord form (bytes_of e file) at s) (sym same) has) in
+    none s (subst (λ n. HasRecord form (bytes_in w) (n - w.from) s) from (record_kept form w.len w.from (bytes_of w.extent file) (bytes_in w) s sees.bytes full here))
 
 -- ---- a window that moves on
 

@@ -13,7 +13,7 @@ use Rattle.directory.specs.declared.layout.Layout.TheVariants as layouts
 use Rattle.directory.specs.Places.{extent_of}
 use Rattle.directory.specs.Listings.{DirectoryValue, IsListing}
 use Rattle.directory.specs.Content.{Lists}
-use Rattle.segment.specs.Records.{IsSegment, segment_of}
+use Rattle.segment.specs.Records.{IsSegment, segment_in, segment_of}
 
 -- the segment of these rows has as many bytes and rows as the entry says
 pub record IsSegmentOf (entry : Entry) (rows : List StampedRow) : Type 0 where
@@ -37,6 +37,7 @@ abbrev pub HasKind : Layout → Kind → Type 0
 HasKind layouts.One kinds.Concrete = ⊥
 HasKind layouts.One kind = Unit {0}
 HasKind layouts.Two kind = Unit {0}
+HasKind layouts.Three kind = Unit {0}
 
 -- the rows are of kinds that the version has
 abbrev pub AreOfLayout : Layout → List StampedRow → Type 0
@@ -47,7 +48,7 @@ abbrev pub pieces_of : List Entry → List (List StampedRow) → List (ℕ × Li
 pieces_of [] lists = []
 pieces_of (entry ∷ entries) [] = []
 pieces_of (entry ∷ entries) (rows ∷ lists) =
-    (start_of (extent_of entry), segment_of rows) ∷ pieces_of entries lists
+    (start_of (extent_of entry), segment_in entry.form rows) ∷ pieces_of entries lists
 
 -- the rows of all lists, with the number of imports
 abbrev pub history_of : DirectoryValue → List (List StampedRow) → History

@@ -6,7 +6,6 @@ ghost use Rattle.blocks.specs.Calls.{MakesCalls};
 ghost use Rattle.blocks.specs.Outside.{StemsWithin};
 ghost use Rattle.blocks.specs.Slots.{slots_range};
 ghost use Rattle.history_model.specs.History.{no_history};
-ghost use Rattle.directory.specs.declared.layout.Layout.TheVariants as layouts;
 ghost use Rattle.store_image.specs.declared.fault.MakeFault.TheVariants as faults;
 ghost use Rattle.store_image.specs.Images.{Represents};
 ghost use Rattle.store_image.specs.OnDisk.{IsOnDisk};
@@ -16,7 +15,7 @@ ghost use Rattle.store_image.specs.Answers.{CountsMaking, StaysIfRefused, LooksI
 use crate::content::content_of;
 use crate::fault::MakeFault;
 use blocks::{Slot, format_slots};
-use directory::Directory;
+use directory::{Directory, Layout};
 use disk_model::Disk;
 use std::alloc::Global;
 
@@ -45,20 +44,24 @@ pub fn check_empty<D: Disk>(disk: &mut D) -> Result<(), MakeFault>
     Ok(())
 }
 
-/// Makes an empty store on a disk of no bytes: the length is looked at, then all room is taken, and
+/// Makes an empty store in this version on a disk of no bytes: the length is looked at, then all room is taken, and
 /// then it writes. So `OutOfMemory` leaves the disk empty. A stop before it has answered may leave
 /// anything.
-pub fn make<D: Disk>(alloc: Global, disk: &mut D) -> Result<Made, MakeFault>
-    ensures made { IfOk result (λ made. (made.slot ≡ Slot.A) × (made.directory ≡ empty_listing)) }
+pub fn make<D: Disk>(
+    alloc: Global,
+    disk: &mut D,
+    layout: Layout,
+) -> Result<Made, MakeFault>
+    ensures made { IfOk result (λ made. (made.slot ≡ Slot.A) × (made.directory ≡ empty_listing layout)) }
     ensures exact { D.is_honest disk.old → IsMade result (D.moments disk.old).state.now }
     ensures on_disk { D.is_honest disk.old
         → IfOk result (λ made. IsOnDisk (D.moments disk.new).state made.slot made.directory []) }
     // Whatever a stop leaves represents the empty history.
     ensures stands { D.is_honest disk.old
         → OnOk result (EachImage (D.moments disk.new).state
-        (λ c. Represents c no_history layouts.Two 1 [])) }
+        (λ c. Represents c no_history layout 1 [])) }
     // A read then gives the two slots, and nothing behind them.
-    ensures bytes { D.is_honest disk.old → OnOk result (IsNewStore (D.moments disk.new).state.now) }
+    ensures bytes { D.is_honest disk.old → OnOk result (IsNewStore layout (D.moments disk.new).state.now) }
     ensures refused { D.is_honest disk.old
         → StaysIfRefused result (D.moments disk.old) (D.moments disk.new) }
     // A disk with a byte stays as it is, whatever the answer: where the device fails, too.
@@ -78,7 +81,7 @@ pub fn make<D: Disk>(alloc: Global, disk: &mut D) -> Result<Made, MakeFault>
     ensures looked { LooksIfRefused result (D.other_calls disk.old) (D.other_calls disk.new) }
 {
     check_empty(disk)?;
-    let directory = Directory::new(alloc)?;
+    let directory = Directory::new(alloc, layout)?;
     let content = content_of(&directory);
     let current = format_slots(disk, &content)?;
     Ok(Made {

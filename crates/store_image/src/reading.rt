@@ -142,7 +142,7 @@ fn read_segment<D: Disk, S: RowSink>(
     ensures other_calls { D.other_calls disk.new ≤ D.other_calls disk.old + 1 }
 {
     check_room(disk, entry)?;
-    window.begin(entry.extent());
+    window.begin(entry.extent(), entry.form);
     let rows = read_rows(alloc, disk, window, entry, imports, sink)?;
     sink.end_segment()?;
     Ok(rows)
@@ -179,6 +179,7 @@ fn read_rows<D: Disk, S: RowSink>(
     sink: &mut S,
 ) -> Result<Rows, RowsFault>
     requires extent { window.old.extent ≡ extent_of entry }
+    requires form { window.old.form ≡ entry.form }
     requires from { window.old.from ≡ 0 }
     requires sees { (file : List ℕ) → Sees window.old file }
     requires entry { IsEntry entry }
@@ -186,7 +187,7 @@ fn read_rows<D: Disk, S: RowSink>(
         (λ rows. AreReadTo entry.bytes imports rows.places.items rows.shown) }
     ensures count { IfOk result (λ rows. length rows.shown ≡ entry.rows) }
     ensures exact { D.is_honest disk.old → MatchResult result
-        (λ rows. BeginsWith rows.shown (bytes_of (extent_of entry) (D.moments disk.old).state.now))
+        (λ rows. BeginsWith entry.form rows.shown (bytes_of (extent_of entry) (D.moments disk.old).state.now))
         (λ e. IsNotReadAt e imports entry (D.moments disk.old).state.now) }
     ensures taken { (segments : List (List (StampedRow × RowPlace)))
         → S.has_taken sink.old segments [] → IfOk result
@@ -230,15 +231,16 @@ fn read_row<D: Disk, S: RowSink>(
         (λ next. AreReadTo next imports rows.new.places.items rows.new.shown) }
     ensures one { IfOk result (λ next. length rows.new.shown ≡ length rows.old.shown + 1) }
     ensures extent { window.new.extent ≡ window.old.extent }
+    ensures form { window.new.form ≡ window.old.form }
     ensures from { IfOk result (λ next. window.new.from ≤ next) }
     ensures reached { IfOk result (λ next. next ≤ window.new.from + window.new.len) }
     ensures within { IfOk result (λ next. next ≤ window.old.extent.bytes) }
     ensures exact { D.is_honest disk.old → Sees window.old (D.moments disk.old).state.now
         → MatchResult result
-        (λ next. BeginsWith rows.old.shown
+        (λ next. BeginsWith window.old.form rows.old.shown
         (bytes_of window.old.extent (D.moments disk.old).state.now)
-        → BeginsWith rows.new.shown (bytes_of window.old.extent (D.moments disk.old).state.now))
-        (λ e. IsNotNext e imports rows.old.shown
+        → BeginsWith window.old.form rows.new.shown (bytes_of window.old.extent (D.moments disk.old).state.now))
+        (λ e. IsNotNext window.old.form e imports rows.old.shown
         (bytes_of window.old.extent (D.moments disk.old).state.now)) }
     ensures sees { D.is_honest disk.old → Sees window.old (D.moments disk.old).state.now
         → IfOk result (λ next. Sees window.new (D.moments disk.old).state.now) }

@@ -6,7 +6,7 @@ ghost use Rattle.std.specs.Prelude.{vec_len, IfOk, IfErr, OnOk, MatchResult};
 use crate::fault::RowsFault;
 use blocks::{BLOCK, Extent};
 use disk_model::{Disk, DiskFault};
-use segment::{SegmentFault, StampedRow, record_at};
+use segment::{Form, SegmentFault, StampedRow, record_at};
 use std::alloc::{AllocError, Global};
 
 /// How many bytes there are at once. No record has more than 65,554.
@@ -16,6 +16,8 @@ const WINDOW: u32 = 131_072;
 #[derive(Drop)]
 pub(crate) struct Window {
     pub(crate) extent: Extent,
+    /// How its records begin.
+    pub(crate) form: Form,
     bytes: Vec<u8>,
     /// The place in the segment of the first of the bytes.
     pub(crate) from: u32,
@@ -41,6 +43,7 @@ impl Window {
     pub(crate) fn new(alloc: Global) -> Result<Window, AllocError> {
         Ok(Window {
             extent: Extent { first: 0, bytes: 0 },
+            form: Form::Plain,
             bytes: vec![in alloc; 0u8; WINDOW as usize]?,
             from: 0,
             len: 0,
@@ -49,8 +52,9 @@ impl Window {
     }
 
     /// Goes to another segment, of which no byte is read yet.
-    pub(crate) fn begin(&mut self, extent: Extent)
+    pub(crate) fn begin(&mut self, extent: Extent, form: Form)
         ensures extent { self.new.extent ≡ extent }
+        ensures form { self.new.form ≡ form }
         ensures from { self.new.from ≡ 0 }
         ensures asked { self.new.asked ≡ 0 }
         ensures sees { (file : List ℕ) → Sees self.new file }
@@ -58,6 +62,7 @@ impl Window {
         self.len = 0;
         self.from = 0;
         self.asked = 0;
+        self.form = form;
         self.extent = extent;
     }
 
@@ -66,6 +71,7 @@ impl Window {
         requires from { self.old.from ≤ at }
         requires reached { at ≤ self.old.from + self.old.len }
         ensures extent { self.new.extent ≡ self.old.extent }
+        ensures form { self.new.form ≡ self.old.form }
         ensures from { self.new.from ≡ at }
         ensures end { self.new.from + self.new.len ≡ self.old.from + self.old.len }
         ensures bytes { bytes_in self.new ≡ drop (at - self.old.from) (bytes_in self.old) }
@@ -82,6 +88,7 @@ impl Window {
     /// reads of a segment are asked for no more bytes than it has, whatever the device answers.
     fn fill<D: Disk>(&mut self, disk: &mut D) -> Result<(), DiskFault>
         ensures extent { self.new.extent ≡ self.old.extent }
+        ensures form { self.new.form ≡ self.old.form }
         ensures from { self.new.from ≡ self.old.from }
         ensures len { self.old.len ≤ self.new.len }
         ensures asked { self.old.asked ≤ self.new.asked }
@@ -113,15 +120,15 @@ impl Window {
     fn row_in(&self, alloc: Global, at: u32) -> Result<(StampedRow, u32), SegmentFault>
         requires { self.now.from ≤ at }
         ensures found { IfOk result
-            (λ r. HasRecord (bytes_in self.now) (at - self.now.from) r.0) }
+            (λ r. HasRecord self.now.form (bytes_in self.now) (at - self.now.from) r.0) }
         ensures next { IfOk result (λ r. r.1 ≡ at + length (record_of r.0)) }
         ensures reached { IfOk result (λ r. r.1 ≤ self.now.from + self.now.len) }
         ensures within { IfOk result (λ r. r.1 ≤ self.now.extent.bytes) }
         ensures only { IfErr result
-            (λ e. HasNoRecord e (bytes_in self.now) (at - self.now.from)) }
+            (λ e. HasNoRecord self.now.form e (bytes_in self.now) (at - self.now.from)) }
     {
         let shown = &self.bytes.as_slice()[..self.len as usize];
-        let (row, next) = record_at(alloc, shown, (at - self.from) as usize)?;
+        let (row, next) = record_at(alloc, self.form, shown, (at - self.from) as usize)?;
         Ok((row, self.from + next as u32))
     }
 
@@ -136,6 +143,7 @@ impl Window {
         requires from { self.old.from ≤ at }
         requires reached { at ≤ self.old.from + self.old.len }
         ensures extent { self.new.extent ≡ self.old.extent }
+        ensures form { self.new.form ≡ self.old.form }
         ensures from { IfOk result (λ r. self.new.from ≤ r.1) }
         ensures reached { IfOk result (λ r. r.1 ≤ self.new.from + self.new.len) }
         ensures asked { self.old.asked ≤ self.new.asked }
@@ -144,8 +152,8 @@ impl Window {
         ensures within { IfOk result (λ r. r.1 ≤ self.old.extent.bytes) }
         ensures exact { D.is_honest disk.old → Sees self.old (D.moments disk.old).state.now
             → MatchResult result
-            (λ r. HasRecord (bytes_of self.old.extent (D.moments disk.old).state.now) at r.0)
-            (λ e. IsNoRecord e (bytes_of self.old.extent (D.moments disk.old).state.now) at) }
+            (λ r. HasRecord self.old.form (bytes_of self.old.extent (D.moments disk.old).state.now) at r.0)
+            (λ e. IsNoRecord self.old.form e (bytes_of self.old.extent (D.moments disk.old).state.now) at) }
         ensures sees { D.is_honest disk.old → Sees self.old (D.moments disk.old).state.now
             → IfOk result (λ _. Sees self.new (D.moments disk.old).state.now) }
         ensures moments { D.is_honest disk.old → D.moments disk.new ≡ D.moments disk.old }

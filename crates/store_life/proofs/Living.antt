@@ -8,17 +8,16 @@ use Rattle.std.proofs.lemmas.List.{append_cancel_right}
 use Rattle.std.proofs.lemmas.List.Elements.{All-cons, All-contains, Contains-append_cases, Contains-append_left, Contains-append_right}
 use Rattle.disk_model.specs.Disk.{DiskState, IsImage, EachImage, Moments, LeavesOnly}
 use Rattle.disk_model.proofs.MomentSteps.{started, at_end}
-use Rattle.directory.specs.declared.layout.Layout.TheVariants as layouts
 use Rattle.history_model.specs.History.{History, after_release}
 use Rattle.import_check.specs.declared.release.Release.{Release}
 use Rattle.store_image.specs.Images.{RepresentsHistory}
 use Rattle.history_store.specs.declared.refusal.Refusal.{Refusal}
 use Rattle.history_store.specs.declared.refusal.Refusal.TheVariants as store
 use Rattle.history_store.specs.StoreValue.{StoreValue, IsAcknowledged}
-use Rattle.history_store.specs.Answers.{IsOpeningOf, RepresentsWith}
+use Rattle.history_store.specs.Answers.{IsOpeningOf}
 use Rattle.history_store.proofs.Reopened.{opened_is_what_is_represented, represented_is_opened}
 use Rattle.store_life.specs.DeviceView.{DeviceView}
-use Rattle.store_life.specs.Life.{Call, Imported, Failed, Other, taken, failing, TakesAll, RepresentsAround, IsCall, StopLeaves, IsStopped, IsReopened, Event, Called, Stopped, IsEvent, IsLife, MayRemain, AreKept, acknowledged, stops, IsSubsequence}
+use Rattle.store_life.specs.Life.{Call, Imported, Failed, Other, taken, failing, TakesAll, RepresentsAround, IsCall, StopLeaves, IsStopped, IsReopened, Event, Called, Stopped, IsEvent, IsLife, MayRemain, AreKept, acknowledged, stops, IsSubsequence, RepresentsNext}
 use Rattle.store_life.specs.Laws.{EachLifeKeepsItsImports, KeptAreAcknowledged, EachLifeIsRepresented, EachLifeIsOpened, LivesCompose, EachStopIsOfALife}
 use Rattle.store_life.proofs.Made.{held}
 
@@ -46,7 +45,7 @@ left_has old new P bytes run left =
 -- the bytes represent the history, or that with the release in whose import the device failed
 abbrev RepresentsBut : History → Option Release → List ℕ → Type 0
 RepresentsBut h None c = RepresentsHistory h c
-RepresentsBut h (Some release) c = RepresentsHistory h c ⊎ RepresentsWith h release c
+RepresentsBut h (Some release) c = RepresentsHistory h c ⊎ RepresentsNext h release c
 
 else_none : (f : Option Release) → option_or f None ≡ f
 else_none None = refl
@@ -110,9 +109,9 @@ module _ (failed : Option Release) (within : Option Call) (h : History) (bytes :
   none_remains : RepresentsHistory h bytes → Remains
   none_remains s = ([], inl refl, (h, refl, s))
 
-  one_remains : (release : Release) → (failed ≡ Some release) ⊎ (within ≡ Some (Imported release)) ⊎ (within ≡ Some (Failed release)) → RepresentsWith h release bytes → Remains
+  one_remains : (release : Release) → (failed ≡ Some release) ⊎ (within ≡ Some (Imported release)) ⊎ (within ≡ Some (Failed release)) → RepresentsNext h release bytes → Remains
   one_remains release why w =
-      (release ∷ [], inr (release, refl, why), (after_release h w.rows, (w.rows, w.is_release, w.accepted, refl), (layouts.Two, w.stands)))
+      (release ∷ [], inr (release, refl, why), (after_release h w.1.rows, (w.1.rows, w.1.is_release, w.1.accepted, refl), (w.0, w.1.stands)))
 
   -- the device failed before, or it didn't
   failed_remains : (f : Option Release) → failed ≡ f → RepresentsBut h f bytes → Remains

@@ -5,16 +5,19 @@ use Rattle.disk_model.specs.Disk.{EachImage, LeavesOnly}
 use Rattle.disk_model.proofs.MomentSteps.{stayed, weaker}
 use Rattle.history_model.specs.declared.receipt.Receipt.{Receipt}
 use Rattle.import_check.specs.declared.release.Release.{Release}
+use Rattle.directory.specs.declared.layout.Layout.{Layout}
 use Rattle.directory.specs.declared.layout.Layout.TheVariants as layouts
+use Rattle.directory.specs.Listings.{next_layout}
+use Rattle.history_model.specs.History.{History}
 use Rattle.store_image.specs.Images.{RepresentsAs, RepresentsHistory}
 use Rattle.history_store.specs.declared.refusal.Refusal.{Refusal}
 use Rattle.history_store.specs.declared.refusal.Refusal.TheVariants as store
 use Rattle.history_store.specs.StoreValue.{StoreValue, IsAcknowledged}
-use Rattle.history_store.specs.Answers.{IsRefused, IsImportOf, IsImportOnAnyDisk, IsRefusalOnAnyDisk, IsBeforeOrAfter, IsReadingOf, RepresentsWith}
+use Rattle.history_store.specs.Answers.{IsRefused, IsImportOf, IsImportOnAnyDisk, IsRefusalOnAnyDisk, IsBeforeOrAfter, IsReadingOf}
 use Rattle.history_store.specs.MergeAnswers.{IsBeginningOf, IsSteppingOf, IsAbandoningOf, IsTrimmingOf}
 use Rattle.store_life.specs.DeviceView.{DeviceView}
-use Rattle.store_life.specs.Life.{Imported, Failed, Other, RepresentsAround, IsCall}
-use Rattle.store_life.specs.Calls.{ImportIsACall, QueryIsACall, UnchangedIsACall, MergeBeginIsACall, MergeStepIsACall, MergePublishIsACall, MergeAbandonIsACall, TrimIsACall}
+use Rattle.store_life.specs.Life.{Imported, Failed, Other, RepresentsAround, RepresentsNext, IsCall}
+use Rattle.store_life.specs.Calls.{ImportIsACall, QueryIsACall, UnchangedIsACall, MergeBeginIsACall, MergeStepIsACall, MergePublishIsACall, UpgradeIsACall, MergeAbandonIsACall, TrimIsACall}
 
 -- ---- calls that leave the history
 
@@ -74,9 +77,9 @@ open_at_fault e s release is cause = at_fault (subst (λ (r : Refusal). IsRefusa
   at_fault h = h.0
 
 module _ {D : Type 0} (view : DeviceView D) (old new : StoreValue D) (release : Release) (any : view.is_honest old.disk → old.needs_reopen ≡ false → LeavesOnly (view.moments old.disk) (view.moments new.disk) (IsBeforeOrAfter old.catalog.layout old.history release)) (ack : view.is_honest old.disk → new.needs_reopen ≡ false → IsAcknowledged view.moments new) (honesty : view.is_honest old.disk ↔ view.is_honest new.disk) where
-  before_or_after : (c : List ℕ) → IsBeforeOrAfter old.catalog.layout old.history release c → RepresentsHistory old.history c ⊎ RepresentsWith old.history release c
+  before_or_after : (c : List ℕ) → IsBeforeOrAfter old.catalog.layout old.history release c → RepresentsHistory old.history c ⊎ RepresentsNext old.history release c
   before_or_after c (inl s) = inl (old.catalog.layout, s)
-  before_or_after c (inr w) = inr w
+  before_or_after c (inr w) = inr (next_layout old.catalog.layout, w)
 
   -- the store took it
   imported : (receipt : Receipt) → IsImportOnAnyDisk (Ok receipt) old new release → (view.is_honest old.disk → IsImportOf (Ok receipt) old new release) → IsCall view old (Imported release) new
@@ -137,14 +140,23 @@ module _ {D : Type 0} (view : DeviceView D) where
   pub step_made : MergeStepIsACall D view
   step_made result rows old new a any ack closed honesty = busy view old new (same_stepped result rows old new a) any ack closed honesty
 
+  either : (h : History) (old next : Layout) (c : List ℕ) → RepresentsAs old h c ⊎ RepresentsAs next h c → RepresentsHistory h c
+  either h old next c (inl s) = (old, s)
+  either h old next c (inr s) = (next, s)
+
   pub publish_made : MergePublishIsACall D view
   publish_made old new history any ack closed honesty =
       kept view old new (λ h. history) closed honesty
-      (λ h a. weaker (view.moments old.disk) (view.moments new.disk) (λ c. RepresentsAs old.catalog.layout old.history c ⊎ RepresentsAs layouts.Two old.history c) (RepresentsHistory old.history) either (any h a.open_still))
-      (λ h a open_still. ack h open_still) where
-        either : (c : List ℕ) → RepresentsAs old.catalog.layout old.history c ⊎ RepresentsAs layouts.Two old.history c → RepresentsHistory old.history c
-        either c (inl s) = (old.catalog.layout, s)
-        either c (inr s) = (layouts.Two, s)
+      (λ h a. weaker (view.moments old.disk) (view.moments new.disk) (λ c. RepresentsAs old.catalog.layout old.history c ⊎ RepresentsAs (next_layout old.catalog.layout) old.history c) (RepresentsHistory old.history)
+      (either old.history old.catalog.layout (next_layout old.catalog.layout)) (any h a.open_still))
+      (λ h a open_still. ack h open_still)
+
+  pub upgrade_made : UpgradeIsACall D view
+  upgrade_made old new history any ack closed honesty =
+      kept view old new (λ h. history) closed honesty
+      (λ h a. weaker (view.moments old.disk) (view.moments new.disk) (λ c. RepresentsAs old.catalog.layout old.history c ⊎ RepresentsAs layouts.Three old.history c) (RepresentsHistory old.history)
+      (either old.history old.catalog.layout layouts.Three) (any h a.open_still))
+      (λ h a open_still. ack h open_still)
 
   same_abandoned : (result : Result (Unit {0}) Refusal) (old new : StoreValue D) → IsAbandoningOf result old new → new.history ≡ old.history
   same_abandoned (Ok done) old new a = a.2.history

@@ -4,6 +4,7 @@ use Rattle.std.specs.Prelude.{IfOk}
 use Rattle.disk_model.specs.Disk.{IsImage}
 use Rattle.history_store.specs.StoreValue.{IsAcknowledged}
 use Rattle.history_store.specs.Answers.{StoreOr}
+use Rattle.directory.specs.declared.layout.Layout.{Layout}
 use Rattle.history_store.specs.Openings.{IsMaking, IsOpening}
 use Rattle.history_store.proofs.Reopened.{opened_is_what_is_represented}
 use Rattle.store_life.specs.DeviceView.{DeviceView}
@@ -11,11 +12,11 @@ use Rattle.store_life.specs.Life.{IsOpenedFrom}
 use Rattle.store_life.specs.Laws.{EachLifeBegins, EachOpeningIsOfALife, ClosedStoreIsOpened}
 
 module _ {D : Type 0} (view : DeviceView D) (device : D) (up : view.is_honest device) where
-  begins : (result : StoreOr D) → (IsMaking result view.is_honest view.moments view.failures device ⊎ IsOpening result view.is_honest view.moments view.failures device)
+  begins : (layout : Layout) (result : StoreOr D) → (IsMaking layout result view.is_honest view.moments view.failures device ⊎ IsOpening result view.is_honest view.moments view.failures device)
       → IfOk result (λ s. view.is_honest s.disk × IsAcknowledged view.moments s)
-  begins (Ok s) (inl made) = (made.honesty.0 up, made.acknowledged up)
-  begins (Ok s) (inr opened) = (opened.honesty.0 up, opened.acknowledged up)
-  begins (Err e) had = tt
+  begins layout (Ok s) (inl made) = (made.honesty.0 up, made.acknowledged up)
+  begins layout (Ok s) (inr opened) = (opened.honesty.0 up, opened.acknowledged up)
+  begins layout (Err e) had = tt
 
   opened_from : (result : StoreOr D) → IsOpening result view.is_honest view.moments view.failures device
       → IfOk result (IsOpenedFrom view (view.moments device).state.now device)
@@ -23,7 +24,7 @@ module _ {D : Type 0} (view : DeviceView D) (device : D) (up : view.is_honest de
   opened_from (Err e) opening = tt
 
 pub each_life_begins : (D : Type 0) (view : DeviceView D) → EachLifeBegins D view
-each_life_begins D view device result up had = begins view device up result had
+each_life_begins D view device layout result up had = begins view device up layout result had
 
 pub each_opening_is_of_a_life : (D : Type 0) (view : DeviceView D) → EachOpeningIsOfALife D view
 each_opening_is_of_a_life D view device result up opening = (opened_from view device up result opening, λ left stop is_left. record { is_honest = up; read = refl; stop = stop; any_moment = opening.any_moment up; is_left = is_left })

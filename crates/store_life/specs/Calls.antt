@@ -4,6 +4,7 @@ use Rattle.disk_model.specs.Disk.{LeavesOnly}
 use Rattle.history_model.specs.declared.receipt.Receipt.{Receipt}
 use Rattle.import_check.specs.declared.release.Release.{Release}
 use Rattle.directory.specs.declared.layout.Layout.TheVariants as layouts
+use Rattle.directory.specs.Listings.{next_layout}
 use Rattle.store_image.specs.Images.{RepresentsAs}
 use Rattle.history_store.specs.declared.refusal.Refusal.{Refusal}
 use Rattle.history_store.specs.declared.refusal.Refusal.TheVariants as refusals
@@ -76,7 +77,20 @@ MergePublishIsACall D view = (old new : StoreValue D)
     → (view.is_honest old.disk → old.needs_reopen ≡ false
     → LeavesOnly (view.moments old.disk) (view.moments new.disk)
     (λ c. RepresentsAs old.catalog.layout old.history c
-    ⊎ RepresentsAs layouts.Two old.history c))
+    ⊎ RepresentsAs (next_layout old.catalog.layout) old.history c))
+    → (view.is_honest old.disk → new.needs_reopen ≡ false → IsAcknowledged view.moments new)
+    → (old.needs_reopen ≡ true → new ≡ old)
+    → (view.is_honest old.disk ↔ view.is_honest new.disk)
+    → IsCall view old Other new
+
+-- by `Store::upgrade · history, any_moment, acknowledged, closed, honesty`
+abbrev pub UpgradeIsACall : (D : Type 0) → DeviceView D → Type 0
+UpgradeIsACall D view = (old new : StoreValue D)
+    → new.history ≡ old.history
+    → (view.is_honest old.disk → old.needs_reopen ≡ false
+    → LeavesOnly (view.moments old.disk) (view.moments new.disk)
+    (λ c. RepresentsAs old.catalog.layout old.history c
+    ⊎ RepresentsAs layouts.Three old.history c))
     → (view.is_honest old.disk → new.needs_reopen ≡ false → IsAcknowledged view.moments new)
     → (old.needs_reopen ≡ true → new ≡ old)
     → (view.is_honest old.disk ↔ view.is_honest new.disk)

@@ -7,6 +7,7 @@ use Rattle.history_model.specs.History.{History, rows_at}
 use Rattle.history_model.specs.Brought.{brought_by}
 use Rattle.history_model.specs.declared.receipt.Receipt.{Receipt}
 use Rattle.import_check.specs.declared.release.Release.{Release}
+use Rattle.directory.specs.declared.layout.Layout.{Layout}
 use Rattle.store_image.specs.Images.{RepresentsHistory}
 use Rattle.history_store.specs.declared.refusal.Refusal.{Refusal}
 use Rattle.history_store.specs.declared.refusal.Refusal.TheVariants as store
@@ -22,8 +23,9 @@ use Rattle.store_life.specs.Life.{IsSubsequence, acknowledged, stops}
 
 -- a life may begin with a store that was made or opened on an honest device
 abbrev pub EachLifeBegins : (D : Type 0) → DeviceView D → Type 0
-EachLifeBegins D view = (device : D) (result : StoreOr D) → view.is_honest device
-    → (IsMaking result view.is_honest view.moments view.failures device
+EachLifeBegins D view = (device : D) (layout : Layout) (result : StoreOr D)
+    → view.is_honest device
+    → (IsMaking layout result view.is_honest view.moments view.failures device
     ⊎ IsOpening result view.is_honest view.moments view.failures device)
     → IfOk result (λ s. view.is_honest s.disk × IsAcknowledged view.moments s)
 

@@ -8,6 +8,7 @@ use Rattle.rf2_values.specs.Row.{RowValue}
 use Rattle.history_model.specs.History.{History, Accepts, after_release}
 use Rattle.import_check.specs.declared.release.Release.{Release}
 use Rattle.import_check.specs.Release.{IsReleaseOf}
+use Rattle.directory.specs.declared.layout.Layout.{Layout}
 use Rattle.store_image.specs.Images.{RepresentsHistory}
 use Rattle.history_store.specs.StoreValue.{StoreValue, IsAcknowledged}
 use Rattle.history_store.specs.Answers.{IsOpeningOf, RepresentsWith}
@@ -47,11 +48,15 @@ NeedsReopenAfter (Imported release) needs_reopen = needs_reopen ≡ false
 NeedsReopenAfter (Failed release) needs_reopen = needs_reopen ≡ true
 NeedsReopenAfter Other needs_reopen = Unit {0}
 
+-- the bytes represent the history with an accepted release, in some version
+abbrev pub RepresentsNext : History → Release → List ℕ → Type 0
+RepresentsNext h release c = (layout : Layout) × RepresentsWith layout h release c
+
 -- what a stop before, within or after the call may leave: the
 -- history from before, or that with the release of an import
 abbrev pub RepresentsAround : History → Call → List ℕ → Type 0
-RepresentsAround h (Imported release) c = RepresentsHistory h c ⊎ RepresentsWith h release c
-RepresentsAround h (Failed release) c = RepresentsHistory h c ⊎ RepresentsWith h release c
+RepresentsAround h (Imported release) c = RepresentsHistory h c ⊎ RepresentsNext h release c
+RepresentsAround h (Failed release) c = RepresentsHistory h c ⊎ RepresentsNext h release c
 RepresentsAround h Other c = RepresentsHistory h c
 
 -- The call was made on the store.

@@ -2,7 +2,7 @@
 
 ghost use Rattle.store_life.specs.DeviceView.{device_view};
 ghost use Rattle.store_life.specs.Calls.{ImportIsACall, QueryIsACall, UnchangedIsACall};
-ghost use Rattle.store_life.specs.Calls.{MergeBeginIsACall, MergeStepIsACall};
+ghost use Rattle.store_life.specs.Calls.{MergeBeginIsACall, MergeStepIsACall, UpgradeIsACall};
 ghost use Rattle.store_life.specs.Calls.{MergePublishIsACall, MergeAbandonIsACall, TrimIsACall};
 ghost use Rattle.store_life.specs.Laws.{EachLifeBegins, EachOpeningIsOfALife};
 ghost use Rattle.store_life.specs.Laws.{ClosedStoreIsOpened, LivesCompose, EachStopIsOfALife};
@@ -42,6 +42,11 @@ pub fn merge_publish_is_a_call<D: Disk>()
     ensures { MergePublishIsACall D (device_view D.is_honest D.moments D.failures D.bytes_read) }
 {}
 
+/// So does what `Store::upgrade` ensures.
+pub fn upgrade_is_a_call<D: Disk>()
+    ensures { UpgradeIsACall D (device_view D.is_honest D.moments D.failures D.bytes_read) }
+{}
+
 /// So does what `Store::merge_abandon` ensures.
 pub fn merge_abandon_is_a_call<D: Disk>()
     ensures { MergeAbandonIsACall D (device_view D.is_honest D.moments D.failures D.bytes_read) }
@@ -52,7 +57,7 @@ pub fn trim_is_a_call<D: Disk>()
     ensures { TrimIsACall D (device_view D.is_honest D.moments D.failures D.bytes_read) }
 {}
 
-/// A life may begin with what `Store::create` made and with what `Store::open` opened.
+/// A life may begin with what `Store::create_in` made and with what `Store::open` opened.
 pub fn each_life_begins<D: Disk>()
     ensures { EachLifeBegins D (device_view D.is_honest D.moments D.failures D.bytes_read) }
 {}

@@ -1,6 +1,7 @@
 //! Directories as values and as bytes, and where a segment finds room.
 
 use blocks::Extent;
+use checksum::{Form, crc32c};
 use directory::{Directory, DirectoryFault, Entry, Full, Layout, first_fit};
 use std::alloc::Global;
 use std::test::Fail;
@@ -19,12 +20,14 @@ const FIRST: Entry = Entry {
     first: 4,
     bytes: 46,
     rows: 1,
+    form: Form::Plain,
 };
 
 const SECOND: Entry = Entry {
     first: 5,
     bytes: 8192,
     rows: 3,
+    form: Form::Plain,
 };
 
 /// Both segments in one.
@@ -32,6 +35,7 @@ const BOTH: Entry = Entry {
     first: 8,
     bytes: 8238,
     rows: 4,
+    form: Form::Plain,
 };
 
 /// A block with these bytes in front, and another byte in the rest.
@@ -55,7 +59,7 @@ fn two_segments() -> [u8; 4096] {
 
 #[test]
 fn a_content_block_byte_for_byte(rt: HostRuntime) -> Result<(), Fail> {
-    let mut directory = Directory::new(rt.alloc())?;
+    let mut directory = Directory::new(rt.alloc(), Layout::Two)?;
     assert_eq!(rt; (directory.epoch(), directory.imports()), (1, 0));
     assert_eq!(rt; directory.entries().len(), 0);
     directory.advance(1);
@@ -143,7 +147,7 @@ fn an_extent_ends_at_the_last_block_at_most(rt: HostRuntime) -> Result<(), Fail>
 
 #[test]
 fn entries_go_last_and_close_up(rt: HostRuntime) -> Result<(), Fail> {
-    let mut directory = Directory::new(rt.alloc())?;
+    let mut directory = Directory::new(rt.alloc(), Layout::Two)?;
     directory.add(FIRST);
     directory.add(SECOND);
     assert_eq!(rt; directory.entries(), [FIRST, SECOND].as_slice());
@@ -169,6 +173,7 @@ fn segment(first: u32, bytes: u32) -> Entry {
         first,
         bytes,
         rows: 1,
+        form: Form::Plain,
     }
 }
 
@@ -248,5 +253,74 @@ fn a_block_of_version_one(rt: HostRuntime) -> Result<(), Fail> {
     assert_eq!(rt; (one, read.version(), written[15]), (b'1', 2, b'2'));
     block[23] = 129;
     assert!(rt; is_bad(rt.alloc(), &block));
+    Ok(())
+}
+
+/// The same beginning in version 3, whose segment has checksums.
+const CHECKED_SEGMENT: [u8; 48] = [
+    0, 0, 0, 0, 0, 0, 0, 2, 0x53, 0x43, 0x54, 0x53, 0x54, 0x4f, 0x52, 0x33, 0, 0, 0, 1, 0, 0, 0, 1,
+    0, 0, 0, 0, 0, 0, 0, 0, 0, 0, 0, 4, 0, 0, 0, 0x2e, 0, 0, 0, 1, 0, 0, 0, 1,
+];
+
+/// The block of that beginning, with its checksum.
+fn checked_block() -> [u8; 4096] {
+    let mut block = block_of(&CHECKED_SEGMENT, 0);
+    block[4092] = 0x70;
+    block[4093] = 0xe8;
+    block[4094] = 0xb0;
+    block[4095] = 0xe3;
+    block
+}
+
+/// The block with another byte at a place of its entry, and with the checksum that it then has.
+fn summed(place: usize, byte: u8) -> [u8; 4096] {
+    let mut block = checked_block();
+    if place < 4092 {
+        block[place] = byte;
+    }
+    let sum = crc32c(&block[..4092]).to_be_bytes();
+    for (place, byte) in block[4092..].iter_mut().zip(sum) {
+        *place = byte;
+    }
+    block
+}
+
+/// Whether a block lists no directory.
+fn is_bad(alloc: Global, block: &[u8; 4096]) -> bool {
+    matches!(
+        Directory::decode(alloc, block),
+        Err(DirectoryFault::BadDirectory)
+    )
+}
+
+#[test]
+fn a_content_block_of_version_three(rt: HostRuntime) -> Result<(), Fail> {
+    let alloc = rt.alloc();
+    let mut directory = Directory::new(alloc, Layout::Three)?;
+    directory.advance(1);
+    directory.add(
+        Entry {
+            first: 4,
+            bytes: 46,
+            rows: 1,
+            form: Form::Checked,
+        },
+    );
+    let mut block = [7; 4096];
+    directory.encode(&mut block);
+    assert_eq!(rt; block.as_slice(), checked_block().as_slice());
+    let read = Directory::decode(alloc, &block)?;
+    assert_eq!(rt; read.layout(), Layout::Three);
+    assert_eq!(rt; read.entries().len(), 1);
+    for (place, byte) in [(11, 0x48), (2000, 1), (4095, 0xe2)] {
+        let mut changed = checked_block();
+        assert!(rt; place < 4096);
+        changed[place] = byte;
+        assert!(rt; is_bad(alloc, &changed), "byte {place}");
+    }
+    // With a right checksum, too: a form that isn't any, and a mark that isn't any.
+    assert!(rt; !is_bad(alloc, &summed(0, 0)));
+    assert!(rt; is_bad(alloc, &summed(47, 2)));
+    assert!(rt; is_bad(alloc, &summed(15, 0x34)));
     Ok(())
 }

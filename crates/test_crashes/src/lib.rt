@@ -1,6 +1,6 @@
-//! What a store is after a stop, after a failed call and after damage: a script and the first
-//! publication of a store from the `sctd` that writes layout 1, stopped at each moment and with
-//! each call on the disk failing in turn; and images of disks that are cut short or changed byte
+//! What a store is after a stop, after a failed call and after damage: a script, the first
+//! publication of a store from the `sctd` that writes layout 1, and an upgrade to layout 3 with what
+//! follows it, stopped at each moment and with each call on the disk failing in turn; and images of disks that are cut short or changed byte
 //! by byte. It has no code of its own.
 #![tactic(auto)]
 
@@ -30,3 +30,5 @@ mod script;
 mod script_faults;
 #[cfg(test)]
 mod script_stops;
+#[cfg(test)]
+mod upgrades;

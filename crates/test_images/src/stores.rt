@@ -1,10 +1,10 @@
 //! A store byte for byte, and each way in which an image is damaged.
 
 use blocks::Slot;
-use directory::{Directory, Entry};
+use directory::{Directory, Entry, Layout};
 use disk_model::{Choice, Disk, DiskFault, MemDisk};
 use history_model::StampedRow;
-use segment::RowPlace;
+use segment::{Form, RowPlace};
 use std::alloc::{AllocError, Global};
 use std::process::Abort;
 use std::test::Fail;
@@ -97,12 +97,14 @@ const FIRST: Entry = Entry {
     first: 4,
     bytes: 46,
     rows: 1,
+    form: Form::Plain,
 };
 
 const SECOND: Entry = Entry {
     first: 5,
     bytes: 46,
     rows: 1,
+    form: Form::Plain,
 };
 
 /// The segment of the rows of both.
@@ -110,11 +112,12 @@ const BOTH: Entry = Entry {
     first: 6,
     bytes: 92,
     rows: 2,
+    form: Form::Plain,
 };
 
 /// Makes a store on a disk. Its current slot and its epoch.
 fn make_store(alloc: Global, disk: &mut MemDisk) -> Result<(Slot, u64), MakeFault> {
-    let made = make(alloc, disk)?;
+    let made = make(alloc, disk, Layout::Two)?;
     Ok((made.slot, made.directory.epoch()))
 }
 
@@ -128,7 +131,7 @@ fn import_two(
     let Made {
         slot,
         mut directory,
-    } = make(alloc, disk)?;
+    } = make(alloc, disk, Layout::Two)?;
     directory.advance(1);
     directory.add(FIRST);
     let slot = add_segment(disk, slot, &directory, FIRST, &ROOT)?;
@@ -242,7 +245,7 @@ fn import_and_publish(rt: &impl Abort, alloc: Global, disk: &mut MemDisk) -> Res
     let Made {
         slot,
         mut directory,
-    } = make(alloc, disk)?;
+    } = make(alloc, disk, Layout::Two)?;
     directory.advance(1);
     directory.add(FIRST);
     let slot = add_segment(disk, slot, &directory, FIRST, &ROOT)?;

@@ -2,7 +2,7 @@
 
 use crate::releases::{copy_of, root_release, sample_named};
 use disk_model::MemDisk;
-use history_store::{Receipt, Refusal, Store};
+use history_store::{Layout, Receipt, Refusal, Store};
 use import_check::Release;
 use std::alloc::Global;
 use std::mem::size_of;
@@ -41,6 +41,27 @@ impl Example {
         let store = Store::create(alloc, disk)?;
         drop(room);
         put_in_box(alloc, store)
+    }
+
+    /// A new store of version 3.
+    pub fn new_in_three(alloc: Global) -> Result<Example, Refusal> {
+        match Store::create_in(alloc, MemDisk::new(alloc), Layout::Three) {
+            Ok(store) => match put_in_box(alloc, store) {
+                Ok(example) => Ok(example),
+                Err((refusal, _)) => Err(refusal),
+            },
+            Err((refusal, _)) => Err(refusal),
+        }
+    }
+
+    /// Brings the store to version 3.
+    pub fn upgrade(&mut self) -> Result<(), Refusal> {
+        self.store.upgrade()
+    }
+
+    /// How many segments have no checksums.
+    pub fn plain_segments(&self) -> u32 {
+        self.store.plain_segments()
     }
 
     /// The store that a disk represents, or the disk back.

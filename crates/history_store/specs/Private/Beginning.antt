@@ -3,7 +3,7 @@ use Rattle.std.specs.Prelude.{◌≡◌, ◌+◌, ◌^◌, ◌<◌, ◌≤◌, L
 use Rattle.std.specs.Int.{div_ceil}
 use Rattle.std.specs.List.{AllByRecursion}
 use Rattle.directory.specs.declared.entry.Entry.{Entry}
-use Rattle.directory.specs.Listings.{DirectoryValue}
+use Rattle.directory.specs.Listings.{DirectoryValue, form_of}
 use Rattle.directory.specs.Fit.{fit}
 use Rattle.history_store.specs.declared.refusal.Refusal.{Refusal}
 use Rattle.history_store.specs.declared.refusal.Refusal.TheVariants as refusals
@@ -26,6 +26,7 @@ pub record IsNewMerge (d : DirectoryValue) (m : MergeInProgress) : Type 0 where
   pub rows_are : m.entry.rows ≡ a.rows + b.rows
   pub rows_fit : m.entry.rows < 2 ^ 32
   pub place : fit (div_ceil m.entry.bytes 4096) d.entries None ≡ Some m.entry.first
+  pub form : m.entry.form ≡ form_of d.layout
   pub none_taken : m.output.taken ≡ 0
 
 -- why no merge begins

@@ -4,9 +4,9 @@ use Rattle.history_model.specs.declared.stamped.StampedRow.{StampedRow}
 use Rattle.history_model.specs.History.{IsHistory}
 use Rattle.history_model.specs.Lists.{AreLists}
 use Rattle.directory.specs.declared.entry.Entry.{Entry}
-use Rattle.directory.specs.declared.layout.Layout.TheVariants as layouts
-use Rattle.directory.specs.Listings.{DirectoryValue, IsListing, IsEntry, most_entries}
-use Rattle.segment.specs.Records.{segment_of}
+use Rattle.directory.specs.Listings.{DirectoryValue, IsListing, IsEntry, form_of, most_entries}
+use Rattle.directory.specs.Listings.{next_layout}
+use Rattle.segment.specs.Records.{segment_in, segment_of}
 use Rattle.store_image.specs.Kept.{IsSegmentOf}
 use Rattle.history_store.specs.declared.refusal.Refusal.{Refusal}
 use Rattle.history_store.specs.declared.refusal.Refusal.TheVariants as refusals
@@ -14,7 +14,7 @@ use Rattle.history_store.specs.declared.preparing.Prepared.{Prepared}
 use Rattle.history_store.specs.Catalog.{Merge, Catalog, IsPlaced, HasNoEntry, HasNoPlace}
 use Rattle.history_store.specs.Catalog.{catalog_of, entry_at, place_for}
 use Rattle.history_store.specs.StoreValue.{StoreValue}
-use Rattle.history_store.specs.Private.StoreValue.{with_rows}
+use Rattle.history_store.specs.Private.StoreValue.{directory_of, with_rows}
 
 -- the entry of a segment of these rows, at the first place where it finds room
 pub record IsPlacedAt (d : DirectoryValue) (merge : Option Merge) (rows : List StampedRow)
@@ -22,18 +22,18 @@ pub record IsPlacedAt (d : DirectoryValue) (merge : Option Merge) (rows : List S
   pub few : length d.entries < most_entries d.layout
   pub short : length (segment_of rows) < 2 ^ 32
   pub place : place_for rows (catalog_of d merge) ≡ Some entry.first
-  pub entry_is : entry ≡ entry_at entry.first rows
+  pub entry_is : entry ≡ entry_at (form_of d.layout) entry.first rows
 
 -- the segment of these rows, and the directory with it
 pub record IsPrepared (d : DirectoryValue) (merge : Option Merge) (rows : List StampedRow)
     (p : Prepared) : Type 0 where
   pub index_is : p.index ≡ rows
-  pub bytes_are : p.bytes.items ≡ segment_of rows
+  pub bytes_are : p.bytes.items ≡ segment_in p.entry.form rows
   pub entry_is : IsEntry p.entry
   pub segment : IsSegmentOf p.entry rows
   pub listing : IsListing p.directory
   pub directory_is : p.directory ≡ record {
-    layout = layouts.Two;
+    layout = next_layout d.layout;
     epoch = d.epoch + 1;
     imports = d.imports + 1;
     entries = d.entries ++ p.entry ∷ [];
@@ -52,11 +52,4 @@ IsUnprepared _ rows catalog = ⊥
 pub record IsPreparedFor {D : Type 0} (s : StoreValue D) (p : Prepared) : Type 0 where
   pub apart : AreLists (s.history.rows ∷ p.index ∷ [])
   pub history : IsHistory (with_rows s.history p.index)
-  pub prepared : IsPrepared
-      (record {
-        layout = s.catalog.layout;
-        epoch = s.catalog.epoch;
-        imports = s.history.imports;
-        entries = s.catalog.entries;
-      })
-      s.catalog.merge p.index p
+  pub prepared : IsPrepared (directory_of s) s.catalog.merge p.index p

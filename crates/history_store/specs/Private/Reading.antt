@@ -13,7 +13,8 @@ use Rattle.blocks.proofs.Looked.{some_more}
 use Rattle.directory.specs.declared.entry.Entry.{Entry}
 use Rattle.directory.specs.Listings.{IsEntry}
 use Rattle.segment.specs.declared.place.RowPlace.{RowPlace}
-use Rattle.segment.specs.Records.{record_of, IsStamped}
+use Rattle.checksum.specs.declared.form.Form.{Form}
+use Rattle.segment.specs.Records.{record_in, IsStamped}
 use Rattle.segment.specs.Standing.{record_len}
 use Rattle.store_image.specs.Pieces.{HoldsAll}
 use Rattle.store_image.specs.Kept.{AreSegments, pieces_of}
@@ -47,11 +48,12 @@ pub record AreThere (entries : List Entry) (lists : List (List StampedRow))
   pub segments : AreSegments entries lists
   pub pieces : HoldsAll (pieces_of entries lists) file
 
--- the row's record is in the file at this byte, and this is what is listed of it
-pub record IsThere (from : ℕ) (s : StampedRow) (p : RowPlace) (file : List ℕ) : Type 0 where
+-- the row's record in this form is in the file at this byte, and this is what is listed of it
+pub record IsThere (form : Form) (from : ℕ) (s : StampedRow) (p : RowPlace) (file : List ℕ)
+    : Type 0 where
   pub below : from + p.bytes ≤ 2 ^ 34
   pub whole : length (take p.bytes (drop from file)) ≡ p.bytes
-  pub is : take p.bytes (drop from file) ≡ record_of s
+  pub is : take p.bytes (drop from file) ≡ record_in form s
   pub stamped : IsStamped s
   pub key : key_of s.row ≡ p.key
   pub import : s.import ≡ p.import

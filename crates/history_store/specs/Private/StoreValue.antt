@@ -1,8 +1,23 @@
 -- Words beside those of `StoreValue` that no public clause cites.
-use Rattle.std.specs.Prelude.{◌+◌, [], ◌∷◌, List}
+use Rattle.std.specs.Prelude.{ℕ, ◌+◌, [], ◌∷◌, List}
 use Rattle.history_model.specs.declared.stamped.StampedRow.{StampedRow}
 use Rattle.history_model.specs.History.{History}
 use Rattle.history_model.specs.Lists.{listed}
+use Rattle.directory.specs.Listings.{DirectoryValue}
+use Rattle.history_store.specs.StoreValue.{StoreValue}
+
+-- the directory of a store
+abbrev pub directory_of : {D : Type 0} → StoreValue D → DirectoryValue
+directory_of s = record {
+  layout = s.catalog.layout;
+  epoch = s.catalog.epoch;
+  imports = s.history.imports;
+  entries = s.catalog.entries;
+}
+
+-- the history with so many imports
+abbrev pub with_imports : History → ℕ → History
+with_imports h imports = record { imports = imports; rows = h.rows }
 
 -- the history with one import more, that brought these rows
 abbrev pub with_rows : History → List StampedRow → History

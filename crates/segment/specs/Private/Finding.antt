@@ -1,6 +1,6 @@
 -- What is found, and what a refusal says: words of the
 -- private readers of bytes, which no public clause cites.
-use Rattle.std.specs.Prelude.{◌≡◌, ℕ, List, ◌++◌, Result, Ok, Err, Some}
+use Rattle.std.specs.Prelude.{◌≡◌, ℕ, List, ◌++◌, Result, Ok, Err, Option, Some, None}
 use Rattle.rf2_values.specs.declared.row.Body.{Body}
 use Rattle.rf2_values.specs.declared.row.Kind.{Kind}
 use Rattle.rf2_values.specs.Row.{kind_of_body}
@@ -9,7 +9,9 @@ use Rattle.segment.specs.Private.Reading.{all_at, body_forms}
 use Rattle.history_model.specs.declared.stamped.StampedRow.{StampedRow}
 use Rattle.segment.specs.declared.fault.SegmentFault.{SegmentFault}
 use Rattle.segment.specs.declared.fault.SegmentFault.TheVariants as faults
-use Rattle.segment.specs.Records.{Field, spelled, body_fields, fields_of, record_of, IsStamped}
+use Rattle.std.specs.Int.{w32}
+use Rattle.checksum.specs.declared.form.Form.{Form}
+use Rattle.segment.specs.Records.{Field, Number, field_bytes, spelled, body_fields, fields_of, head_of, record_in, IsStamped}
 
 -- a value for which P holds is found, or, unless memory
 -- ran out, there is no allowed value for which it does
@@ -33,8 +35,21 @@ IsRowIn bytes s = IsStamped s × (bytes ≡ spelled (fields_of s))
 
 -- a row whose record bytes begin with, and the bytes
 -- after it, or, unless memory ran out, there is none
-abbrev pub FindsRecord : List ℕ → Result (StampedRow × Bor (List ℕ)) SegmentFault → Type 0
-FindsRecord bytes (Ok p) = IsStamped p.0 × (bytes ≡ record_of p.0 ++ p.1.now)
-FindsRecord bytes (Err faults.OutOfMemory) = Unit {0}
-FindsRecord bytes (Err faults.BadSegment) =
-    (s : StampedRow) (rest : List ℕ) → IsStamped s → bytes ≡ record_of s ++ rest → ⊥
+abbrev pub FindsRecord : Form → List ℕ → Result (StampedRow × Bor (List ℕ)) SegmentFault → Type 0
+FindsRecord form bytes (Ok p) = IsStamped p.0 × (bytes ≡ record_in form p.0 ++ p.1.now)
+FindsRecord form bytes (Err faults.OutOfMemory) = Unit {0}
+FindsRecord form bytes (Err faults.BadSegment) =
+    (s : StampedRow) (rest : List ℕ) → IsStamped s → bytes ≡ record_in form s ++ rest → ⊥
+
+-- bytes begin with these fields behind what stands before fields, and where
+-- bytes begin with the record of a row these are its fields
+pub record IsSplit (form : Form) (bytes fields rest : List ℕ) : Type 0 where
+  pub whole : bytes ≡ (field_bytes (Number w32 (head_of form fields)) ++ fields) ++ rest
+  pub only : (s : StampedRow) (other : List ℕ) → IsStamped s → bytes ≡ record_in form s ++ other
+      → fields ≡ spelled (fields_of s)
+
+-- bytes are split so, or they begin with no record
+abbrev pub Splits : Form → List ℕ → Option (List ℕ × List ℕ) → Type 0
+Splits form bytes (Some p) = IsSplit form bytes p.0 p.1
+Splits form bytes None =
+    (s : StampedRow) (rest : List ℕ) → IsStamped s → bytes ≡ record_in form s ++ rest → ⊥

@@ -11,10 +11,12 @@ use Rattle.blocks.specs.declared.extent.Extent.{Extent}
 use Rattle.blocks.specs.Extents.{start_of}
 use Rattle.directory.specs.declared.entry.Entry.{Entry}
 use Rattle.directory.specs.declared.layout.Layout.{Layout}
+use Rattle.checksum.specs.declared.form.Form.{Form}
 use Rattle.segment.specs.declared.fault.SegmentFault.{SegmentFault}
+use Rattle.checksum.specs.declared.form.Form.{Form}
 use Rattle.segment.specs.declared.fault.SegmentFault.TheVariants as segments
 use Rattle.segment.specs.declared.place.RowPlace.{RowPlace}
-use Rattle.segment.specs.Records.{record_of, segment_of, IsStamped, IsSegment}
+use Rattle.segment.specs.Records.{record_in, record_of, segment_in, segment_of, IsStamped, IsSegmentIn}
 use Rattle.segment.specs.Standing.{places_of}
 use Rattle.store_image.specs.declared.fault.RowsFault.{RowsFault}
 use Rattle.store_image.specs.declared.fault.RowsFault.TheVariants as faults
@@ -41,19 +43,20 @@ abbrev pub bytes_of : Extent → List ℕ → List ℕ
 bytes_of extent file = take extent.bytes (drop (start_of extent) file)
 
 -- the row's record begins at the place
-abbrev pub HasRecord : List ℕ → ℕ → StampedRow → Type 0
-HasRecord bytes at s = IsStamped s × (take (length (record_of s)) (drop at bytes) ≡ record_of s)
+abbrev pub HasRecord : Form → List ℕ → ℕ → StampedRow → Type 0
+HasRecord form bytes at s = IsStamped s
+    × (take (length (record_of s)) (drop at bytes) ≡ record_in form s)
 
 -- why no record was read of bytes in memory
-abbrev pub HasNoRecord : SegmentFault → List ℕ → ℕ → Type 0
-HasNoRecord segments.OutOfMemory bytes at = Unit {0}
-HasNoRecord segments.BadSegment bytes at = (s : StampedRow) → HasRecord bytes at s → ⊥
+abbrev pub HasNoRecord : Form → SegmentFault → List ℕ → ℕ → Type 0
+HasNoRecord form segments.OutOfMemory bytes at = Unit {0}
+HasNoRecord form segments.BadSegment bytes at = (s : StampedRow) → HasRecord form bytes at s → ⊥
 
 -- why no record was read of bytes on a disk
-abbrev pub IsNoRecord : RowsFault → List ℕ → ℕ → Type 0
-IsNoRecord faults.OutOfMemory bytes at = Unit {0}
-IsNoRecord faults.DiskFault bytes at = Unit {0}
-IsNoRecord faults.Damaged bytes at = (s : StampedRow) → HasRecord bytes at s → ⊥
+abbrev pub IsNoRecord : Form → RowsFault → List ℕ → ℕ → Type 0
+IsNoRecord form faults.OutOfMemory bytes at = Unit {0}
+IsNoRecord form faults.DiskFault bytes at = Unit {0}
+IsNoRecord form faults.Damaged bytes at = (s : StampedRow) → HasRecord form bytes at s → ⊥
 
 -- the bytes that a window has
 abbrev pub bytes_in : Window → List ℕ
@@ -81,15 +84,15 @@ pub record AreReadTo (at imports : ℕ) (places : List RowPlace) (rows : List St
   pub numbered : AreNumbered imports rows
 
 -- the bytes begin with their records
-abbrev pub BeginsWith : List StampedRow → List ℕ → Type 0
-BeginsWith rows bytes = (rest : List ℕ) × (bytes ≡ segment_of rows ++ rest)
+abbrev pub BeginsWith : Form → List StampedRow → List ℕ → Type 0
+BeginsWith form rows bytes = (rest : List ℕ) × (bytes ≡ segment_in form rows ++ rest)
 
 -- why no row is read behind these: no segment of more rows has these bytes
-abbrev pub IsNotNext : RowsFault → ℕ → List StampedRow → List ℕ → Type 0
-IsNotNext faults.OutOfMemory imports rows bytes = Unit {0}
-IsNotNext faults.DiskFault imports rows bytes = Unit {0}
-IsNotNext faults.Damaged imports rows bytes = BeginsWith rows bytes → (others : List StampedRow)
-    → IsSegment others bytes → AreNumbered imports others → length rows < length others → ⊥
+abbrev pub IsNotNext : Form → RowsFault → ℕ → List StampedRow → List ℕ → Type 0
+IsNotNext form faults.OutOfMemory imports rows bytes = Unit {0}
+IsNotNext form faults.DiskFault imports rows bytes = Unit {0}
+IsNotNext form faults.Damaged imports rows bytes = BeginsWith form rows bytes → (others : List StampedRow)
+    → IsSegmentIn form others bytes → AreNumbered imports others → length rows < length others → ⊥
 
 -- why the room of an entry isn't there, or why its segment isn't read
 abbrev pub IsNotReadAt : RowsFault → ℕ → Entry → List ℕ → Type 0

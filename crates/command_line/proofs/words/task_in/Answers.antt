@@ -11,7 +11,7 @@ use Rattle.clap.specs.declared.parser.matches.SubCommand.{SubCommand}
 use Rattle.clap.proofs.WalkLemmas.{first_value-rows}
 use Rattle.command_line.specs.declared.words.Task.{Task}
 use Rattle.command_line.specs.declared.words.Task.TheVariants as tasks
-use Rattle.command_line.specs.Words.{IsImportOf, Reads}
+use Rattle.command_line.specs.Words.{IsImportOf, IsInitOf, Reads}
 use Rattle.command_line.proofs.words.task_in.Goals as goal
 
 abbrev pair : Text → List Row → Option (Text × List Row)
@@ -40,23 +40,32 @@ met m n rows p q = met_so (out-ArgMatches m).subcommand n rows p q
 given : (f : Found) (id value : Text) → Some value ≡ first_value f id → first_of id (rows_of f) ≡ Some value
 given f id value is = sym (first_value-rows f id) ∙ sym is
 
-pub returns-in_ok-get_str-in-init : goal.returns-in_ok-get_str-in-init
-returns-in_ok-get_str-in-init c =
+-- the making of a store that was read
+init_read : (n : Text) (rows : List Row) (r : Option Task) → n ≡ codes "init" → IfSome r (IsInitOf rows) → IfSome r (Reads (pair n rows))
+init_read n rows None is h = tt
+init_read n rows (Some (tasks.Init store layout)) is h = (is, h)
+init_read n rows (Some (tasks.Import store folder name quiet)) is h = absurd h
+init_read n rows (Some (tasks.Serve store folder)) is h = absurd h
+init_read n rows (Some (tasks.Status store)) is h = absurd h
+init_read n rows (Some (tasks.Merge store segments)) is h = absurd h
+init_read n rows (Some (tasks.Upgrade store)) is h = absurd h
+init_read n rows (Some tasks.Demo) is h = absurd h
+
+pub returns-in-init : goal.returns-in-init
+returns-in-init c =
     let found = found_of c.in_ok-name.found.now in
     let is = met c.args.matches.now c.in_ok-name.name.now (rows_of found) c.in_ok-name.ensures.name c.in_ok-name.ensures.rows in
-    rw is (
-      c.in-init.is,
-      given found (codes "store") c.in_ok-get_str-in-init.field-0.now c.in_ok-get_str-in-init.ensures,
-    )
+    rw is (init_read c.in_ok-name.name.now (rows_of found) c.init_of.result c.in-init.is c.init_of.ensures)
 
 -- the import that was read
 import_read : (n : Text) (rows : List Row) (r : Option Task) → n ≡ codes "import" → IfSome r (IsImportOf rows) → IfSome r (Reads (pair n rows))
 import_read n rows None is h = tt
 import_read n rows (Some (tasks.Import store folder name quiet)) is h = (is, h)
-import_read n rows (Some (tasks.Init store)) is h = absurd h
+import_read n rows (Some (tasks.Init store layout)) is h = absurd h
 import_read n rows (Some (tasks.Serve store folder)) is h = absurd h
 import_read n rows (Some (tasks.Status store)) is h = absurd h
 import_read n rows (Some (tasks.Merge store segments)) is h = absurd h
+import_read n rows (Some (tasks.Upgrade store)) is h = absurd h
 import_read n rows (Some tasks.Demo) is h = absurd h
 
 pub returns-in-import : goal.returns-in-import
@@ -82,6 +91,15 @@ returns-in_ok-get_str-in-status c =
     rw is (
       c.in-status.is,
       given found (codes "store") c.in_ok-get_str-in-status.field-0.now c.in_ok-get_str-in-status.ensures,
+    )
+
+pub returns-in_ok-get_str-in-upgrade : goal.returns-in_ok-get_str-in-upgrade
+returns-in_ok-get_str-in-upgrade c =
+    let found = found_of c.in_ok-name.found.now in
+    let is = met c.args.matches.now c.in_ok-name.name.now (rows_of found) c.in_ok-name.ensures.name c.in_ok-name.ensures.rows in
+    rw is (
+      c.in-upgrade.is,
+      given found (codes "store") c.in_ok-get_str-in-upgrade.field-0.now c.in_ok-get_str-in-upgrade.ensures,
     )
 
 pub returns-in-Ok : goal.returns-in-Ok

@@ -1,12 +1,12 @@
 use Rattle.std.proofs.Common.{◌≡◌, ◌++◌}
 use Rattle.std.specs.List.{AllByRecursion}
-use Rattle.segment.specs.Records.{segment_of, IsStamped}
+use Rattle.segment.specs.Records.{segment_in, IsStamped}
 use Rattle.history_store.proofs.placing.place_all.Given as goal
 
 -- the rows so far have their records, and are in the index
 abbrev pub invariant-loop-row : goal.invariant-loop-row
 invariant-loop-row l = record {
   split : l.fn.rows.items ≡ l.index ++ l.row-iterator;
-  bytes : l.bytes.items ≡ segment_of l.index;
+  bytes : l.bytes.items ≡ segment_in l.form l.index;
   each : AllByRecursion IsStamped l.index;
 }

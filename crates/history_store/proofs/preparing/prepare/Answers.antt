@@ -3,7 +3,7 @@ use Rattle.std.specs.List.{AllByRecursion}
 use Rattle.history_model.specs.declared.stamped.StampedRow.{StampedRow}
 use Rattle.history_model.specs.InOrder.{IsAscending}
 use Rattle.history_model.specs.History.{stamped, stamped_cmp}
-use Rattle.segment.specs.Records.{IsSegment, segment_of}
+use Rattle.segment.specs.Records.{IsSegmentIn, segment_of}
 use Rattle.history_store.specs.MergeInProgress.{merge_of}
 use Rattle.history_store.specs.Private.Prepared.{IsPlacedAt}
 use Rattle.history_store.proofs.NewSegment.{ascending_stamped, from_one, added_listing, prepared_is, length-stamped}
@@ -31,6 +31,6 @@ returns-clause-prepared c =
     let some = subst (λ n. 1 ≤ n) (sym (ap length (c.deref.ensures.value ∙ c.in_ok-list.ensures) ∙ length-stamped _ c.args.fresh.items)) c.requires.some in
     let listing = added_listing c.args.directory.now c.in_ok-next.next (merge_of c.args.merge.now) c.deref.result.now c.in_ok-entry.entry c.place.ensures.listing c.requires.not_spent some c.in_ok-entry.ensures.placed c.in_ok-next.ensures in
     let placed = subst (λ (l : List StampedRow). IsPlacedAt c.args.directory.now (merge_of c.args.merge.now) l c.in_ok-entry.entry) (c.deref.ensures.value ∙ list) c.in_ok-entry.ensures.placed in
-    let segment = subst (λ (l : List StampedRow). IsSegment l c.in_ok-bytes.field-0.bytes.items) list c.in_ok-bytes.ensures.segment in
+    let segment = subst (λ (l : List StampedRow). IsSegmentIn c.in_ok-entry.entry.form l c.in_ok-bytes.field-0.bytes.items) list c.in_ok-bytes.ensures.segment in
     let index = c.in_ok-bytes.ensures.index ∙ list in
     prepared_is c.args.directory.now (merge_of c.args.merge.now) _ _ c.in_ok-next.next listing placed c.in_ok-next.ensures c.add.ensures index segment

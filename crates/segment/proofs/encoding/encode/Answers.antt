@@ -1,11 +1,11 @@
 use Rattle.std.proofs.Common.{ℕ, List, ◌++◌, take, subst, sym, ap, ◌∙◌}
 use Rattle.std.specs.List.{AllByRecursion}
-use Rattle.segment.specs.Records.{record_of, IsStamped}
+use Rattle.segment.specs.Records.{record_in, IsStamped}
 use Rattle.segment.proofs.SegmentLaws.{segment_more, no_rows, taken_more, all_push}
 use Rattle.segment.proofs.encoding.encode.Goals as goal
 
 pub loop-stamped-init : goal.loop-stamped-init
-loop-stamped-init c = record { bytes = c.in_ok-out.ensures.items ∙ sym no_rows; each = tt }
+loop-stamped-init c = record { bytes = c.in_ok-out.ensures.items ∙ sym (no_rows c.args.form); each = tt }
 
 pub loop-stamped-preserved : goal.loop-stamped-preserved
 loop-stamped-preserved c =
@@ -13,6 +13,6 @@ loop-stamped-preserved c =
     let i = c.loop-stamped.stamped-index in
     let item = c.stamped-item.result in
     record {
-      bytes = c.in_ok-put_record.ensures.bytes ∙ ap (λ (bytes : List ℕ). bytes ++ record_of item) c.loop-stamped.invariant.bytes ∙ sym (segment_more rows i item c.loop-stamped-test.true c.stamped-item.is);
+      bytes = c.in_ok-put_record.ensures.bytes ∙ ap (λ (bytes : List ℕ). bytes ++ record_in c.args.form item) c.loop-stamped.invariant.bytes ∙ sym (segment_more c.args.form rows i item c.loop-stamped-test.true c.stamped-item.is);
       each = subst (AllByRecursion IsStamped) (sym (taken_more rows i item c.loop-stamped-test.true c.stamped-item.is)) (all_push IsStamped (take i rows) item c.loop-stamped.invariant.each c.in_ok-put_record.ensures.stamped);
     }

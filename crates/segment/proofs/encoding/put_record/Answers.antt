@@ -1,20 +1,27 @@
-use Rattle.std.proofs.Common.{refl, ap, ◌∙◌}
-use Rattle.std.proofs.lemmas.Result.{on_ok_weaker}
-use Rattle.rf2_values.specs.Row.{RowValue, version}
-use Rattle.segment.specs.Records.{kind_code, active_code}
-use Rattle.segment.proofs.RecordLaws.{row_fits, record_appended}
+use Rattle.std.proofs.Common.{◌≡◌, ◌++◌, List, ℕ, ap, sym, ◌∙◌, append_assoc, arith}
+use Rattle.std.specs.Int.{w32}
+use Rattle.segment.specs.Records.{Number, field_bytes, spelled, fields_of, head_of, record_in}
+use Rattle.segment.proofs.RecordLaws.{record_length}
 use Rattle.segment.proofs.encoding.put_record.Goals as goal
 
-pub put_body-requires : goal.put_body-requires
-put_body-requires c = row_fits (version c.row.inside.id c.row.inside.time c.row.inside.active c.row.inside.module_id c.row.inside.body) c.row.invariant
+pub head-requires : goal.head-requires
+head-requires c =
+    let put = c.in_ok-put_fields.ensures in
+    let fields = spelled (fields_of c.args.stamped.now) in
+    let made : c.as_slice.result.now ≡ fields = c.as_slice.ensures.value ∙ put.bytes ∙ ap (λ (l : List ℕ). l ++ fields) c.clear.ensures.items in
+    let small = record_length c.args.stamped.now put.stamped in
+    rw made small
 
 pub returns-clause-bytes : goal.returns-clause-bytes
+unfolding record_in
 returns-clause-bytes c =
-    let is = c.row.view_is in
-    on_ok_weaker c.put_body.result
-    (λ last. record_appended c.args.stamped.now _ _ _ _ _ _ _ c.row.inside.body
-    c.record_len.ensures (c.code_of.ensures ∙ ap kind_code c.kind.ensures.kind) (ap (λ (v : RowValue). v.id) is) (c.value.ensures.value ∙ ap (λ (v : RowValue). v.time) is) refl
-    (c.code_of_active.ensures ∙ ap (λ (v : RowValue). active_code v.active) is) (c.value-2.ensures.value ∙ ap (λ (v : RowValue). v.module_id) is) (ap (λ (v : RowValue). v.body) is)
-    _ _ _ _ _ _ _ _ _
-    c.in_ok-put_u32.ensures c.in_ok-put_u8.ensures c.in_ok-put_u128.ensures c.in_ok-put_u32-2.ensures c.in_ok-put_u32-3.ensures c.in_ok-put_u8-2.ensures c.in_ok-put_u64.ensures last)
-    c.put_body.ensures
+    let put = c.in_ok-put_fields.ensures in
+    let fields = spelled (fields_of c.args.stamped.now) in
+    let out = c.args.out.now.items in
+    let first : c.as_slice.result.now ≡ fields = c.as_slice.ensures.value ∙ put.bytes ∙ ap (λ (l : List ℕ). l ++ fields) c.clear.ensures.items in
+    let second : c.as_slice-2.result.now ≡ fields = c.as_slice-2.ensures.value ∙ put.bytes ∙ ap (λ (l : List ℕ). l ++ fields) c.clear.ensures.items in
+    let head_is = c.head.ensures ∙ ap (head_of c.args.form) first in
+    c.in_ok-extend_from_slice.ensures.items
+    ∙ ap (λ (l : List ℕ). c.put_u32.new.out.items ++ l) second
+    ∙ ap (λ (l : List ℕ). l ++ fields) (c.in_ok-put_u32.ensures ∙ ap (λ (n : ℕ). out ++ field_bytes (Number w32 n)) head_is)
+    ∙ append_assoc out (field_bytes (Number w32 (head_of c.args.form fields))) fields

@@ -13,7 +13,7 @@ use Rattle.store_image.proofs.ahead.sync_and_publish.Goals as goal
 
 pub returns-in_err-sync-clause-any_moment : goal.returns-in_err-sync-clause-any_moment
 returns-in_err-sync-clause-any_moment g c honest d lists others on next held =
-    synced_moments _ _ c.args.slot d lists on (g.met.D.Disk.now_is_image c.args.disk.now honest) c.sync.result (RepresentsAs layouts.Two (history_of c.args.next.now others)) (c.sync.ensures.made honest) (c.sync.ensures.failed honest)
+    synced_moments _ _ c.args.slot d lists on (g.met.D.Disk.now_is_image c.args.disk.now honest) c.sync.result (RepresentsAs c.args.next.now.layout (history_of c.args.next.now others)) (c.sync.ensures.made honest) (c.sync.ensures.failed honest)
 
 pub returns-clause-any_moment : goal.returns-clause-any_moment
 returns-clause-any_moment g c honest d lists others on next held =
@@ -21,7 +21,7 @@ returns-clause-any_moment g c honest d lists others on next held =
     let still = c.sync.ensures.honesty.0 honest in
     let made = c.in_ok-sync.ensures.made honest in
     joined _ _ _ _
-    (synced_moments _ _ c.args.slot d lists on now c.sync.result (RepresentsAs layouts.Two (history_of c.args.next.now others)) (c.sync.ensures.made honest) (c.sync.ensures.failed honest))
+    (synced_moments _ _ c.args.slot d lists on now c.sync.result (RepresentsAs c.args.next.now.layout (history_of c.args.next.now others)) (c.sync.ensures.made honest) (c.sync.ensures.failed honest))
     (c.publish_directory.ensures.any_moment still d lists others (synced_on_disk _ _ c.args.slot d lists on now made) next (synced_held _ _ (pieces_of c.args.next.now.entries others) made held))
 
 pub returns-clause-on_disk : goal.returns-clause-on_disk

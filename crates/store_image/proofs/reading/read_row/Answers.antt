@@ -9,16 +9,16 @@ use Rattle.store_image.proofs.reading.read_row.Goals as goal
 pub returns-in_err-row-clause-exact : goal.returns-in_err-row-clause-exact
 returns-in_err-row-clause-exact g c honest sees =
     let p = err_from_is_err_and c.from_residual.result c.from_residual.ensures.1 in
-    rw (p.1, p.2) (no_record c.args.at c.args.imports c.args.rows.now.places.items c.args.rows.now.shown _ c.requires.rows c.in_err-row.field-0.0 (c.in_err-row.ensures.exact honest sees))
+    rw (p.1, p.2) (no_record c.args.window.now.form c.args.at c.args.imports c.args.rows.now.places.items c.args.rows.now.shown _ c.requires.rows c.in_err-row.field-0.0 (c.in_err-row.ensures.exact honest sees))
 
 pub returns-then-row-imports-clause-exact : goal.returns-then-row-imports-clause-exact
 returns-then-row-imports-clause-exact g c honest sees =
     let above = c.if-row-imports.true in
-    above_number c.args.at c.args.imports c.args.rows.now.places.items c.args.rows.now.shown _ c.requires.rows c.in_ok-row.row (c.in_ok-row.ensures.exact honest sees) (omega (arith, above))
+    above_number c.args.window.now.form c.args.at c.args.imports c.args.rows.now.places.items c.args.rows.now.shown _ c.requires.rows c.in_ok-row.row (c.in_ok-row.ensures.exact honest sees) (omega (arith, above))
 
 pub returns-then-not-comes_after-clause-exact : goal.returns-then-not-comes_after-clause-exact
 returns-then-not-comes_after-clause-exact g c honest sees =
-    out_of_order c.args.at c.args.imports c.args.rows.now.places.items c.args.rows.now.shown _ c.requires.rows c.in_ok-row.row (c.in_ok-row.ensures.exact honest sees) (λ up.
+    out_of_order c.args.window.now.form c.args.at c.args.imports c.args.rows.now.places.items c.args.rows.now.shown _ c.requires.rows c.in_ok-row.row (c.in_ok-row.ensures.exact honest sees) (λ up.
     let yes = (c.comes_after.ensures c.args.rows.now.shown (c.as_slice.ensures.value ∙ c.requires.rows.places_are) c.requires.rows.ascending).1 up in
     let no = c.if-not-comes_after.true in
     absurd cc)
@@ -31,7 +31,7 @@ returns-clause-read g c =
 
 pub returns-clause-exact : goal.returns-clause-exact
 returns-clause-exact g c honest sees begins =
-    begins_more c.args.at c.args.rows.now.shown _ c.in_ok-row.row _ c.requires.rows.at_is (c.in_ok-row.ensures.exact honest sees) c.in_ok-push.ensures.shown begins
+    begins_more c.args.window.now.form c.args.at c.args.rows.now.shown _ c.in_ok-row.row _ c.requires.rows.at_is (c.in_ok-row.ensures.exact honest sees) c.in_ok-push.ensures.shown begins
 
 pub returns-clause-taken : goal.returns-clause-taken
 returns-clause-taken g c segments taken =

@@ -6,6 +6,7 @@ use Rattle.store_image.specs.Private.Reading.{bytes_of}
 use Rattle.directory.specs.Places.{extent_of}
 use Rattle.history_model.specs.declared.stamped.StampedRow.{StampedRow}
 use Rattle.segment.specs.Standing.{with_places}
+use Rattle.checksum.specs.declared.form.Form.{Form}
 use Rattle.store_image.specs.Private.Reading.{Sees, BeginsWith, IsNotNext}
 use Rattle.store_image.proofs.Segments.{none_read, none_begins, not_next, wrong_end}
 use Rattle.store_image.proofs.reading.read_rows.Goals as goal
@@ -19,11 +20,12 @@ rows-init g c = record {
   read = none_read c.args.imports _ _ c.in_ok-with_capacity.ensures.items c.new.ensures;
   count = subst (λ (rows : List StampedRow). ◌≡◌ {A = ℕ} (length rows) 0) (sym c.new.ensures) refl;
   extent = c.requires.extent;
+  form = c.requires.form;
   from = omega (arith, c.requires.from);
   reached = omega arith;
   within = omega arith;
   sees = λ honest. c.requires.sees _;
-  begins = λ honest. none_begins _ _ c.new.ensures;
+  begins = λ honest. none_begins _ _ _ c.new.ensures;
   taken = λ segments taken. subst (λ (rows : List StampedRow). g.S.RowSink.has_taken c.args.sink.now segments (with_places 0 rows)) (sym c.new.ensures) taken;
   moments = λ honest. refl;
   honesty = (λ h. h, λ h. h);
@@ -41,10 +43,10 @@ returns-in_err-at-clause-exact g c honest =
     let e = c.in_err-at.field-0.0 in
     let same = same_now _ _ (inv.moments honest) in
     let sees = subst (Sees c.rows.window) (sym same) (inv.sees honest) in
-    let why = subst (λ (x : Extent). IsNotNext e c.args.imports rows (bytes_of x (g.D.Disk.moments c.rows.disk).state.now)) inv.extent (c.in_err-at.ensures.exact (inv.honesty.0 honest) sees) in
+    let why = subst (λ (x : Extent). IsNotNext c.args.entry.form e c.args.imports rows (bytes_of x (g.D.Disk.moments c.rows.disk).state.now)) inv.extent (subst (λ (f : Form). IsNotNext f e c.args.imports rows (bytes_of c.rows.window.extent (g.D.Disk.moments c.rows.disk).state.now)) inv.form (c.in_err-at.ensures.exact (inv.honesty.0 honest) sees)) in
     let left = c.rows-test.true in
     let count = inv.count in
-    rw (p.1, p.2) (not_next e c.args.imports c.args.entry rows _ (subst (λ (f : List ℕ). IsNotNext e c.args.imports rows (bytes_of (extent_of c.args.entry) f)) same why) (inv.begins honest) (omega (arith, left, count)))
+    rw (p.1, p.2) (not_next e c.args.imports c.args.entry rows _ (subst (λ (f : List ℕ). IsNotNext c.args.entry.form e c.args.imports rows (bytes_of (extent_of c.args.entry) f)) same why) (inv.begins honest) (omega (arith, left, count)))
 
 pub rows-preserved : goal.rows-preserved
 rows-preserved g c =
@@ -57,6 +59,7 @@ rows-preserved g c =
       read = read.read;
       count = omega (arith, one, count);
       extent = read.extent ∙ inv.extent;
+      form = read.form ∙ inv.form;
       from = read.from;
       reached = read.reached;
       within = subst (λ (x : Extent). c.in_ok-at.at ≤ x.bytes) inv.extent read.within;
@@ -66,9 +69,9 @@ rows-preserved g c =
       begins = λ honest.
           let same = same_now _ _ (inv.moments honest) in
           let later : List ℕ = (g.D.Disk.moments c.rows.disk).state.now in
-          let P : List StampedRow → Extent → List ℕ → Type 0 = λ rows x f. BeginsWith rows (bytes_of x f) in
+          let P : List StampedRow → Extent → List ℕ → Type 0 = λ rows x f. BeginsWith entry.form rows (bytes_of x f) in
           let before = subst (λ (x : Extent). P c.rows.rows.shown x later) (sym inv.extent) (subst (λ (f : List ℕ). P c.rows.rows.shown (extent_of entry) f) (sym same) (inv.begins honest)) in
-          let after = read.exact (inv.honesty.0 honest) (subst (Sees c.rows.window) (sym same) (inv.sees honest)) before in
+          let after = subst (λ (f : Form). BeginsWith f c.rows.rows.shown (bytes_of c.rows.window.extent later) → BeginsWith f c.read_row.new.rows.shown (bytes_of c.rows.window.extent later)) inv.form (read.exact (inv.honesty.0 honest) (subst (Sees c.rows.window) (sym same) (inv.sees honest))) before in
           subst (λ (f : List ℕ). P c.read_row.new.rows.shown (extent_of entry) f) same (subst (λ (x : Extent). P c.read_row.new.rows.shown x later) inv.extent after);
       taken = λ segments taken. read.taken segments (inv.taken segments taken);
       moments = λ honest. read.moments (inv.honesty.0 honest) ∙ inv.moments honest;

@@ -16,11 +16,12 @@ invariant-rows g l =
       read : AreReadTo l.at l.fn.imports l.rows.places.items l.rows.shown;
       count : length l.rows.shown ≡ l._count;
       extent : l.window.extent ≡ extent_of l.fn.entry;
+      form : l.window.form ≡ l.fn.entry.form;
       from : l.window.from ≤ l.at;
       reached : l.at ≤ l.window.from + l.window.len;
       within : l.at ≤ l.fn.entry.bytes;
       sees : g.D.Disk.is_honest l.fn.disk → Sees l.window old.state.now;
-      begins : g.D.Disk.is_honest l.fn.disk → BeginsWith l.rows.shown (bytes_of (extent_of l.fn.entry) old.state.now);
+      begins : g.D.Disk.is_honest l.fn.disk → BeginsWith l.fn.entry.form l.rows.shown (bytes_of (extent_of l.fn.entry) old.state.now);
       taken : (segments : List (List (StampedRow × RowPlace))) → g.S.RowSink.has_taken l.fn.sink segments [] → g.S.RowSink.has_taken l.sink segments (with_places 0 l.rows.shown);
       moments : g.D.Disk.is_honest l.fn.disk → g.D.Disk.moments l.disk ≡ old;
       honesty : g.D.Disk.is_honest l.fn.disk ↔ g.D.Disk.is_honest l.disk;

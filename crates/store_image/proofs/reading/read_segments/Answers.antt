@@ -9,6 +9,7 @@ use Rattle.history_model.specs.InOrder.{IsAscending}
 use Rattle.rf2_values.specs.Key.{key_cmp}
 use Rattle.segment.specs.declared.place.RowPlace.{RowPlace}
 use Rattle.segment.specs.Standing.{places_of, with_places}
+use Rattle.checksum.specs.declared.form.Form.TheVariants as forms
 use Rattle.store_image.specs.Pieces.{HoldsAll}
 use Rattle.store_image.specs.Kept.{AreSegments, pieces_of}
 use Rattle.store_image.specs.Reading.{IsAt}
@@ -23,7 +24,7 @@ use Rattle.store_image.proofs.reading.read_segments.Goals as goal
 
 -- what an entry is read from where there is none
 none : Entry
-none = record { first = 0; bytes = 0; rows = 0 }
+none = record { first = 0; bytes = 0; rows = 0; form = forms.Plain }
 
 -- the bytes are those from before
 same_now : (old new : Moments) → new ≡ old → new.state.now ≡ old.state.now

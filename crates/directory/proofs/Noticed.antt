@@ -1,0 +1,128 @@
+-- A byte of a block that was changed.
+use Rattle.std.proofs.Common.{◌≡◌, ◌≢◌, inl, inr, ℕ, zero, suc, ◌+◌, ◌-◌, ◌^◌, ◌<◌, ◌≤◌, List, [], ◌∷◌, ◌++◌, length, take, drop, get_or, replicate, refl, sym, ap, subst, ◌∙◌, arith}
+use Rattle.std.specs.Int.{w32, w64, to_be_bytes}
+use Rattle.std.specs.List.{AllByRecursion}
+use Rattle.std.proofs.lemmas.Bool.{cases_lt, cases_eq}
+use Rattle.std.proofs.lemmas.List.{append_cancel_left, take-append-le, drop-append-le}
+use Rattle.checksum.specs.Crc32c.{crc32c}
+use Rattle.checksum.proofs.ChecksumLaws.{is_number_of_32_bits, one_byte_is_noticed}
+use Rattle.directory.specs.declared.layout.Layout.{Layout}
+use Rattle.directory.specs.declared.layout.Layout.TheVariants as layouts
+use Rattle.directory.specs.Listings.{DirectoryValue}
+use Rattle.directory.specs.Content.{HasSum, Lists, ChangedByteIsNoticed, header_bytes, mark, sum_of}
+use Rattle.directory.proofs.Spelled.{block_is, header_fields, same_4}
+
+all_split : (P : ℕ → Type 0) (xs : List ℕ) (y : ℕ) (ys : List ℕ) → AllByRecursion P (xs ++ y ∷ ys) → AllByRecursion P xs × P y × AllByRecursion P ys
+all_split P [] y ys all = (tt, all.0, all.1)
+all_split P (x ∷ xs) y ys all = let rest = all_split P xs y ys all.1 in ((all.0, rest.0), rest.1, rest.2)
+
+all_joined : (P : ℕ → Type 0) (xs : List ℕ) (y : ℕ) (ys : List ℕ) → AllByRecursion P xs → P y → AllByRecursion P ys → AllByRecursion P (xs ++ y ∷ ys)
+all_joined P [] y ys all p others = (p, others)
+all_joined P (x ∷ xs) y ys all p others = (all.0, all_joined P xs y ys all.1 p others)
+
+pub all_take : (P : ℕ → Type 0) (n : ℕ) (xs : List ℕ) → AllByRecursion P xs → AllByRecursion P (take n xs)
+all_take P zero xs all = tt
+all_take P (suc n) [] all = tt
+all_take P (suc n) (x ∷ xs) all = (all.0, all_take P n xs all.1)
+
+-- where the changed byte is behind so many, or among them
+same_past : (n : ℕ) (before after : List ℕ) (b c : ℕ) → length before < n → drop n (before ++ b ∷ after) ≡ drop n (before ++ c ∷ after)
+same_past zero before after b c short = absurd (omega (arith, short))
+same_past (suc n) [] after b c short = refl
+same_past (suc n) (x ∷ before) after b c short = same_past n before after b c (omega (arith, short))
+
+pub taken_past : (n : ℕ) (before after : List ℕ) (b : ℕ) → length before < n → take n (before ++ b ∷ after) ≡ before ++ b ∷ take (n - (length before + 1)) after
+taken_past zero before after b short = absurd (omega (arith, short))
+taken_past (suc n) [] after b short = let e : suc n - (0 + 1) ≡ n = omega arith in ap (λ (m : ℕ). b ∷ take m after) (sym e)
+taken_past (suc n) (x ∷ before) after b short =
+    let e : suc n - (suc (length before) + 1) ≡ n - (length before + 1) = omega arith in
+    ap (λ (l : List ℕ). x ∷ l) (taken_past n before after b (omega (arith, short)) ∙ ap (λ (m : ℕ). before ++ b ∷ take m after) (sym e))
+
+pub same_at : (before after : List ℕ) (b c i : ℕ) → i ≢ length before → get_or (before ++ b ∷ after) i 0 ≡ get_or (before ++ c ∷ after) i 0
+same_at [] after b c zero other = absurd (other refl)
+same_at [] after b c (suc i) other = refl
+same_at (x ∷ before) after b c zero other = refl
+same_at (x ∷ before) after b c (suc i) other = same_at before after b c i (λ e. other (ap suc e))
+
+same_first : (b c : ℕ) (after : List ℕ) → b ∷ after ≡ c ∷ after → b ≡ c
+same_first b c after e = cc
+
+-- ---- two bytes of the marks
+
+third : Layout → ℕ
+third layouts.One = 72
+third layouts.Two = 72
+third layouts.Three = 83
+
+fourth : Layout → ℕ
+fourth layouts.One = 73
+fourth layouts.Two = 73
+fourth layouts.Three = 84
+
+third_is : (layout : Layout) (epoch : ℕ) (rest : List ℕ) → get_or (to_be_bytes w64 epoch ++ (mark layout ++ rest)) 11 0 ≡ third layout
+unfolding mark third
+third_is layouts.One epoch rest = refl
+third_is layouts.Two epoch rest = refl
+third_is layouts.Three epoch rest = refl
+
+fourth_is : (layout : Layout) (epoch : ℕ) (rest : List ℕ) → get_or (to_be_bytes w64 epoch ++ (mark layout ++ rest)) 12 0 ≡ fourth layout
+unfolding mark fourth
+fourth_is layouts.One epoch rest = refl
+fourth_is layouts.Two epoch rest = refl
+fourth_is layouts.Three epoch rest = refl
+
+record HasMark (layout : Layout) (block : List ℕ) : Type 0 where
+  at_11 : get_or block 11 0 ≡ third layout
+  at_12 : get_or block 12 0 ≡ fourth layout
+
+marked : (block : List ℕ) (d : DirectoryValue) → Lists block d → HasMark d.layout block
+marked block d lists =
+    let whole = block_is block d lists ∙ header_fields d.layout d.epoch d.imports _ _ in
+    record {
+      at_11 = ap (λ (l : List ℕ). get_or l 11 0) whole ∙ third_is d.layout d.epoch _;
+      at_12 = ap (λ (l : List ℕ). get_or l 12 0) whole ∙ fourth_is d.layout d.epoch _;
+    }
+
+-- a block of version 3 in which one byte was changed is none of an older version
+not_older : (before after : List ℕ) (b c three four : ℕ) → three ≢ 83 → four ≢ 84 → get_or (before ++ b ∷ after) 11 0 ≡ 83 → get_or (before ++ b ∷ after) 12 0 ≡ 84 → get_or (before ++ c ∷ after) 11 0 ≡ three → get_or (before ++ c ∷ after) 12 0 ≡ four → ⊥
+not_older before after b c three four other_3 other_4 at_11 at_12 is_11 is_12 = elim (cases_eq 11 (length before)) [
+  | inl here ↦ other_4 (sym is_12 ∙ sym (same_at before after b c 12 (λ e. omega (arith, here, e))) ∙ at_12)
+  | inr there ↦ other_3 (sym is_11 ∙ sym (same_at before after b c 11 there) ∙ at_11)
+]
+
+-- ---- the checksum
+
+numbers_same : (xs ys : List ℕ) → AllByRecursion (λ b. b < 256) xs → AllByRecursion (λ b. b < 256) ys → to_be_bytes w32 (crc32c xs) ≡ to_be_bytes w32 (crc32c ys) → crc32c xs ≡ crc32c ys
+numbers_same xs ys all others e = same_4 (crc32c xs) (crc32c ys) (is_number_of_32_bits xs all) (is_number_of_32_bits ys others) e
+
+by_sum : (before after : List ℕ) (byte changed : ℕ) → AllByRecursion (λ b. b < 256) (before ++ byte ∷ after) → changed < 256
+    → drop 4092 (before ++ byte ∷ after) ≡ sum_of (before ++ byte ∷ after) → drop 4092 (before ++ changed ∷ after) ≡ sum_of (before ++ changed ∷ after) → byte ≡ changed
+by_sum before after byte changed all small is others = elim (cases_lt (length before) 4092) [
+  | inl short ↦
+      let parts = all_split (λ b. b < 256) before byte after all in
+      let rest = take (4092 - (length before + 1)) after in
+      let rests = all_take (λ b. b < 256) (4092 - (length before + 1)) after parts.2 in
+      let sums : to_be_bytes w32 (crc32c (before ++ byte ∷ rest)) ≡ to_be_bytes w32 (crc32c (before ++ changed ∷ rest)) =
+      ap (λ (l : List ℕ). to_be_bytes w32 (crc32c l)) (sym (taken_past 4092 before after byte short)) ∙ sym is ∙ same_past 4092 before after byte changed short ∙ others
+      ∙ ap (λ (l : List ℕ). to_be_bytes w32 (crc32c l)) (taken_past 4092 before after changed short) in
+      one_byte_is_noticed before rest byte changed parts.0 rests parts.1 small
+      (numbers_same (before ++ byte ∷ rest) (before ++ changed ∷ rest) (all_joined (λ b. b < 256) before byte rest parts.0 parts.1 rests) (all_joined (λ b. b < 256) before changed rest parts.0 small rests) sums)
+  | inr long ↦
+      let front : take 4092 (before ++ byte ∷ after) ≡ take 4092 (before ++ changed ∷ after) = take-append-le 4092 before (byte ∷ after) long ∙ sym (take-append-le 4092 before (changed ∷ after) long) in
+      let ends : drop 4092 (before ++ byte ∷ after) ≡ drop 4092 (before ++ changed ∷ after) = is ∙ ap (λ (l : List ℕ). to_be_bytes w32 (crc32c l)) front ∙ sym others in
+      same_first byte changed after (append_cancel_left (drop 4092 before) (byte ∷ after) (changed ∷ after) (sym (drop-append-le 4092 before (byte ∷ after) long) ∙ ends ∙ drop-append-le 4092 before (changed ∷ after) long))
+]
+
+noticed : (layout : Layout) (before after : List ℕ) (byte changed : ℕ) → AllByRecursion (λ b. b < 256) (before ++ byte ∷ after) → changed < 256
+    → HasMark layouts.Three (before ++ byte ∷ after) → HasSum layouts.Three (before ++ byte ∷ after) → HasMark layout (before ++ changed ∷ after) → HasSum layout (before ++ changed ∷ after) → byte ≡ changed
+unfolding third fourth
+noticed layouts.One before after byte changed all small m sum n other = absurd (not_older before after byte changed 72 73 (λ e. omega (arith, e)) (λ e. omega (arith, e)) m.at_11 m.at_12 n.at_11 n.at_12)
+noticed layouts.Two before after byte changed all small m sum n other = absurd (not_older before after byte changed 72 73 (λ e. omega (arith, e)) (λ e. omega (arith, e)) m.at_11 m.at_12 n.at_11 n.at_12)
+noticed layouts.Three before after byte changed all small m sum n other = by_sum before after byte changed all small sum other
+
+pub changed_byte_is_noticed : ChangedByteIsNoticed
+changed_byte_is_noticed d e before after byte changed all small long three is others =
+    noticed e.layout before after byte changed all small
+    (subst (λ (v : Layout). HasMark v (before ++ byte ∷ after)) three (marked (before ++ byte ∷ after) d is))
+    (subst (λ (v : Layout). HasSum v (before ++ byte ∷ after)) three is.sum)
+    (marked (before ++ changed ∷ after) e others) others.sum

@@ -1,0 +1,89 @@
+-- An upgrade to version 3.
+use Rattle.std.specs.Prelude.{Result, Ok, Err, OnOk, IfErr}
+use Rattle.std.proofs.Common.{◌≡◌, ◌≢◌, ◌⊎◌, inl, inr, ℕ, ◌+◌, ◌<◌, false, List, [], ◌∷◌, ◌++◌, length, map, refl, sym, ap, subst, ◌∙◌, arith}
+use Rattle.disk_model.specs.Disk.{Moments, LeavesOnly}
+use Rattle.lru.specs.LruCache.{LruCache}
+use Rattle.blocks.specs.Calls.{MakesCalls}
+use Rattle.blocks.specs.Extents.{byte_range}
+use Rattle.blocks.specs.Outside.{SameOutside}
+use Rattle.blocks.specs.Slots.{slots_range}
+use Rattle.history_model.specs.History.{History}
+use Rattle.directory.specs.declared.entry.Entry.{Entry}
+use Rattle.directory.specs.declared.layout.Layout.{Layout}
+use Rattle.directory.specs.declared.layout.Layout.TheVariants as layouts
+use Rattle.directory.specs.Listings.{DirectoryValue}
+use Rattle.directory.specs.Places.{extents_of}
+use Rattle.store_image.specs.Images.{RepresentsAs}
+use Rattle.history_store.specs.declared.refusal.Refusal.{Refusal}
+use Rattle.history_store.specs.declared.refusal.Refusal.TheVariants as refusals
+use Rattle.history_store.specs.Catalog.{Catalog, catalog_of}
+use Rattle.history_store.specs.StoreValue.{StoreValue}
+use Rattle.history_store.specs.Private.StoreValue.{directory_of, with_imports}
+use Rattle.history_store.specs.Private.Publishing.{IsRelisting}
+use Rattle.history_store.specs.Private.Answers.{IsStep}
+use Rattle.history_store.specs.Upgrading.{MayBeUpgraded, IsNotUpgraded, IsUpgradingOf, upgrade_calls}
+use Rattle.history_store.specs.Queries.{ForgetsWritten}
+use Rattle.history_store.specs.Written.{added_entries, added_ranges}
+use Rattle.history_store.proofs.WrittenWhere.{none_behind}
+
+abbrev pub in_three : DirectoryValue → DirectoryValue
+in_three d = record { layout = layouts.Three; epoch = d.epoch + 1; imports = d.imports; entries = d.entries }
+
+pub relists : (d next : DirectoryValue) → next ≡ in_three d → IsRelisting d next
+relists d next is = record {
+  layout = inr (ap (λ (l : DirectoryValue). l.layout) is);
+  epoch = ap (λ (l : DirectoryValue). l.epoch) is;
+  imports = omega (arith, ap (λ (l : DirectoryValue). l.imports) is);
+  entries = ap (λ (l : DirectoryValue). l.entries) is;
+}
+
+pub upgraded_or_not : {D : Type 0} (r : Result (Unit {0}) Refusal) (old new : StoreValue D) (next : DirectoryValue) → MayBeUpgraded old.catalog → old.needs_reopen ≡ false → next ≡ in_three (directory_of old)
+    → IsStep r old new (with_imports old.history next.imports) (catalog_of next old.catalog.merge) → IsUpgradingOf r old new
+upgraded_or_not (Ok done) old new next may still is step = (
+  inr (may, step.1 ∙ ap (λ (l : DirectoryValue). catalog_of l old.catalog.merge) is),
+  record { history = step.0 ∙ ap (λ (l : DirectoryValue). with_imports old.history l.imports) is; was_open = still; open_still = step.2 },
+)
+upgraded_or_not {D} (Err e) old new next may still is step = (subst (λ (x : Refusal). IsNotUpgraded x old) (sym step.0) (still, may), step.1)
+
+pub same_history : {D : Type 0} (r : Result (Unit {0}) Refusal) (old new : StoreValue D) (next : DirectoryValue) → next ≡ in_three (directory_of old)
+    → IsStep r old new (with_imports old.history next.imports) (catalog_of next old.catalog.merge) → new.history ≡ old.history
+same_history (Ok done) old new next is step = step.0 ∙ ap (λ (l : DirectoryValue). with_imports old.history l.imports) is
+same_history (Err e) old new next is step = step.1.history
+
+pub leaves_upgraded : {D : Type 0} (s : StoreValue D) (next : DirectoryValue) (old new : Moments) → next ≡ in_three (directory_of s)
+    → LeavesOnly old new (λ c. RepresentsAs s.catalog.layout s.history c ⊎ RepresentsAs next.layout (with_imports s.history next.imports) c)
+    → LeavesOnly old new (λ c. RepresentsAs s.catalog.layout s.history c ⊎ RepresentsAs layouts.Three s.history c)
+leaves_upgraded s next old new is leaves =
+    subst (λ (l : DirectoryValue). LeavesOnly old new (λ c. RepresentsAs s.catalog.layout s.history c ⊎ RepresentsAs l.layout (with_imports s.history l.imports) c)) is leaves
+
+same_entries : {D : Type 0} (done : Unit {0}) (old new : StoreValue D) (next : DirectoryValue) → next ≡ in_three (directory_of old)
+    → IsStep (Ok done) old new (with_imports old.history next.imports) (catalog_of next old.catalog.merge) → new.catalog.entries ≡ old.catalog.entries
+same_entries done old new next is step = ap (λ (c : Catalog). c.entries) step.1 ∙ ap (λ (l : DirectoryValue). l.entries) is
+
+pub elsewhere_upgraded : {D : Type 0} (r : Result (Unit {0}) Refusal) (old new : StoreValue D) (next : DirectoryValue) (a b : List ℕ) → next ≡ in_three (directory_of old)
+    → IsStep r old new (with_imports old.history next.imports) (catalog_of next old.catalog.merge) → OnOk r (SameOutside (slots_range ∷ added_ranges old.catalog new.catalog) a b) → OnOk r (SameOutside (slots_range ∷ []) a b)
+elsewhere_upgraded (Ok done) old new next a b is step same =
+    subst (λ (l : List Entry). SameOutside (slots_range ∷ map byte_range (extents_of l)) a b) (none_behind old.catalog.entries new.catalog.entries (same_entries done old new next is step)) same
+elsewhere_upgraded (Err e) old new next a b is step same = tt
+
+pub forgets_upgraded : {D : Type 0} (r : Result (Unit {0}) Refusal) (old new : StoreValue D) (next : DirectoryValue) → next ≡ in_three (directory_of old)
+    → IsStep r old new (with_imports old.history next.imports) (catalog_of next old.catalog.merge) → OnOk r (ForgetsWritten (added_entries old.catalog new.catalog) old.cache new.cache)
+    → OnOk r ((new.cache ≡ old.cache) ⊎ ForgetsWritten [] old.cache new.cache)
+forgets_upgraded (Ok done) old new next is step forgets =
+    inr (subst (λ (l : List Entry). ForgetsWritten l old.cache new.cache) (none_behind old.catalog.entries new.catalog.entries (same_entries done old new next is step)) forgets)
+forgets_upgraded (Err e) old new next is step forgets = tt
+
+six_calls : (layout : Layout) → layout ≢ layouts.Three → upgrade_calls layout ≡ 6
+six_calls layouts.One other = refl
+six_calls layouts.Two other = refl
+six_calls layouts.Three other = absurd (other refl)
+
+pub calls_upgraded : (r : Result (Unit {0}) Refusal) (layout : Layout) (old new : Moments) → layout ≢ layouts.Three → MakesCalls r 6 old new → MakesCalls r (upgrade_calls layout) old new
+calls_upgraded r layout old new other calls = subst (λ n. MakesCalls r n old new) (sym (six_calls layout other)) calls
+
+pub uncalled_upgraded : {D : Type 0} (r : Result (Unit {0}) Refusal) (old new : StoreValue D) (next : DirectoryValue) (a b : ℕ) → IsStep r old new (with_imports old.history next.imports) (catalog_of next old.catalog.merge) → IfErr r (λ e. e ≢ refusals.DiskFault → b ≡ a)
+uncalled_upgraded (Ok done) old new next a b step = tt
+uncalled_upgraded (Err e) old new next a b step = λ other. absurd (other step.0)
+
+pub no_calls : (layout : Layout) (n : ℕ) → layout ≡ layouts.Three → n ≡ n + upgrade_calls layout
+no_calls layout n is = subst (λ (v : Layout). n ≡ n + upgrade_calls v) (sym is) (omega arith)

@@ -1,0 +1,95 @@
+//! The upgrade to version 3 of the layout.
+
+ghost use Rattle.std.specs.Prelude.{◌≡◌, ◌≢◌, ◌⊎◌, ◌↔◌, ◌+◌, ◌≤◌, ◌∷◌, [], false, true};
+ghost use Rattle.std.specs.Prelude.{IfErr, OnOk, OnErr};
+ghost use Rattle.disk_model.specs.Disk.{LeavesOnly};
+ghost use Rattle.directory.specs.declared.layout.Layout.TheVariants as layouts;
+
+use crate::preparing::in_version_three;
+use crate::refusal::Refusal;
+use crate::store::Store;
+use directory::Layout;
+use disk_model::Disk;
+
+/// Whether it is version 3.
+fn is_three(layout: Layout) -> bool
+    ensures three { result ≡ true → layout ≡ layouts.Three }
+    ensures older { result ≡ false → layout ≢ layouts.Three }
+{
+    match layout {
+        Layout::One | Layout::Two => false,
+        Layout::Three => true,
+    }
+}
+
+impl<D: Disk> Store<D> {
+    ghost use Rattle.blocks.specs.Calls.{MakesCalls};
+    ghost use Rattle.blocks.specs.Outside.{SameOutside, StemsWithin};
+    ghost use Rattle.blocks.specs.Slots.{slots_range};
+    ghost use Rattle.store_image.specs.Images.{RepresentsAs};
+    ghost use Rattle.history_store.specs.Answers.{Counts, KeepsMoments};
+    ghost use Rattle.history_store.specs.StoreValue.{IsAcknowledged};
+    ghost use Rattle.history_store.specs.Queries.{ForgetsWritten};
+    ghost use Rattle.history_store.specs.Upgrading.{IsUpgradingOf, upgrade_calls};
+    ghost use Rattle.history_store.specs.declared.refusal.Refusal.TheVariants as refusals;
+
+    /// Publishes the directory in version 3, in which what is written has checksums. It lists the
+    /// same segments, and those have none until a merge takes them. A merge that goes on stays as
+    /// it was begun. All memory is taken before the first write.
+    pub fn upgrade(&mut self) -> Result<(), Refusal>
+        ensures answer { IsUpgradingOf result self.old self.new }
+        ensures history { self.new.history ≡ self.old.history }
+        // A stop at any moment leaves the history, in the version from before or in version 3.
+        ensures any_moment { D.is_honest self.old.disk → self.old.needs_reopen ≡ false
+            → LeavesOnly (D.moments self.old.disk) (D.moments self.new.disk)
+            (λ c. RepresentsAs self.old.catalog.layout self.old.history c
+            ⊎ RepresentsAs layouts.Three self.old.history c) }
+        ensures acknowledged { D.is_honest self.old.disk → self.new.needs_reopen ≡ false
+            → IsAcknowledged D.moments self.new }
+        // A store of version 3 stays as it is, without a call on the disk.
+        ensures idle { self.old.catalog.layout ≡ layouts.Three → self.new ≡ self.old }
+        // Refused for any other reason than the device,
+        // it leaves whatever a stop may leave as it was.
+        ensures refused { D.is_honest self.old.disk
+            → KeepsMoments D.moments result self.old self.new }
+        // After Ok a read gives the same outside the slots.
+        ensures elsewhere { D.is_honest self.old.disk → OnOk result
+            (SameOutside (slots_range ∷ [])
+            (D.moments self.old.disk).state.now (D.moments self.new.disk).state.now) }
+        // Whatever it answers, a stop leaves what it might have left before, but for the slots.
+        ensures inside { D.is_honest self.old.disk
+            → LeavesOnly (D.moments self.old.disk) (D.moments self.new.disk)
+            (StemsWithin (D.moments self.old.disk).state slots_range) }
+        // No block in memory is forgotten but those of a slot, after Ok.
+        ensures forgets { OnOk result ((self.new.cache ≡ self.old.cache)
+            ⊎ ForgetsWritten [] self.old.cache self.new.cache) }
+        ensures keeps { OnErr result (self.new.cache ≡ self.old.cache) }
+        ensures closed { self.old.needs_reopen ≡ true → self.new ≡ self.old }
+        // It makes the six changing calls of a publication, and no more where it is refused.
+        ensures calls { D.is_honest self.old.disk
+            → MakesCalls result (upgrade_calls self.old.catalog.layout)
+            (D.moments self.old.disk) (D.moments self.new.disk) }
+        // On every disk it looks at the gate of a slot, and reads nothing else.
+        ensures bytes_read { D.bytes_read self.new.disk ≤ D.bytes_read self.old.disk + 1 }
+        // On every disk it makes no other call than that look and these; refused for any other
+        // reason than the device, none of these.
+        ensures other_calls { D.other_calls self.new.disk ≤ D.other_calls self.old.disk + 6 }
+        ensures uncalled { IfErr result (λ e. e ≢ refusals.DiskFault
+            → D.other_calls self.new.disk ≡ D.other_calls self.old.disk) }
+        ensures honesty { D.is_honest self.old.disk ↔ D.is_honest self.new.disk }
+        ensures capacity { self.new.cache.cap ≡ self.old.cache.cap }
+        ensures failures { Counts result (D.failures self.old.disk) (D.failures self.new.disk) }
+    {
+        if self.needs_reopen {
+            return Err(Refusal::ReopenNeeded);
+        }
+        if is_three(self.directory.layout()) {
+            return Ok(());
+        }
+        if self.directory.epoch() == u64::MAX {
+            return Err(Refusal::CountSpent);
+        }
+        let next = in_version_three(self.alloc, &self.directory)?;
+        self.publish_without_segment(next)
+    }
+}

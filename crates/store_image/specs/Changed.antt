@@ -1,0 +1,67 @@
+-- What one changed byte makes of a store of version 3.
+use Rattle.std.specs.Prelude.{◌≡◌, ◌≢◌, ◌⊎◌, ℕ, ◌+◌, ◌<◌, ◌≤◌, List, ◌∷◌, ◌++◌, length, Some, slice_get}
+use Rattle.std.specs.List.{AllByRecursion}
+use Rattle.blocks.specs.Slots.{IsCurrentWith, IsOpen, content_at, content_of, other}
+use Rattle.blocks.specs.Extents.{start_of}
+use Rattle.history_model.specs.declared.stamped.StampedRow.{StampedRow}
+use Rattle.history_model.specs.History.{History}
+use Rattle.directory.specs.declared.entry.Entry.{Entry}
+use Rattle.checksum.specs.declared.form.Form.TheVariants as forms
+use Rattle.directory.specs.declared.layout.Layout.TheVariants as layouts
+use Rattle.directory.specs.Places.{extent_of}
+use Rattle.segment.specs.Records.{IsOfLength, record_of, segment_of}
+use Rattle.store_image.specs.declared.fault.Damage.TheVariants as damages
+use Rattle.store_image.specs.Images.{IsStore, Represents}
+use Rattle.store_image.specs.Damage.{IsDamaged}
+
+-- a byte behind the given ones was changed to another one
+pub record IsChanged (before : List ℕ) (byte changed : ℕ) (after : List ℕ) : Type 0 where
+  pub differs : byte ≢ changed
+  pub small : changed < 256
+  pub bytes : AllByRecursion (λ b. b < 256) (before ++ byte ∷ after)
+
+-- a store of version 3 in whose directory one byte was changed, behind the epoch, is damaged there
+abbrev pub ChangedDirectoryIsDamaged : Type 0
+ChangedDirectoryIsDamaged = (before after : List ℕ) (byte changed : ℕ) (h : History) (epoch : ℕ)
+    (entries : List Entry)
+    (stands : Represents (before ++ byte ∷ after) h layouts.Three epoch entries)
+    → IsChanged before byte changed after
+    → content_at stands.slot + 8 ≤ length before → length before < content_at stands.slot + 4096
+    → IsDamaged damages.Directory (before ++ changed ∷ after)
+
+-- Where one byte of the epoch was changed, the store is damaged, or the epoch fell below that of
+-- the other slot, which is open: then that one's directory is read, which is an older one.
+abbrev pub ChangedEpochShowsTheOther : Type 0
+ChangedEpochShowsTheOther = (before after : List ℕ) (byte changed : ℕ) (h : History) (epoch : ℕ)
+    (entries : List Entry)
+    (stands : Represents (before ++ byte ∷ after) h layouts.Three epoch entries)
+    → IsChanged before byte changed after
+    → content_at stands.slot ≤ length before → length before < content_at stands.slot + 8
+    → IsDamaged damages.Directory (before ++ changed ∷ after)
+    ⊎ IsDamaged damages.Slots (before ++ changed ∷ after)
+    ⊎ (IsOpen (other stands.slot) (before ++ byte ∷ after) × (older : ℕ) × (older < epoch)
+    × IsCurrentWith (record { slot = other stands.slot; epoch = older })
+    (content_of (other stands.slot) (before ++ byte ∷ after)) (before ++ changed ∷ after))
+
+-- a byte stands at this place of the record of a row, in a segment with checksums
+pub record IsInRecord (entries : List Entry) (lists : List (List StampedRow)) (s : StampedRow)
+    (at place : ℕ) : Type 0 where
+  pub number : ℕ
+  pub entry : Entry
+  pub entry_is : slice_get entries number ≡ Some entry
+  pub checked : entry.form ≡ forms.Checked
+  pub front : List StampedRow
+  pub behind : List StampedRow
+  pub list_is : slice_get lists number ≡ Some (front ++ s ∷ behind)
+  pub at_is : at ≡ start_of (extent_of entry) + length (segment_of front) + place
+  pub within : place < length (record_of s)
+
+-- Bytes that represented a history in version 3, and of which one was changed in a record with a
+-- checksum, represent no history, if the byte doesn't say how long the record is.
+abbrev pub ChangedRecordIsNoStore : Type 0
+ChangedRecordIsNoStore = (before after : List ℕ) (byte changed : ℕ) (h : History) (epoch : ℕ)
+    (entries : List Entry) (s : StampedRow) (place : ℕ)
+    (stands : Represents (before ++ byte ∷ after) h layouts.Three epoch entries)
+    → IsChanged before byte changed after
+    → IsInRecord entries stands.lists s (length before) place → (IsOfLength s place → ⊥)
+    → IsStore (before ++ changed ∷ after) → ⊥
