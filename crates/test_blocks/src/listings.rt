@@ -285,14 +285,6 @@ fn summed(place: usize, byte: u8) -> [u8; 4096] {
     block
 }
 
-/// Whether a block lists no directory.
-fn is_bad(alloc: Global, block: &[u8; 4096]) -> bool {
-    matches!(
-        Directory::decode(alloc, block),
-        Err(DirectoryFault::BadDirectory)
-    )
-}
-
 #[test]
 fn a_content_block_of_version_three(rt: HostRuntime) -> Result<(), Fail> {
     let alloc = rt.alloc();
