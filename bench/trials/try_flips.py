@@ -124,23 +124,33 @@ def replies_in(said):
     return replies[:-1]
 
 
+def ask(served, line):
+    """The lines of the reply to this line."""
+    served.stdin.write(line.encode())
+    served.stdin.flush()
+    said = []
+    while not said or not said[-1].startswith(("END ", "ERR ", "OK ")):
+        said.append(served.stdout.readline().decode())
+        if not said[-1]:
+            raise Wrong("%r: no reply" % line)
+    return said
+
+
 def while_open(program, store, chance, releases, lines, wanted):
-    """Rows are asked for while bits of a segment are turned over: how many were refused."""
+    """Rows are asked for while bits of a segment are turned over: how many were refused. A first
+    reply is waited for, since the opening reads every record."""
     words = [program, "serve", "--store", store.path, "--releases", releases]
     served = subprocess.Popen(
         words, stdin=subprocess.PIPE, stdout=subprocess.PIPE, stderr=subprocess.DEVNULL)
     refused = 0
     try:
+        ask(served, "0 STATUS\n")
         for line, reply in zip(questions(lines).splitlines(keepends=True), wanted):
             start, end = chance.choice(store.segments)
             turned = [chance.randrange(start, end) for _ in range(200)]
             for at in turned:
                 store.put(at, store.data[at] ^ 4)
-            served.stdin.write(line.encode())
-            served.stdin.flush()
-            said = []
-            while not said or not said[-1].startswith(("END ", "ERR ")):
-                said.append(served.stdout.readline().decode())
+            said = ask(served, line)
             for at in turned:
                 store.put(at, store.data[at])
             if said[-1].startswith("ERR 8 "):
