@@ -32,14 +32,14 @@ fn is_refused(alloc: Global, bytes: &[u8]) -> Result<bool, NoAnswer> {
 
 /// How many bytes of a segment leave one that is refused, each turned over by itself in these bits.
 pub fn count_turned(alloc: Global, bytes: &[u8], bits: u8) -> Answer {
-    let mut refused = 0;
+    let mut refused: usize = 0;
     for place in 0..bytes.len() {
         let mut turned = bytes.to_vec(alloc)?;
         if let Some(byte) = turned.get_mut(place) {
             *byte ^= bits;
         }
         if is_refused(alloc, turned.as_slice())? {
-            refused += 1;
+            refused = refused.saturating_add(1);
         }
     }
     let count = bytes.len();

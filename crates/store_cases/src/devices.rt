@@ -54,17 +54,17 @@ fn count_turned(alloc: Global, bytes: &[u8], words: &str) -> Answer {
     let (to, bits) = first_word(words)?;
     let (from, to): (usize, usize) = (number(from)?, number(to)?);
     let bits: u8 = number(bits)?;
-    let mut damaged = 0;
-    let mut count = 0;
+    let mut damaged: usize = 0;
+    let mut count: usize = 0;
     for place in from..to {
         let mut turned = bytes.to_vec(alloc)?;
         let Some(byte) = turned.get_mut(place) else {
             return Err(NoAnswer::NoQuestion);
         };
         *byte ^= bits;
-        count += 1;
+        count = count.saturating_add(1);
         if is_damaged(alloc, turned.as_slice())? {
-            damaged += 1;
+            damaged = damaged.saturating_add(1);
         }
     }
     Ok(format!(in alloc; "{damaged} of {count} damaged")?)
