@@ -272,17 +272,32 @@ fn checked_block() -> [u8; 4096] {
     block
 }
 
-/// The block with another byte at a place of its entry, and with the checksum that it then has.
-fn summed(place: usize, byte: u8) -> [u8; 4096] {
-    let mut block = checked_block();
-    if place < 4092 {
-        block[place] = byte;
-    }
+/// Puts the checksum that a block of version 3 has behind its other bytes.
+fn put_sum(block: &mut [u8; 4096]) {
     let sum = crc32c(&block[..4092]).to_be_bytes();
     for (place, byte) in block[4092..].iter_mut().zip(sum) {
         *place = byte;
     }
+}
+
+/// The block with another byte at a place, and with the checksum that it then has.
+fn summed(place: usize, byte: u8) -> [u8; 4096] {
+    let mut block = checked_block();
+    if place < block.len() {
+        block[place] = byte;
+    }
+    put_sum(&mut block);
     block
+}
+
+/// Whether the block with another byte at a place, and the checksum from before, is refused.
+fn is_bad_unsummed(alloc: Global, place: usize, byte: u8) -> bool {
+    let mut block = checked_block();
+    if place >= block.len() {
+        return false;
+    }
+    block[place] = byte;
+    is_bad(alloc, &block)
 }
 
 #[test]
@@ -304,12 +319,9 @@ fn a_content_block_of_version_three(rt: HostRuntime) -> Result<(), Fail> {
     let read = Directory::decode(alloc, &block)?;
     assert_eq!(rt; read.layout(), Layout::Three);
     assert_eq!(rt; read.entries().len(), 1);
-    for (place, byte) in [(11, 0x48), (2000, 1), (4095, 0xe2)] {
-        let mut changed = checked_block();
-        assert!(rt; place < 4096);
-        changed[place] = byte;
-        assert!(rt; is_bad(alloc, &changed), "byte {place}");
-    }
+    assert!(rt; is_bad_unsummed(alloc, 11, 0x48));
+    assert!(rt; is_bad_unsummed(alloc, 2000, 1));
+    assert!(rt; is_bad_unsummed(alloc, 4095, 0xe2));
     // With a right checksum, too: a form that isn't any, and a mark that isn't any.
     assert!(rt; !is_bad(alloc, &summed(0, 0)));
     assert!(rt; is_bad(alloc, &summed(47, 2)));
