@@ -90,7 +90,7 @@ pub returns-clause-calls : goal.returns-clause-calls
 returns-clause-calls g c =
     let older : c.self.inside.directory.layout ≢ layouts.Three = λ e. c.is_three.ensures.older c.if-is_three.false (c.layout.ensures ∙ e) in
     let other = subst (λ (s : StoreValue g.row.D.Denot). s.catalog.layout ≢ layouts.Three) c.self.view_is older in
-    λ honest. calls_upgraded c.publish_without_segment.result c.args.self.now.catalog.layout _ _ other (c.publish_without_segment.ensures.calls honest)
+    λ honest. calls_upgraded c.publish_without_segment.result c.args.self.now.catalog.layout (g.D.Disk.moments c.args.self.now.disk) (g.D.Disk.moments c.publish_without_segment.new.self.disk) other (c.publish_without_segment.ensures.calls honest)
 
 pub returns-clause-idle : goal.returns-clause-idle
 returns-clause-idle g c =
