@@ -1,6 +1,5 @@
-use Rattle.std.proofs.Common.{◌≡◌, ◌≢◌, ◌<◌, ◌∙◌, false, inl, inr, refl, sym, ap, subst, arith}
+use Rattle.std.proofs.Common.{◌≡◌, ◌≢◌, ◌<◌, ◌∙◌, false, inl, refl, sym, subst, arith}
 use Rattle.std.proofs.lemmas.Bool.Decides.{nat_tests}
-use Rattle.std.proofs.lemmas.Result.{err_from_is_err_and}
 use Rattle.disk_model.specs.Disk.{EachImage}
 use Rattle.disk_model.proofs.MomentSteps.{stayed}
 use Rattle.disk_model.proofs.Images.{same_but_all}
@@ -8,7 +7,6 @@ use Rattle.directory.specs.declared.layout.Layout.TheVariants as layouts
 use Rattle.store_image.specs.Images.{RepresentsAs}
 use Rattle.history_store.specs.StoreValue.{StoreValue}
 use Rattle.history_store.specs.Private.StoreValue.{directory_of}
-use Rattle.history_store.specs.Private.Publishing.{IsRelisting}
 use Rattle.history_store.specs.Upgrading.{MayBeUpgraded}
 use Rattle.history_store.proofs.Held.{held_stands}
 use Rattle.history_store.proofs.MergePublished.{same_refused}
