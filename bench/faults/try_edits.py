@@ -363,17 +363,19 @@ class Trial:
         inner = max(around, key=lambda it: it.body, default=None)
         return proved_name(inner, self.names) if inner else None
 
-    def leaves(self) -> Iterator[tuple[str, Function]]:
-        """Functions that call no other of the crate and have no proof file, with their files."""
+    def plantable(self) -> list[tuple[str, Function]]:
+        """Functions that have no proof file, with their files, those first that call no other."""
+        found = []
         for path, functions in sorted(self.sources.items()):
             for function in functions:
                 name = proved_name(function, self.names)
-                if name and not function.is_method_of_trait() and self.is_leaf(name):
-                    yield path, function
+                if name and not function.is_method_of_trait() and not self.has_proof(name):
+                    calls_none = not self.calls.direct.get(name, set()) & self.names
+                    found.append((not calls_none, path, function))
+        return [(path, function) for _, path, function in sorted(found, key=lambda it: it[0])]
 
-    def is_leaf(self, name: str) -> bool:
-        has_proof = os.path.isdir(os.path.join(self.folder, "proofs", *name.split("::")))
-        return not (self.calls.direct.get(name, set()) & self.names or has_proof)
+    def has_proof(self, name: str) -> bool:
+        return os.path.isdir(os.path.join(self.folder, "proofs", *name.split("::")))
 
     def planted(self, texts: dict[str, str], path: str, function: Function) -> dict[str, str]:
         """The texts with the statement that does nothing at the beginning of this function."""
@@ -387,12 +389,12 @@ class Trial:
 
     def find_controls(self) -> None:
         """Finds functions whose proofs accept the statement that does nothing."""
-        leaves = [it for _, it in zip(range(PLANTS), self.leaves())]
+        chosen = self.plantable()[:PLANTS]
         texts: dict[str, str] = {}
-        for path, function in leaves:
+        for path, function in chosen:
             texts = self.planted(texts, path, function)
         named = {str(proved_name(function, self.names)): (path, function)
-                 for path, function in leaves}
+                 for path, function in chosen}
         if not named:
             raise LostControl("there is no function to plant a statement in that does nothing")
         report = self.over_copy(texts, sorted(named))
