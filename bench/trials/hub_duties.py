@@ -23,8 +23,6 @@ MOST_SEGMENTS = 250
 ALMOST_FULL = MOST_SEGMENTS - 1
 MERGE_ABOVE = 100
 TIME = re.compile(r"[0-9]{4}-[0-9]{2}-[0-9]{2}T[0-9]{2}:[0-9]{2}:[0-9]{2}Z ")
-# The greatest exposure that `systemd-analyze security` may find, in tenths; it was 87 once.
-MOST_EXPOSED = 10
 # Another user and group than the hub's.
 NOBODY = 65534
 
@@ -367,26 +365,37 @@ def steps(place, store):
 
 
 UNIT = "sctd.service"
+GATEWAY_UNIT = os.path.join(ROOT, "gateway", "sctd-gateway.service")
+DROPPING = "ExecStartPre=/usr/bin/dd if=/dev/null of=/var/lib/sctd/terms.store oflag=nocache \\"
+# Lines of both units, and of that of the hub.
+LINES = ["NoNewPrivileges=yes", "CapabilityBoundingSet=", "ProtectSystem=strict", "UMask=0077",
+         "SupplementaryGroups=sctd-ask", "SystemCallFilter=@system-service"]
+HUB_LINES = ["PrivateNetwork=yes", "RestrictAddressFamilies=AF_UNIX", DROPPING,
+             "Environment=GLIBC_TUNABLES=glibc.malloc.hugetlb=1"]
+# The greatest exposures that `systemd-analyze security` may find, in tenths; one was 87 once.
+MOST_EXPOSED, GATEWAY_EXPOSED = 6, 10
 
 
-def unit(place, store):
-    """The unit is as hardened as it can be, gives questions to a group and imports to the owner."""
-    text = content(place.script(UNIT)).decode()
-    dropping = "ExecStartPre=/usr/bin/dd if=/dev/null of=/var/lib/sctd/terms.store oflag=nocache"
-    for line in ("Environment=GLIBC_TUNABLES=glibc.malloc.hugetlb=1", "UMask=0077",
-                 "SupplementaryGroups=sctd-ask", dropping + " \\"):
-        same("how often the unit has %r" % line, text.count("\n%s\n" % line), 1)
+def units(place, store):
+    """The units are as hardened as they can be. That of the hub gives questions to a group and
+    imports to its owner."""
+    own = place.script(UNIT)
+    for path, lines in ((own, LINES + HUB_LINES), (GATEWAY_UNIT, LINES)):
+        text = content(path).decode()
+        for line in lines:
+            same("how often %s has %r" % (path, line), text.count("\n%s\n" % line), 1)
+        same("how often %s limits its memory" % path, text.count("\nMemoryMax="), 1)
     analysing = shutil.which("systemd-analyze")
     if analysing is None:
         raise Skipped("there is no systemd-analyze")
-    done = subprocess.run(
-        [analysing, "security", "--offline=true", "--threshold=%d" % MOST_EXPOSED,
-         place.script(UNIT)], stdout=subprocess.PIPE, stderr=subprocess.STDOUT, timeout=SECONDS,
-        check=False)
-    if b"unrecognized option" in done.stdout:
-        raise Skipped("this systemd-analyze can't look at a file")
-    same("how exposed the unit is", (done.returncode, done.stdout.splitlines()[-1:]),
-         (0, done.stdout.splitlines()[-1:]))
+    for path, most in ((own, MOST_EXPOSED), (GATEWAY_UNIT, GATEWAY_EXPOSED)):
+        done = subprocess.run(
+            [analysing, "security", "--offline=true", "--threshold=%d" % most, path],
+            stdout=subprocess.PIPE, stderr=subprocess.STDOUT, timeout=SECONDS, check=False)
+        if b"unrecognized option" in done.stdout:
+            raise Skipped("this systemd-analyze can't look at a file")
+        same("how exposed a unit is", (done.returncode, done.stdout.splitlines()[-1:]),
+             (0, done.stdout.splitlines()[-1:]))
 
 
 def allowed_calls(lists):
@@ -458,4 +467,4 @@ def types(place, store):
 
 
 TRIALS = [questions_alone, what_arrives, pins_apart, rights, other_users, the_log, no_reply, nights,
-          full_store, steps, unit, system_calls, types]
+          full_store, steps, units, system_calls, types]
