@@ -16,7 +16,8 @@ is its owner's alone, too, or with `--group` that group's.
 Lines are answered one after the other, so an import keeps the others waiting. The lines of a client
 that have come already, at most 32, are answered together. `BACKUP PATH`, on the socket of
 `--socket`, copies the store while questions are answered. When more than N segments stand (100 if
-not said), the hub merges in short steps between the clients' lines.
+not said), the hub merges in short steps between the clients' lines; where the store is full, an
+import waits for a merge.
 
 Once the store is open, the hub prints `OK ready` (and tells systemd, where that started it). An
 opening that is refused ends the hub with the `ERR` line and the program's status. The hub ends with
