@@ -16,7 +16,8 @@ is its owner's alone, too, or with `--group` that group's.
 Lines are answered one after the other, so an import keeps the others waiting. The lines of a client
 that have come already, at most 32, are answered together. `BACKUP PATH`, on the socket of
 `--socket`, copies the store while questions are answered. When more than N segments stand (100 if
-not said), the hub merges in short steps between the clients' lines.
+not said), the hub merges in short steps between the clients' lines; where the store is full, an
+import waits for a merge.
 
 Once the store is open, the hub prints `OK ready` (and tells systemd, where that started it). An
 opening that is refused ends the hub with the `ERR` line and the program's status. The hub ends with
@@ -45,13 +46,11 @@ import sys
 from typing import Any, Optional
 
 from hub_lines import LINE_LIMIT, NOT_A_QUESTION, TOO_LONG, Line, LineReader, Sort, turns
-from hub_store import Ended, Program, Store, tell
+from hub_store import MOST_SEGMENTS, Ended, Program, Store, identity_of, tell
 
 # Session 0 is the hub's own. Clients that only ask leave some of the others to those that import.
 SESSIONS = range(1, 1024)
 KEPT_SESSIONS = 23
-# The most segments that a store may have.
-MOST_SEGMENTS = 250
 # How many bytes of replies may wait to be read by the clients.
 UNREAD_LIMIT = 256 << 20
 # How long clients have time to read what was answered when the hub ends.
@@ -214,8 +213,7 @@ class Listener:
             self.socket.bind(path)
         finally:
             os.umask(before)
-        found = os.lstat(path)
-        self.identity = (found.st_dev, found.st_ino)
+        self.identity = identity_of(os.lstat(path))
         if group is not None:
             os.chown(path, -1, group)
             os.chmod(path, 0o660)
@@ -223,8 +221,7 @@ class Listener:
     def remove(self) -> None:
         """Removes the socket's name, if it is still that of this socket."""
         with contextlib.suppress(FileNotFoundError):
-            found = os.lstat(self.path)
-            if (found.st_dev, found.st_ino) == self.identity:
+            if identity_of(os.lstat(self.path)) == self.identity:
                 os.unlink(self.path)
 
 

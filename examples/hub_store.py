@@ -21,8 +21,11 @@ REPLY_SIZE = 1 << 16
 LAST_LINE = re.compile(rb"^(?:OK|ERR|END)(?: .*)?$", re.MULTILINE)
 # A merge of the hub's own goes in steps of so many rows.
 STEP = b"STEP 1000"
+# The most segments that a store may have.
+MOST_SEGMENTS = 250
+IMPORT = b"IMPORT"
 # The lines whose replies are logged, and those of which only refusals are.
-LOGGED = (b"IMPORT", b"PUBLISH")
+LOGGED = (IMPORT, b"CHECK", b"PUBLISH")
 LOGGED_REFUSED = (b"MERGE", b"STEP", b"ABANDON", b"TRIM")
 # How many bytes of a copy are written at a time.
 COPY_SIZE = 1 << 20
@@ -146,8 +149,15 @@ class Store:
     def __init__(self, program: Program, path: str, command: str, merge_above: int) -> None:
         self.program, self.path, self.command = program, path, command
         self.merge_above = merge_above
+        # Which file the path has named since the program opened it.
+        self.identity = identity_of(os.stat(path))
         # Held by a line that may change the store, and while the store is copied.
         self.changes = asyncio.Lock()
+        # Held from before an import, while there is room made for it, to its reply.
+        self.imports = asyncio.Lock()
+        # Held by a merge of the hub's own. Who waits for several of these has them in the order
+        # imports, merges, changes.
+        self.merges = asyncio.Lock()
         # There may be more segments than wanted.
         self.may_merge = asyncio.Event()
         self.may_merge.set()
@@ -156,15 +166,35 @@ class Store:
         self.copying: Optional[Copying] = None
 
     async def change(self, session: int, line: bytes) -> Replies:
-        """The reply to a line that may change the store."""
-        async with self.changes:
-            replies = await self.program.ask(session, [line])
-        word, last = first_word(line), replies.last_lines[0]
-        if word in LOGGED or (word in LOGGED_REFUSED and last.startswith(b"ERR")):
-            log("%s: %s" % (shown(without_cr(line)), shown(last)))
-        if last.startswith(b"OK") and session != HUB_SESSION:
-            self.note_change(session, word)
+        """The reply to a line that may change the store, once it is logged."""
+        asking = self.imported if first_word(line) == IMPORT else self.asked
+        try:
+            replies = await asking(session, line)
+        except Ended:
+            if session != HUB_SESSION and first_word(line) in LOGGED:
+                log("%s: no reply" % shown(without_cr(line)))
+            raise
+        self.note_reply(session, line, replies.last_lines[0])
         return replies
+
+    async def imported(self, session: int, line: bytes) -> Replies:
+        """The reply to an import, for which room is made first."""
+        async with self.imports:
+            await self.make_room()
+            return await self.asked(session, line)
+
+    async def asked(self, session: int, line: bytes) -> Replies:
+        """The reply to a line while nothing else changes or copies the store."""
+        async with self.changes:
+            return await self.program.ask(session, [line])
+
+    def note_reply(self, session: int, line: bytes, last: bytes) -> None:
+        """Notes what a line has changed, and logs its reply."""
+        word, is_refused = first_word(line), last.startswith(b"ERR")
+        if word in LOGGED or (word in LOGGED_REFUSED and is_refused):
+            log("%s: %s" % (shown(without_cr(line)), shown(last)))
+        if session != HUB_SESSION and not is_refused:
+            self.note_change(session, word)
 
     def note_change(self, session: int, word: bytes) -> None:
         """Notes what a client has changed."""
@@ -193,20 +223,31 @@ class Store:
             await self.may_merge.wait()
             self.may_merge.clear()
             try:
-                while await self.merges_two():
+                while await self.merges_two(self.merge_above):
                     pass
             except Refused as refused:
                 log("MERGE: %s" % refused)
 
-    async def merges_two(self) -> bool:
-        """Whether a merge was needed and published. The merge of a client is left to that."""
-        _, _, _, segments, left = await self.status()
-        if int(segments) <= self.merge_above or self.merging is not None:
-            return False
-        last = await self.merge_line(b"MERGE") if left == b"-" else b"OK " + left
-        while last.startswith(b"OK "):
-            last = await self.merge_line(b"PUBLISH" if last == b"OK 0" else STEP)
-        return last == b"OK"
+    async def make_room(self) -> None:
+        """Merges where a store is full, as imports can come faster than segments are merged."""
+        if self.merge_above == MOST_SEGMENTS:
+            return
+        with contextlib.suppress(Refused):
+            # (An import doesn't wait for a merge without need.)
+            if int((await self.status())[3]) >= MOST_SEGMENTS:
+                await self.merges_two(MOST_SEGMENTS - 1)
+
+    async def merges_two(self, above: int) -> bool:
+        """Whether more segments stood than so many, and two of them are merged. The merge of a
+        client is left to that."""
+        async with self.merges:
+            _, _, _, segments, left = await self.status()
+            if int(segments) <= above or self.merging is not None:
+                return False
+            last = await self.merge_line(b"MERGE") if left == b"-" else b"OK " + left
+            while last.startswith(b"OK "):
+                last = await self.merge_line(b"PUBLISH" if last == b"OK 0" else STEP)
+            return last == b"OK"
 
     async def merge_line(self, line: bytes) -> bytes:
         """The reply to a line of a merge of the hub's own."""
@@ -230,7 +271,7 @@ class Store:
         path = path_of(name)
         async with self.changes:
             wanted = (await self.status())[:4]
-            self.copying = Copying(self.path, path)
+            self.copying = Copying(self.path, self.identity, path)
             try:
                 await asyncio.to_thread(self.copying.copy)
             finally:
@@ -273,11 +314,19 @@ def path_of(name: bytes) -> str:
     return path
 
 
+# A file system, and the number of a file in it.
+Identity = tuple[int, int]
+
+
+def identity_of(found: os.stat_result) -> Identity:
+    return found.st_dev, found.st_ino
+
+
 class Copying:
     """A copy of the store's file that is being made. It is made in a thread of its own."""
 
-    def __init__(self, source: str, path: str) -> None:
-        self.source, self.path = source, path
+    def __init__(self, source: str, identity: Identity, path: str) -> None:
+        self.source, self.identity, self.path = source, identity, path
         self.is_stopped = threading.Event()
 
     def copy(self) -> None:
@@ -292,6 +341,8 @@ class Copying:
         try:
             with open(number, "wb") as target:
                 with open(self.source, "rb") as source:
+                    if identity_of(os.fstat(source.fileno())) != self.identity:
+                        raise Refused("the store's file was replaced")
                     while part := source.read(COPY_SIZE):
                         self.go_on()
                         target.write(part)

@@ -1,36 +1,30 @@
 """Trials of examples/hub.py for try_hub.py: its socket for questions, the rights of its sockets,
-its log, its merges and copies, and the unit."""
+its log, its merges, and the units."""
 
 import grp
 import os
 import re
-import resource
 import shutil
 import signal
-import stat
 import subprocess
 import sys
 import threading
 import time
 
-from hub_harness import RECORDER, ROOT, SECONDS, Client, Hub, Skipped, Wrong, concept, concept_id
-from hub_harness import same, until, write_release
+from hub_copies import begin_copy, slow_copies
+from hub_harness import RECORDER, ROOT, SECONDS, Client, Hub, Skipped, Wrong, concept
+from hub_harness import concept_id, content, mode, same, until, write_release
 
 NOT_A_QUESTION = ["ERR hub NotAQuestion"]
 STATUS = ["OK 2 10 2 -"]
 # More imports than a store may have segments.
-NIGHTS = 260
+NIGHTS = 300
+MOST_SEGMENTS = 250
+ALMOST_FULL = MOST_SEGMENTS - 1
 MERGE_ABOVE = 100
 TIME = re.compile(r"[0-9]{4}-[0-9]{2}-[0-9]{2}T[0-9]{2}:[0-9]{2}:[0-9]{2}Z ")
-# The greatest exposure that `systemd-analyze security` may find, in tenths; it was 87 once.
-MOST_EXPOSED = 10
 # Another user and group than the hub's.
 NOBODY = 65534
-
-
-def content(path):
-    with open(path, "rb") as file:
-        return file.read()
 
 
 def logged(hub):
@@ -125,10 +119,6 @@ def has_strace():
                           timeout=SECONDS, check=False).returncode == 0
 
 
-def mode(path):
-    return oct(stat.S_IMODE(os.lstat(path).st_mode))
-
-
 def rights(place, store):
     """The sockets are their owner's alone, that for questions also a group's where one is named,
     whatever the umask, from the moment at which they are there."""
@@ -212,6 +202,7 @@ def the_log(place, store):
     own = place.make_store("own")
     with Hub(place, own) as hub:
         client = Client(hub.socket)
+        checked = client.ask("CHECK r1")[0]
         for line in ("IMPORT r1", "IMPORT r2", "STATUS", "GET C 1 2", "x", "IMPORT r9", "STEP 1",
                      "MERGE", "STEP 10", "PUBLISH", "TRIM", "IMPORT r\x1b[31m",
                      "IMPORT a\rb\u2028c\\n", "BACKUP " + place.path("copy")):
@@ -223,8 +214,9 @@ def the_log(place, store):
         told = hub.told()
         lines = [line for line in logged_beside(told)]
     same("the log", lines, [
-        "IMPORT r1: OK 1 6 0", "IMPORT r2: OK 2 4 0", "IMPORT r9: ERR 45 NoFolder",
-        "STEP 1: ERR 11 NoMerge", "PUBLISH: OK", "IMPORT r\\x1b[31m: ERR 43 Arguments",
+        "CHECK r1: " + checked, "IMPORT r1: OK 1 6 0", "IMPORT r2: OK 2 4 0",
+        "IMPORT r9: ERR 45 NoFolder", "STEP 1: ERR 11 NoMerge", "PUBLISH: OK",
+        "IMPORT r\\x1b[31m: ERR 43 Arguments",
         "IMPORT a\\rb\\u2028c\\\\n: ERR 43 Arguments",
         "BACKUP %s: OK 2 10 1" % place.path("copy"), "IMPORT \\xff\\x00\\x7f: ERR 43 Arguments"])
     if any(not sign.isprintable() for sign in told.replace("\n", "")):
@@ -238,15 +230,43 @@ def logged_beside(told):
     return [TIME.sub("", line) for line in told.splitlines() if TIME.match(line)]
 
 
+def no_reply(place, store):
+    """Where the program ends within an import, the log says which it was."""
+    ending = place.wrapped("""
+import subprocess, sys
+real = subprocess.Popen([PROGRAM, *sys.argv[1:]], stdin=subprocess.PIPE)
+for line in sys.stdin.buffer:
+    if b"IMPORT" in line:
+        break
+    real.stdin.write(line)
+    real.stdin.flush()
+real.stdin.close()
+sys.exit(real.wait())
+""")
+    with Hub(ending, store) as hub:
+        client = Client(hub.socket)
+        client.send(b"IMPORT r1\x1b\n")
+        same("a client whose import has no reply", client.line(), b"")
+        client.leave()
+        same("the hub's end", hub.end("a hub whose program has ended"), 1)
+        same("what it logged", logged_beside(hub.told()), ["IMPORT r1\\x1b: no reply"])
+
+
+def write_nights(releases, count):
+    """Writes releases of a row each, and answers the lines that import them."""
+    for number in range(1, count + 1):
+        write_release(releases, "n%d" % number, {"C": [concept(number)]})
+    return ["IMPORT n%d\n" % number for number in range(1, count + 1)]
+
+
 def nights(place, store):
     """The hub merges in time, so that no import meets too many segments, and answers meanwhile."""
-    own = place.make_store("own")
-    for number in range(1, NIGHTS + 1):
-        write_release(place.path("releases"), "n%d" % number, {"C": [concept(number)]})
-    with Hub(place, own, releases=place.path("releases")) as hub:
+    own, releases = place.make_store("own"), place.path("releases")
+    lines = write_nights(releases, NIGHTS)
+    with Hub(place, own, releases=releases) as hub:
         client, other = Client(hub.socket), Client(hub.socket)
-        for number in range(1, NIGHTS + 1):
-            same("an import", client.ask("IMPORT n%d" % number), ["OK %d 1 0" % number])
+        for number, line in enumerate(lines, 1):
+            same("an import", client.ask(line.rstrip("\n")), ["OK %d 1 0" % number])
         until("the segments are merged",
               lambda: int(other.ask("STATUS")[0].split(" ")[3]) <= MERGE_ABOVE)
         same("the rows", other.ask("STATUS")[0].split(" ")[:3], ["OK", str(NIGHTS), str(NIGHTS)])
@@ -259,13 +279,52 @@ def nights(place, store):
         same("merges", len(merges) >= NIGHTS - MERGE_ABOVE, True)
 
 
+def import_alone(place, store, releases, lines):
+    """Imports without a hub, and so without merges."""
+    done = subprocess.run(
+        [place.program, "serve", "--store", store, "--releases", releases],
+        input="".join("0 " + line for line in lines).encode(), stdout=subprocess.PIPE,
+        stderr=subprocess.DEVNULL, timeout=SECONDS, check=False)
+    same("imports without the hub", done.stdout.count(b" 1 0\n"), len(lines))
+
+
+def full_store(place, store):
+    """Imports that come faster than segments are merged wait for that where a store is full, also
+    those that waited for a copy before; but not where nobody wants merges."""
+    own, releases = place.make_store("own"), place.path("releases")
+    copy, go_on = place.path("copy"), place.path("go on")
+    lines = write_nights(releases, ALMOST_FULL + 20)
+    import_alone(place, own, releases, lines[:ALMOST_FULL])
+    slow = slow_copies(place.changed("hub_store.py", 'b"STEP 1000"', 'b"STEP 1"'), go_on)
+    with Hub(slow, own, "--merge-above", str(ALMOST_FULL), releases=releases) as hub:
+        owner, *importing = [Client(hub.socket) for _ in range(3)]
+        begin_copy(owner, copy)
+        for number, client in enumerate(importing, ALMOST_FULL):
+            client.send("".join(lines[number:-2:2]).encode())
+        # So both wait for the copy, and there is room for one.
+        time.sleep(0.1)
+        with open(go_on, "wb"):
+            replies = {client.read()[0] for _ in range(9) for client in importing}
+        wanted = {"OK %d 1 0" % number for number in range(MOST_SEGMENTS, len(lines) - 1)}
+        same("imports into a full store", replies, wanted)
+        same("the copy", owner.read(), ["OK" + " %d" % ALMOST_FULL * 3])
+        until("a merge", lambda: owner.ask("STATUS")[0].endswith(" %d -" % ALMOST_FULL))
+        same("the end of the hub", hub.stop("a hub that is stopped"), 0)
+    with Hub(place, own, "--merge-above", str(MOST_SEGMENTS), releases=releases) as hub:
+        client = Client(hub.socket)
+        for line, wanted in zip(lines[-2:],
+                                ("OK %d 1 0" % (len(lines) - 1), "ERR 6 TooManySegments")):
+            same("an import without merges", client.ask(line.rstrip("\n")), [wanted])
+
+
 def steps(place, store):
-    """Merges go in steps of 1,000 rows, and clients are answered between them. A merge that a
-    client has begun is left to that."""
+    """Merges go in steps of 1,000 rows, and clients are answered between them, imports too. A merge
+    that a client has begun is left to that."""
     recording = place.wrapped(RECORDER)
     own = place.make_store("own")
     for name, numbers in (("big", range(1, 6_001)), ("other", range(6_001, 12_001)),
-                          ("third", range(12_001, 14_001)), ("fourth", [20_000])):
+                          ("third", range(12_001, 14_001)), ("between", [19_999]),
+                          ("fifth", [20_000])):
         write_release(place.path("releases"), name, {"C": [concept(one) for one in numbers]})
     with Hub(place, own, "--merge-above", "250", releases=place.path("releases")) as hub:
         client = Client(hub.socket)
@@ -275,155 +334,68 @@ def steps(place, store):
         same("the end of the hub", hub.stop("a hub that is stopped"), 0)
     with Hub(recording, own, "--merge-above", "2", releases=place.path("releases")) as hub:
         client = Client(hub.socket)
-        client.send(b"IMPORT third\n" + b"STATUS\n" * 2_000)
+        for line, count in ((b"IMPORT third\n", 100), (b"IMPORT between\n", 2_000)):
+            client.send(line + b"STATUS\n" * count)
         same("a third one", client.read(), ["OK 3 2000 0"])
-        for _ in range(2_000):
+        for _ in range(100):
             same("its state", client.read()[0].split(" ")[:3], ["OK", "3", "14000"])
-        until("two segments", lambda: client.ask("STATUS") == ["OK 3 14000 2 -"])
-        leaving = Client(hub.socket)
-        same("a client's merge", leaving.ask("MERGE"), ["OK 14000"])
-        same("one step of it", leaving.ask("STEP 5"), ["OK 13995"])
-        # While that client is there, the merge is its own; then it is the hub's.
-        same("a fourth one", client.ask("IMPORT fourth"), ["OK 4 1 0"])
-        time.sleep(0.2)
-        same("its state", client.ask("STATUS"), ["OK 4 14001 3 13995"])
-        leaving.leave()
+        same("one between steps", client.read(), ["OK 4 1 0"])
+        for _ in range(2_000):
+            same("its state", client.read()[0].split(" ")[:3], ["OK", "4", "14001"])
         until("two segments", lambda: client.ask("STATUS") == ["OK 4 14001 2 -"])
+        leaving = Client(hub.socket)
+        same("a client's merge", leaving.ask("MERGE"), ["OK 14001"])
+        same("one step of it", leaving.ask("STEP 5"), ["OK 13996"])
+        # While that client is there, the merge is its own; then it is the hub's.
+        same("a fifth one", client.ask("IMPORT fifth"), ["OK 5 1 0"])
+        time.sleep(0.2)
+        same("its state", client.ask("STATUS"), ["OK 5 14002 3 13996"])
+        leaving.leave()
+        until("two segments", lambda: client.ask("STATUS") == ["OK 5 14002 2 -"])
         client.leave()
         same("the end of the hub", hub.stop("a hub that is stopped"), 0)
     lines = content(recording.path("lines")).split(b"\n")
     at = [place for place, line in enumerate(lines) if line == b"0 STEP 1000"]
-    # Of 8,000 rows and of 13,995.
-    same("steps of the hub", len(at), 22)
-    if any(b"1 STATUS" not in lines[one:other] for one, other in zip(at[:8], at[1:8])):
+    # Of 8,000 rows, of 6,001, and of 13,996.
+    same("steps of the hub", len(at), 29)
+    between = [lines[one:other] for one, other in zip(at[:8], at[1:8])]
+    if any(len(some) == 1 for some in between):
         raise Wrong("nothing is answered between two steps of a merge")
-
-
-BAD_COPIES = [
-    ("relative", "the path doesn't begin with /"), ("", "the path doesn't begin with /"),
-    ("/no folder/a\x1bb", "the name isn't printable"),
-    ("/no folder/a\rb", "the name isn't printable"),
-    ("/no folder/a\u202eb", "the name isn't printable"),
-    ("/no folder/copy", "No such file or directory"), ("/", "File exists"),
-    ("/dev/full", "File exists"), ("/" + "x" * 300, "File name too long"),
-]
-
-
-def copies(place, store):
-    """BACKUP makes a new file that has what the store has, or says why not and leaves none."""
-    path = place.path("a copy")
-    with Hub(place, store, "--questions", place.path("questions")) as hub:
-        client = Client(hub.socket)
-        same("a copy", client.ask("BACKUP " + path), ["OK 2 10 2"])
-        same("its content", content(path) == content(store), True)
-        same("its rights", mode(path), "0o600")
-        same("a copy with a CR", client.ask("BACKUP %s2\r" % path), ["OK 2 10 2"])
-        for name, why in BAD_COPIES + [(path, "File exists"), (store, "File exists")]:
-            same("a copy to %r" % name, client.ask("BACKUP " + name), ["ERR hub Backup " + why])
-        os.symlink(place.path("nowhere"), place.path("link"))
-        same("a copy to a link", client.ask("BACKUP " + place.path("link")),
-             ["ERR hub Backup File exists"])
-        client.send(b"BACKUP /no folder/\xff\n")
-        same("a name that is no text", client.read(), ["ERR hub Backup the name isn't UTF-8"])
-        same("the copy", content(path) == content(store), True)
-        same("where the link leads", os.path.exists(place.path("nowhere")), False)
-        # From here on the hub can't write so much.
-        resource.prlimit(hub.process.pid, resource.RLIMIT_FSIZE, (8_192, 8_192))
-        same("a copy that is too large", client.ask("BACKUP %s3" % path),
-             ["ERR hub Backup File too large"])
-        same("what is left of it", os.path.exists(path + "3"), False)
-        client.leave()
-    done = subprocess.run([place.program, "status", "--store", path], stdout=subprocess.PIPE,
-                          stderr=subprocess.DEVNULL, timeout=SECONDS, check=False)
-    same("the state of the copy", (done.returncode, done.stdout), (0, b"OK 2 10 2 -\n"))
-
-
-def bad_copies(place, store):
-    """A copy that isn't what the store shows is refused, and removed."""
-    own = place.path("own")
-    shutil.copy(store, own)
-    path = place.path("copy")
-    with Hub(place, own) as hub:
-        client = Client(hub.socket)
-        with open(own, "r+b") as file:
-            file.seek(4 * 4096)
-            file.write(b"\xff")
-        reply = client.ask("BACKUP " + path)[0]
-        if not reply.startswith("ERR hub Backup the copy is answered ERR 8 Damaged"):
-            raise Wrong("a copy of a damaged store: %r" % reply)
-        # Another store has taken the file's place.
-        os.unlink(own)
-        place.make_store("own")
-        reply = client.ask("BACKUP " + path)[0]
-        if not reply.startswith("ERR hub Backup the copy is answered OK 0 0 0"):
-            raise Wrong("a copy of another store: %r" % reply)
-        same("what is left of them", os.path.exists(path), False)
-        client.leave()
-
-
-# Before each part of a copy the hub waits until there is a file.
-COPYING = "                        self.go_on()\n"
-WAITING = """\
-                        while not (self.is_stopped.is_set() or os.path.exists(%r)):
-                            time.sleep(0.01)
-"""
-
-
-def slow_copy(place, store):
-    """While a copy is made, questions are answered, and imports and merges wait."""
-    go_on = place.path("go on")
-    slow = place.changed("hub_store.py", COPYING, WAITING % go_on + COPYING)
-    own = place.make_store("own")
-    write_release(place.path("releases"), "big", {"C": [concept(one) for one in range(1, 10_001)]})
-    write_release(place.path("releases"), "next", {"C": [concept(20_000)]})
-    with Hub(slow, own, "--questions", slow.path("questions"), "--merge-above", "1",
-             releases=place.path("releases")) as hub:
-        owner, importer = Client(hub.socket), Client(hub.socket)
-        same("an import", owner.ask("IMPORT big"), ["OK 1 10000 0"])
-        asking = [Client(hub.questions) for _ in range(50)]
-        path = slow.path("copy")
-        owner.send(b"BACKUP %s\n" % path.encode())
-        until("the copy is begun", lambda: os.path.exists(path))
-        importer.send(b"IMPORT next\n")
-        for client in asking:
-            same("a question beside a copy", client.ask("STATUS"), ["OK 1 10000 1 -"])
-        same("whether the copy is made", owner.has_reply() or importer.has_reply(), False)
-        with open(go_on, "wb"):
-            same("the import", importer.read(), ["OK 2 1 0"])
-            same("the copy", owner.read(), ["OK 1 10000 1"])
-        # A hub that is stopped leaves no copy that isn't whole.
-        os.unlink(go_on)
-        other = slow.path("other")
-        owner.send(b"BACKUP %s\n" % other.encode())
-        until("the copy is begun", lambda: os.path.exists(other))
-        same("the end of the hub", hub.stop("a hub that copies"), 0)
-        same("a copy that isn't made", owner.read(), ["ERR hub Backup the hub ends"])
-        same("what is left of it", os.path.exists(other), False)
-        for client in [owner, importer, *asking]:
-            client.leave()
+    same("imports between two steps", sum(b"1 IMPORT between" in some for some in between), 1)
 
 
 UNIT = "sctd.service"
+GATEWAY_UNIT = os.path.join(ROOT, "gateway", "sctd-gateway.service")
+DROPPING = "ExecStartPre=/usr/bin/dd if=/dev/null of=/var/lib/sctd/terms.store oflag=nocache \\"
+# Lines of both units, and of that of the hub.
+LINES = ["NoNewPrivileges=yes", "CapabilityBoundingSet=", "ProtectSystem=strict", "UMask=0077",
+         "SupplementaryGroups=sctd-ask", "SystemCallFilter=@system-service"]
+HUB_LINES = ["PrivateNetwork=yes", "RestrictAddressFamilies=AF_UNIX", DROPPING,
+             "Environment=GLIBC_TUNABLES=glibc.malloc.hugetlb=1"]
+# The greatest exposures that `systemd-analyze security` may find, in tenths; one was 87 once.
+MOST_EXPOSED, GATEWAY_EXPOSED = 6, 10
 
 
-def unit(place, store):
-    """The unit is as hardened as it can be, gives questions to a group and imports to the owner."""
-    text = content(place.script(UNIT)).decode()
-    dropping = "ExecStartPre=/usr/bin/dd if=/dev/null of=/var/lib/sctd/terms.store oflag=nocache"
-    for line in ("Environment=GLIBC_TUNABLES=glibc.malloc.hugetlb=1", "UMask=0077",
-                 "SupplementaryGroups=sctd-ask", dropping + " \\"):
-        same("how often the unit has %r" % line, text.count("\n%s\n" % line), 1)
+def units(place, store):
+    """The units are as hardened as they can be. That of the hub gives questions to a group and
+    imports to its owner."""
+    own = place.script(UNIT)
+    for path, lines in ((own, LINES + HUB_LINES), (GATEWAY_UNIT, LINES)):
+        text = content(path).decode()
+        for line in lines:
+            same("how often %s has %r" % (path, line), text.count("\n%s\n" % line), 1)
+        same("how often %s limits its memory" % path, text.count("\nMemoryMax="), 1)
     analysing = shutil.which("systemd-analyze")
     if analysing is None:
         raise Skipped("there is no systemd-analyze")
-    done = subprocess.run(
-        [analysing, "security", "--offline=true", "--threshold=%d" % MOST_EXPOSED,
-         place.script(UNIT)], stdout=subprocess.PIPE, stderr=subprocess.STDOUT, timeout=SECONDS,
-        check=False)
-    if b"unrecognized option" in done.stdout:
-        raise Skipped("this systemd-analyze can't look at a file")
-    same("how exposed the unit is", (done.returncode, done.stdout.splitlines()[-1:]),
-         (0, done.stdout.splitlines()[-1:]))
+    for path, most in ((own, MOST_EXPOSED), (GATEWAY_UNIT, GATEWAY_EXPOSED)):
+        done = subprocess.run(
+            [analysing, "security", "--offline=true", "--threshold=%d" % most, path],
+            stdout=subprocess.PIPE, stderr=subprocess.STDOUT, timeout=SECONDS, check=False)
+        if b"unrecognized option" in done.stdout:
+            raise Skipped("this systemd-analyze can't look at a file")
+        same("how exposed a unit is", (done.returncode, done.stdout.splitlines()[-1:]),
+             (0, done.stdout.splitlines()[-1:]))
 
 
 def allowed_calls(lists):
@@ -494,5 +466,5 @@ def types(place, store):
          (0, "Success: no issues found in %d source files\n" % len(files)))
 
 
-TRIALS = [questions_alone, what_arrives, pins_apart, rights, other_users, the_log, nights, steps,
-          copies, bad_copies, slow_copy, unit, system_calls, types]
+TRIALS = [questions_alone, what_arrives, pins_apart, rights, other_users, the_log, no_reply, nights,
+          full_store, steps, units, system_calls, types]

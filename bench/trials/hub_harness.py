@@ -6,6 +6,7 @@ import select
 import shutil
 import signal
 import socket
+import stat
 import subprocess
 import sys
 import time
@@ -223,6 +224,15 @@ class Client:
     def leave(self):
         self.lines.close()
         self.connection.close()
+
+
+def content(path):
+    with open(path, "rb") as file:
+        return file.read()
+
+
+def mode(path):
+    return oct(stat.S_IMODE(os.lstat(path).st_mode))
 
 
 def until(what, is_so):

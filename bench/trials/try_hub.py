@@ -25,6 +25,7 @@ import termios
 import time
 
 sys.path.insert(0, os.path.dirname(os.path.abspath(__file__)))
+import hub_copies  # noqa: E402
 import hub_duties  # noqa: E402
 import hub_readers  # noqa: E402
 from hub_harness import RECORDER, ROOT, Client, Hub, Place, Skipped, Wrong, same  # noqa: E402
@@ -36,7 +37,7 @@ SESSIONS = 1_023
 KEPT_SESSIONS = 23
 LINES_A_TURN = 32
 # How long all of it may take.
-ALL_SECONDS = 150
+ALL_SECONDS = 170
 CONCEPT = "ROW 1000004\t%s\t900000000000207008\t900000000000074008"
 AS_IN_2020 = CONCEPT % "20200131\t1"
 AS_IN_2021 = CONCEPT % "20210131\t0"
@@ -389,7 +390,7 @@ def all_trials(place, skipped):
         same("the end of the hub", hub.stop("a hub that is stopped"), 0)
     tries = [openings, kept_sessions, turns, disk_fault, ends, unread, left_unread, kill_program]
     tries += [words, sockets]
-    tries += hub_duties.TRIALS + hub_readers.TRIALS + [damage]
+    tries += hub_duties.TRIALS + hub_copies.TRIALS + hub_readers.TRIALS + [damage]
     count = len(on_one_hub)
     for each in tries:
         begun = time.monotonic()

@@ -56,6 +56,14 @@ WRITTEN = (
     "nsenter -t %s -m bash -c 'for name in /etc/x /opt/sctd/x /var/lib/x /home/x; "
     "do touch $name 2>/dev/null && echo $name; done'"
 ) % MAIN
+# What its processes may do: they have no capability, and may not make every call of the system.
+HELD = "grep -hE '^(CapBnd|NoNewPrivs|Seccomp):' /proc/%s/status | tr '\\t' ' '" % MAIN
+NOTHING = "CapBnd: 0000000000000000\nNoNewPrivs: 1\nSeccomp: 2"
+# Which of these it has in common with the machine.
+SHARED = (
+    "for name in ipc mnt net user; do test /proc/1/ns/$name -ef /proc/%s/ns/$name && echo $name; "
+    "done"
+) % MAIN
 
 
 class Step(NamedTuple):
@@ -84,6 +92,13 @@ STEPS = (
     Step("another user asks", "echo STATUS " + ASKING % ("nobody", "questions"),
          "client: /run/sctd/questions.sock: Permission denied"),
     Step("the gateway answers", HEALTH, '{"pin":1,"latest":"20200131"}'),
+    Step("the copy's rights", "stat -c '%U %a' /var/backups/sctd/copy", "sctd 600"),
+    Step("what the hub's processes may do", HELD % "sctd", NOTHING),
+    Step("what the gateway may do", HELD % "sctd-gateway", NOTHING),
+    Step("what the hub has in common with the machine", SHARED % "sctd", "user"),
+    Step("what the gateway has in common with it", SHARED % "sctd-gateway", "net"),
+    Step("their most memory", "systemctl show -p MemoryMax --value sctd sctd-gateway",
+         "8589934592\n\n536870912"),
     Step("what the hub may write", WRITTEN % "sctd", ""),
     Step("what the gateway may write", WRITTEN % "sctd-gateway", ""),
     Step("the program is killed", "pkill -9 -x sctd; echo $?", "0"),
