@@ -21,10 +21,15 @@ pub record AreNewRows (known rows fresh : List RowValue) (repeated : ℕ) : Type
   pub each : (row : RowValue) → Has rows row → (Has known row → ⊥) → Has fresh row
   pub counted : length fresh + repeated ≡ length rows
 
--- these rows ascend, and none of their keys is known
-pub record IsApart (known fresh : List RowValue) : Type 0 where
-  pub ascending : IsAscending row_cmp fresh
-  pub unknown : (row : RowValue) → Has fresh row → IsUnknown known (key_of row)
+-- the rows whose keys no known row has, each once and in key order, and how many of the others
+-- there are
+pub record AreNewByKey (known rows : List RowValue) (fresh : NewRows) : Type 0 where
+  pub ascending : IsAscending row_cmp fresh.rows.items
+  pub from_release : (row : RowValue) → Has fresh.rows.items row → Has rows row
+  pub unknown : (row : RowValue) → Has fresh.rows.items row → IsUnknown known (key_of row)
+  pub each : (row : RowValue) → Has rows row → IsUnknown known (key_of row)
+      → Has fresh.rows.items row
+  pub counted : length fresh.rows.items + fresh.repeated ≡ length rows
 
 -- a release that is taken: its rows and those that are known are consistent, and these rows are new
 pub record IsTaken (known : List RowValue) (rows : List RowValue) (fresh : NewRows) : Type 0 where
