@@ -1,13 +1,11 @@
 -- An upgrade to version 3.
 use Rattle.std.specs.Prelude.{Result, Ok, Err, OnOk, IfErr}
-use Rattle.std.proofs.Common.{◌≡◌, ◌≢◌, ◌⊎◌, inl, inr, ℕ, ◌+◌, ◌<◌, false, List, [], ◌∷◌, ◌++◌, length, map, refl, sym, ap, subst, ◌∙◌, arith}
+use Rattle.std.proofs.Common.{◌≡◌, ◌≢◌, ◌⊎◌, inr, ℕ, ◌+◌, false, List, [], ◌∷◌, map, refl, sym, ap, subst, ◌∙◌, arith}
 use Rattle.disk_model.specs.Disk.{Moments, LeavesOnly}
-use Rattle.lru.specs.LruCache.{LruCache}
 use Rattle.blocks.specs.Calls.{MakesCalls}
 use Rattle.blocks.specs.Extents.{byte_range}
 use Rattle.blocks.specs.Outside.{SameOutside}
 use Rattle.blocks.specs.Slots.{slots_range}
-use Rattle.history_model.specs.History.{History}
 use Rattle.directory.specs.declared.entry.Entry.{Entry}
 use Rattle.directory.specs.declared.layout.Layout.{Layout}
 use Rattle.directory.specs.declared.layout.Layout.TheVariants as layouts

@@ -15,7 +15,8 @@ use Rattle.history_store.specs.Answers.{StoreOr, IsNew, IsReady, IsMakingOf, IsM
 use Rattle.history_store.specs.Answers.{IsOpeningOf, IsOpeningCause, HandsBack, SyncsOnce}
 use Rattle.history_store.specs.Answers.{CountsOpening, device_of}
 
--- A store was made in this version on a device, or it is said why there is none and the device comes back.
+-- A store was made in this version on a device, or it is said why there is none and the device
+-- comes back.
 pub record IsMaking {D : Type 0} (layout : Layout) (result : StoreOr D) (is_honest : D → Type 0)
     (moments_of : D → Moments) (failures_of : D → ℕ) (device : D) : Type 0 where
   -- it is made exactly on a device of no bytes, unless memory runs out or the device fails

@@ -1,6 +1,6 @@
 use Rattle.std.proofs.Common.{List, ℕ, ap, subst, sym}
 use Rattle.disk_model.specs.Disk.{Moments}
-use Rattle.blocks.specs.Extents.{bytes_of}
+use Rattle.store_image.specs.Private.Reading.{bytes_of}
 use Rattle.directory.specs.Places.{extent_of}
 use Rattle.store_image.specs.Private.Reading.{BeginsWith}
 use Rattle.store_image.proofs.Segments.{at_found, segment_found}

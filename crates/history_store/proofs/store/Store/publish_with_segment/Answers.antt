@@ -3,6 +3,7 @@ use Rattle.blocks.specs.Slots.{other}
 use Rattle.blocks.specs.Cache.{is_in, Forgets}
 use Rattle.directory.specs.Listings.{DirectoryValue}
 use Rattle.segment.specs.Records.{segment_in}
+use Rattle.segment.proofs.SegmentLaws.{length-segment_in}
 use Rattle.history_store.specs.StoreValue.{StoreValue}
 use Rattle.history_store.specs.Private.Prepared.{IsPreparedFor}
 use Rattle.history_store.proofs.GoingOn.{merge_added}
@@ -23,6 +24,11 @@ pub add-requires-clause-lists : goal.add-requires-clause-lists
 add-requires-clause-lists g c =
     let for = subst (λ (s : StoreValue g.row.D.Denot). IsPreparedFor s c.args.prepared) (sym c.self.view_is) c.requires.prepared in
     (is_added _ c.self.inside.directory c.self.inside.index c.args.prepared c.self.invariant.0.kept refl refl refl refl refl for).apart
+
+pub add_segment-requires-clause-bytes : goal.add_segment-requires-clause-bytes
+add_segment-requires-clause-bytes g c =
+    let for = subst (λ (s : StoreValue g.row.D.Denot). IsPreparedFor s c.args.prepared) (sym c.self.view_is) c.requires.prepared in
+    ap length (c.deref.ensures.value ∙ for.prepared.bytes_are) ∙ length-segment_in c.args.prepared.entry.form c.args.prepared.index ∙ for.prepared.segment.bytes
 
 pub invariant_of-self : goal.invariant_of-self
 invariant_of-self g c =

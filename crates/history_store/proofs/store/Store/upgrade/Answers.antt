@@ -1,6 +1,5 @@
-use Rattle.std.proofs.Common.{◌≡◌, ◌≢◌, ◌<◌, ◌∙◌, false, inl, inr, refl, sym, ap, subst, arith}
+use Rattle.std.proofs.Common.{◌≡◌, ◌≢◌, ◌<◌, ◌∙◌, false, inl, refl, sym, subst, arith}
 use Rattle.std.proofs.lemmas.Bool.Decides.{nat_tests}
-use Rattle.std.proofs.lemmas.Result.{err_from_is_err_and}
 use Rattle.disk_model.specs.Disk.{EachImage}
 use Rattle.disk_model.proofs.MomentSteps.{stayed}
 use Rattle.disk_model.proofs.Images.{same_but_all}
@@ -8,7 +7,6 @@ use Rattle.directory.specs.declared.layout.Layout.TheVariants as layouts
 use Rattle.store_image.specs.Images.{RepresentsAs}
 use Rattle.history_store.specs.StoreValue.{StoreValue}
 use Rattle.history_store.specs.Private.StoreValue.{directory_of}
-use Rattle.history_store.specs.Private.Publishing.{IsRelisting}
 use Rattle.history_store.specs.Upgrading.{MayBeUpgraded}
 use Rattle.history_store.proofs.Held.{held_stands}
 use Rattle.history_store.proofs.MergePublished.{same_refused}
@@ -90,7 +88,7 @@ pub returns-clause-calls : goal.returns-clause-calls
 returns-clause-calls g c =
     let older : c.self.inside.directory.layout ≢ layouts.Three = λ e. c.is_three.ensures.older c.if-is_three.false (c.layout.ensures ∙ e) in
     let other = subst (λ (s : StoreValue g.row.D.Denot). s.catalog.layout ≢ layouts.Three) c.self.view_is older in
-    λ honest. calls_upgraded c.publish_without_segment.result c.args.self.now.catalog.layout _ _ other (c.publish_without_segment.ensures.calls honest)
+    λ honest. calls_upgraded c.publish_without_segment.result c.args.self.now.catalog.layout (g.D.Disk.moments c.args.self.now.disk) (g.D.Disk.moments c.publish_without_segment.new.self.disk) other (c.publish_without_segment.ensures.calls honest)
 
 pub returns-clause-idle : goal.returns-clause-idle
 returns-clause-idle g c =
