@@ -47,6 +47,12 @@ pub record IsAcceptedAs (known : List RowValue) (release : Release) (fresh : New
   pub rows_are : IsReleaseOf release rows
   pub taken : IsTaken known rows fresh
 
+-- the release is one of these rows, of which these are new by their keys
+pub record BringsByKey (known : List RowValue) (release : Release) (fresh : NewRows) : Type 0 where
+  pub rows : List RowValue
+  pub rows_are : IsReleaseOf release rows
+  pub new_by_key : AreNewByKey known rows fresh
+
 -- Why a release is refused: a row has a fault, which is that of the release; or each file is a
 -- release file, and a known row can't be had or a line contradicts. That memory ran out says
 -- nothing.

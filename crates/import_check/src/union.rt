@@ -6,7 +6,7 @@ ghost use Rattle.rf2_values.specs.Row.{RowValue};
 ghost use Rattle.fault_counts.specs.Counting.{Counts};
 ghost use Rattle.import_check.specs.Known.{already_known};
 ghost use Rattle.import_check.specs.Release.{IsReleaseOf};
-ghost use Rattle.import_check.specs.NewRows.{AreNewByKey, IsRead, IsAcceptedAs, IsRefusal};
+ghost use Rattle.import_check.specs.NewRows.{BringsByKey, IsRead, IsAcceptedAs, IsRefusal};
 ghost use Rattle.import_check.specs.NewRows.{CountsAnyDiskFault, CountsAnyDamage};
 
 use crate::fault::ImportFault;
@@ -35,9 +35,8 @@ pub fn new_rows<K: Known>(
     ensures accepted { IfOk result (λ fresh. IsRead release
         × (K.is_honest known.old → IsAcceptedAs (K.rows known.old) release fresh)) }
     // The new rows are those whose keys are unknown, whatever row is given for a known key.
-    ensures new_by_key { K.is_sound known.old → IfOk result (λ fresh.
-        (rows : List RowValue) × IsReleaseOf release rows
-        × AreNewByKey (K.rows known.old) rows fresh) }
+    ensures new_by_key { K.is_sound known.old
+        → IfOk result (BringsByKey (K.rows known.old) release) }
     // All files are read before what is known is asked. The line that is named
     // is the first that is at fault, or else the first that contradicts.
     ensures refused { IfErr result
