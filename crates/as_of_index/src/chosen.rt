@@ -2,6 +2,7 @@
 
 ghost use Rattle.std.specs.Prelude.{◌≡◌, ◌≢◌, ◌↔◌, ◌+◌, ◌≤◌, List, map, IfOk, IfErr};
 ghost use Rattle.std.specs.List.{sum_by};
+ghost use Rattle.rf2_values.specs.Key.{key_of};
 ghost use Rattle.history_model.specs.declared.stamped.StampedRow.{StampedRow};
 ghost use Rattle.as_of_index.specs.Chosen.{StandAtAll};
 ghost use Rattle.fault_counts.specs.Counting.{Counts, CountsDiskFault, CountsDamage};
@@ -35,6 +36,9 @@ pub fn read_all<R: RowReader>(
     ensures found { R.is_honest reader.old → (rows : List StampedRow)
         → StandAtAll (R.lists reader.old) places.now rows
         → IfOk result (λ found. found.items ≡ map (λ s. s.row) rows) }
+    // Whatever was read, the keys are those of the rows that stand there.
+    ensures keys { (rows : List StampedRow) → StandAtAll (R.lists reader.old) places.now rows
+        → IfOk result (λ found. map key_of found.items ≡ map key_of (map (λ s. s.row) rows)) }
     ensures undamaged { R.is_honest reader.old → (rows : List StampedRow)
         → StandAtAll (R.lists reader.old) places.now rows
         → IfErr result (λ e. e ≢ readfault.Damaged) }

@@ -1,11 +1,12 @@
 //! Lists of places, and the answers from them.
 
 ghost use Rattle.std.specs.Prelude.{◌≡◌, ◌<◌, ◌++◌, ◌∷◌, [], List, IfOk, length, Some, None};
-ghost use Rattle.std.specs.Prelude.{remove, slice_set, slice_get};
+ghost use Rattle.std.specs.Prelude.{remove, slice_set, slice_get, map};
 ghost use Rattle.history_model.specs.InOrder.{IsAscending};
 ghost use Rattle.std.specs.Prelude.{◌↔◌, ◌≢◌, ◌≤◌, ◌+◌, ℕ, IfErr, IsTrue};
 ghost use Rattle.std.specs.List.{sum_by};
 ghost use Rattle.std.specs.Option.{option_map, option_to_list};
+ghost use Rattle.rf2_values.specs.Key.{key_of};
 ghost use Rattle.history_model.specs.declared.stamped.StampedRow.{StampedRow};
 ghost use Rattle.history_model.specs.History.{rows_at};
 ghost use Rattle.history_model.specs.Lists.{listed};
@@ -270,6 +271,10 @@ impl Index {
         ensures found { R.is_honest reader.old → Lists self.now (R.lists reader.old)
             → IfOk result (λ found. found
             ≡ get kind id time (rows_at pin (listed (R.lists reader.old)))) }
+        // Whatever was read, its key is that of the row to be found.
+        ensures keys { Lists self.now (R.lists reader.old)
+            → IfOk result (λ found. map key_of (option_to_list found) ≡ map key_of (option_to_list
+            (get kind id time (rows_at pin (listed (R.lists reader.old)))))) }
         ensures undamaged { R.is_honest reader.old → Lists self.now (R.lists reader.old)
             → IfErr result (λ e. e ≢ readfault.Damaged) }
         // No more is read than the row that it answers takes, and nothing where it answers none.
@@ -308,6 +313,10 @@ impl Index {
         ensures found { R.is_honest reader.old → Lists self.now (R.lists reader.old)
             → IfOk result (λ rows. rows.items
             ≡ versions kind id (rows_at pin (listed (R.lists reader.old)))) }
+        // Whatever was read, the keys are those of these versions.
+        ensures keys { Lists self.now (R.lists reader.old)
+            → IfOk result (λ rows. map key_of rows.items ≡ map key_of
+            (versions kind id (rows_at pin (listed (R.lists reader.old))))) }
         ensures undamaged { R.is_honest reader.old → Lists self.now (R.lists reader.old)
             → IfErr result (λ e. e ≢ readfault.Damaged) }
         // No more is read than the rows that it answers take, each read once.
@@ -353,6 +362,10 @@ impl Index {
         ensures found { R.is_honest reader.old → Lists self.now (R.lists reader.old)
             → IfOk result (λ rows. rows.items
             ≡ page kind time after limit (rows_at pin (listed (R.lists reader.old)))) }
+        // Whatever was read, the keys are those of the rows of this page.
+        ensures keys { Lists self.now (R.lists reader.old)
+            → IfOk result (λ rows. map key_of rows.items ≡ map key_of
+            (page kind time after limit (rows_at pin (listed (R.lists reader.old))))) }
         ensures undamaged { R.is_honest reader.old → Lists self.now (R.lists reader.old)
             → IfErr result (λ e. e ≢ readfault.Damaged) }
         // No more is read than the rows that it answers take, each read once.

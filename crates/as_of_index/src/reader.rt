@@ -2,6 +2,7 @@
 
 ghost use Rattle.std.specs.Prelude.{◌≡◌, ◌≢◌, ℕ, ◌+◌, ◌≤◌, List, ◌↔◌, IfOk, IfErr, ◌<◌};
 ghost use Rattle.rf2_values.specs.Row.{RowValue};
+ghost use Rattle.rf2_values.specs.Key.{key_of};
 ghost use Rattle.history_model.specs.declared.stamped.StampedRow.{StampedRow};
 ghost use Rattle.segment.specs.Standing.{StandsAt};
 ghost use Rattle.fault_counts.specs.Counting.{Counts, CountsDiskFault, CountsDamage};
@@ -39,6 +40,8 @@ pub trait RowReader {
     fn row(&mut self, alloc: Global, segment: usize, at: RowPlace) -> Result<StampedRow, ReadFault>
         ensures found { is_honest self.old → (s : StampedRow)
             → StandsAt (lists self.old) segment at s → IfOk result (λ row. row ≡ s) }
+        // Whatever it gives, a row has the key of its place.
+        ensures keyed { IfOk result (λ row. key_of row.row ≡ at.key) }
         // Where a row stands, its reader answers a fault of the device or of memory alone.
         ensures undamaged { is_honest self.old → (s : StampedRow)
             → StandsAt (lists self.old) segment at s → IfErr result (λ e. e ≢ readfault.Damaged) }

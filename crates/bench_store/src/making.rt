@@ -12,7 +12,7 @@ use term_prefix::Terms;
 /// The concept that all descriptions and relationships are about.
 pub(crate) const ROOT: u64 = 138_875_005;
 
-/// The association that is read in the place of each row.
+/// The association that is read in the place of each.
 const ASSOCIATION: &str = "00000000-0000-0000-0000-000000000001\t20200131\t1\t\
      900000000000207008\t900000000000527005\t1000004\t2000001";
 
@@ -87,7 +87,7 @@ pub(crate) fn association(alloc: Global) -> Option<StampedRow> {
 }
 
 /// A description of the root by its number, with a term by another.
-fn description(alloc: Global, item: u64, number: u64) -> Option<StampedRow> {
+pub(crate) fn description(alloc: Global, item: u64, number: u64) -> Option<StampedRow> {
     let id = numbered(item, 1)?;
     let line = format!(in alloc;
         "{id}\t20200131\t1\t900000000000207008\t{ROOT}\ten\t900000000000013009\tFinding {number}\t\

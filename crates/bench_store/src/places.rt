@@ -1,12 +1,17 @@
 //! What is asked of an index over made places, in 2, 8, 128 and 250 lists.
 
-use crate::making::{Made, Order, ROOT, association, make_lists, scramble};
+ghost use Rattle.std.specs.Prelude.{◌≡◌, ◌↔◌, IsTrue, IfOk, IfSome};
+ghost use Rattle.rf2_values.specs.Key.{key_of};
+
+use crate::making::{Made, Order, ROOT, association, description, make_lists, scramble};
 use crate::watch::start_watch;
 use as_of_index::{ReadFault, RowPlace, RowReader};
+use fault_counts::raised;
 use history_model::StampedRow;
 use links::{about, children};
 use rf2_rows::{EffectiveTime, Kind, Sctid};
-use std::alloc::Global;
+use rf2_values::{Key, Row};
+use std::alloc::{AllocError, Global};
 use std::rt::HostRuntime;
 use term_prefix::{Search, find};
 
@@ -16,13 +21,46 @@ pub(crate) const SMALL: u64 = 2_000;
 /// The date that is asked for.
 const DATE: u32 = 20_210_131;
 
-/// A reader that gives one row, whatever the place:
+/// A reader that gives one row of a kind, with the key of the place:
 /// what is timed is the search and a copy of a row.
 #[derive(Drop)]
 struct OneRow {
-    stamped: StampedRow,
-    /// How often it was read.
+    association: StampedRow,
+    description: StampedRow,
+    /// How often a row was read.
     reads: u64,
+    /// How often there was none.
+    damages: u64,
+}
+
+impl OneRow {
+    fn row_of(&self, kind: Kind) -> &StampedRow {
+        match kind {
+            Kind::Description => &self.description,
+            _ => &self.association,
+        }
+    }
+
+    /// A copy of the row of the kind, with this key.
+    fn copied(&self, alloc: Global, key: Key) -> Result<Option<StampedRow>, AllocError>
+        ensures { IfOk result (λ found. IfSome found (λ s. key_of s.row ≡ key)) }
+    {
+        let StampedRow { row, import } = self.row_of(key.kind);
+        let body = row.body.try_clone(alloc)?;
+        match Row::of(key.id, key.time, row.active, row.module_id, body) {
+            Some(row) if has_key(&row, key) => Ok(Some(StampedRow {
+                row,
+                import: *import,
+            })),
+            _ => Ok(None),
+        }
+    }
+}
+
+fn has_key(row: &Row, key: Key) -> bool
+    ensures { IsTrue result ↔ (key_of row.now ≡ key) }
+{
+    row.key() == key
 }
 
 impl RowReader for OneRow {
@@ -32,7 +70,7 @@ impl RowReader for OneRow {
 
     ghost disk_faults = { λ _. 0 };
 
-    ghost damages = { λ _. 0 };
+    ghost damages = { λ r. r.damages };
 
     ghost work = { λ r. r.reads };
 
@@ -50,10 +88,16 @@ impl RowReader for OneRow {
         &mut self,
         alloc: Global,
         _segment: usize,
-        _at: RowPlace,
+        at: RowPlace,
     ) -> Result<StampedRow, ReadFault> {
         self.reads = self.reads.saturating_add(1);
-        Ok(self.stamped.try_clone(alloc)?)
+        match self.copied(alloc, at.key)? {
+            Some(found) => Ok(found),
+            None => {
+                self.damages = raised(self.damages);
+                Err(ReadFault::Damaged)
+            }
+        }
     }
 }
 
@@ -195,8 +239,10 @@ fn ask_index(
     is_quiet: bool,
 ) -> Option<()> {
     let mut reader = OneRow {
-        stamped: association(rt.alloc())?,
+        association: association(rt.alloc())?,
+        description: description(rt.alloc(), 0, 0)?,
         reads: 0,
+        damages: 0,
     };
     let made = make_lists(rt.alloc(), size, lists, order)?;
     for question in questions {

@@ -1,8 +1,12 @@
 //! A reader of which one read fails.
 
+ghost use Rattle.std.specs.Prelude.{◌≡◌, ◌↔◌, IsTrue};
+ghost use Rattle.rf2_values.specs.Key.{key_of};
+
 use as_of_index::{ReadFault, RowReader};
 use fault_counts::raised;
 use history_model::StampedRow;
+use rf2_values::Key;
 use segment::RowPlace;
 use std::alloc::Global;
 
@@ -36,6 +40,12 @@ impl Watched<'_> {
     }
 }
 
+fn has_key(stamped: &StampedRow, key: Key) -> bool
+    ensures { IsTrue result ↔ (key_of stamped.now.row ≡ key) }
+{
+    stamped.row.key() == key
+}
+
 impl RowReader for Watched<'_> {
     ghost use Rattle.std.specs.Prelude.{◌≡◌, map, vec_items};
     ghost use Rattle.std.proofs.Common.{refl, ◌∙◌};
@@ -67,7 +77,7 @@ impl RowReader for Watched<'_> {
         self.reads = self.reads.saturating_add(1);
         if self.reads != self.failing && segment < self.lists.len() {
             let rows = &self.lists[segment];
-            if let Some(found) = rows.iter().find(|stamped| stamped.row.key() == at.key) {
+            if let Some(found) = rows.iter().find(|stamped| has_key(stamped, at.key)) {
                 return Ok(found.try_clone(alloc)?);
             }
         }

@@ -25,7 +25,7 @@ pub mod ReadRows
 pub mod SteppedMerge
 pub mod SteppedStore
 pub mod StepWrites
-mod ImportCounts
+mod TakenByKey
 mod KeptBlocks
 mod ImportReads
 mod Upgraded

@@ -1,7 +1,8 @@
 -- What is left of a store after a query.
-use Rattle.std.proofs.Common.{◌≡◌, ◌≢◌, ◌↔◌, ℕ, ◌+◌, ◌≤◌, List, false, true, Result, Ok, Err, IfOk, IfErr, MatchResult, refl, sym, ap, subst, ◌∙◌, arith, Vec, Global}
+use Rattle.std.proofs.Common.{◌≡◌, ◌≢◌, ◌↔◌, ℕ, ◌+◌, ◌≤◌, List, false, true, Result, Ok, Err, IfOk, IfErr, MatchResult, map, refl, sym, ap, subst, ◌∙◌, arith, Vec, Global}
 use Rattle.std.specs.List.{sum_by}
 use Rattle.rf2_values.specs.Row.{RowValue}
+use Rattle.rf2_values.specs.Key.{key_of}
 use Rattle.std.proofs.lemmas.Bool.{false≢true}
 use Rattle.fault_counts.specs.Counting.{Counts as CountsBy, CountsDiskFault}
 use Rattle.history_model.specs.declared.stamped.StampedRow.{StampedRow}
@@ -106,6 +107,9 @@ module _ {T D : Type 0} (honest : D → Type 0) (moments : D → Moments) (failu
     abbrev pub FoundOf : List (List StampedRow) → Type 0
     FoundOf ls = IfOk read (λ x. rows_of x ≡ wanted (rows_at pin (listed ls)))
 
+    abbrev pub KeysOf : List (List StampedRow) → Type 0
+    KeysOf ls = IfOk read (λ x. map key_of (rows_of x) ≡ map key_of (wanted (rows_at pin (listed ls))))
+
     abbrev pub BoundOf : List (List StampedRow) → D → D → Type 0
     BoundOf ls before after = bytes_read after ≤ bytes_read before + sum_by row_cost (wanted (rows_at pin (listed ls)))
 
@@ -113,6 +117,7 @@ module _ {T D : Type 0} (honest : D → Type 0) (moments : D → Moments) (failu
         → lent ≡ old.disk → lent_cache ≡ old.cache → entries ≡ old.catalog.entries → shown ≡ lists
         → Indexed lists → (honest old.disk → IsHonestReader)
         → (IsHonestReader → Indexed shown → FoundOf shown)
+        → (Indexed shown → KeysOf shown)
         → (IsHonestReader → Indexed shown → IfErr read (λ e. e ≢ readfault.Damaged))
         → IfOk read (λ x. bytes_read disk ≤ bytes_read lent + sum_by row_cost (rows_of x))
         → (Indexed shown → BoundOf shown lent disk)
@@ -123,11 +128,12 @@ module _ {T D : Type 0} (honest : D → Type 0) (moments : D → Moments) (failu
         → IsAnswerOf read result → IsReadingOf result (record old { disk = disk; cache = cache }) new → new.disk ≡ disk → new.cache ≡ cache
         → (honest disk → new.needs_reopen ≡ false → IsAcknowledged moments new)
         → IsRowsQuery result rows_of wanted pin honest moments failures bytes_read other_calls old new
-    rows_answered rows_are still lent_is lent_cache_is entries_are shown_is indexed lends found undamaged work work_always counted stays looked_up calls answers left same kept acknowledged =
+    rows_answered rows_are still lent_is lent_cache_is entries_are shown_is indexed lends found keys undamaged work work_always counted stays looked_up calls answers left same kept acknowledged =
         let indexed_so = subst Indexed (sym shown_is) indexed in
         let all_are = ap (λ rows. wanted (rows_at pin rows)) (sym rows_are) in
         record {
           found = λ up. answered_so (λ x. rows_of x ≡ wanted (rows_at pin (listed shown))) (λ x. rows_of x ≡ wanted (rows_at pin old.history.rows)) read result answers (λ x is. is ∙ ap (λ ls. wanted (rows_at pin (listed ls))) shown_is ∙ all_are) (found (lends up) indexed_so);
+          keys = answered_so (λ x. map key_of (rows_of x) ≡ map key_of (wanted (rows_at pin (listed shown)))) (λ x. map key_of (rows_of x) ≡ map key_of (wanted (rows_at pin old.history.rows))) read result answers (λ x is. is ∙ ap (map key_of) (ap (λ ls. wanted (rows_at pin (listed ls))) shown_is ∙ all_are)) (keys indexed_so);
           query = answered_query honest moments failures old new lent disk cache read result still lent_is stays counted (λ up. undamaged (lends up) indexed_so) answers left same acknowledged;
           other_calls = ap other_calls same ∙ calls ∙ ap other_calls lent_is;
           looked_up =
@@ -149,6 +155,7 @@ module _ {T D : Type 0} (honest : D → Type 0) (moments : D → Moments) (failu
   pub closed_rows : (s : StoreValue D) → s.needs_reopen ≡ true → IsRowsQuery (Err refusals.ReopenNeeded) rows_of wanted pin honest moments failures bytes_read other_calls s s
   closed_rows s needs = record {
     found = λ up. tt;
+    keys = tt;
     query = closed_query {T = T} honest moments failures s needs;
     other_calls = refl;
     looked_up = none_looks_up (is_listed s.catalog.entries) s.cache (bytes_read s.disk);

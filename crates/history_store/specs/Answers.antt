@@ -1,5 +1,5 @@
 -- What the calls of a store answer.
-use Rattle.std.specs.Prelude.{◌≡◌, ◌≢◌, ◌⊎◌, ℕ, ◌+◌, ◌<◌, ◌≤◌, true, false, List, [], ◌∷◌, ◌++◌}
+use Rattle.std.specs.Prelude.{◌≡◌, ◌≢◌, ◌⊎◌, ℕ, ◌+◌, ◌≤◌, true, false, List, [], ◌∷◌}
 use Rattle.std.specs.Prelude.{length, None, Result, Ok, Err}
 use Rattle.fault_counts.specs.Counting.{HasRisen}
 use Rattle.disk_model.specs.Disk.{DiskState, Moments}
@@ -9,14 +9,14 @@ use Rattle.rf2_values.specs.declared.key.Key.{Key}
 use Rattle.history_model.specs.declared.stamped.StampedRow.{StampedRow}
 use Rattle.history_model.specs.declared.receipt.Receipt.{Receipt}
 use Rattle.history_model.specs.History.{History, IsHistory, Accepts, after_release, ReceiptOf}
-use Rattle.history_model.specs.History.{no_history, full}
+use Rattle.history_model.specs.History.{no_history, full, stamped}
 use Rattle.history_model.specs.Lists.{new_rows}
 use Rattle.directory.specs.declared.layout.Layout.{Layout}
-use Rattle.directory.specs.declared.entry.Entry.{Entry}
-use Rattle.directory.specs.Listings.{most_entries, next_layout}
+use Rattle.directory.specs.Listings.{next_layout}
 use Rattle.import_check.specs.declared.release.Release.{Release}
+use Rattle.import_check.specs.declared.found.NewRows.{NewRows}
 use Rattle.import_check.specs.Release.{IsReleaseOf, IsFaultOfRelease, HasContradiction}
-use Rattle.import_check.specs.NewRows.{IsRead}
+use Rattle.import_check.specs.NewRows.{BringsByKey, IsRead}
 use Rattle.store_image.specs.declared.fault.LoadFault.{LoadFault}
 use Rattle.store_image.specs.Answers.{synced, IsNotOpened as IsNotLoaded}
 use Rattle.store_image.specs.Images.{Represents, RepresentsAs}
@@ -130,6 +130,30 @@ pub record IsTaken (h after : History) (catalog next : Catalog) (release : Relea
   pub receipt_is : ReceiptOf h rows receipt.number receipt.new receipt.repeated
   pub catalog_is : IsCatalogAfter (new_rows h rows) catalog next
 
+-- A release that is taken, on every disk: each file is a release file, the history goes on with the
+-- rows that are new by their keys, which the receipt counts, and a segment of these is added, if
+-- there are any.
+pub record IsTakenByKey (h after : History) (catalog next : Catalog) (release : Release)
+    (receipt : Receipt) : Type 0 where
+  pub room : IsNotSpent h.imports catalog.epoch
+  pub fresh : NewRows
+  pub brings : BringsByKey (full h) release fresh
+  pub history : after ≡ after_release h fresh.rows.items
+  pub receipt_is : receipt ≡ record {
+    number = h.imports + 1;
+    new = length fresh.rows.items;
+    repeated = fresh.repeated;
+  }
+  pub catalog_is : IsCatalogAfter (stamped (h.imports + 1) fresh.rows.items) catalog next
+
+-- A release whose rows that are new by their keys lack something. This is said on every disk.
+pub record LacksByKey (h : History) (catalog : Catalog) (release : Release)
+    (Lacks : List StampedRow → Catalog → Type 0) : Type 0 where
+  pub room : IsNotSpent h.imports catalog.epoch
+  pub fresh : NewRows
+  pub brings : BringsByKey (full h) release fresh
+  pub lacks : Lacks (stamped (h.imports + 1) fresh.rows.items) catalog
+
 -- a release that would be taken, but for its new rows
 pub record WouldBeTakenBut (h : History) (catalog : Catalog) (release : Release)
     (Lacks : List StampedRow → Catalog → Type 0) : Type 0 where
@@ -234,8 +258,8 @@ abbrev pub IsReadingOf : {T D : Type 0} → Result T Refusal → StoreValue D �
 IsReadingOf (Ok x) old new = IsStill old new
 IsReadingOf (Err e) old new = IsReadRefusal e old × IsRefused e old new
 
--- Why an import is refused, on every disk: what the counts, the files and the directory say.
--- Whether a row contradicts the known ones is said on an honest disk alone.
+-- Why an import is refused, on every disk: what the counts, the files, the directory and the keys
+-- of the rows say. Whether a row contradicts the known ones is said on an honest disk alone.
 abbrev pub IsRefusalOnAnyDisk : {D : Type 0} → Refusal → StoreValue D → Release → Type 0
 IsRefusalOnAnyDisk refusals.OutOfMemory s release =
     (s.needs_reopen ≡ false) × IsNotSpent s.history.imports s.catalog.epoch
@@ -244,11 +268,9 @@ IsRefusalOnAnyDisk refusals.DiskFault s release =
 IsRefusalOnAnyDisk refusals.ReopenNeeded s release = s.needs_reopen ≡ true
 IsRefusalOnAnyDisk refusals.NotEmpty s release = ⊥
 IsRefusalOnAnyDisk refusals.Full s release =
-    (s.needs_reopen ≡ false) × IsNotSpent s.history.imports s.catalog.epoch
-    × IsRead release × (length s.catalog.entries < most_entries s.catalog.layout)
+    (s.needs_reopen ≡ false) × LacksByKey s.history s.catalog release HasNoPlace
 IsRefusalOnAnyDisk refusals.TooManySegments s release =
-    (s.needs_reopen ≡ false) × IsNotSpent s.history.imports s.catalog.epoch
-    × IsRead release × (length s.catalog.entries ≡ most_entries s.catalog.layout)
+    (s.needs_reopen ≡ false) × LacksByKey s.history s.catalog release HasNoEntry
 IsRefusalOnAnyDisk refusals.NotAStore s release = ⊥
 IsRefusalOnAnyDisk refusals.Damaged s release =
     (s.needs_reopen ≡ false) × IsNotSpent s.history.imports s.catalog.epoch × IsRead release
@@ -264,19 +286,11 @@ IsRefusalOnAnyDisk (refusals.Line file line fault) s release = (s.needs_reopen �
 IsRefusalOnAnyDisk (refusals.Contradiction file line) s release = (s.needs_reopen ≡ false)
     × IsNotSpent s.history.imports s.catalog.epoch × IsRead release
 
--- what an import answers on every disk, and the store after it: with one import more, or as it was;
--- a failure of the device alone closes it
+-- what an import answers on every disk, and the store after it; a failure of the device alone closes
+-- it
 abbrev pub IsImportOnAnyDisk : {D : Type 0} → Result Receipt Refusal → StoreValue D → StoreValue D
     → Release → Type 0
-IsImportOnAnyDisk (Ok receipt) old new release = (new.history.imports ≡ old.history.imports + 1)
-    × (receipt.number ≡ new.history.imports) × (old.needs_reopen ≡ false)
-    × (new.needs_reopen ≡ false) × (new.catalog.layout ≡ next_layout old.catalog.layout)
+IsImportOnAnyDisk (Ok receipt) old new release =
+    IsTakenByKey old.history new.history old.catalog new.catalog release receipt
+    × (old.needs_reopen ≡ false) × (new.needs_reopen ≡ false)
 IsImportOnAnyDisk (Err e) old new release = IsRefusalOnAnyDisk e old release × IsRefused e old new
-
--- what a taken import adds, on every disk: as many rows as the receipt calls new,
--- and one segment of so many, or none where no row is new
-pub record IsCounted {D : Type 0} (old new : StoreValue D) (receipt : Receipt) : Type 0 where
-  pub rows : length new.history.rows ≡ length old.history.rows + receipt.new
-  pub without_new : receipt.new ≡ 0 → new.catalog.entries ≡ old.catalog.entries
-  pub with_new : 1 ≤ receipt.new → (entry : Entry)
-      × (new.catalog.entries ≡ old.catalog.entries ++ entry ∷ []) × (entry.rows ≡ receipt.new)

@@ -1,8 +1,9 @@
 -- What a query answers, and what it leaves of a store.
 use Rattle.std.specs.Prelude.{◌≡◌, ◌≢◌, ◌⊎◌, ◌↔◌, ℕ, Bool, true, false, List, Result, IfOk, IfErr}
-use Rattle.std.specs.Prelude.{◌+◌, ◌≤◌, OnOk, OnErr, Option, Some, None}
+use Rattle.std.specs.Prelude.{◌+◌, ◌≤◌, OnOk, OnErr, Option, Some, None, map}
 use Rattle.std.specs.List.{list_any, sum_by}
 use Rattle.rf2_values.specs.Row.{RowValue}
+use Rattle.rf2_values.specs.Key.{key_of}
 use Rattle.history_model.specs.History.{rows_at}
 use Rattle.disk_model.specs.Disk.{Moments}
 use Rattle.lru.specs.LruCache.{LruCache}
@@ -85,15 +86,18 @@ pub record IsQuery {T D : Type 0} (result : Result T Refusal) (is_honest : D →
   pub failures : Counts result (failures_of old.disk) (failures_of new.disk)
 
 -- A query for rows: `rows_of` says which rows an answer has, and `wanted` which are to be answered,
--- of the rows that the pin shows. On an honest disk these are the same. On every disk no call but
--- reads is made, what is kept is not read again, and no more is read than the rows of the answer
--- take. Whatever is answered, no more is read than the wanted rows take, each counted once.
+-- of the rows that the pin shows. On an honest disk these are the same, and on every disk they have
+-- the same keys, no call but reads is made, what is kept is not read again, and no more is read
+-- than the rows of the answer take. Whatever is answered, no more is read than the wanted rows
+-- take, each counted once.
 pub record IsRowsQuery {T D : Type 0} (result : Result T Refusal) (rows_of : T → List RowValue)
     (wanted : List RowValue → List RowValue) (pin : ℕ) (is_honest : D → Type 0)
     (moments_of : D → Moments) (failures_of bytes_read_of other_calls_of : D → ℕ)
     (old new : StoreValue D) : Type 0 where
   pub found : is_honest old.disk
       → IfOk result (λ x. rows_of x ≡ wanted (rows_at pin old.history.rows))
+  pub keys : IfOk result
+      (λ x. map key_of (rows_of x) ≡ map key_of (wanted (rows_at pin old.history.rows)))
   pub query : IsQuery result is_honest moments_of failures_of old new
   pub other_calls : other_calls_of new.disk ≡ other_calls_of old.disk
   pub looked_up : ReadsThroughCache bytes_read_of old new

@@ -73,7 +73,7 @@ impl<D: Disk> Store<D> {
     ghost use Rattle.import_check.specs.Release.{IsReleaseOf};
     ghost use Rattle.history_store.specs.Reading.{row_cost};
     ghost use Rattle.import_check.specs.NewRows.{IsAcceptedAs, IsRead};
-    ghost use Rattle.import_check.specs.NewRows.{IsApart};
+    ghost use Rattle.import_check.specs.NewRows.{BringsByKey};
     ghost use Rattle.store_image.specs.Images.{Represents, RepresentsAs};
     ghost use Rattle.history_store.specs.Catalog.{catalog_of, blocks_in_use, plain_count};
     ghost use Rattle.history_store.specs.StoreValue.{IsAcknowledged};
@@ -92,7 +92,7 @@ impl<D: Disk> Store<D> {
     ghost use Rattle.history_store.specs.Private.Answers.{IsStep, IsNotFresh};
     ghost use Rattle.history_store.specs.Openings.{IsMaking, IsOpening, StopsIn};
     ghost use Rattle.history_store.specs.Answers.{IsStill, IsRefused};
-    ghost use Rattle.history_store.specs.Answers.{IsCounted, IsImportOf, IsImportOnAnyDisk};
+    ghost use Rattle.history_store.specs.Answers.{IsImportOf, IsImportOnAnyDisk};
     ghost use Rattle.history_store.specs.Answers.{IsBeforeOrAfter, KeepsMoments, StemsWithinNew};
     ghost use Rattle.history_store.specs.Queries.{ReadsThroughCache, ForgetsWritten};
     ghost use Rattle.history_store.specs.Queries.{ImportsThroughCache};
@@ -193,8 +193,8 @@ impl<D: Disk> Store<D> {
         requires still { self.old.needs_reopen ≡ false }
         ensures accepted { D.is_honest self.old.disk
             → IfOk result (IsAcceptedAs (full self.old.history) release) }
-        // The new rows go with what is known on every disk.
-        ensures apart { IfOk result (λ fresh. IsApart (full self.old.history) fresh.rows.items) }
+        // The new rows are those with new keys on every disk.
+        ensures brings { IfOk result (BringsByKey (full self.old.history) release) }
         ensures is_read { IfOk result (λ fresh. IsRead release) }
         ensures refused { IfErr result (λ e. IsNotFresh (D.is_honest self.old.disk) e
             (full self.old.history) release) }
@@ -338,7 +338,6 @@ impl<D: Disk> Store<D> {
             → IsImportOf result self.old self.new release }
         // What holds on every disk.
         ensures kept { IsImportOnAnyDisk result self.old self.new release }
-        ensures counted { IfOk result (IsCounted self.old self.new) }
         // A stop at any moment leaves the history from before, in the version
         // from before, or that with the release, in the next.
         ensures any_moment { D.is_honest self.old.disk → self.old.needs_reopen ≡ false

@@ -1,10 +1,6 @@
 -- New rows that ascend, none of whose keys is known, whatever rows are given.
-use Rattle.std.proofs.Common.{◌≡◌, ◌⊎◌, false, List, [], ◌∷◌, ◌++◌, length, refl, sym, ap, subst, inl, inr, ◌∙◌}
-use Rattle.std.specs.Prelude.{ℕ, ◌-◌, Option, Some, None, IsSomeAnd, MatchOption, Result, Ok, Err, IfOk, IsOkAnd}
-use Rattle.import_check.specs.declared.sweep.Contradiction.{Contradiction}
-use Rattle.import_check.specs.declared.found.NewRows.{NewRows}
-use Rattle.import_check.specs.declared.fault.ImportFault.{ImportFault}
-use Rattle.import_check.specs.declared.fault.ImportFault.TheVariants as importfault
+use Rattle.std.proofs.Common.{◌≡◌, ◌⊎◌, false, List, [], ◌∷◌, ◌++◌, refl, sym, ap, subst, inl, inr, ◌∙◌}
+use Rattle.std.specs.Prelude.{Some, IsSomeAnd}
 use Rattle.std.specs.Ordering.{is_gt}
 use Rattle.std.specs.declared.cmp.Ordering.TheVariants.{Less}
 use Rattle.rf2_values.specs.Row.{RowValue}
@@ -16,8 +12,7 @@ use Rattle.history_model.proofs.Keys.{rows_total}
 use Rattle.import_check.specs.declared.release.PlacedLine.{PlacedLine}
 use Rattle.import_check.specs.declared.sweep.Sweep.{Sweep}
 use Rattle.import_check.specs.Known.{IsUnknown}
-use Rattle.import_check.specs.Private.Sweep.{rank_cmp, IsRising, IsOwn, IsOutcome}
-use Rattle.import_check.specs.NewRows.{IsApart}
+use Rattle.import_check.specs.Private.Sweep.{rank_cmp, IsRising, IsApart, IsOwn}
 use Rattle.import_check.proofs.Sweeping.{rank_split, ascending-push}
 
 pub own_none : (known : List RowValue) (rest : List PlacedLine) (s : Sweep) → s.fresh.items ≡ [] → IsOwn known rest s
@@ -76,13 +71,3 @@ module _ (known : List RowValue) (line : PlacedLine) (rest : List PlacedLine) (o
           ]
         ];
       }
-
-pub outcome_apart : (known : List RowValue) (s : Sweep) (count : ℕ) (r : Result NewRows ImportFault) → IsApart known s.fresh.items → IsOutcome s count r → IfOk r (λ fresh. IsApart known fresh.rows.items)
-outcome_apart known s count r apart outcome = by s.first r outcome where
-  by : (first : Option Contradiction) (r : Result NewRows ImportFault)
-      → MatchOption first (IsOkAnd r (λ f. (f.rows.items ≡ s.fresh.items) × (f.repeated ≡ count - length s.fresh.items))) (λ c. r ≡ Err (importfault.Contradiction c.file c.line c.key))
-      → IfOk r (λ fresh. IsApart known fresh.rows.items)
-  by None (Ok f) ok = subst (λ rows. IsApart known rows) (sym ok.0) apart
-  by None (Err e) ok = tt
-  by (Some c) (Ok f) out = absurd (cc)
-  by (Some c) (Err e) out = tt

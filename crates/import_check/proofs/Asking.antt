@@ -107,7 +107,7 @@ no_key rows key none row h e = let yes : true ≡ false = sym (has_to rows key r
 more_keys : (rows others : List RowValue) → ((row : RowValue) → Has rows row → Has others row) → (key : Key) → has_key rows key ≡ true → has_key others key ≡ true
 more_keys rows others each key h = let r = has_from rows key h in has_to others key r.0 (each r.0 r.1) r.2
 
-more_rows : (lines others : List PlacedLine) → ((l : PlacedLine) → Has lines l → Has others l) → (row : RowValue) → Has (rows_of lines) row → Has (rows_of others) row
+pub more_rows : (lines others : List PlacedLine) → ((l : PlacedLine) → Has lines l → Has others l) → (row : RowValue) → Has (rows_of lines) row → Has (rows_of others) row
 more_rows lines others each row h =
     let m = Has-map (λ (l : PlacedLine). l.row) lines row h in
     subst (λ (r : RowValue). Has (rows_of others) r) m.2 (Has-map_from (λ (l : PlacedLine). l.row) others m.0 (each m.0 m.1))

@@ -21,10 +21,15 @@ pub record AreNewRows (known rows fresh : List RowValue) (repeated : ℕ) : Type
   pub each : (row : RowValue) → Has rows row → (Has known row → ⊥) → Has fresh row
   pub counted : length fresh + repeated ≡ length rows
 
--- these rows ascend, and none of their keys is known
-pub record IsApart (known fresh : List RowValue) : Type 0 where
-  pub ascending : IsAscending row_cmp fresh
-  pub unknown : (row : RowValue) → Has fresh row → IsUnknown known (key_of row)
+-- the rows whose keys no known row has, each once and in key order, and how many of the others
+-- there are
+pub record AreNewByKey (known rows : List RowValue) (fresh : NewRows) : Type 0 where
+  pub ascending : IsAscending row_cmp fresh.rows.items
+  pub from_release : (row : RowValue) → Has fresh.rows.items row → Has rows row
+  pub unknown : (row : RowValue) → Has fresh.rows.items row → IsUnknown known (key_of row)
+  pub each : (row : RowValue) → Has rows row → IsUnknown known (key_of row)
+      → Has fresh.rows.items row
+  pub counted : length fresh.rows.items + fresh.repeated ≡ length rows
 
 -- a release that is taken: its rows and those that are known are consistent, and these rows are new
 pub record IsTaken (known : List RowValue) (rows : List RowValue) (fresh : NewRows) : Type 0 where
@@ -41,6 +46,12 @@ pub record IsAcceptedAs (known : List RowValue) (release : Release) (fresh : New
   pub rows : List RowValue
   pub rows_are : IsReleaseOf release rows
   pub taken : IsTaken known rows fresh
+
+-- the release is one of these rows, of which these are new by their keys
+pub record BringsByKey (known : List RowValue) (release : Release) (fresh : NewRows) : Type 0 where
+  pub rows : List RowValue
+  pub rows_are : IsReleaseOf release rows
+  pub new_by_key : AreNewByKey known rows fresh
 
 -- Why a release is refused: a row has a fault, which is that of the release; or each file is a
 -- release file, and a known row can't be had or a line contradicts. That memory ran out says

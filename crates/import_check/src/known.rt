@@ -1,6 +1,6 @@
 //! What is known before a release.
 
-ghost use Rattle.std.specs.Prelude.{◌≡◌, ◌≢◌, ◌+◌, ◌≤◌, ℕ, List, IfOk, IfErr, None};
+ghost use Rattle.std.specs.Prelude.{◌≡◌, ◌≢◌, ◌↔◌, ◌+◌, ◌≤◌, ℕ, List, IfOk, IfErr, None};
 ghost use Rattle.fault_counts.specs.declared.fault.ReadFault.TheVariants as readfault;
 ghost use Rattle.rf2_values.specs.Row.{RowValue};
 ghost use Rattle.rf2_values.specs.Key.{key_of};
@@ -44,9 +44,9 @@ pub trait Known {
         ensures found { is_honest self.old → IfOk result (IsRowAt (rows self.old) key.now) }
         // If it is honest, only the device or memory keeps a row from being had.
         ensures undamaged { is_honest self.old → IfErr result (λ e. e ≢ readfault.Damaged) }
-        // A key for which it gives no row is that of no row that is known.
+        // It gives no row exactly where no row that is known has the key.
         ensures absent { is_sound self.old
-            → IfOk result (λ found. found ≡ None → IsUnknown (rows self.old) key.now) }
+            → IfOk result (λ found. (found ≡ None) ↔ IsUnknown (rows self.old) key.now) }
         // Whatever it answers: no more is read than a known row with the
         // key takes, and nothing where no row that is known has the key.
         ensures work { is_sound self.old → (row : RowValue) → Has (rows self.old) row

@@ -11,11 +11,13 @@ ghost use Rattle.rf2_values.specs.Row.{RowValue};
 ghost use Rattle.rf2_values.specs.Key.{key_of};
 ghost use Rattle.import_check.specs.declared.release.PlacedLine.{PlacedLine};
 ghost use Rattle.fault_counts.specs.Counting.{Counts};
-ghost use Rattle.import_check.specs.NewRows.{IsTaken, IsApart, CountsAnyDiskFault, CountsAnyDamage};
+ghost use Rattle.import_check.specs.NewRows.{IsTaken, AreNewByKey};
+ghost use Rattle.import_check.specs.NewRows.{CountsAnyDiskFault, CountsAnyDamage};
 ghost use Rattle.import_check.specs.Release.{rows_of};
 ghost use Rattle.import_check.specs.Private.Sweep.{StandsBy, IsEarlierOf, IsVerdict, standing_of};
 ghost use Rattle.import_check.specs.Private.Sweep.{IsSwept, TakesLine, IsOutcome};
 ghost use Rattle.import_check.specs.Private.Sweep.{KeepsApart, IsCutShort, IsRefusalOf, IsRising};
+ghost use Rattle.import_check.specs.Private.Sweep.{IsApart, IsGathered, Gathers};
 ghost use Rattle.import_check.specs.Private.Sweep.{place_cmp, rank_cmp};
 
 use crate::fault::ImportFault;
@@ -84,6 +86,7 @@ impl Sweep {
         ensures swept { (known : List RowValue) (lines : List PlacedLine)
             → IsSwept known lines [] result }
         ensures empty { result.fresh.items ≡ [] }
+        ensures gathered { (known : List RowValue) → IsGathered known [] result }
         ensures in_step { IsInStep result }
     {
         Sweep {
@@ -163,6 +166,8 @@ impl Sweep {
             line (K.work known.old) (K.work known.new) }
         ensures apart { K.is_sound known.old
             → OnOk result (KeepsApart (K.rows known.old) line self.old self.new) }
+        ensures gathers { K.is_sound known.old
+            → OnOk result (Gathers (K.rows known.old) line self.old self.new) }
         ensures soundness { K.is_sound known.old → K.is_sound known.new }
         ensures few { OnOk result (length self.new.fresh.items ≤ length self.old.fresh.items + 1) }
         ensures cut_short { IfErr result (IsCutShort (K.is_honest known.old)) }
@@ -227,6 +232,8 @@ fn take_all<K: Known>(
         → IfOk result (IsSwept (K.rows known.old) lines.items lines.items) }
     ensures apart { K.is_sound known.old → IsRising rank_cmp lines.items
         → IfOk result (λ sweep. IsApart (K.rows known.old) sweep.fresh.items) }
+    ensures gathered { K.is_sound known.old
+        → IfOk result (IsGathered (K.rows known.old) lines.items) }
     ensures few { IfOk result (λ sweep. length sweep.fresh.items ≤ length lines.items) }
     ensures work { K.is_sound known.old → IsRising rank_cmp lines.items → K.work known.new
         ≤ K.work known.old
@@ -258,8 +265,8 @@ pub(crate) fn unite<K: Known>(
     requires { IsAscending place_cmp lines.items }
     ensures taken { IfOk result (λ fresh.
         K.is_honest known.old → IsTaken (K.rows known.old) (rows_of lines.items) fresh) }
-    ensures apart { K.is_sound known.old
-        → IfOk result (λ fresh. IsApart (K.rows known.old) fresh.rows.items) }
+    ensures new_by_key { K.is_sound known.old
+        → IfOk result (AreNewByKey (K.rows known.old) (rows_of lines.items)) }
     ensures refused { IfErr result
         (IsRefusalOf (K.is_honest known.old) (K.rows known.old) lines.items) }
     ensures work { K.is_sound known.old → K.work known.new

@@ -6,7 +6,7 @@ ghost use Rattle.rf2_values.specs.Row.{RowValue};
 ghost use Rattle.fault_counts.specs.Counting.{Counts};
 ghost use Rattle.import_check.specs.Known.{already_known};
 ghost use Rattle.import_check.specs.Release.{IsReleaseOf};
-ghost use Rattle.import_check.specs.NewRows.{IsApart, IsRead, IsAcceptedAs, IsRefusal};
+ghost use Rattle.import_check.specs.NewRows.{BringsByKey, IsRead, IsAcceptedAs, IsRefusal};
 ghost use Rattle.import_check.specs.NewRows.{CountsAnyDiskFault, CountsAnyDamage};
 
 use crate::fault::ImportFault;
@@ -34,9 +34,9 @@ pub fn new_rows<K: Known>(
     // What is accepted is a release that is consistent with what is known.
     ensures accepted { IfOk result (λ fresh. IsRead release
         × (K.is_honest known.old → IsAcceptedAs (K.rows known.old) release fresh)) }
-    // The new rows ascend and none of their keys is known, whatever row is given for a known key.
-    ensures apart { K.is_sound known.old
-        → IfOk result (λ fresh. IsApart (K.rows known.old) fresh.rows.items) }
+    // The new rows are those whose keys are unknown, whatever row is given for a known key.
+    ensures new_by_key { K.is_sound known.old
+        → IfOk result (BringsByKey (K.rows known.old) release) }
     // All files are read before what is known is asked. The line that is named
     // is the first that is at fault, or else the first that contradicts.
     ensures refused { IfErr result

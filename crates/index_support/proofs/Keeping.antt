@@ -1,6 +1,6 @@
 -- A row is found by the key of its place.
-use Rattle.std.proofs.Common.{◌≡◌, ℕ, zero, suc, ◌<◌, true, false, List, [], ◌∷◌, length, get_or, take, drop, map, refl, sym, ap, subst, ◌∙◌, arith, Vec, Global}
-use Rattle.std.specs.Prelude.{Some, slice_get, vec_items}
+use Rattle.std.proofs.Common.{◌≡◌, ℕ, zero, suc, ◌<◌, Bool, true, false, cond, List, [], ◌∷◌, length, get_or, take, drop, map, refl, sym, ap, subst, ◌∙◌, arith, Vec, Global}
+use Rattle.std.specs.Prelude.{Option, Some, None, IfSome, slice_get, vec_items}
 use Rattle.std.specs.List.{AllByRecursion, find}
 use Rattle.std.specs.Ordering.{is_lt}
 use Rattle.std.specs.Cmp.{tied_itself}
@@ -69,3 +69,15 @@ kept_row lists i at s v are w =
     ap (find (is_row_at at.key)) (sym rows_are)
     ∙ find_only (is_row_at at.key) w.rows s here (subst (λ (k : Key). is_row_at k s ≡ true) (sym key_is) (key_test (key_of s.row)))
     (λ x h e. listed_once (kept lists) are x s (has_joined (kept lists) i w.rows x w.list_is h) (has_joined (kept lists) i w.rows s w.list_is here) (key_from_test (key_of x.row) at.key e ∙ key_is))
+
+found_passes : (p : StampedRow → Bool) (xs : List StampedRow) (x : StampedRow) → find p xs ≡ Some x → p x ≡ true
+found_passes p [] x e = absurd (cc)
+found_passes p (y ∷ ys) x e = elim (p y) as (λ b. p y ≡ b → cond b (Some y) (find p ys) ≡ Some x → p x ≡ true) [
+  | true ↦ λ yes f. let same : y ≡ x = cc in subst (λ z. p z ≡ true) same yes
+  | false ↦ λ no f. found_passes p ys x f
+] refl e
+
+-- what is found by a key has it
+pub found_key : (key : Key) (rows : List StampedRow) (found : Option StampedRow) → found ≡ find (is_row_at key) rows → IfSome found (λ s. key_of s.row ≡ key)
+found_key key rows None e = tt
+found_key key rows (Some s) e = key_from_test (key_of s.row) key (found_passes (is_row_at key) rows s (sym e))

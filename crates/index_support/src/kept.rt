@@ -1,6 +1,6 @@
 //! Rows that stand in memory, as a reader.
 
-ghost use Rattle.std.specs.Prelude.{◌≡◌, ◌≤◌, length, map, vec_items};
+ghost use Rattle.std.specs.Prelude.{◌≡◌, ◌≤◌, length, map, vec_items, IfSome};
 ghost use Rattle.std.specs.List.{find};
 ghost use Rattle.std.specs.Option.{option_copied};
 ghost use Rattle.history_model.specs.declared.stamped.StampedRow.{StampedRow};
@@ -63,8 +63,9 @@ fn first_row<'a>(rows: &'a [StampedRow], key: &Key) -> Option<&'a StampedRow>
 
 /// The row with a key, by a bisection.
 fn row_at<'a>(rows: &'a [StampedRow], key: &Key) -> Option<&'a StampedRow>
-    ensures { IsAscending stamped_cmp rows.now
+    ensures first { IsAscending stamped_cmp rows.now
         → option_copied result ≡ find (is_row_at key.now) rows.now }
+    ensures keyed { IfSome (option_copied result) (λ s. key_of s.row ≡ key.now) }
 {
     let place = place_of_key(rows, key);
     first_row(&rows[place..], key)

@@ -233,9 +233,10 @@ module _ {D : Type 0} (source : SourceView) (view : DeviceView D) where
     -- the reply to a line wasn't written whole
     pub not_replied : {E : Type 0} (fault : E) (new : Option (List ℕ)) (after : Server D) (taken more buffer later : List ℕ) (answered : ℕ) (outcome : Result Answer LineRefusal) (call : Call)
         → Progress old mid before now (part ++ taken) buffer answered → piece ≡ (taken ++ 10 ∷ []) ++ more
-        → Gives outcome call now after (no_cr buffer) → AppendsSome mid new (bytes_of (reply_value outcome))
+        → Gives outcome call now after (no_cr buffer) → AppendsSome mid new (bytes_of (reply_value outcome)) → later ≡ []
         → IsFed (Err fault) source view (intake part piece later old new) before after
-    not_replied fault new after taken more buffer later answered outcome call h is g w =
+    unfolding room
+    not_replied fault new after taken more buffer later answered outcome call h is g w empty =
         let t = turn outcome call now after (no_cr h.part) in
         let run = run_more before now after h.turns t h.run (gives_ended outcome call now after h.part buffer h.buffer_is g) in
         record {
@@ -249,7 +250,7 @@ module _ {D : Type 0} (source : SourceView) (view : DeviceView D) where
               (subst (λ (ls : List (List ℕ)). AreCut ((part ++ taken) ++ 10 ∷ []) ls []) (asked_more h.turns t) (cut_line (part ++ taken) (lines_asked h.turns) h.part h.cut));
           number = ends_behind (taken ++ 10 ∷ []) (length (h.turns ++ t ∷ []))
               (length-append h.turns (t ∷ []) ∙ ap (λ (n : ℕ). n + 1) h.ends ∙ sym (ends_feed (part ++ taken)) ∙ ap ends_in (append_assoc part taken (10 ∷ [])));
-          kept_is = tt;
+          kept_is = empty;
           replied = (h.turns, t, mid, refl, h.written, w);
           count = tt;
         }

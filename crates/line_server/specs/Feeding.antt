@@ -54,7 +54,7 @@ intake part piece buffer old new =
 
 -- A piece of the input came behind a part of a line. Each line that ended in the piece was
 -- answered, in order, and its reply was written; what has come of the next line is kept. After a
--- fault of the writer that is so of the piece up to the line whose reply wasn't written.
+-- fault of the writer that is so of the piece up to the end of the line whose reply wasn't written.
 pub record IsFed {D E : Type 0} (result : Result ℕ E) (source : SourceView) (view : DeviceView D)
     (intake : Intake) (before after : Server D) : Type 0 where
   pub turns : List Turn
@@ -66,6 +66,6 @@ pub record IsFed {D E : Type 0} (result : Result ℕ E) (source : SourceView) (v
   pub all : OnOk result (taken ≡ intake.piece)
   pub lines : AreCut (intake.part ++ taken) (lines_asked turns) rest
   pub number : length turns ≡ ends_in taken
-  pub kept_is : OnOk result (intake.buffer ≡ kept rest)
+  pub kept_is : intake.buffer ≡ kept rest
   pub replied : AreReplied result intake.old intake.new turns
   pub count : IfOk result (λ n. n ≡ min (length turns) (2 ^ 64 - 1))

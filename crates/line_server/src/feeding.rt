@@ -47,7 +47,7 @@ pub(crate) fn answer_line<W: Write, S: Source, D: Disk>(
 /// Takes a piece of the input. Before it returns, each line that ended in the piece is answered and
 /// its reply written, so that who waits for a reply before the next line has it. It answers the
 /// number of these lines. What has come of the next line waits in the buffer; where the input ends
-/// there, that is the last line.
+/// there, that is the last line. After a fault of the writer the buffer is empty.
 pub fn feed<W: Write, S: Source, D: Disk>(
     alloc: Global,
     piece: &[u8],
@@ -71,11 +71,12 @@ pub fn feed<W: Write, S: Source, D: Disk>(
     let mut answered = 0u64;
     for &byte in piece {
         if byte == b'\n' {
-            match answer_line(alloc, line.ended(), pins, source, store, writer) {
+            let replied = answer_line(alloc, line.ended(), pins, source, store, writer);
+            line.clear();
+            match replied {
                 Ok(()) => {}
                 Err(fault) => return Err(fault),
             }
-            line.clear();
             answered = answered.saturating_add(1);
         } else {
             line.push(byte);

@@ -1,9 +1,10 @@
 //! What stands in the place of a component, as the posted associations say.
 
-ghost use Rattle.std.specs.Prelude.{◌≡◌, ◌≢◌, ◌↔◌, ◌+◌, ◌≤◌, List, IfOk, IfErr, OnOk};
+ghost use Rattle.std.specs.Prelude.{◌≡◌, ◌≢◌, ◌↔◌, ◌+◌, ◌≤◌, List, map, IfOk, IfErr, OnOk};
 ghost use Rattle.std.specs.List.{sum_by};
 ghost use Rattle.std.specs.List.Sorted.{IsNonDecreasingBy};
 ghost use Rattle.std.specs.Ordering.{eq_by_cmp};
+ghost use Rattle.rf2_values.specs.Key.{key_of};
 ghost use Rattle.history_model.specs.declared.stamped.StampedRow.{StampedRow};
 ghost use Rattle.history_model.specs.InOrder.{Has};
 ghost use Rattle.history_model.specs.History.{rows_at};
@@ -125,6 +126,10 @@ pub fn replacements<R: RowReader>(
         → EachPosted (R.lists reader.old) links.now
         → IfOk result (λ rows.
         rows.items ≡ replacements component time (rows_at pin (listed (R.lists reader.old)))) }
+    // Whatever was read, the keys are those of these associations.
+    ensures keys { Lists index.now (R.lists reader.old) → EachPosted (R.lists reader.old) links.now
+        → IfOk result (λ rows. map key_of rows.items ≡ map key_of
+        (replacements component time (rows_at pin (listed (R.lists reader.old))))) }
     ensures undamaged { R.is_honest reader.old → Lists index.now (R.lists reader.old)
         → EachPosted (R.lists reader.old) links.now
         → IfErr result (λ e. e ≢ readfault.Damaged) }

@@ -1,10 +1,11 @@
 //! What is about a component, as the posted subjects say.
 
 ghost use Rattle.std.specs.Prelude.{◌≡◌, ◌≢◌, ◌↔◌, ◌+◌, ◌≤◌, List, Some, nat_lt, nat_le, IfOk};
-ghost use Rattle.std.specs.Prelude.{IfErr, OnOk};
+ghost use Rattle.std.specs.Prelude.{IfErr, OnOk, map};
 ghost use Rattle.std.specs.List.{sum_by};
 ghost use Rattle.std.specs.List.Sorted.{IsNonDecreasingBy};
 ghost use Rattle.std.specs.Ordering.{eq_by_cmp};
+ghost use Rattle.rf2_values.specs.Key.{key_of};
 ghost use Rattle.history_model.specs.declared.stamped.StampedRow.{StampedRow};
 ghost use Rattle.history_model.specs.InOrder.{Has};
 ghost use Rattle.history_model.specs.History.{rows_at};
@@ -144,6 +145,10 @@ pub fn about<R: RowReader>(
         → EachPosted (R.lists reader.old) links.now
         → IfOk result (λ rows.
         rows.items ≡ about kind id time (rows_at pin (listed (R.lists reader.old)))) }
+    // Whatever was read, the keys are those of the rows about the component.
+    ensures keys { Lists index.now (R.lists reader.old) → EachPosted (R.lists reader.old) links.now
+        → IfOk result (λ rows. map key_of rows.items
+        ≡ map key_of (about kind id time (rows_at pin (listed (R.lists reader.old))))) }
     ensures undamaged { R.is_honest reader.old → Lists index.now (R.lists reader.old)
         → EachPosted (R.lists reader.old) links.now
         → IfErr result (λ e. e ≢ readfault.Damaged) }

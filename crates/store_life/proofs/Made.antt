@@ -85,10 +85,10 @@ module _ {D : Type 0} (view : DeviceView D) (old new : StoreValue D) (release : 
   imported : (receipt : Receipt) → IsImportOnAnyDisk (Ok receipt) old new release → (view.is_honest old.disk → IsImportOf (Ok receipt) old new release) → IsCall view old (Imported release) new
   imported receipt at_all answer = record {
     history = λ h. let t = (answer h).0 in (t.rows, t.is_release, t.accepted, t.history);
-    needs_reopen = at_all.3;
-    closed = λ needs. absurd (false≢true (sym at_all.2 ∙ needs));
+    needs_reopen = at_all.2;
+    closed = λ needs. absurd (false≢true (sym at_all.1 ∙ needs));
     honesty = honesty;
-    any_moment = λ h a. weaker (view.moments old.disk) (view.moments new.disk) (IsBeforeOrAfter old.catalog.layout old.history release) (RepresentsAround old.history (Imported release)) before_or_after (any h at_all.2);
+    any_moment = λ h a. weaker (view.moments old.disk) (view.moments new.disk) (IsBeforeOrAfter old.catalog.layout old.history release) (RepresentsAround old.history (Imported release)) before_or_after (any h at_all.1);
     acknowledged = λ h a open_still. ack h open_still;
   }
 

@@ -1,9 +1,10 @@
 //! Searches of postings.
 
 ghost use Rattle.std.specs.Prelude.{◌≡◌, ◌≢◌, ◌≤◌, ◌+◌, ◌++◌, List, length, take, flat_map, IfOk};
-ghost use Rattle.std.specs.Prelude.{IfErr, OnOk};
+ghost use Rattle.std.specs.Prelude.{IfErr, OnOk, map};
 ghost use Rattle.std.specs.List.{sum_by};
 ghost use Rattle.std.specs.List.Sorted.{IsPermutation, IsNonDecreasingBy};
+ghost use Rattle.rf2_values.specs.Key.{key_of};
 ghost use Rattle.history_model.specs.declared.stamped.StampedRow.{StampedRow};
 ghost use Rattle.history_model.specs.InOrder.{IsAscending, put};
 ghost use Rattle.history_model.specs.Private.{IsPlace};
@@ -305,6 +306,11 @@ pub fn find<R: RowReader>(
         → IfOk result (λ rows. rows.items ≡ search_terms prefix.now
         search.now.time search.now.after search.now.limit
         (rows_at search.now.pin (listed (R.lists reader.old)))) }
+    // Whatever was read, the keys are those of the rows that are to be found.
+    ensures keys { Lists index.now (R.lists reader.old) → ArePosted (R.lists reader.old) terms.now
+        → IfOk result (λ rows. map key_of rows.items ≡ map key_of (search_terms prefix.now
+        search.now.time search.now.after search.now.limit
+        (rows_at search.now.pin (listed (R.lists reader.old))))) }
     ensures undamaged { R.is_honest reader.old → Lists index.now (R.lists reader.old)
         → ArePosted (R.lists reader.old) terms.now → IfErr result (λ e. e ≢ readfault.Damaged) }
     // No more is read than the rows that it answers take, each read once.

@@ -23,7 +23,7 @@ use Rattle.import_check.specs.declared.fault.ImportFault.TheVariants as importfa
 use Rattle.fault_counts.specs.declared.fault.ReadFault.TheVariants as readfault
 use Rattle.import_check.specs.Release.{IsFirstContradiction}
 use Rattle.import_check.specs.Known.{IsUnknown}
-use Rattle.import_check.specs.NewRows.{IsApart}
+use Rattle.import_check.specs.Release.{rows_of}
 
 -- a line is another one, or comes before it
 abbrev pub StandsBy : ℕ → ℕ → ℕ → ℕ → Type 0
@@ -172,6 +172,11 @@ IsOutcome s count result = MatchOption s.first
     × (fresh.repeated ≡ count - length s.fresh.items)))
     (λ c. result ≡ Err (importfault.Contradiction c.file c.line c.key))
 
+-- these rows ascend, and none of their keys is known
+pub record IsApart (known fresh : List RowValue) : Type 0 where
+  pub ascending : IsAscending row_cmp fresh
+  pub unknown : (row : RowValue) → Has fresh row → IsUnknown known (key_of row)
+
 -- the new rows ascend, none of their keys is known, and each
 -- is below all lines to come but those for whose key it stands
 pub record IsOwn (known : List RowValue) (rest : List PlacedLine) (s : Sweep) : Type 0 where
@@ -186,6 +191,20 @@ abbrev pub KeepsApart : List RowValue → PlacedLine → Sweep → Sweep → Typ
 KeepsApart known line old new =
     (rest : List PlacedLine) → IsRising rank_cmp (line ∷ rest) → IsOwn known (line ∷ rest) old
     → IsOwn known rest new
+
+-- The new rows are rows of the lines so far. Where no line contradicts, each of these rows whose
+-- key is unknown is among them. A row stands for the last key only if a known one has it.
+pub record IsGathered (known : List RowValue) (done : List PlacedLine) (s : Sweep) : Type 0 where
+  pub from_lines : (row : RowValue) → Has s.fresh.items row → Has (rows_of done) row
+  pub each : s.first ≡ None → (row : RowValue) → Has (rows_of done) row
+      → IsUnknown known (key_of row) → Has s.fresh.items row
+  pub known_key : (row : RowValue) → s.known_row ≡ Some row
+      → IsSomeAnd s.key (λ key. IsUnknown known key → ⊥)
+
+-- the same after one line more is taken
+abbrev pub Gathers : List RowValue → PlacedLine → Sweep → Sweep → Type 0
+Gathers known line old new = (done : List PlacedLine) → IsGathered known done old
+    → IsGathered known (done ++ line ∷ []) new
 
 -- why lines are taken no further: memory ran out, or a known row can't be had
 abbrev pub IsCutShort : (honest : Type 0) → ImportFault → Type 0

@@ -4,6 +4,8 @@ use Rattle.std.proofs.lemmas.List.Sums.{sum_by_push}
 use Rattle.history_model.specs.declared.stamped.StampedRow.{StampedRow}
 use Rattle.segment.specs.Standing.{StandsAt}
 use Rattle.as_of_index.proofs.Current.{stand_at, stand_end, map-push, rows_push, first_rows}
+use Rattle.rf2_values.specs.Key.{key_of}
+use Rattle.as_of_index.proofs.SameKeys.{key_there, keys_push}
 use Rattle.as_of_index.proofs.chosen.read_all.Goals as goal
 
 pub loop-k-preserved : goal.loop-k-preserved
@@ -35,6 +37,13 @@ loop-k-preserved g c =
           ∙ ap (λ (s : StampedRow). map (λ (s : StampedRow). s.row) (take c.loop-k.k-index rows) ++ s.row ∷ []) same
           ∙ sym (map-push (λ (s : StampedRow). s.row) (take c.loop-k.k-index rows) w.0)
           ∙ ap (λ xs. map (λ (s : StampedRow). s.row) xs) (sym w.2);
+      keys = λ rows stand.
+          let w = stand_at (g.R.RowReader.lists a.reader.now) a.places.now rows c.loop-k.k-index c.k-item.result stand c.loop-k-test.true c.k-item.is in
+          let first = take c.loop-k.k-index rows in
+          ap (map key_of) c.in_ok-push.ensures.items
+          ∙ keys_push c.loop-k.rows.items (map (λ (s : StampedRow). s.row) first) found.found.row w.0.row (so_far.keys rows stand)
+          (key_there (g.R.RowReader.lists a.reader.now) c.k-item.result.segment c.k-item.result.at w.0 found.found.row w.1 found.ensures.keyed)
+          ∙ ap (map key_of) (sym (map-push (λ (s : StampedRow). s.row) first w.0) ∙ ap (map (λ (s : StampedRow). s.row)) (sym w.2));
     }
 
 pub returns-in_err-found-clause-undamaged : goal.returns-in_err-found-clause-undamaged
@@ -77,3 +86,7 @@ returns-clause-work_always g c = λ rows stand.
     let least = c.loop-k.invariant.work_always rows stand in
     let all = first_rows g.R.RowReader.cost c.loop-k.k-index rows in
     omega arith
+
+pub returns-clause-keys : goal.returns-clause-keys
+returns-clause-keys g c = λ rows stand.
+    c.loop-k.invariant.keys rows stand ∙ ap (λ xs. map key_of (map (λ (s : StampedRow). s.row) xs)) (stand_end (g.R.RowReader.lists c.args.reader.now) c.args.places.now rows c.loop-k.k-index stand c.loop-k-test.false)

@@ -3,7 +3,7 @@ use Rattle.import_check.specs.declared.release.PlacedLine.{PlacedLine}
 use Rattle.std.specs.List.{sum_by}
 use Rattle.import_check.specs.Known.{already_known}
 use Rattle.import_check.specs.Release.{rows_of}
-use Rattle.import_check.specs.Private.Sweep.{IsInStep, IsAhead, IsSwept, IsOwn, IsRising, rank_cmp}
+use Rattle.import_check.specs.Private.Sweep.{IsInStep, IsAhead, IsSwept, IsOwn, IsGathered, IsRising, rank_cmp}
 use Rattle.import_check.proofs.sweep.take_all.Given as goal
 
 abbrev pub invariant-loop-line : goal.invariant-loop-line
@@ -11,6 +11,8 @@ invariant-loop-line g l = record {
   swept : g.K.Known.is_honest l.fn.known → IsRising rank_cmp l.fn.lines.items →
       (done : List PlacedLine) × (l.fn.lines.items ≡ done ++ l.line-iterator) × IsSwept (g.K.Known.rows l.fn.known) l.fn.lines.items done l.sweep;
   apart : g.K.Known.is_sound l.fn.known → IsRising rank_cmp l.fn.lines.items → IsOwn (g.K.Known.rows l.fn.known) l.line-iterator l.sweep × IsRising rank_cmp l.line-iterator;
+  gathered : g.K.Known.is_sound l.fn.known →
+      (done : List PlacedLine) × (l.fn.lines.items ≡ done ++ l.line-iterator) × IsGathered (g.K.Known.rows l.fn.known) done l.sweep;
   soundness : g.K.Known.is_sound l.fn.known → g.K.Known.is_sound l.known;
   in_step : g.K.Known.is_honest l.fn.known → IsInStep l.sweep;
   asked : g.K.Known.is_sound l.fn.known → IsRising rank_cmp l.fn.lines.items →

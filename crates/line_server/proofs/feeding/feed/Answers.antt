@@ -13,8 +13,8 @@ loop-byte-init g c =
     let source = source_view (g.S.Source.is_honest c.args.source.now) (g.S.Source.releases c.args.source.now) in
     (λ part free is. rw (append-nil part) (begins source (device_view g.D.Disk.is_honest g.D.Disk.moments g.D.Disk.failures g.D.Disk.bytes_read) _ _ part _ free is), c.requires, λ h. (h, refl))
 
-pub answer_line-requires : goal.answer_line-requires
-answer_line-requires g c = c.loop-byte.invariant.1
+pub answer_line-replied-requires : goal.answer_line-replied-requires
+answer_line-replied-requires g c = c.loop-byte.invariant.1
 
 pub returns-in-Err-clause-fed : goal.returns-in-Err-clause-fed
 returns-in-Err-clause-fed g c =
@@ -22,7 +22,7 @@ returns-in-Err-clause-fed g c =
     let i = c.loop-byte.invariant in
     let piece = c.args.piece.now in
     let at = c.loop-byte.byte-index in
-    let step = c.answer_line.ensures.served in
+    let step = c.answer_line-replied.ensures.served in
     let line_is = rw c.ended.ensures at step.1 in
     let turn = turn_on _ _ _ _ step.0 _ line_is step.2 in
     let gives = turn_now step.0.outcome step.0.call _ _ source (device_view g.D.Disk.is_honest g.D.Disk.moments g.D.Disk.failures g.D.Disk.bytes_read) _ _ i.2 turn in
@@ -32,12 +32,13 @@ returns-in-Err-clause-fed g c =
     (sym (all_seen [] piece at 10 c.loop-byte-test.true c.if-byte-eq10.true))
     gives
     (rw c.in-Err.is at step.3)
+    c.clear.ensures
 
 pub returns-in-Err-clause-source : goal.returns-in-Err-clause-source
-returns-in-Err-clause-source g c = λ h. c.answer_line.ensures.source (c.loop-byte.invariant.2 h).0
+returns-in-Err-clause-source g c = λ h. c.answer_line-replied.ensures.source (c.loop-byte.invariant.2 h).0
 
 pub returns-in-Err-clause-stays : goal.returns-in-Err-clause-stays
-returns-in-Err-clause-stays g c = λ h. c.answer_line.ensures.stays (c.loop-byte.invariant.2 h).0 ∙ (c.loop-byte.invariant.2 h).1
+returns-in-Err-clause-stays g c = λ h. c.answer_line-replied.ensures.stays (c.loop-byte.invariant.2 h).0 ∙ (c.loop-byte.invariant.2 h).1
 
 pub loop-byte-preserved : goal.loop-byte-preserved
 loop-byte-preserved g c =
@@ -47,7 +48,7 @@ loop-byte-preserved g c =
     let at = c.loop-byte.byte-index in
     elim c.if-byte-eq10.branch [
       | then-byte-eq10+in-Ok w ↦
-          let step = w.answer_line.ensures in
+          let step = w.answer_line-replied.ensures in
           let line_is = rw w.ended.ensures at step.served.1 in
           let turn = turn_on _ _ _ _ step.served.0 _ line_is step.served.2 in
           let gives = turn_now step.served.0.outcome step.served.0.call _ _ source (device_view g.D.Disk.is_honest g.D.Disk.moments g.D.Disk.failures g.D.Disk.bytes_read) _ _ i.2 turn in (

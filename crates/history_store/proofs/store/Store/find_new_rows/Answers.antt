@@ -3,7 +3,7 @@ use Rattle.std.specs.List.{sum_by}
 use Rattle.import_check.specs.Known.{already_known}
 use Rattle.history_store.specs.Reading.{row_cost}
 use Rattle.import_check.specs.NewRows.{IsAcceptedAs, IsRefusal}
-use Rattle.import_check.specs.NewRows.{IsApart}
+use Rattle.import_check.specs.NewRows.{BringsByKey}
 use Rattle.history_store.specs.StoreValue.{StoreValue}
 use Rattle.history_store.specs.Private.Reading.{rows_of}
 use Rattle.history_store.proofs.Refusing.{refused_less}
@@ -28,9 +28,9 @@ returns-in-Ok-clause-accepted g c =
     let still = subst (λ (s : StoreValue g.row.D.Denot). s.needs_reopen ≡ false) (sym c.self.view_is) c.requires.still in
     rw (← c.self.view_is) (λ up. subst (λ l. IsAcceptedAs (rows_of l) c.args.release c.in-Ok.fresh) c.new-reader.ensures.shown (c.in-Ok.ensures.accepted (reader_honest g.D.Disk.is_honest g.D.Disk.moments _ _ _ _ _ _ _ _ _ _ c.self.invariant.0 c.new-reader.ensures.disk c.new-reader.ensures.cache c.new-reader.ensures.entries c.new-reader.ensures.shown up still (g.met.D.Disk.now_is_image c.self.inside.disk up)) (lent_sound _ _ _ _ _ _ _ c.self.invariant.0 c.places.result.now c.new-reader.result.shown.now c.imports-pin.result c.places.ensures c.new-reader.ensures.shown c.imports-pin.ensures).0 (lent_sound _ _ _ _ _ _ _ c.self.invariant.0 c.places.result.now c.new-reader.result.shown.now c.imports-pin.result c.places.ensures c.new-reader.ensures.shown c.imports-pin.ensures).1))
 
-pub returns-in-Ok-clause-apart : goal.returns-in-Ok-clause-apart
-returns-in-Ok-clause-apart g c =
-    rw (← c.self.view_is) (subst (λ l. IsApart (rows_of l) c.in-Ok.fresh.rows.items) c.new-reader.ensures.shown (c.in-Ok.ensures.apart (lent_sound _ _ _ _ _ _ _ c.self.invariant.0 c.places.result.now c.new-reader.result.shown.now c.imports-pin.result c.places.ensures c.new-reader.ensures.shown c.imports-pin.ensures).0 (lent_sound _ _ _ _ _ _ _ c.self.invariant.0 c.places.result.now c.new-reader.result.shown.now c.imports-pin.result c.places.ensures c.new-reader.ensures.shown c.imports-pin.ensures).1))
+pub returns-in-Ok-clause-brings : goal.returns-in-Ok-clause-brings
+returns-in-Ok-clause-brings g c =
+    rw (← c.self.view_is) (subst (λ l. BringsByKey (rows_of l) c.args.release c.in-Ok.fresh) c.new-reader.ensures.shown (c.in-Ok.ensures.brings (lent_sound _ _ _ _ _ _ _ c.self.invariant.0 c.places.result.now c.new-reader.result.shown.now c.imports-pin.result c.places.ensures c.new-reader.ensures.shown c.imports-pin.ensures).0 (lent_sound _ _ _ _ _ _ _ c.self.invariant.0 c.places.result.now c.new-reader.result.shown.now c.imports-pin.result c.places.ensures c.new-reader.ensures.shown c.imports-pin.ensures).1))
 
 pub returns-after-matches-clause-refused : goal.returns-after-matches-clause-refused
 returns-after-matches-clause-refused g c =

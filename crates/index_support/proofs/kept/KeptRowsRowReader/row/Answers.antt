@@ -7,7 +7,7 @@ pub returns-in-Some-clause-found : goal.returns-in-Some-clause-found
 returns-in-Some-clause-found c = λ are s w.
     let e = kept_row c.args.self.now.lists.now c.args.segment c.args.at s c.index-self-segment.result are w in
     let up = kept_up c.args.self.now.lists.now c.args.segment c.args.at s c.index-self-segment.result are w in
-    let f = (rw c.as_slice.ensures.value at c.in-Some.ensures) up in
+    let f = (rw c.as_slice.ensures.value at c.in-Some.ensures.first) up in
     let g : Some c.in-Some.found.now ≡ Some s = f ∙ e in
     let same : c.in-Some.found.now ≡ s = cc in
     c.in_ok-try_clone.ensures ∙ same
@@ -18,7 +18,7 @@ returns-clause-undamaged c = λ are s w _.
       | then-segment-self+in_default d ↦
           (let e = kept_row c.args.self.now.lists.now c.args.segment c.args.at s d.index-self-segment.result are w in
           let up = kept_up c.args.self.now.lists.now c.args.segment c.args.at s d.index-self-segment.result are w in
-          let f = (rw d.as_slice.ensures.value at d.in_default.ensures) up in
+          let f = (rw d.as_slice.ensures.value at d.in_default.ensures.first) up in
           let g = f ∙ e in
           absurd (cc))
       | else-segment-self d ↦ (let lt = kept_within c.args.self.now.lists.now c.args.segment w.rows w.list_is in let ge = d.if-segment-self.false in omega arith)

@@ -1,0 +1,135 @@
+-- Which rows of the lines so far are new by their keys, whatever rows are given.
+use Rattle.std.proofs.Common.{◌≡◌, ◌⊎◌, ◌≤◌, List, [], ◌∷◌, ◌++◌, length, refl, sym, ap, subst, inl, inr, ◌∙◌, arith}
+use Rattle.std.specs.Prelude.{ℕ, zero, suc, ◌-◌, Option, Some, None, IsSomeAnd, MatchOption, Result, Ok, Err, IfOk, IsOkAnd, slice_get}
+use Rattle.std.specs.List.Sorted.{IsPermutation}
+use Rattle.std.proofs.lemmas.List.Sorted.{IsPermutation-sym}
+use Rattle.rf2_values.specs.declared.key.Key.{Key}
+use Rattle.rf2_values.specs.Row.{RowValue}
+use Rattle.rf2_values.specs.Key.{key_of}
+use Rattle.history_model.specs.InOrder.{Has}
+use Rattle.history_model.proofs.InOrder.{Has-append_left, Has-append_right, Has-append_cases}
+use Rattle.import_check.specs.declared.sweep.Contradiction.{Contradiction}
+use Rattle.import_check.specs.declared.sweep.Sweep.{Sweep}
+use Rattle.import_check.specs.declared.release.PlacedLine.{PlacedLine}
+use Rattle.import_check.specs.declared.found.NewRows.{NewRows}
+use Rattle.import_check.specs.declared.fault.ImportFault.{ImportFault}
+use Rattle.import_check.specs.declared.fault.ImportFault.TheVariants as importfault
+use Rattle.import_check.specs.Known.{IsUnknown}
+use Rattle.import_check.specs.Release.{rows_of}
+use Rattle.import_check.specs.NewRows.{AreNewByKey}
+use Rattle.import_check.specs.Private.Sweep.{IsApart, IsGathered, IsOutcome, IsVerdict, standing_row, standing_of}
+use Rattle.import_check.proofs.Asking.{more_rows}
+use Rattle.import_check.proofs.Uniting.{Has-permutation}
+
+has_at : {X : Type 0} (xs : List X) (i : ℕ) (x : X) → slice_get xs i ≡ Some x → Has xs x
+has_at [] i x e = absurd (cc)
+has_at (y ∷ ys) zero x e = inl (cc)
+has_at (y ∷ ys) (suc i) x e = inr (has_at ys i x e)
+
+pub gathered_none : (known : List RowValue) (s : Sweep) → s.fresh.items ≡ [] → s.known_row ≡ None → IsGathered known [] s
+gathered_none known s none unread = record {
+  from_lines = λ row h. absurd (subst (λ rows. Has rows row) none h);
+  each = λ first row h unknown. absurd h;
+  known_key = λ row e. absurd (cc);
+}
+
+rows_cases : (done : List PlacedLine) (line : PlacedLine) (row : RowValue) → Has (rows_of (done ++ line ∷ [])) row → Has (rows_of done) row ⊎ (line.row ≡ row)
+rows_cases [] line row (inl e) = inr e
+rows_cases [] line row (inr n) = absurd n
+rows_cases (l ∷ done) line row (inl e) = inl (inl e)
+rows_cases (l ∷ done) line row (inr h) = elim (rows_cases done line row h) [ inl before ↦ inl (inr before) | inr e ↦ inr e ]
+
+rows_before : (done : List PlacedLine) (line : PlacedLine) (row : RowValue) → Has (rows_of done) row → Has (rows_of (done ++ line ∷ [])) row
+rows_before [] line row h = absurd h
+rows_before (l ∷ done) line row (inl e) = inl e
+rows_before (l ∷ done) line row (inr h) = inr (rows_before done line row h)
+
+row_last : (done : List PlacedLine) (line : PlacedLine) → Has (rows_of (done ++ line ∷ [])) line.row
+row_last [] line = inl refl
+row_last (l ∷ done) line = inr (row_last done line)
+
+-- where none contradicts after a line, its row is the one that stands, and none did before
+agreed : (standing : Option RowValue) (first : Option Contradiction) (line : PlacedLine) (now : Option Contradiction) → IsVerdict standing first line now → now ≡ None → (standing ≡ Some line.row) × (first ≡ None)
+agreed standing first line now (inl p) none = (p.0, sym p.1 ∙ none)
+agreed standing first line now (inr p) none = let found = p.2 in absurd (cc)
+
+key_known : (key : Option Key) (known : List RowValue) (k : Key) → IsSomeAnd key (λ key. IsUnknown known key → ⊥) → IsSomeAnd key (λ last. last ≡ k) → IsUnknown known k → ⊥
+key_known None known k at same unknown = absurd at
+key_known (Some last) known k at same unknown = at (subst (λ key. IsUnknown known key) (sym same) unknown)
+
+stands_new : (known : List RowValue) (key : Option Key) (known_row : Option RowValue) (fresh : List RowValue) (row : RowValue)
+    → ((r : RowValue) → known_row ≡ Some r → IsSomeAnd key (λ key. IsUnknown known key → ⊥)) → IsSomeAnd key (λ last. last ≡ key_of row)
+    → standing_row known_row fresh ≡ Some row → IsUnknown known (key_of row) → Has fresh row
+stands_new known key None fresh row known_key at standing unknown = has_at fresh (length fresh - 1) row standing
+stands_new known key (Some r) fresh row known_key at standing unknown = absurd (key_known key known (key_of row) (known_key r refl) at unknown)
+
+module _ (known : List RowValue) (done : List PlacedLine) (line : PlacedLine) (old new : Sweep) (g : IsGathered known done old) where
+  pub gathered_same : IsSomeAnd old.key (λ last. last ≡ key_of line.row) → new ≡ record old { first = new.first } → IsVerdict (standing_of old) old.first line new.first → IsGathered known (done ++ line ∷ []) new
+  gathered_same at kept verdict =
+      let rows : new.fresh.items ≡ old.fresh.items = ap (λ (s : Sweep). s.fresh.items) kept in
+      record {
+        from_lines = λ row h. rows_before done line row (g.from_lines row (subst (λ x. Has x row) rows h));
+        each = λ none row h unknown.
+            let so = agreed (standing_of old) old.first line new.first verdict none in
+            subst (λ x. Has x row) (sym rows) (elim (rows_cases done line row h) as (λ _. Has old.fresh.items row) [
+              | inl before ↦ g.each so.1 row before unknown
+              | inr e ↦ subst (λ (r : RowValue). Has old.fresh.items r) e (stands_new known old.key old.known_row old.fresh.items line.row g.known_key at so.0 (subst (λ (r : RowValue). IsUnknown known (key_of r)) (sym e) unknown))
+            ]);
+        known_key = λ row e. subst (λ k. IsSomeAnd k (λ key. IsUnknown known key → ⊥)) (sym (ap (λ (s : Sweep). s.key) kept)) (g.known_key row (sym (ap (λ (s : Sweep). s.known_row) kept) ∙ e));
+      }
+
+  -- a known row has the key
+  pub gathered_known : (first : Option Contradiction) (standing : Option RowValue) → first ≡ old.first → new.fresh.items ≡ old.fresh.items → new.key ≡ Some (key_of line.row) → IsVerdict standing first line new.first
+      → (IsUnknown known (key_of line.row) → ⊥) → IsGathered known (done ++ line ∷ []) new
+  gathered_known first standing same rows at verdict there = record {
+    from_lines = λ row h. rows_before done line row (g.from_lines row (subst (λ x. Has x row) rows h));
+    each = λ none row h unknown. elim (rows_cases done line row h) as (λ _. Has new.fresh.items row) [
+      | inl before ↦ subst (λ x. Has x row) (sym rows) (g.each (sym same ∙ (agreed standing first line new.first verdict none).1) row before unknown)
+      | inr e ↦ absurd (there (subst (λ (r : RowValue). IsUnknown known (key_of r)) (sym e) unknown))
+    ];
+    known_key = λ row e. subst (λ k. IsSomeAnd k (λ key. IsUnknown known key → ⊥)) (sym at) there;
+  }
+
+  -- no known row has the key
+  pub gathered_new : new.first ≡ old.first → new.known_row ≡ None → new.fresh.items ≡ old.fresh.items ++ line.row ∷ [] → IsGathered known (done ++ line ∷ []) new
+  gathered_new same none rows = record {
+    from_lines = λ row h. elim (Has-append_cases old.fresh.items (line.row ∷ []) row (subst (λ x. Has x row) rows h)) as (λ _. Has (rows_of (done ++ line ∷ [])) row) [
+      | inl before ↦ rows_before done line row (g.from_lines row before)
+      | inr t ↦ elim t [ inl e ↦ subst (λ r. Has (rows_of (done ++ line ∷ [])) r) e (row_last done line) | inr n ↦ absurd n ]
+    ];
+    each = λ first row h unknown. subst (λ x. Has x row) (sym rows) (elim (rows_cases done line row h) as (λ _. Has (old.fresh.items ++ line.row ∷ []) row) [
+      | inl before ↦ Has-append_left old.fresh.items (line.row ∷ []) row (g.each (sym same ∙ first) row before unknown)
+      | inr e ↦ Has-append_right old.fresh.items (line.row ∷ []) row (inl e)
+    ]);
+    known_key = λ row e. absurd (cc);
+  }
+
+-- what a pass over the lines in another order ends with, where none contradicts
+pub outcome_by_key : (known : List RowValue) (lines sorted : List PlacedLine) (s : Sweep) (count : ℕ) (r : Result NewRows ImportFault) → IsPermutation lines sorted → count ≡ length lines → length s.fresh.items ≤ length sorted → length sorted ≡ length lines
+    → IsApart known s.fresh.items → IsGathered known sorted s → IsOutcome s count r → IfOk r (AreNewByKey known (rows_of lines))
+outcome_by_key known lines sorted s count r permuted count_is few same apart g outcome = by s.first refl r outcome where
+  here : (row : RowValue) → Has (rows_of sorted) row → Has (rows_of lines) row
+  here = more_rows sorted lines (λ l h. Has-permutation lines sorted permuted l h)
+
+  back : (row : RowValue) → Has (rows_of lines) row → Has (rows_of sorted) row
+  back = more_rows lines sorted (λ l h. Has-permutation sorted lines (IsPermutation-sym lines sorted permuted) l h)
+
+  length_rows : (ls : List PlacedLine) → length (rows_of ls) ≡ length ls
+  length_rows [] = refl
+  length_rows (l ∷ ls) = ap suc (length_rows ls)
+
+  by : (first : Option Contradiction) → s.first ≡ first → (r : Result NewRows ImportFault)
+      → MatchOption first (IsOkAnd r (λ f. (f.rows.items ≡ s.fresh.items) × (f.repeated ≡ count - length s.fresh.items))) (λ c. r ≡ Err (importfault.Contradiction c.file c.line c.key))
+      → IfOk r (AreNewByKey known (rows_of lines))
+  by None none (Ok f) ok =
+      let rows : f.rows.items ≡ s.fresh.items = ok.0 in
+      record {
+        ascending = (subst (λ x. IsApart known x) (sym rows) apart).ascending;
+        from_release = λ row h. here row (g.from_lines row (subst (λ x. Has x row) rows h));
+        unknown = (subst (λ x. IsApart known x) (sym rows) apart).unknown;
+        each = λ row h unknown. subst (λ x. Has x row) (sym rows) (g.each none row (back row h) unknown);
+        counted = let all = length_rows lines in let own : length f.rows.items ≡ length s.fresh.items = ap length rows in let left = ok.1 in omega (arith, all, own, left, few, same, count_is);
+      }
+  by None none (Err e) ok = tt
+  by (Some c) found (Ok f) out = absurd (cc)
+  by (Some c) found (Err e) out = tt
