@@ -48,7 +48,7 @@ fn after(calls: u64, choice: Choice) -> (u32, u32) {
         Choice::Lost | Choice::Filled(0) => 0,
         Choice::Kept | Choice::Filled(_) => 1,
     };
-    let reached = calls + late;
+    let reached = calls.saturating_add(late);
     (
         if reached >= 6 { 3 } else { 2 },
         if reached >= 14 { 3 } else { 2 },
@@ -57,7 +57,7 @@ fn after(calls: u64, choice: Choice) -> (u32, u32) {
 
 /// Whether a stop after so many calls leaves a store that is as it has to be, and goes on.
 fn is_kept(alloc: Global, disk: &MemDisk, calls: u64, choice: Choice) -> Result<bool, Refusal> {
-    let image = image_after(disk, BEFORE + calls, choice)?;
+    let image = image_after(disk, BEFORE.saturating_add(calls), choice)?;
     let mut store = Example::of_bytes(alloc, image.as_slice())?;
     let (version, imports) = after(calls, choice);
     if store.version() != version || !holds(alloc, &mut store, imports)? {
@@ -93,7 +93,7 @@ fn run_with(alloc: Global, calls: u64) -> Result<Outcome, Refusal> {
         return Ok(Outcome::Wrong);
     };
     let mut disk = store.close();
-    Fault::Change(0).strike(&mut disk, calls + 1);
+    Fault::Change(0).strike(&mut disk, calls.saturating_add(1));
     let mut store = Example::opened(alloc, disk)?;
     match go_on(&mut store) {
         Ok(()) => return Ok(Outcome::Whole),
