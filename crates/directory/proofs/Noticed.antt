@@ -165,7 +165,7 @@ changed_byte_may_not_precede layout before after byte changed all small marks su
 
 -- ---- what may precede
 
-not_three : (old : Layout) (block : List ℕ) → (old ≡ layouts.Three → ⊥) → HasMark old block → HasMark layouts.Three block → ⊥
+pub not_three : (old : Layout) (block : List ℕ) → (old ≡ layouts.Three → ⊥) → HasMark old block → HasMark layouts.Three block → ⊥
 not_three old block other has three = other (one_mark old layouts.Three (sym has ∙ three))
 
 precedes : (old new : Layout) (block : List ℕ) → HasMark old block → HasSum old block → (new ≡ next_layout old) ⊎ (new ≡ layouts.Three) → MayPrecede new block
