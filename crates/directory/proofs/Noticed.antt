@@ -1,16 +1,16 @@
 -- A byte of a block that was changed.
-use Rattle.std.proofs.Common.{◌≡◌, ◌≢◌, inl, inr, ℕ, zero, suc, ◌+◌, ◌-◌, ◌^◌, ◌<◌, ◌≤◌, List, [], ◌∷◌, ◌++◌, length, take, drop, get_or, replicate, refl, sym, ap, subst, ◌∙◌, arith}
+use Rattle.std.proofs.Common.{◌≡◌, ◌≢◌, ◌⊎◌, inl, inr, ℕ, zero, suc, ◌+◌, ◌-◌, ◌<◌, List, [], ◌∷◌, ◌++◌, length, take, drop, get_or, refl, sym, ap, subst, ◌∙◌, arith}
 use Rattle.std.specs.Int.{w32, w64, to_be_bytes}
 use Rattle.std.specs.List.{AllByRecursion}
 use Rattle.std.proofs.lemmas.Bool.{cases_lt, cases_eq}
-use Rattle.std.proofs.lemmas.List.{append_cancel_left, take-append-le, drop-append-le}
+use Rattle.std.proofs.lemmas.List.{append_cancel_left, get_or-drop, get_or-take, take-append-le, drop-append-le}
 use Rattle.checksum.specs.Crc32c.{crc32c}
 use Rattle.checksum.proofs.ChecksumLaws.{is_number_of_32_bits, one_byte_is_noticed}
 use Rattle.directory.specs.declared.layout.Layout.{Layout}
 use Rattle.directory.specs.declared.layout.Layout.TheVariants as layouts
-use Rattle.directory.specs.Listings.{DirectoryValue}
-use Rattle.directory.specs.Content.{HasSum, Lists, ChangedByteIsNoticed, header_bytes, mark, sum_of}
-use Rattle.directory.proofs.Spelled.{block_is, header_fields, same_4}
+use Rattle.directory.specs.Listings.{DirectoryValue, next_layout}
+use Rattle.directory.specs.Content.{HasMark, HasOlderMark, HasSum, Lists, MayPrecede, ChangedByteIsNoticed, ChangedByteMayNotPrecede, ListedMayPrecede, mark, sum_of}
+use Rattle.directory.proofs.Spelled.{block_is, header_fields, one_mark, same_4}
 
 all_split : (P : ℕ → Type 0) (xs : List ℕ) (y : ℕ) (ys : List ℕ) → AllByRecursion P (xs ++ y ∷ ys) → AllByRecursion P xs × P y × AllByRecursion P ys
 all_split P [] y ys all = (tt, all.0, all.1)
@@ -59,29 +59,41 @@ fourth layouts.One = 73
 fourth layouts.Two = 73
 fourth layouts.Three = 84
 
-third_is : (layout : Layout) (epoch : ℕ) (rest : List ℕ) → get_or (to_be_bytes w64 epoch ++ (mark layout ++ rest)) 11 0 ≡ third layout
+third_is : (layout : Layout) → get_or (mark layout) 3 0 ≡ third layout
 unfolding mark third
-third_is layouts.One epoch rest = refl
-third_is layouts.Two epoch rest = refl
-third_is layouts.Three epoch rest = refl
+third_is layouts.One = refl
+third_is layouts.Two = refl
+third_is layouts.Three = refl
 
-fourth_is : (layout : Layout) (epoch : ℕ) (rest : List ℕ) → get_or (to_be_bytes w64 epoch ++ (mark layout ++ rest)) 12 0 ≡ fourth layout
+fourth_is : (layout : Layout) → get_or (mark layout) 4 0 ≡ fourth layout
 unfolding mark fourth
-fourth_is layouts.One epoch rest = refl
-fourth_is layouts.Two epoch rest = refl
-fourth_is layouts.Three epoch rest = refl
+fourth_is layouts.One = refl
+fourth_is layouts.Two = refl
+fourth_is layouts.Three = refl
 
-record HasMark (layout : Layout) (block : List ℕ) : Type 0 where
+record HasTwoBytes (layout : Layout) (block : List ℕ) : Type 0 where
   at_11 : get_or block 11 0 ≡ third layout
   at_12 : get_or block 12 0 ≡ fourth layout
 
-marked : (block : List ℕ) (d : DirectoryValue) → Lists block d → HasMark d.layout block
+byte_of_mark : (block : List ℕ) (i : ℕ) → i < 8 → get_or block (8 + i) 0 ≡ get_or (take 8 (drop 8 block)) i 0
+byte_of_mark block i lt = sym (get_or-take 8 (drop 8 block) i 0 lt ∙ get_or-drop 8 block i 0)
+
+two_bytes : (layout : Layout) (block : List ℕ) → HasMark layout block → HasTwoBytes layout block
+two_bytes layout block marked = record {
+  at_11 = byte_of_mark block 3 (omega arith) ∙ ap (λ (l : List ℕ). get_or l 3 0) marked ∙ third_is layout;
+  at_12 = byte_of_mark block 4 (omega arith) ∙ ap (λ (l : List ℕ). get_or l 4 0) marked ∙ fourth_is layout;
+}
+
+mark_is : (layout : Layout) (epoch : ℕ) (rest : List ℕ) → take 8 (drop 8 (to_be_bytes w64 epoch ++ (mark layout ++ rest))) ≡ mark layout
+unfolding mark
+mark_is layouts.One epoch rest = refl
+mark_is layouts.Two epoch rest = refl
+mark_is layouts.Three epoch rest = refl
+
+pub marked : (block : List ℕ) (d : DirectoryValue) → Lists block d → HasMark d.layout block
 marked block d lists =
     let whole = block_is block d lists ∙ header_fields d.layout d.epoch d.imports _ _ in
-    record {
-      at_11 = ap (λ (l : List ℕ). get_or l 11 0) whole ∙ third_is d.layout d.epoch _;
-      at_12 = ap (λ (l : List ℕ). get_or l 12 0) whole ∙ fourth_is d.layout d.epoch _;
-    }
+    ap (λ (l : List ℕ). take 8 (drop 8 l)) whole ∙ mark_is d.layout d.epoch _
 
 -- a block of version 3 in which one byte was changed is none of an older version
 not_older : (before after : List ℕ) (b c three four : ℕ) → three ≢ 83 → four ≢ 84 → get_or (before ++ b ∷ after) 11 0 ≡ 83 → get_or (before ++ b ∷ after) 12 0 ≡ 84 → get_or (before ++ c ∷ after) 11 0 ≡ three → get_or (before ++ c ∷ after) 12 0 ≡ four → ⊥
@@ -113,16 +125,59 @@ by_sum before after byte changed all small is others = elim (cases_lt (length be
       same_first byte changed after (append_cancel_left (drop 4092 before) (byte ∷ after) (changed ∷ after) (sym (drop-append-le 4092 before (byte ∷ after) long) ∙ ends ∙ drop-append-le 4092 before (changed ∷ after) long))
 ]
 
-noticed : (layout : Layout) (before after : List ℕ) (byte changed : ℕ) → AllByRecursion (λ b. b < 256) (before ++ byte ∷ after) → changed < 256
-    → HasMark layouts.Three (before ++ byte ∷ after) → HasSum layouts.Three (before ++ byte ∷ after) → HasMark layout (before ++ changed ∷ after) → HasSum layout (before ++ changed ∷ after) → byte ≡ changed
-unfolding third fourth
-noticed layouts.One before after byte changed all small m sum n other = absurd (not_older before after byte changed 72 73 (λ e. omega (arith, e)) (λ e. omega (arith, e)) m.at_11 m.at_12 n.at_11 n.at_12)
-noticed layouts.Two before after byte changed all small m sum n other = absurd (not_older before after byte changed 72 73 (λ e. omega (arith, e)) (λ e. omega (arith, e)) m.at_11 m.at_12 n.at_11 n.at_12)
-noticed layouts.Three before after byte changed all small m sum n other = by_sum before after byte changed all small sum other
+-- ---- a changed block of version 3
+
+module _ (before after : List ℕ) (byte changed : ℕ) (all : AllByRecursion (λ b. b < 256) (before ++ byte ∷ after)) (small : changed < 256) (marks : HasMark layouts.Three (before ++ byte ∷ after)) (sum : HasSum layouts.Three (before ++ byte ∷ after)) where
+  not_older_marked : HasOlderMark (before ++ changed ∷ after) → ⊥
+  unfolding third fourth
+  not_older_marked older =
+      let m = two_bytes layouts.Three (before ++ byte ∷ after) marks in
+      elim older [
+        | inl one ↦ let n = two_bytes layouts.One (before ++ changed ∷ after) one in not_older before after byte changed 72 73 (λ e. omega (arith, e)) (λ e. omega (arith, e)) m.at_11 m.at_12 n.at_11 n.at_12
+        | inr two ↦ let n = two_bytes layouts.Two (before ++ changed ∷ after) two in not_older before after byte changed 72 73 (λ e. omega (arith, e)) (λ e. omega (arith, e)) m.at_11 m.at_12 n.at_11 n.at_12
+      ]
+
+  pub noticed : (layout : Layout) → HasMark layout (before ++ changed ∷ after) → HasSum layout (before ++ changed ∷ after) → byte ≡ changed
+  noticed layouts.One has other = absurd (not_older_marked (inl has))
+  noticed layouts.Two has other = absurd (not_older_marked (inr has))
+  noticed layouts.Three has other = by_sum before after byte changed all small sum other
+
+  still_marked : length before < 8 → HasMark layouts.Three (before ++ changed ∷ after)
+  still_marked short = ap (take 8) (sym (same_past 8 before after byte changed short)) ∙ marks
+
+  pub may_not_precede : (layout : Layout) → (layout ≡ layouts.Three) ⊎ (length before < 8) → MayPrecede layout (before ++ changed ∷ after) → byte ≡ changed
+  may_not_precede layouts.One (inl three) may = absurd cc
+  may_not_precede layouts.One (inr short) may = absurd (may (still_marked short))
+  may_not_precede layouts.Two (inl three) may = absurd cc
+  may_not_precede layouts.Two (inr short) may = absurd (may (still_marked short))
+  may_not_precede layouts.Three how (inl older) = absurd (not_older_marked older)
+  may_not_precede layouts.Three how (inr other) = by_sum before after byte changed all small sum other
 
 pub changed_byte_is_noticed : ChangedByteIsNoticed
 changed_byte_is_noticed d e before after byte changed all small long three is others =
-    noticed e.layout before after byte changed all small
+    noticed before after byte changed all small
     (subst (λ (v : Layout). HasMark v (before ++ byte ∷ after)) three (marked (before ++ byte ∷ after) d is))
     (subst (λ (v : Layout). HasSum v (before ++ byte ∷ after)) three is.sum)
-    (marked (before ++ changed ∷ after) e others) others.sum
+    e.layout (marked (before ++ changed ∷ after) e others) others.sum
+
+pub changed_byte_may_not_precede : ChangedByteMayNotPrecede
+changed_byte_may_not_precede layout before after byte changed all small marks sum how may = may_not_precede before after byte changed all small marks sum layout how may
+
+-- ---- what may precede
+
+pub not_three : (old : Layout) (block : List ℕ) → (old ≡ layouts.Three → ⊥) → HasMark old block → HasMark layouts.Three block → ⊥
+not_three old block other has three = other (one_mark old layouts.Three (sym has ∙ three))
+
+precedes : (old new : Layout) (block : List ℕ) → HasMark old block → HasSum old block → (new ≡ next_layout old) ⊎ (new ≡ layouts.Three) → MayPrecede new block
+precedes layouts.One layouts.One block has sum rises = not_three layouts.One block (λ e. cc) has
+precedes layouts.Two layouts.One block has sum rises = not_three layouts.Two block (λ e. cc) has
+precedes layouts.Three layouts.One block has sum rises = elim rises [ inl next ↦ absurd cc | inr three ↦ absurd cc ]
+precedes layouts.One layouts.Two block has sum rises = not_three layouts.One block (λ e. cc) has
+precedes layouts.Two layouts.Two block has sum rises = not_three layouts.Two block (λ e. cc) has
+precedes layouts.Three layouts.Two block has sum rises = elim rises [ inl next ↦ absurd cc | inr three ↦ absurd cc ]
+precedes layouts.One layouts.Three block has sum rises = inl (inl has)
+precedes layouts.Two layouts.Three block has sum rises = inl (inr has)
+precedes layouts.Three layouts.Three block has sum rises = inr sum
+
+pub listed_may_precede : ListedMayPrecede
+listed_may_precede block d layout lists rises = precedes d.layout layout block (marked block d lists) lists.sum rises

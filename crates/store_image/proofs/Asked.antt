@@ -1,5 +1,5 @@
 -- What an opening asks a device for.
-use Rattle.std.proofs.Common.{◌≡◌, ℕ, ◌+◌, ◌<◌, ◌≤◌, List, [], length, get_or, take, drop, refl, sym, ap, arith, length-take}
+use Rattle.std.proofs.Common.{◌≡◌, ◌⊎◌, inl, inr, ℕ, ◌+◌, ◌<◌, ◌≤◌, List, [], length, get_or, take, drop, refl, sym, ap, subst, arith, length-take}
 use Rattle.std.proofs.lemmas.List.{append-nil, take-append-drop}
 use Rattle.blocks.specs.declared.slots.Current.{Current}
 use Rattle.blocks.specs.declared.slots.SlotFault.{SlotFault}
@@ -17,6 +17,7 @@ use Rattle.store_image.specs.declared.fault.LoadFault.TheVariants as loading
 use Rattle.store_image.specs.declared.fault.RowsFault.{RowsFault}
 use Rattle.store_image.specs.declared.fault.RowsFault.TheVariants as faults
 use Rattle.store_image.specs.Kept.{bytes_listed}
+use Rattle.store_image.specs.Images.{OtherIsWhole}
 use Rattle.store_image.specs.Damage.{HasDirectory}
 use Rattle.store_image.specs.Answers.{empty_listing, of_slot, of_directory}
 use Rattle.store_image.specs.Asked.{MayBeListed, AreGoneOver, StopsAt, AsksWithin}
@@ -71,6 +72,10 @@ pub stops_at_directory : (e : DirectoryFault) (bytes_before bytes calls_before c
 stops_at_directory directories.OutOfMemory bytes_before bytes calls_before calls read made = none_over _ bytes_before bytes calls_before calls none_listed read made
 stops_at_directory directories.BadDirectory bytes_before bytes calls_before calls read made = none_over _ bytes_before bytes calls_before calls refl read made
 
+pub stops_at_other : (e : LoadFault) (bytes_before bytes calls_before calls : ℕ) → (e ≡ loading.DiskFault) ⊎ (e ≡ loading.Damaged damages.Directory) → bytes ≤ bytes_before + slots_read → calls ≤ calls_before + 2 → StopsAt e bytes_before bytes calls_before calls
+stops_at_other e bytes_before bytes calls_before calls (inl is) read made = none_over e bytes_before bytes calls_before calls (subst (λ (f : LoadFault). AreGoneOver f []) (sym is) none_listed) read made
+stops_at_other e bytes_before bytes calls_before calls (inr is) read made = none_over e bytes_before bytes calls_before calls (subst (λ (f : LoadFault). AreGoneOver f []) (sym is) refl) read made
+
 -- ---- with a directory
 
 module _ (d : DirectoryValue) (is : IsListing d) (bytes_before bytes calls_before calls : ℕ) where
@@ -105,9 +110,9 @@ module _ (d : DirectoryValue) (is : IsListing d) (bytes_before bytes calls_befor
 pub within_slots : (file : List ℕ) (before after : ℕ) → after ≤ before + slots_read → AsksWithin file before after
 within_slots file before after read = record { listed = λ d has. omega (arith, read); none = λ none. read }
 
-pub within_listed : (file into : List ℕ) (current : Current) (d : DirectoryValue) (before after : ℕ) → IsCurrentWith current into file → Lists into d → after ≤ before + slots_read + bytes_listed d.entries → AsksWithin file before after
-within_listed file into current d before after is lists read =
-    let has : HasDirectory d file = record { current = current; content = into; slot = is; lists_it = lists } in
+pub within_listed : (file into : List ℕ) (current : Current) (d : DirectoryValue) (before after : ℕ) → IsCurrentWith current into file → Lists into d → OtherIsWhole d.layout current.slot file → after ≤ before + slots_read + bytes_listed d.entries → AsksWithin file before after
+within_listed file into current d before after is lists whole read =
+    let has : HasDirectory d file = record { current = current; content = into; slot = is; lists_it = lists; other_is_whole = whole } in
     record {
       listed = λ e other.
           let same = ap (λ (l : DirectoryValue). bytes_listed l.entries) (one_directory file d e has other) in omega (arith, read, same);

@@ -1,24 +1,22 @@
--- A byte of the current directory that was changed.
-use Rattle.std.proofs.Common.{◌≡◌, ◌≢◌, ◌⊎◌, inl, inr, ℕ, zero, suc, ◌+◌, ◌-◌, ◌<◌, ◌≤◌, List, [], ◌∷◌, ◌++◌, length, take, drop, get_or, refl, sym, ap, subst, ◌∙◌, arith, length-append, length-take, length-drop}
+-- A byte of a directory of version 3 that was changed, in the current slot or in the other one.
+use Rattle.std.proofs.Common.{◌≡◌, ◌≢◌, ◌⊎◌, inl, inr, ℕ, zero, suc, ◌+◌, ◌-◌, ◌<◌, ◌≤◌, List, [], ◌∷◌, ◌++◌, length, take, drop, get_or, refl, sym, ap, subst, ◌∙◌, arith, length-append, length-drop}
 use Rattle.std.specs.List.{AllByRecursion}
 use Rattle.std.specs.Int.{w64, from_be_bytes}
 use Rattle.std.proofs.lemmas.Bool.{cases_lt, cases_eq}
 use Rattle.std.proofs.lemmas.List.{take-append-le, drop-append-le}
 use Rattle.blocks.specs.declared.slots.Slot.{Slot}
 use Rattle.blocks.specs.declared.slots.Slot.TheVariants.{A, B}
-use Rattle.blocks.specs.declared.slots.Current.{Current}
-use Rattle.blocks.specs.Slots.{IsCurrentWith, IsGreatest, IsOpen, content_at, content_of, epoch_of, gate_at, other}
+use Rattle.blocks.specs.Slots.{IsGreatest, IsOpen, content_at, content_of, epoch_of, gate_at, other}
 use Rattle.blocks.proofs.Windows.{window_same}
-use Rattle.history_model.specs.History.{History}
-use Rattle.directory.specs.declared.entry.Entry.{Entry}
+use Rattle.directory.specs.declared.layout.Layout.{Layout}
 use Rattle.directory.specs.declared.layout.Layout.TheVariants as layouts
 use Rattle.directory.specs.Listings.{DirectoryValue}
-use Rattle.directory.specs.Content.{Lists}
-use Rattle.directory.proofs.Noticed.{all_take, same_at, taken_past, changed_byte_is_noticed}
+use Rattle.directory.specs.Content.{HasMark, HasSum, Lists, MayPrecede}
+use Rattle.directory.proofs.Noticed.{all_take, marked, may_not_precede, not_three, noticed, same_at, taken_past}
+use Rattle.directory.proofs.Spelled.{one_listing}
 use Rattle.store_image.specs.declared.fault.Damage.TheVariants as damages
-use Rattle.store_image.specs.Images.{Represents}
 use Rattle.store_image.specs.Damage.{IsDamaged}
-use Rattle.store_image.specs.Changed.{IsChanged, ChangedDirectoryIsDamaged, ChangedEpochShowsTheOther}
+use Rattle.store_image.specs.Changed.{IsChanged, IsNoticed, ChangedDirectoryIsDamaged, ChangedOtherIsDamaged}
 
 pub all_drop : (P : ℕ → Type 0) (n : ℕ) (xs : List ℕ) → AllByRecursion P xs → AllByRecursion P (drop n xs)
 all_drop P zero xs all = all
@@ -42,84 +40,6 @@ content_within B = omega arith
 
 same_length : (before after : List ℕ) (b c : ℕ) → length (before ++ b ∷ after) ≡ length (before ++ c ∷ after)
 same_length before after b c = length-append before (b ∷ after) ∙ sym (length-append before (c ∷ after))
-
-module _ (before after : List ℕ) (byte changed : ℕ) (h : History) (epoch : ℕ) (entries : List Entry) (stands : Represents (before ++ byte ∷ after) h layouts.Three epoch entries)
-    (is : IsChanged before byte changed after) (le : content_at stands.slot ≤ length before) (lt : length before < content_at stands.slot + 4096) where
-  abbrev slot : Slot
-  slot = stands.slot
-
-  abbrev old : List ℕ
-  old = before ++ byte ∷ after
-
-  abbrev new : List ℕ
-  new = before ++ changed ∷ after
-
-  abbrev front : List ℕ
-  front = drop (content_at slot) before
-
-  abbrev rest : List ℕ
-  rest = take (4096 - (length front + 1)) after
-
-  whole : 16384 ≤ length old
-  whole = stands.stands.slot.0.whole
-
-  whole_still : 16384 ≤ length new
-  whole_still = omega (arith, whole, same_length before after byte changed)
-
-  open_still : (one : Slot) → IsOpen one old → IsOpen one new
-  open_still one opened = sym (same_at before after byte changed (gate_at one) (gate_apart slot one (length before) le lt)) ∙ opened
-
-  open_before : (one : Slot) → IsOpen one new → IsOpen one old
-  open_before one opened = same_at before after byte changed (gate_at one) (gate_apart slot one (length before) le lt) ∙ opened
-
-  parts : (b : ℕ) → content_of slot (before ++ b ∷ after) ≡ front ++ b ∷ rest
-  unfolding content_of
-  parts b = ap (take 4096) (drop-append-le (content_at slot) before (b ∷ after) le) ∙ taken_past 4096 front after b (omega (arith, length-drop (content_at slot) before, lt, le))
-
-  other_still : content_of (other slot) new ≡ content_of (other slot) old
-  unfolding content_of
-  other_still =
-      window_same (content_at (other slot)) 4096 new old (omega (arith, whole_still, content_within (other slot))) (omega (arith, whole, content_within (other slot)))
-      (λ i ge below. sym (same_at before after byte changed i (content_apart slot (length before) i le lt ge below)))
-
-  of_three : DirectoryValue
-  of_three = record { layout = layouts.Three; epoch = epoch; imports = h.imports; entries = entries }
-
-  -- the changed block lists nothing
-  lists_nothing : (d : DirectoryValue) → Lists (content_of slot new) d → ⊥
-  unfolding of_three content_of
-  lists_nothing d lists =
-      let was : content_of slot old ≡ stands.content = stands.stands.slot.1 in
-      let listed : Lists (front ++ byte ∷ rest) of_three = subst (λ (b : List ℕ). Lists b of_three) (sym was ∙ parts byte) stands.says.lists_it in
-      let all : AllByRecursion (λ b. b < 256) (front ++ byte ∷ rest) =
-      subst (AllByRecursion (λ b. b < 256)) (parts byte) (all_take (λ b. b < 256) 4096 (drop (content_at slot) old) (all_drop (λ b. b < 256) (content_at slot) old is.bytes)) in
-      let long : length (front ++ byte ∷ rest) ≡ 4096 = ap length (sym (parts byte)) ∙ omega (arith, length-take 4096 (drop (content_at slot) old), length-drop (content_at slot) old, whole, content_within slot) in
-      is.differs (changed_byte_is_noticed of_three d front rest byte changed all is.small long refl listed (subst (λ (b : List ℕ). Lists b d) (parts changed) lists))
-
-  -- where it is still the current one
-  damaged : (e : ℕ) → epoch_of (content_of slot new) ≡ e → (IsOpen (other slot) new → epoch_of (content_of (other slot) new) < e) → IsDamaged damages.Directory new
-  damaged e is_epoch above = (
-    record { slot = slot; epoch = e },
-    content_of slot new,
-    (record { whole = whole_still; open_gate = open_still slot stands.stands.slot.0.open_gate; epoch_is = is_epoch; above = above }, refl),
-    lists_nothing,
-  )
-
-  above_still : IsOpen (other slot) new → epoch_of (content_of (other slot) new) < epoch
-  above_still opened = subst (λ (c : List ℕ). epoch_of c < epoch) (sym other_still) (stands.stands.slot.0.above (open_before (other slot) opened))
-
-pub changed_directory_is_damaged : ChangedDirectoryIsDamaged
-unfolding epoch_of
-changed_directory_is_damaged before after byte changed h epoch entries stands is past lt =
-    let le : content_at stands.slot ≤ length before = omega (arith, past) in
-    let front = drop (content_at stands.slot) before in
-    let long : 8 ≤ length front = omega (arith, past, length-drop (content_at stands.slot) before) in
-    let rest = take (4096 - (length front + 1)) after in
-    let eight : (b : ℕ) → take 8 (content_of stands.slot (before ++ b ∷ after)) ≡ take 8 front = λ b. ap (take 8) (parts before after byte changed h epoch entries stands is le lt b) ∙ take-append-le 8 front (b ∷ rest) long in
-    let same : epoch_of (content_of stands.slot (before ++ changed ∷ after)) ≡ epoch = ap (from_be_bytes w64) (eight changed ∙ sym (eight byte)) ∙ stands.stands.slot.0.epoch_is in
-    damaged before after byte changed h epoch entries stands is le lt epoch same (above_still before after byte changed h epoch entries stands is le lt)
-
--- ---- the epoch
 
 other_twice : (slot : Slot) → other (other slot) ≡ slot
 other_twice A = refl
@@ -147,35 +67,169 @@ none_greatest file slot one k opened also same greatest = elim (one_or_other slo
       omega (arith, same, below, at)
 ]
 
-pub changed_epoch_shows_the_other : ChangedEpochShowsTheOther
-changed_epoch_shows_the_other before after byte changed h epoch entries stands is le short =
-    let slot = stands.slot in
-    let new = before ++ changed ∷ after in
-    let lt : length before < content_at slot + 4096 = omega (arith, short) in
-    let mine = epoch_of (content_of slot new) in
-    let others = epoch_of (content_of (other slot) new) in
-    let opened = open_still before after byte changed h epoch entries stands is le lt slot stands.stands.slot.0.open_gate in
-    elim (cases_eq (get_or new (gate_at (other slot)) 0) 165) [
-      | inr closed ↦ inl (damaged before after byte changed h epoch entries stands is le lt mine refl (λ also. absurd (closed also)))
-      | inl also ↦ elim (cases_lt others mine) [
-          | inl below ↦ inl (damaged before after byte changed h epoch entries stands is le lt mine refl (λ opened_too. below))
+-- ---- a byte of the block of one slot, which is open and of version 3
+
+module _ (before after : List ℕ) (byte changed : ℕ) (is : IsChanged before byte changed after) (one : Slot) (le : content_at one ≤ length before) (lt : length before < content_at one + 4096) (whole : 16384 ≤ length (before ++ byte ∷ after)) where
+  abbrev old : List ℕ
+  old = before ++ byte ∷ after
+
+  abbrev new : List ℕ
+  new = before ++ changed ∷ after
+
+  abbrev front : List ℕ
+  front = drop (content_at one) before
+
+  abbrev rest : List ℕ
+  rest = take (4096 - (length front + 1)) after
+
+  abbrev mine : ℕ
+  mine = epoch_of (content_of one new)
+
+  abbrev others : ℕ
+  others = epoch_of (content_of (other one) new)
+
+  whole_still : 16384 ≤ length new
+  whole_still = omega (arith, whole, same_length before after byte changed)
+
+  open_still : (slot : Slot) → IsOpen slot old → IsOpen slot new
+  open_still slot opened = sym (same_at before after byte changed (gate_at slot) (gate_apart one slot (length before) le lt)) ∙ opened
+
+  open_before : (slot : Slot) → IsOpen slot new → IsOpen slot old
+  open_before slot opened = same_at before after byte changed (gate_at slot) (gate_apart one slot (length before) le lt) ∙ opened
+
+  parts : (b : ℕ) → content_of one (before ++ b ∷ after) ≡ front ++ b ∷ rest
+  unfolding content_of
+  parts b = ap (take 4096) (drop-append-le (content_at one) before (b ∷ after) le) ∙ taken_past 4096 front after b (omega (arith, length-drop (content_at one) before, lt, le))
+
+  other_still : content_of (other one) new ≡ content_of (other one) old
+  unfolding content_of
+  other_still =
+      window_same (content_at (other one)) 4096 new old (omega (arith, whole_still, content_within (other one))) (omega (arith, whole, content_within (other one)))
+      (λ i ge below. sym (same_at before after byte changed i (content_apart one (length before) i le lt ge below)))
+
+  small_bytes : AllByRecursion (λ b. b < 256) (front ++ byte ∷ rest)
+  unfolding content_of
+  small_bytes = subst (AllByRecursion (λ b. b < 256)) (parts byte) (all_take (λ b. b < 256) 4096 (drop (content_at one) old) (all_drop (λ b. b < 256) (content_at one) old is.bytes))
+
+  -- behind the epoch a change leaves it
+  same_epoch : content_at one + 8 ≤ length before → mine ≡ epoch_of (content_of one old)
+  unfolding epoch_of
+  same_epoch past =
+      let long : 8 ≤ length front = omega (arith, past, length-drop (content_at one) before) in
+      let eight : (b : ℕ) → take 8 (content_of one (before ++ b ∷ after)) ≡ take 8 front = λ b. ap (take 8) (parts b) ∙ take-append-le 8 front (b ∷ rest) long in
+      ap (from_be_bytes w64) (eight changed ∙ sym (eight byte))
+
+  -- what has to hold where the byte stands behind the epoch
+  record IsBehind : Type 0 where
+    apart : others ≢ mine
+    three : mine < others → (d : DirectoryValue) → Lists (content_of (other one) new) d → d.layout ≡ layouts.Three
+
+  module _ (opened : IsOpen one old) (marks : HasMark layouts.Three (content_of one old)) (sum : HasSum layouts.Three (content_of one old)) where
+    marks_are : HasMark layouts.Three (front ++ byte ∷ rest)
+    marks_are = subst (HasMark layouts.Three) (parts byte) marks
+
+    sum_is : HasSum layouts.Three (front ++ byte ∷ rest)
+    sum_is = subst (HasSum layouts.Three) (parts byte) sum
+
+    -- the changed block lists nothing, and no directory shows it as the one before
+    lists_nothing : (d : DirectoryValue) → Lists (content_of one new) d → ⊥
+    lists_nothing d lists =
+        let listed : Lists (front ++ changed ∷ rest) d = subst (λ (b : List ℕ). Lists b d) (parts changed) lists in
+        is.differs (noticed front rest byte changed small_bytes is.small marks_are sum_is d.layout (marked (front ++ changed ∷ rest) d listed) listed.sum)
+
+    precedes_none : (layout : Layout) → (layout ≡ layouts.Three) ⊎ (length before < content_at one + 8) → MayPrecede layout (content_of one new) → ⊥
+    precedes_none layout how may =
+        let short : (layout ≡ layouts.Three) ⊎ (length front < 8) = elim how [ inl three ↦ inl three | inr near ↦ inr (omega (arith, near, le, length-drop (content_at one) before)) ] in
+        is.differs (may_not_precede front rest byte changed small_bytes is.small marks_are sum_is layout short (subst (MayPrecede layout) (parts changed) may))
+
+    -- where it is the current one, and where the other is
+    damaged_here : (IsOpen (other one) new → others < mine) → IsDamaged damages.Directory new
+    damaged_here above = (
+      record { slot = one; epoch = mine },
+      content_of one new,
+      (record { whole = whole_still; open_gate = open_still one opened; epoch_is = refl; above = above }, refl),
+      λ d lists also. lists_nothing d lists,
+    )
+
+    damaged_there : IsOpen (other one) new → mine < others → ((d : DirectoryValue) → Lists (content_of (other one) new) d → (d.layout ≡ layouts.Three) ⊎ (length before < content_at one + 8)) → IsDamaged damages.Directory new
+    damaged_there also above how = (
+      record { slot = other one; epoch = others },
+      content_of (other one) new,
+      (
+        record {
+          whole = whole_still;
+          open_gate = also;
+          epoch_is = refl;
+          above = subst (λ (s : Slot). IsOpen s new → epoch_of (content_of s new) < others) (sym (other_twice one)) (λ opened_too. above);
+        },
+        refl,
+      ),
+      λ d lists beside.
+          let may = subst (λ (s : Slot). IsOpen s new → MayPrecede d.layout (content_of s new)) (other_twice one) beside in
+          precedes_none d.layout (how d lists) (may (open_still one opened)),
+    )
+
+    noticed_there : (content_at one + 8 ≤ length before → IsOpen (other one) new → IsBehind) → IsNoticed (content_at one) (length before) new
+    noticed_there behind = elim (cases_eq (get_or new (gate_at (other one)) 0) 165) [
+      | inr closed ↦ inl (damaged_here (λ also. absurd (closed also)))
+      | inl also ↦ elim (cases_lt (length before) (content_at one + 8)) [
+        | inl near ↦ elim (cases_lt others mine) [
+          | inl below ↦ inl (damaged_here (λ opened_too. below))
           | inr not_below ↦ elim (cases_eq others mine) [
-              | inl equal ↦ inr (inl (λ current content was. none_greatest new slot current.slot current.epoch opened also equal was.0))
-              | inr apart ↦
-                  inr (inr (
-                    open_before before after byte changed h epoch entries stands is le lt (other slot) also,
-                    others,
-                    above_still before after byte changed h epoch entries stands is le lt also,
-                    (
-                      record {
-                        whole = whole_still before after byte changed h epoch entries stands is le lt;
-                        open_gate = also;
-                        epoch_is = refl;
-                        above = subst (λ (s : Slot). IsOpen s new → epoch_of (content_of s new) < others) (sym (other_twice slot)) (λ opened_too. omega (arith, not_below, apart));
-                      },
-                      other_still before after byte changed h epoch entries stands is le lt,
-                    ),
-                  ))
-            ]
+            | inl equal ↦ inr (near, λ current content was. none_greatest new one current.slot current.epoch (open_still one opened) also equal was.0)
+            | inr apart ↦ inl (damaged_there also (omega (arith, not_below, apart)) (λ d lists. inr near))
+          ]
         ]
+        | inr far ↦
+            let b = behind far also in
+            elim (cases_lt others mine) [
+              | inl below ↦ inl (damaged_here (λ opened_too. below))
+              | inr not_below ↦
+                  let above : mine < others = omega (arith, not_below, b.apart) in
+                  inl (damaged_there also above (λ d lists. inl (b.three above d lists)))
+            ]
+      ]
     ]
+
+-- ---- the two slots of a store
+
+pub changed_directory_is_damaged : ChangedDirectoryIsDamaged
+changed_directory_is_damaged before after byte changed h epoch entries stands is le lt =
+    let one = stands.slot in
+    let current = stands.stands.slot.0 in
+    let was : content_of one (before ++ byte ∷ after) ≡ stands.content = stands.stands.slot.1 in
+    let of_three : DirectoryValue = record { layout = layouts.Three; epoch = epoch; imports = h.imports; entries = entries } in
+    let marks = subst (HasMark layouts.Three) (sym was) (marked stands.content of_three stands.says.lists_it) in
+    let sum = subst (HasSum layouts.Three) (sym was) stands.says.lists_it.sum in
+    noticed_there before after byte changed is one le lt current.whole current.open_gate marks sum (λ far also.
+    let mine = same_epoch before after byte changed is one le lt current.whole far in
+    let others = ap epoch_of (other_still before after byte changed is one le lt current.whole) in
+    let above = current.above (open_before before after byte changed is one le lt current.whole (other one) also) in
+    let at = current.epoch_is in
+    record { apart = λ e. omega (arith, mine, others, above, at, e); three = λ greater d lists. absurd (omega (arith, mine, others, above, at, greater)) })
+
+-- a block that may precede one of version 3 has its checksum, if it has the mark
+summed_three : (block : List ℕ) → HasMark layouts.Three block → MayPrecede layouts.Three block → HasSum layouts.Three block
+summed_three block marks (inl (inl one)) = absurd (not_three layouts.One block (λ e. cc) one marks)
+summed_three block marks (inl (inr two)) = absurd (not_three layouts.Two block (λ e. cc) two marks)
+summed_three block marks (inr sum) = sum
+
+pub changed_other_is_damaged : ChangedOtherIsDamaged
+changed_other_is_damaged before after byte changed h epoch entries stands is opened marks le lt =
+    let slot = stands.slot in
+    let one = other slot in
+    let current = stands.stands.slot.0 in
+    let of_three : DirectoryValue = record { layout = layouts.Three; epoch = epoch; imports = h.imports; entries = entries } in
+    let sum = summed_three (content_of one (before ++ byte ∷ after)) marks (stands.other_is_whole opened) in
+    noticed_there before after byte changed is one le lt current.whole opened marks sum (λ far also.
+    let mine = same_epoch before after byte changed is one le lt current.whole far in
+    let still = other_still before after byte changed is one le lt current.whole ∙ ap (λ (s : Slot). content_of s (before ++ byte ∷ after)) (other_twice slot) in
+    let others = ap epoch_of still in
+    let above = current.above opened in
+    let at = current.epoch_is in
+    record {
+      apart = λ e. omega (arith, mine, others, above, at, e);
+      three = λ greater d lists.
+          let here : Lists stands.content d = subst (λ (b : List ℕ). Lists b d) (still ∙ stands.stands.slot.1) lists in
+          ap (λ (l : DirectoryValue). l.layout) (one_listing stands.content d of_three here stands.says.lists_it);
+    })

@@ -1,13 +1,13 @@
 -- A byte of a record with a checksum that was changed.
 use Rattle.std.specs.Prelude.{Some, slice_get}
-use Rattle.std.proofs.Common.{◌≡◌, ◌≢◌, inl, inr, ℕ, zero, suc, ◌+◌, ◌-◌, ◌*◌, ◌<◌, ◌≤◌, List, [], ◌∷◌, ◌++◌, length, take, drop, get_or, refl, sym, ap, subst, ◌∙◌, arith, length-append, length-take, length-drop}
+use Rattle.std.proofs.Common.{◌≡◌, ◌≢◌, ℕ, zero, suc, ◌+◌, ◌-◌, ◌<◌, ◌≤◌, List, [], ◌∷◌, ◌++◌, length, take, drop, refl, sym, ap, subst, ◌∙◌, arith, length-append, length-drop}
 use Rattle.std.specs.List.{AllByRecursion}
 use Rattle.std.proofs.lemmas.List.{append_assoc, drop-append-le, drop_at, take-append-drop, take-append-le, take_at}
 use Rattle.std.proofs.lemmas.List.Elements.{All-head, All-tail}
 use Rattle.blocks.specs.Extents.{start_of}
 use Rattle.blocks.specs.declared.slots.Slot.{Slot}
 use Rattle.blocks.specs.declared.slots.Slot.TheVariants.{A, B}
-use Rattle.blocks.specs.Slots.{IsCurrentWith, IsOpen, content_at, content_of, epoch_of, gate_at, other}
+use Rattle.blocks.specs.Slots.{IsOpen, content_at, content_of, epoch_of, gate_at, other}
 use Rattle.blocks.proofs.Windows.{window_same}
 use Rattle.history_model.specs.declared.stamped.StampedRow.{StampedRow}
 use Rattle.history_model.specs.History.{History}
@@ -17,6 +17,7 @@ use Rattle.directory.specs.declared.entry.Entry.{Entry}
 use Rattle.directory.specs.declared.layout.Layout.TheVariants as layouts
 use Rattle.directory.specs.Listings.{DirectoryValue, IsEntry}
 use Rattle.directory.specs.Places.{extent_of}
+use Rattle.directory.specs.Content.{MayPrecede}
 use Rattle.directory.proofs.Noticed.{all_take, same_at, taken_past}
 use Rattle.segment.specs.Records.{IsOfLength, IsStamped, record_in, record_of, segment_in, segment_of}
 use Rattle.segment.proofs.RecordLaws.{length-record_in}
@@ -27,7 +28,7 @@ use Rattle.store_image.specs.Kept.{AreSegments, pieces_of}
 use Rattle.store_image.specs.Images.{IsStore, Represents}
 use Rattle.store_image.specs.Reading.{IsAt}
 use Rattle.store_image.specs.Damage.{HasDirectory}
-use Rattle.store_image.specs.Changed.{IsChanged, IsInRecord, ChangedRecordIsNoStore}
+use Rattle.store_image.specs.Changed.{ChangedRecordIsNoStore}
 use Rattle.store_image.proofs.Damaged.{one_directory}
 use Rattle.store_image.proofs.ChangedBytes.{all_drop}
 
@@ -101,6 +102,7 @@ module _ (before after : List ℕ) (byte changed : ℕ) (h : History) (epoch : �
           same_content slot ∙ stands.stands.slot.1,
         );
         lists_it = stands.says.lists_it;
+        other_is_whole = λ is. subst (MayPrecede layouts.Three) (sym (same_content (other slot))) (stands.other_is_whole (was_opened (other slot) is));
       }
 
   -- whatever the changed bytes represent lists the same segments
@@ -109,7 +111,7 @@ module _ (before after : List ℕ) (byte changed : ℕ) (h : History) (epoch : �
   same_entries store =
       let r = store.1.1.2 in
       let has : HasDirectory (record { layout = store.1.0; epoch = store.1.1.0; imports = store.0.imports; entries = store.1.1.1 }) new =
-      record { current = record { slot = r.slot; epoch = store.1.1.0 }; content = r.content; slot = r.stands.slot; lists_it = r.says.lists_it } in
+      record { current = record { slot = r.slot; epoch = store.1.1.0 }; content = r.content; slot = r.stands.slot; lists_it = r.says.lists_it; other_is_whole = r.other_is_whole } in
       ap (λ (d : DirectoryValue). d.entries) (one_directory new (record { layout = store.1.0; epoch = store.1.1.0; imports = store.0.imports; entries = store.1.1.1 }) of_three has has_directory)
 
 -- ---- the records

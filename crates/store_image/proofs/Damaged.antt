@@ -1,5 +1,5 @@
 -- Which part of a store is damaged, and why nothing is opened.
-use Rattle.std.proofs.Common.{◌≡◌, inl, ℕ, zero, suc, ◌+◌, ◌<◌, ◌++◌, List, [], ◌∷◌, length, get_or, take, drop, refl, sym, ◌∙◌, ap, subst, arith, length-take, length-append}
+use Rattle.std.proofs.Common.{◌≡◌, ◌⊎◌, inl, inr, ℕ, zero, suc, ◌+◌, ◌<◌, ◌++◌, List, [], ◌∷◌, length, get_or, take, drop, refl, sym, ◌∙◌, ap, subst, arith, length-take, length-append}
 use Rattle.std.specs.Prelude.{Result, Err, All, map}
 use Rattle.std.proofs.lemmas.List.{length-map}
 use Rattle.fault_counts.specs.Counting.{HasRisen}
@@ -28,7 +28,7 @@ use Rattle.store_image.specs.declared.fault.RowsFault.{RowsFault}
 use Rattle.store_image.specs.declared.fault.RowsFault.TheVariants as faults
 use Rattle.store_image.specs.Pieces.{HoldsAll}
 use Rattle.store_image.specs.Kept.{AreOfLayout, AreSegments, pieces_of}
-use Rattle.store_image.specs.Images.{IsStore}
+use Rattle.store_image.specs.Images.{IsStore, OtherIsWhole}
 use Rattle.store_image.specs.Reading.{IsAt}
 use Rattle.store_image.specs.Private.Reading.{AreRead, IsNotReadAt}
 use Rattle.store_image.specs.Damage.{HasDirectory, AreThere, IsFirstBroken, ShareKey, HasStrangeKind, IsDamaged, RepresentedIsUndamaged, OneDamage}
@@ -119,7 +119,8 @@ one_directory file d e x y =
 
 no_directory : (file : List ℕ) (d : DirectoryValue) → HasDirectory d file → IsDamaged damages.Directory file → ⊥
 no_directory file d has is =
-    is.3 d (subst (λ (b : List ℕ). Lists b d) (one_content file has.current is.0 has.content is.1 has.slot is.2) has.lists_it)
+    let slots = (one_slot file has.current.slot is.0.slot has.current.epoch is.0.epoch has.slot.0 is.2.0).0 in
+    is.3 d (subst (λ (b : List ℕ). Lists b d) (one_content file has.current is.0 has.content is.1 has.slot is.2) has.lists_it) (subst (λ (s : Slot). OtherIsWhole d.layout s file) slots has.other_is_whole)
 
 -- ---- what bytes have that stand for something
 
@@ -137,7 +138,7 @@ sound file store =
     let read = kept_is_read d s.lists s.says.kept in (
       d,
       record {
-        has = record { current = record { slot = s.slot; epoch = store.1.1.0 }; content = s.content; slot = s.stands.slot; lists_it = s.says.lists_it };
+        has = record { current = record { slot = s.slot; epoch = store.1.1.0 }; content = s.content; slot = s.stands.slot; lists_it = s.says.lists_it; other_is_whole = s.other_is_whole };
         lists = s.lists;
         there = record { segments = read.segments; numbered = read.numbered; held = s.stands.pieces_are };
         apart = read.apart;
@@ -259,30 +260,39 @@ pub bad_directory : (e : DirectoryFault) (file into : List ℕ) (current : Curre
 unfolding IsBad
 bad_directory directories.OutOfMemory file into current is only = some_gate file current.slot current.epoch is.0
 bad_directory directories.BadDirectory file into current is only =
-    let damaged : IsDamaged damages.Directory file = (current, into, is, λ d lists. subst IsBad (only d lists) (λ x. x)) in
+    let damaged : IsDamaged damages.Directory file = (current, into, is, λ d lists whole. subst IsBad (only d lists) (λ x. x)) in
     (some_gate file current.slot current.epoch is.0, damaged, λ store. represented_is_undamaged file damages.Directory store damaged)
 
-pub not_read : (e : LoadFault) (file into : List ℕ) (current : Current) (d : DirectoryValue) → IsCurrentWith current into file → Lists into d → AreNotRead e d.imports d.entries file → IsNotOpened e file
-not_read loading.OutOfMemory file into current d is lists why = some_gate file current.slot current.epoch is.0
-not_read loading.DiskFault file into current d is lists why = tt
-not_read loading.NotAStore file into current d is lists why = absurd why
-not_read (loading.Damaged damages.Slots) file into current d is lists why = absurd why
-not_read (loading.Damaged damages.Directory) file into current d is lists why = absurd why
-not_read (loading.Damaged (damages.Segment number)) file into current d is lists why =
-    let has : HasDirectory d file = record { current = current; content = into; slot = is; lists_it = lists } in
+-- the other slot isn't whole
+pub bad_other : (e : LoadFault) (file into : List ℕ) (current : Current) (d : DirectoryValue) → IsCurrentWith current into file → Lists into d → (e ≡ loading.DiskFault) ⊎ (e ≡ loading.Damaged damages.Directory) → (e ≡ loading.Damaged damages.Directory → OtherIsWhole d.layout current.slot file → ⊥) → IsNotOpened e file
+bad_other e file into current d is lists (inl failed) why = subst (λ (f : LoadFault). IsNotOpened f file) (sym failed) tt
+bad_other e file into current d is lists (inr bad) why =
+    let one : (other : DirectoryValue) → Lists into other → OtherIsWhole other.layout current.slot file → ⊥ =
+    λ other also whole. why bad (subst (λ (l : DirectoryValue). OtherIsWhole l.layout current.slot file) (one_listing into other d also lists) whole) in
+    let damaged : IsDamaged damages.Directory file = (current, into, is, one) in
+    subst (λ (f : LoadFault). IsNotOpened f file) (sym bad) (some_gate file current.slot current.epoch is.0, damaged, λ store. represented_is_undamaged file damages.Directory store damaged)
+
+pub not_read : (e : LoadFault) (file into : List ℕ) (current : Current) (d : DirectoryValue) → IsCurrentWith current into file → Lists into d → OtherIsWhole d.layout current.slot file → AreNotRead e d.imports d.entries file → IsNotOpened e file
+not_read loading.OutOfMemory file into current d is lists whole why = some_gate file current.slot current.epoch is.0
+not_read loading.DiskFault file into current d is lists whole why = tt
+not_read loading.NotAStore file into current d is lists whole why = absurd why
+not_read (loading.Damaged damages.Slots) file into current d is lists whole why = absurd why
+not_read (loading.Damaged damages.Directory) file into current d is lists whole why = absurd why
+not_read (loading.Damaged (damages.Segment number)) file into current d is lists whole why =
+    let has : HasDirectory d file = record { current = current; content = into; slot = is; lists_it = lists; other_is_whole = whole } in
     let damaged : IsDamaged (damages.Segment number) file = (d, has, why) in
     (some_gate file current.slot current.epoch is.0, damaged, λ store. represented_is_undamaged file (damages.Segment number) store damaged)
-not_read (loading.Damaged damages.SharedKey) file into current d is lists why =
-    let has : HasDirectory d file = record { current = current; content = into; slot = is; lists_it = lists } in
+not_read (loading.Damaged damages.SharedKey) file into current d is lists whole why =
+    let has : HasDirectory d file = record { current = current; content = into; slot = is; lists_it = lists; other_is_whole = whole } in
     let damaged : IsDamaged damages.SharedKey file = (d, has, why) in
     (some_gate file current.slot current.epoch is.0, damaged, λ store. represented_is_undamaged file damages.SharedKey store damaged)
-not_read (loading.Damaged damages.Kind) file into current d is lists why = absurd why
+not_read (loading.Damaged damages.Kind) file into current d is lists whole why = absurd why
 
 -- rows of a kind that the version doesn't have
-pub not_of_layout : (file into : List ℕ) (current : Current) (d : DirectoryValue) (lists : List (List StampedRow)) → IsCurrentWith current into file → Lists into d → AreRead d.imports d.entries lists → HoldsAll (pieces_of d.entries lists) file
+pub not_of_layout : (file into : List ℕ) (current : Current) (d : DirectoryValue) (lists : List (List StampedRow)) → IsCurrentWith current into file → Lists into d → OtherIsWhole d.layout current.slot file → AreRead d.imports d.entries lists → HoldsAll (pieces_of d.entries lists) file
     → (All (AreOfLayout d.layout) lists → ⊥) → IsNotOpened (loading.Damaged damages.Kind) file
-not_of_layout file into current d lists is listed read hold strange =
-    let has : HasDirectory d file = record { current = current; content = into; slot = is; lists_it = listed } in
+not_of_layout file into current d lists is listed whole read hold strange =
+    let has : HasDirectory d file = record { current = current; content = into; slot = is; lists_it = listed; other_is_whole = whole } in
     let there : AreThere d.imports d.entries lists file = record { segments = read.segments; numbered = read.numbered; held = hold } in
     let kind : HasStrangeKind d file = record { lists = lists; there = there; apart = read.apart; strange = strange } in
     let damaged : IsDamaged damages.Kind file = (d, has, kind) in

@@ -45,6 +45,7 @@ first_still_represents file h epoch entries = (
         content = s.content;
         lists = s.lists;
         stands = s.stands;
+        other_is_whole = s.no_third;
         says = record {
           lists_it = record { is = listing; front = subst P (same_bytes layouts.One epoch h.imports entries) s.front; sum = tt };
           kept = record { listing = listing; segments = s.segments; apart = s.apart; history = s.history; kinds = λ i rows below. λ j row lower. was_kind _ (s.kinds_were i rows below j row lower) };
@@ -59,6 +60,7 @@ first_still_represents file h epoch entries = (
         content = s.content;
         lists = s.lists;
         stands = s.stands;
+        no_third = s.other_is_whole;
         from_one = is.epoch;
         epoch_fits = is.epoch_fits;
         imports_fit = is.imports;
@@ -86,6 +88,7 @@ second_still_represents file h epoch entries = (
         content = s.content;
         lists = s.lists;
         stands = s.stands;
+        other_is_whole = s.no_third;
         says = record {
           lists_it = record { is = listing; front = subst P (same_bytes layouts.Two epoch h.imports entries) s.front; sum = tt };
           kept = record { listing = listing; segments = s.segments; apart = s.apart; history = s.history; kinds = λ i rows below. λ j row lower. tt };
@@ -100,6 +103,7 @@ second_still_represents file h epoch entries = (
         content = s.content;
         lists = s.lists;
         stands = s.stands;
+        no_third = s.other_is_whole;
         from_one = is.epoch;
         epoch_fits = is.epoch_fits;
         imports_fit = is.imports;

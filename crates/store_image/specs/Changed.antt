@@ -1,13 +1,14 @@
 -- What one changed byte makes of a store of version 3.
 use Rattle.std.specs.Prelude.{◌≡◌, ◌≢◌, ◌⊎◌, ℕ, ◌+◌, ◌<◌, ◌≤◌, List, ◌∷◌, ◌++◌, length, Some, slice_get}
 use Rattle.std.specs.List.{AllByRecursion}
-use Rattle.blocks.specs.Slots.{IsCurrentWith, IsOpen, content_at, content_of, other}
+use Rattle.blocks.specs.Slots.{IsOpen, content_at, content_of, other}
 use Rattle.blocks.specs.Extents.{start_of}
 use Rattle.history_model.specs.declared.stamped.StampedRow.{StampedRow}
 use Rattle.history_model.specs.History.{History}
 use Rattle.directory.specs.declared.entry.Entry.{Entry}
 use Rattle.checksum.specs.declared.form.Form.TheVariants as forms
 use Rattle.directory.specs.declared.layout.Layout.TheVariants as layouts
+use Rattle.directory.specs.Content.{HasMark}
 use Rattle.directory.specs.Places.{extent_of}
 use Rattle.segment.specs.Records.{IsOfLength, record_of, segment_of}
 use Rattle.store_image.specs.declared.fault.Damage.TheVariants as damages
@@ -20,28 +21,32 @@ pub record IsChanged (before : List ℕ) (byte changed : ℕ) (after : List ℕ)
   pub small : changed < 256
   pub bytes : AllByRecursion (λ b. b < 256) (before ++ byte ∷ after)
 
--- a store of version 3 in whose directory one byte was changed, behind the epoch, is damaged there
+-- the directory is damaged, or where a byte of its epoch was changed, both slots have one epoch
+abbrev pub IsNoticed : ℕ → ℕ → List ℕ → Type 0
+IsNoticed from place file = IsDamaged damages.Directory file
+    ⊎ ((place < from + 8) × IsDamaged damages.Slots file)
+
+-- a store of version 3 in whose current directory one byte was changed is damaged
 abbrev pub ChangedDirectoryIsDamaged : Type 0
 ChangedDirectoryIsDamaged = (before after : List ℕ) (byte changed : ℕ) (h : History) (epoch : ℕ)
     (entries : List Entry)
     (stands : Represents (before ++ byte ∷ after) h layouts.Three epoch entries)
     → IsChanged before byte changed after
-    → content_at stands.slot + 8 ≤ length before → length before < content_at stands.slot + 4096
-    → IsDamaged damages.Directory (before ++ changed ∷ after)
+    → content_at stands.slot ≤ length before → length before < content_at stands.slot + 4096
+    → IsNoticed (content_at stands.slot) (length before) (before ++ changed ∷ after)
 
--- Where one byte of the epoch was changed, the store is damaged, or the epoch fell below that of
--- the other slot, which is open: then that one's directory is read, which is an older one.
-abbrev pub ChangedEpochShowsTheOther : Type 0
-ChangedEpochShowsTheOther = (before after : List ℕ) (byte changed : ℕ) (h : History) (epoch : ℕ)
+-- So is one in whose other slot one byte was changed, where
+-- that one is open and has a directory of version 3 as well.
+abbrev pub ChangedOtherIsDamaged : Type 0
+ChangedOtherIsDamaged = (before after : List ℕ) (byte changed : ℕ) (h : History) (epoch : ℕ)
     (entries : List Entry)
     (stands : Represents (before ++ byte ∷ after) h layouts.Three epoch entries)
     → IsChanged before byte changed after
-    → content_at stands.slot ≤ length before → length before < content_at stands.slot + 8
-    → IsDamaged damages.Directory (before ++ changed ∷ after)
-    ⊎ IsDamaged damages.Slots (before ++ changed ∷ after)
-    ⊎ (IsOpen (other stands.slot) (before ++ byte ∷ after) × (older : ℕ) × (older < epoch)
-    × IsCurrentWith (record { slot = other stands.slot; epoch = older })
-    (content_of (other stands.slot) (before ++ byte ∷ after)) (before ++ changed ∷ after))
+    → IsOpen (other stands.slot) (before ++ byte ∷ after)
+    → HasMark layouts.Three (content_of (other stands.slot) (before ++ byte ∷ after))
+    → content_at (other stands.slot) ≤ length before
+    → length before < content_at (other stands.slot) + 4096
+    → IsNoticed (content_at (other stands.slot)) (length before) (before ++ changed ∷ after)
 
 -- a byte stands at this place of the record of a row, in a segment with checksums
 pub record IsInRecord (entries : List Entry) (lists : List (List StampedRow)) (s : StampedRow)

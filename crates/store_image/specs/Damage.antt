@@ -12,15 +12,16 @@ use Rattle.store_image.specs.declared.fault.Damage.{Damage}
 use Rattle.store_image.specs.declared.fault.Damage.TheVariants as damages
 use Rattle.store_image.specs.Pieces.{HoldsAll}
 use Rattle.store_image.specs.Kept.{AreOfLayout, AreSegments, pieces_of}
-use Rattle.store_image.specs.Images.{IsStore}
+use Rattle.store_image.specs.Images.{IsStore, OtherIsWhole}
 use Rattle.store_image.specs.Reading.{AreNumbered, IsAt}
 
--- the current slot's content lists the directory
+-- the current slot's content lists the directory, and the other slot is whole
 pub record HasDirectory (d : DirectoryValue) (file : List ℕ) : Type 0 where
   pub current : Current
   pub content : List ℕ
   pub slot : IsCurrentWith current content file
   pub lists_it : Lists content d
+  pub other_is_whole : OtherIsWhole d.layout current.slot file
 
 -- at the place of each entry is the segment of these
 -- rows, and no number of an import is above this
@@ -60,13 +61,14 @@ pub record HasStrangeKind (d : DirectoryValue) (file : List ℕ) : Type 0 where
   pub apart : AreLists lists
   pub strange : ¬ (All (AreOfLayout d.layout) lists)
 
--- this part is damaged: no slot is the current one, or its content is no directory,
--- or what the directory lists isn't so
+-- this part is damaged: no slot is the current one, or its content is no directory beside which
+-- the other slot is whole, or what the directory lists isn't so
 abbrev pub IsDamaged : Damage → List ℕ → Type 0
 IsDamaged damages.Slots file =
     (current : Current) (content : List ℕ) → IsCurrentWith current content file → ⊥
 IsDamaged damages.Directory file = (current : Current) × (content : List ℕ)
-    × IsCurrentWith current content file × ((d : DirectoryValue) → Lists content d → ⊥)
+    × IsCurrentWith current content file
+    × ((d : DirectoryValue) → Lists content d → OtherIsWhole d.layout current.slot file → ⊥)
 IsDamaged (damages.Segment number) file =
     (d : DirectoryValue) × HasDirectory d file × IsFirstBroken number d.imports d.entries file
 IsDamaged damages.SharedKey file =

@@ -1,11 +1,12 @@
 -- What bytes represented before there was a second version of the layout, and before there was a
 -- third one: the definition of those times, on its own. In the first version rows were of the four
 -- kinds that there were then.
-use Rattle.std.specs.Prelude.{◌≡◌, ◌↔◌, ℕ, ◌^◌, ◌<◌, ◌≤◌, List, ◌++◌, length, take, replicate}
+use Rattle.std.specs.Prelude.{◌≡◌, ◌↔◌, ℕ, ◌^◌, ◌<◌, ◌≤◌, List, ◌++◌, length, take, drop, replicate}
 use Rattle.std.specs.Prelude.{codes, All}
 use Rattle.std.specs.List.{AllByRecursion, flat_map}
 use Rattle.std.specs.Int.{w32, w64, to_be_bytes}
 use Rattle.blocks.specs.declared.slots.Slot.{Slot}
+use Rattle.blocks.specs.Slots.{IsOpen, content_of, other}
 use Rattle.rf2_values.specs.declared.row.Kind.{Kind}
 use Rattle.rf2_values.specs.declared.row.Kind.TheVariants as kinds
 use Rattle.rf2_values.specs.Row.{kind_of}
@@ -33,8 +34,9 @@ abbrev pub IsFirstKind : Kind → Type 0
 IsFirstKind kinds.Concrete = ⊥
 IsFirstKind kind = Unit {0}
 
--- what bytes represented whose content blocks had this mark and so many entries at most, and whose
--- rows were of these kinds; no segment had checksums
+-- What bytes represented whose content blocks had this mark and so many entries at most, and whose
+-- rows were of these kinds. No segment had checksums, and no content block that was published had
+-- the mark of a third version.
 pub record DidRepresentBy (mark : List ℕ) (most : ℕ) (WasKind : Kind → Type 0) (file : List ℕ)
     (h : History) (epoch : ℕ) (entries : List Entry) : Type 0 where
   pub slot : Slot
@@ -42,6 +44,8 @@ pub record DidRepresentBy (mark : List ℕ) (most : ℕ) (WasKind : Kind → Typ
   pub lists : List (List StampedRow)
   pub stands :
       HasPieces (record { slot = slot; epoch = epoch }) content (pieces_of entries lists) file
+  pub no_third : IsOpen (other slot) file
+      → take 8 (drop 8 (content_of (other slot) file)) ≡ codes "SCTSTOR3" → ⊥
   pub from_one : 1 ≤ epoch
   pub epoch_fits : epoch < 2 ^ 64
   pub imports_fit : h.imports < 2 ^ 32

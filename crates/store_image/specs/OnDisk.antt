@@ -7,22 +7,29 @@ use Rattle.history_model.specs.declared.stamped.StampedRow.{StampedRow}
 use Rattle.directory.specs.Listings.{DirectoryValue}
 use Rattle.store_image.specs.Pieces.{HasPieces}
 use Rattle.store_image.specs.Kept.{IsContentOf, history_of, pieces_of}
-use Rattle.store_image.specs.Images.{Represents}
+use Rattle.store_image.specs.Images.{OtherIsWhole, Represents}
 
 -- the slot as the current one, at the directory's epoch
 abbrev pub current_of : Slot → DirectoryValue → Current
 current_of slot d = record { slot = slot; epoch = d.epoch }
 
+-- the slot is the current one, with this content, the segments of
+-- these rows are at their places, and the other slot is whole
+pub record Shows (slot : Slot) (d : DirectoryValue) (lists : List (List StampedRow))
+    (content file : List ℕ) : Type 0 where
+  pub has_pieces : HasPieces (current_of slot d) content (pieces_of d.entries lists) file
+  pub other_is_whole : OtherIsWhole d.layout slot file
+
 -- the slot is the current one, and its content lists the
 -- directory, of which the segments are of these rows
 abbrev pub HasStore : Slot → DirectoryValue → List (List StampedRow) → List ℕ → Type 0
-HasStore slot d lists file = (content : List ℕ) × IsContentOf content d lists
-    × HasPieces (current_of slot d) content (pieces_of d.entries lists) file
+HasStore slot d lists file =
+    (content : List ℕ) × IsContentOf content d lists × Shows slot d lists content file
 
 -- whatever a stop leaves shows them, with one content
 abbrev pub IsOnDisk : DiskState → Slot → DirectoryValue → List (List StampedRow) → Type 0
-IsOnDisk state slot d lists = (content : List ℕ) × IsContentOf content d lists
-    × EachImage state (HasPieces (current_of slot d) content (pieces_of d.entries lists))
+IsOnDisk state slot d lists =
+    (content : List ℕ) × IsContentOf content d lists × EachImage state (Shows slot d lists content)
 
 -- bytes that show them represent their history
 abbrev pub StoreIsRepresented : Type 0

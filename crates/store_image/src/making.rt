@@ -47,11 +47,7 @@ pub fn check_empty<D: Disk>(disk: &mut D) -> Result<(), MakeFault>
 /// Makes an empty store in this version on a disk of no bytes: the length is looked at, then all room is taken, and
 /// then it writes. So `OutOfMemory` leaves the disk empty. A stop before it has answered may leave
 /// anything.
-pub fn make<D: Disk>(
-    alloc: Global,
-    disk: &mut D,
-    layout: Layout,
-) -> Result<Made, MakeFault>
+pub fn make<D: Disk>(alloc: Global, disk: &mut D, layout: Layout) -> Result<Made, MakeFault>
     ensures made { IfOk result (λ made. (made.slot ≡ Slot.A) × (made.directory ≡ empty_listing layout)) }
     ensures exact { D.is_honest disk.old → IsMade result (D.moments disk.old).state.now }
     ensures on_disk { D.is_honest disk.old

@@ -3,12 +3,14 @@
 ghost use Rattle.std.specs.Prelude.{◌≡◌, ◌⊎◌, ◌↔◌, ◌+◌, ◌≤◌, ◌++◌, [], List, length, map};
 ghost use Rattle.std.specs.Prelude.{vec_items, IfOk, IfErr, MatchResult};
 ghost use Rattle.disk_model.specs.Disk.{IsImage, LeavesOnly, raised_by};
-ghost use Rattle.blocks.specs.Slots.{slots_read};
+ghost use Rattle.blocks.specs.Slots.{other_read, slots_read};
 ghost use Rattle.history_model.specs.declared.stamped.StampedRow.{StampedRow};
 ghost use Rattle.segment.specs.declared.place.RowPlace.{RowPlace};
 ghost use Rattle.segment.specs.Standing.{places_of, with_places};
+ghost use Rattle.store_image.specs.declared.fault.Damage.TheVariants as damages;
 ghost use Rattle.store_image.specs.declared.fault.LoadFault.TheVariants as faults;
 ghost use Rattle.store_image.specs.Kept.{bytes_listed, IsKept};
+ghost use Rattle.store_image.specs.Images.{OtherIsWhole};
 ghost use Rattle.store_image.specs.OnDisk.{HasStore, IsOnDisk};
 ghost use Rattle.store_image.specs.Answers.{IsNotOpened, IsSynced, CountsLoading};
 ghost use Rattle.store_image.specs.Asked.{StopsAt, AsksWithin};
@@ -17,8 +19,8 @@ use crate::fault::{Damage, LoadFault};
 use crate::kinds::all_have_kinds;
 use crate::reading::{Segments, read_segments};
 use crate::sink::RowSink;
-use blocks::{Slot, read_current};
-use directory::Directory;
+use blocks::{Slot, read_current, read_other};
+use directory::{Directory, Layout, may_precede};
 use disk_model::Disk;
 use history_model::GhostRows;
 use segment::RowPlace;
@@ -97,6 +99,7 @@ pub fn load<D: Disk, S: RowSink>(
     let mut content = [0; 4096];
     let current = read_current(disk, &mut content)?;
     let directory = Directory::decode(alloc, &content)?;
+    check_other(disk, current.slot, directory.layout())?;
     let Segments { places, shown } = read_segments(
         alloc,
         disk,
@@ -113,4 +116,27 @@ pub fn load<D: Disk, S: RowSink>(
         places,
         shown,
     })
+}
+
+/// Looks whether the other slot is whole, beside a directory of this version in the current one.
+fn check_other<D: Disk>(disk: &mut D, slot: Slot, layout: Layout) -> Result<(), LoadFault>
+    ensures exact { D.is_honest disk.old → 16384 ≤ length (D.moments disk.old).state.now
+        → MatchResult result
+        (λ _. OtherIsWhole layout slot (D.moments disk.old).state.now)
+        (λ e. e ≡ faults.Damaged damages.Directory
+        → OtherIsWhole layout slot (D.moments disk.old).state.now → ⊥) }
+    ensures refused { IfErr result
+        (λ e. (e ≡ faults.DiskFault) ⊎ (e ≡ faults.Damaged damages.Directory)) }
+    ensures moments { D.is_honest disk.old → D.moments disk.new ≡ D.moments disk.old }
+    ensures honesty { D.is_honest disk.old ↔ D.is_honest disk.new }
+    ensures failures { CountsLoading result (D.failures disk.old) (D.failures disk.new) }
+    ensures bytes_read { D.bytes_read disk.new ≤ D.bytes_read disk.old + other_read }
+    ensures goes_on { raised_by (D.bytes_read disk.old) 0 ≤ D.bytes_read disk.new }
+    ensures other_calls { D.other_calls disk.new ≡ D.other_calls disk.old }
+{
+    let mut content = [0; 4096];
+    if read_other(disk, slot, &mut content)? && !may_precede(layout, &content) {
+        return Err(LoadFault::Damaged(Damage::Directory));
+    }
+    Ok(())
 }

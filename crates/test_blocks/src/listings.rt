@@ -2,7 +2,7 @@
 
 use blocks::Extent;
 use checksum::{Form, crc32c};
-use directory::{Directory, DirectoryFault, Entry, Full, Layout, first_fit};
+use directory::{Directory, DirectoryFault, Entry, Full, Layout, first_fit, may_precede};
 use std::alloc::Global;
 use std::test::Fail;
 
@@ -305,14 +305,12 @@ fn a_content_block_of_version_three(rt: HostRuntime) -> Result<(), Fail> {
     let alloc = rt.alloc();
     let mut directory = Directory::new(alloc, Layout::Three)?;
     directory.advance(1);
-    directory.add(
-        Entry {
-            first: 4,
-            bytes: 46,
-            rows: 1,
-            form: Form::Checked,
-        },
-    );
+    directory.add(Entry {
+        first: 4,
+        bytes: 46,
+        rows: 1,
+        form: Form::Checked,
+    });
     let mut block = [7; 4096];
     directory.encode(&mut block);
     assert_eq!(rt; block.as_slice(), checked_block().as_slice());
@@ -327,4 +325,33 @@ fn a_content_block_of_version_three(rt: HostRuntime) -> Result<(), Fail> {
     assert!(rt; is_bad(alloc, &summed(47, 2)));
     assert!(rt; is_bad(alloc, &summed(15, 0x34)));
     Ok(())
+}
+
+/// Whether a block may be older than a directory of version 1, of version 2 and of version 3.
+fn may_precede_each(block: &[u8; 4096]) -> [bool; 3] {
+    [
+        may_precede(Layout::One, block),
+        may_precede(Layout::Two, block),
+        may_precede(Layout::Three, block),
+    ]
+}
+
+#[test]
+fn which_block_may_be_older(rt: HostRuntime) {
+    assert_eq!(rt; may_precede_each(&two_segments()), [true, true, true]);
+    assert_eq!(rt; may_precede_each(&checked_block()), [false, false, true]);
+    assert_eq!(rt; may_precede_each(&[0; 4096]), [true, true, false]);
+    // A changed byte of the epoch, of the mark, behind the entries, and of the checksum.
+    let cases = [
+        (7, 1, [false, false, false]),
+        (11, 0x48, [true, true, false]),
+        (2000, 1, [false, false, false]),
+        (4095, 0xe2, [false, false, false]),
+    ];
+    for (place, byte, older) in cases {
+        let mut changed = checked_block();
+        assert!(rt; place < 4096);
+        changed[place] = byte;
+        assert_eq!(rt; may_precede_each(&changed), older, "byte {place}");
+    }
 }

@@ -323,8 +323,12 @@ const DAMAGES: [(usize, u8, Damage, &str); 8] = [
 ];
 
 /// The first of the damages after which a disk isn't refused as it has to be.
-fn wrong_damage(alloc: Global, disk: &MemDisk) -> Result<Option<&'static str>, AllocError> {
-    for (place, byte, part, cause) in &DAMAGES {
+fn wrong_damage(
+    alloc: Global,
+    disk: &MemDisk,
+    damages: &[(usize, u8, Damage, &'static str)],
+) -> Result<Option<&'static str>, AllocError> {
+    for (place, byte, part, cause) in damages {
         if fault_with(alloc, disk, *place, *byte)? != Some(LoadFault::Damaged(*part)) {
             return Ok(Some(*cause));
         }
@@ -336,9 +340,97 @@ fn wrong_damage(alloc: Global, disk: &MemDisk) -> Result<Option<&'static str>, A
 fn each_way_in_which_an_image_is_damaged(rt: HostRuntime) -> Result<(), Fail> {
     let mut good = two_imports(rt.alloc(), &OTHER)?;
     assert_eq!(rt; segments_of(rt.alloc(), &mut good), Ok(2));
-    assert_eq!(rt; wrong_damage(rt.alloc(), &good)?, None);
+    assert_eq!(rt; wrong_damage(rt.alloc(), &good, &DAMAGES)?, None);
     good.set_fuse(1);
     assert_eq!(rt; fault_of(rt.alloc(), &mut good), Some(LoadFault::DiskFault));
+    Ok(())
+}
+
+/// A disk with a store that was made in this version, and of which the directory was published twice
+/// more, the second time in version 3. Slot A is the current one, at epoch 3.
+fn published_twice(alloc: Global, layout: Layout) -> Result<MemDisk, Fail> {
+    let mut disk = MemDisk::new(alloc);
+    let Made {
+        slot,
+        mut directory,
+    } = make(alloc, &mut disk, layout)?;
+    directory.advance(1);
+    let slot = publish_directory(&mut disk, slot, &directory)?;
+    directory.upgrade_to_three();
+    directory.advance(2);
+    let _ = publish_directory(&mut disk, slot, &directory)?;
+    Ok(disk)
+}
+
+/// What damages the slots where both have a directory of version 3.
+const CHECKED_DAMAGES: [(usize, u8, Damage, &str); 10] = [
+    (
+        4103,
+        1,
+        Damage::Directory,
+        "an epoch below the other slot's",
+    ),
+    (4103, 2, Damage::Slots, "the epoch of the other slot"),
+    (4103, 4, Damage::Directory, "a greater epoch"),
+    (4096, 1, Damage::Directory, "a much greater epoch"),
+    (8000, 1, Damage::Directory, "a byte behind the entries"),
+    (
+        12295,
+        1,
+        Damage::Directory,
+        "a lower epoch of the other slot",
+    ),
+    (
+        12295,
+        3,
+        Damage::Slots,
+        "the current epoch in the other slot",
+    ),
+    (
+        12295,
+        4,
+        Damage::Directory,
+        "a greater epoch in the other slot",
+    ),
+    (
+        12299,
+        0x48,
+        Damage::Directory,
+        "another mark of the other slot",
+    ),
+    (
+        16000,
+        1,
+        Damage::Directory,
+        "a byte of the other slot's rest",
+    ),
+];
+
+/// What damages them where the other one has version 2, as after an upgrade.
+const UPGRADED_DAMAGES: [(usize, u8, Damage, &str); 5] = [
+    (
+        4103,
+        1,
+        Damage::Directory,
+        "an epoch below that of version 2",
+    ),
+    (4103, 2, Damage::Slots, "the epoch of version 2"),
+    (8191, 1, Damage::Directory, "another checksum"),
+    (12295, 4, Damage::Directory, "version 2 above version 3"),
+    (12299, 0x50, Damage::Directory, "another mark of version 2"),
+];
+
+#[test]
+fn a_changed_epoch_of_version_three_is_noticed(rt: HostRuntime) -> Result<(), Fail> {
+    let alloc = rt.alloc();
+    let mut checked = published_twice(alloc, Layout::Three)?;
+    assert_eq!(rt; shown(alloc, &mut checked), Ok((Slot::A, 3, 2, 0)));
+    assert_eq!(rt; wrong_damage(alloc, &checked, &CHECKED_DAMAGES)?, None);
+    let mut upgraded = published_twice(alloc, Layout::Two)?;
+    assert_eq!(rt; shown(alloc, &mut upgraded), Ok((Slot::A, 3, 2, 0)));
+    assert_eq!(rt; wrong_damage(alloc, &upgraded, &UPGRADED_DAMAGES)?, None);
+    // What the other slot has of version 2, beside its mark, plays no part.
+    assert_eq!(rt; fault_with(alloc, &upgraded, 16000, 1)?, None);
     Ok(())
 }
 

@@ -1,0 +1,35 @@
+//! The block of a directory that was published before another one.
+
+ghost use Rattle.std.specs.Prelude.{◌≡◌, ◌↔◌, length, IsTrue};
+ghost use Rattle.directory.specs.Content.{HasMark, HasOlderMark, MayPrecede};
+
+use crate::decoding::has_sum;
+use crate::layout::Layout;
+
+/// Whether the block has the mark of this version.
+fn has_mark(layout: Layout, block: &[u8; 4096]) -> bool
+    requires { length block.now ≡ 4096 }
+    ensures { IsTrue result ↔ HasMark layout block.now }
+{
+    &block[8..16] == layout.mark().as_slice()
+}
+
+/// Whether the block has the mark of a version that has no checksum.
+fn has_older_mark(block: &[u8; 4096]) -> bool
+    requires { length block.now ≡ 4096 }
+    ensures { IsTrue result ↔ HasOlderMark block.now }
+{
+    has_mark(Layout::One, block) || has_mark(Layout::Two, block)
+}
+
+/// Whether the block may be that of a directory which was published before one of this version.
+/// Beside a directory of version 3 it has a checksum, or the mark of a version without. Beside an
+/// older one it isn't of version 3, since the version never falls.
+pub fn may_precede(layout: Layout, block: &[u8; 4096]) -> bool
+    ensures { IsTrue result ↔ MayPrecede layout block.now }
+{
+    match layout {
+        Layout::One | Layout::Two => !has_mark(Layout::Three, block),
+        Layout::Three => has_older_mark(block) || has_sum(layout, block),
+    }
+}
