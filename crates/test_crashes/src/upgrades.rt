@@ -11,6 +11,7 @@ use test_support::{CHOICES, Example, holds, image_after};
 /// How many changing calls the creation of a store and two imports make, and how many the upgrade
 /// and what follows it.
 const BEFORE: u64 = 9 + 8 + 8;
+
 const CALLS: u64 = 6 + 8 + 1 + 7;
 
 /// A store of version 2 after two imports, on this disk.
