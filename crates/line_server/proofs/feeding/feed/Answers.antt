@@ -13,9 +13,6 @@ loop-byte-init g c =
     let source = source_view (g.S.Source.is_honest c.args.source.now) (g.S.Source.releases c.args.source.now) in
     (λ part free is. rw (append-nil part) (begins source (device_view g.D.Disk.is_honest g.D.Disk.moments g.D.Disk.failures g.D.Disk.bytes_read) _ _ part _ free is), c.requires, λ h. (h, refl))
 
-pub answer_line-replied-requires : goal.answer_line-replied-requires
-answer_line-replied-requires g c = c.loop-byte.invariant.1
-
 pub returns-in-Err-clause-fed : goal.returns-in-Err-clause-fed
 returns-in-Err-clause-fed g c =
     let source = source_view (g.S.Source.is_honest c.args.source.now) (g.S.Source.releases c.args.source.now) in
