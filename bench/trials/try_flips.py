@@ -4,12 +4,13 @@
 try_flips.py PROGRAM [ROWS [BITS [SEED]]]
 
 PROGRAM is the built `sctd`. It makes a store of version 3 of a Full release of ROWS rows (20,000
-where none are given) and of a Delta. Each of BITS random bits of the file (200 where none are
-given) is turned over by itself, the program is asked, and the bit is turned back. What has to hold:
+where none are given) and of a Delta. Each bit of the directory's epoch is turned over by itself,
+and each of some random bits of both directories and of BITS random ones of the file (200 where none
+are given): the program is asked, and the bit is turned back. What has to hold:
 
-- a store of which a bit that is read was changed is refused with ERR 8, whichever command opens it;
-- where a gate was closed or the directory's epoch fell, it may be opened as it was before its last
-  import, whole;
+- a store of which a bit that is read was changed is refused with ERR 8, whichever command opens it:
+  one of the directory with its epoch, of a record, or of the older directory in the other slot;
+- where a gate was closed, it may be opened as it was before its last import, whole;
 - where the bit is none of those that are read, each answer is what it was.
 
 Then the store is served, the bits of records are turned over while it is open, and the row of each
@@ -58,8 +59,10 @@ class Store:
             self.data = file.read()
         at = max(DIRECTORIES, key=lambda place: number(self.data, place, 8))
         self.directory = at
-        if self.data[at + 8 : at + 16] != b"SCTSTOR3":
-            raise Wrong("no directory of version 3")
+        self.older = min(DIRECTORIES, key=lambda place: number(self.data, place, 8))
+        for place in DIRECTORIES:
+            if self.data[place + 8 : place + 16] != b"SCTSTOR3":
+                raise Wrong("no directory of version 3")
         self.segments = []
         for place in range(at + 32, at + 32 + 16 * number(self.data, at + 20, 4), 16):
             first, length, _, form = (number(self.data, place + 4 * k, 4) for k in range(4))
@@ -75,6 +78,8 @@ class Store:
             return "epoch"
         if self.directory + 8 <= at < self.directory + BLOCK:
             return "directory"
+        if self.older <= at < self.older + BLOCK:
+            return "older directory"
         if any(start <= at < end for start, end in self.segments):
             return "record"
         return "unread"
@@ -90,10 +95,18 @@ def questions(lines):
     return "".join("0 HISTORY %s %s\n" % pair for pair in lines)
 
 
-def flipped(program, store, chance, before, words, asked):
+def chosen(store, chance, bits):
+    """The bits that are turned over, each as the place of its byte and its value there."""
+    at = store.directory
+    yield from ((at + k // 8, 1 << k % 8) for k in range(64))
+    for start, count, length in ((at, 20, BLOCK), (store.older, 20, BLOCK),
+                                 (0, bits, len(store.data))):
+        for _ in range(count):
+            yield start + chance.randrange(length), 1 << chance.randrange(8)
+
+
+def flipped(program, store, at, bit, before, words, asked):
     """One bit: where it stood, and what became of it."""
-    at = chance.randrange(len(store.data))
-    bit = 1 << chance.randrange(8)
     place = store.place(at)
     store.put(at, store.data[at] ^ bit)
     try:
@@ -102,8 +115,8 @@ def flipped(program, store, chance, before, words, asked):
             if place == "unread":
                 raise Wrong("byte %d isn't read, and was refused" % at)
             return place, "refused"
-        if place in ("directory", "record"):
-            raise Wrong("bit %d of byte %d, a %s: %r" % (bit, at, place, said))
+        if place not in ("gate", "unread"):
+            raise Wrong("bit %d of byte %d, %s: %r" % (bit, at, place, said))
         answers = run(program, ["serve", "--store", store.path, "--releases", words], asked)[0]
         if place != "unread" and answers == before[0]:
             return place, "older"
@@ -189,9 +202,9 @@ def main(words):
                 program, ["serve", "--store", path, "--releases", folder],
                 "0 STATUS\n" + questions(lines))[0])
         store = Store(path)
-        for _ in range(bits):
+        for at, bit in chosen(store, chance, bits):
             what = flipped(
-                program, store, chance, shown, folder, "0 STATUS\n" + questions(lines))
+                program, store, at, bit, shown, folder, "0 STATUS\n" + questions(lines))
             counts[what] = counts.get(what, 0) + 1
         wanted = replies_in(shown[1])[1:]
         refused = while_open(program, store, chance, folder, lines, wanted)
