@@ -28,7 +28,11 @@ fn read_directory(rt: &HostRuntime, path: &str) -> Option<Directory> {
 
 /// Decodes a segment and drops its rows again. How many there were.
 fn decode_one(alloc: Global, bytes: &[u8], entry: &Entry) -> Option<usize> {
-    Some(decode(alloc, entry.form, segment_in(bytes, entry)?).ok()?.len())
+    Some(
+        decode(alloc, entry.form, segment_in(bytes, entry)?)
+            .ok()?
+            .len(),
+    )
 }
 
 /// Decodes the segments that a directory lists. How many rows they have.

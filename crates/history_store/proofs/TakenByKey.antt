@@ -77,8 +77,8 @@ pub not_prepared_at_all : {D : Type 0} (u old v mid : StoreValue D) (release : R
 not_prepared_at_all {D} u old v mid release fresh e first left same still brings why =
     let at_mid : IsUnprepared e (stamped (mid.history.imports + 1) fresh.rows.items) mid.catalog = subst (λ (x : StoreValue D). IsUnprepared e (stamped (x.history.imports + 1) fresh.rows.items) x.catalog) same why in
     let here : IsUnprepared e (stamped (old.history.imports + 1) fresh.rows.items) old.catalog =
-        subst (λ (h : History). IsUnprepared e (stamped (h.imports + 1) fresh.rows.items) old.catalog) still.history
-        (subst (λ (x : Catalog). IsUnprepared e (stamped (mid.history.imports + 1) fresh.rows.items) x) still.catalog at_mid) in
+    subst (λ (h : History). IsUnprepared e (stamped (h.imports + 1) fresh.rows.items) old.catalog) still.history
+    (subst (λ (x : Catalog). IsUnprepared e (stamped (mid.history.imports + 1) fresh.rows.items) x) still.catalog at_mid) in
     lacking old release fresh e still.open_before (room_of u old first left) brings here
 
 -- ---- what is taken

@@ -77,7 +77,7 @@ loop-lists-preserved-in_ok-push-in-Some g c =
             k.0 ++ w.0.row ∷ [],
             ap (map key_of) c.in_ok-push-in-Some.ensures.items ∙ keys_push c.loop-lists.rows.items k.0 row w.0.row k.1 (key_there lists c.in-Some-latest_on.segment c.in-Some-latest_on.at w.0 row w.1 found.ensures.keyed),
             page_more a.kind a.time a.pin lists c.loop-lists.last c.in-Some.id a.limit k.0 _ w.0.row (omega arith)
-            (rw (c.as_slice-lists.ensures.value, c.self.view_is, listed_so) at c.in-Some.ensures.next) w.2 k.2,
+                (rw (c.as_slice-lists.ensures.value, c.self.view_is, listed_so) at c.in-Some.ensures.next) w.2 k.2,
           );
     }
 
@@ -111,7 +111,7 @@ loop-lists-preserved g c =
             k.0,
             k.1,
             page_same a.kind a.time a.pin (g.R.RowReader.lists a.reader.now) c.loop-lists.last c.in-Some.id (a.limit - length k.0) k.0 _
-            (rw (c.as_slice-lists.ensures.value, c.self.view_is, listed_so) at c.in-Some.ensures.next) (get_from_pick c.args.kind c.in-Some.id c.args.time c.args.pin (g.R.RowReader.lists c.args.reader.now) (are_lists (g.R.RowReader.lists c.args.reader.now) (rw (c.self.view_is, listed_so) at c.self.invariant.places)) None (rw (c.as_slice-lists.ensures.value, c.self.view_is, listed_so) at (rw c.in_default.is at c.latest_on.ensures))) k.2,
+                (rw (c.as_slice-lists.ensures.value, c.self.view_is, listed_so) at c.in-Some.ensures.next) (get_from_pick c.args.kind c.in-Some.id c.args.time c.args.pin (g.R.RowReader.lists c.args.reader.now) (are_lists (g.R.RowReader.lists c.args.reader.now) (rw (c.self.view_is, listed_so) at c.self.invariant.places)) None (rw (c.as_slice-lists.ensures.value, c.self.view_is, listed_so) at (rw c.in_default.is at c.latest_on.ensures))) k.2,
           );
     }
 
