@@ -1,28 +1,49 @@
-//! An upgrade, and an import and a merge after it, stopped at each moment and with each changing call
-//! failing in turn.
+//! An upgrade, and an import and a merge after it, of stores of each version, stopped at each moment
+//! and with each changing call failing in turn.
 
 use crate::faults::{Fault, Outcome};
 use disk_model::{Choice, MemDisk};
 use history_store::Refusal;
 use std::alloc::Global;
 use std::test::Fail;
-use test_support::{CHOICES, Example, holds, image_after};
+use test_support::{CHOICES, Example, holds, image_after, put};
 
-/// How many changing calls the creation of a store and two imports make, and how many the upgrade
-/// and what follows it.
-const BEFORE: u64 = 9 + 8 + 8;
+/// The versions that stores begin in.
+const VERSIONS: [u32; 3] = [1, 2, 3];
 
-const CALLS: u64 = 6 + 8 + 1 + 7;
+/// How many changing calls an opening makes, and how many an import and a merge.
+const OPENING: u64 = 1;
 
-/// A store of version 2 after two imports, on this disk.
-fn after_two(alloc: Global, disk: MemDisk) -> Result<Example, (Refusal, MemDisk)> {
-    let mut store = Example::create(alloc, disk)?;
-    for name in ["r1", "r2"] {
-        if let Err(refusal) = store.import_sample(name) {
-            return Err((refusal, store.close()));
-        }
+const IMPORT: u64 = 8;
+
+const MERGE: u64 = 1 + 7;
+
+/// How many changing calls an upgrade of a store of this version makes.
+fn upgrade_calls(version: u32) -> u64 {
+    if version == 3 { 0 } else { 6 }
+}
+
+/// How many changing calls the script makes.
+fn all_calls(version: u32) -> u64 {
+    upgrade_calls(version).saturating_add(IMPORT + MERGE)
+}
+
+/// The disk of a store of this version after two imports. Version 1 has another mark than version 2,
+/// by one byte in each directory.
+fn after_two(alloc: Global, version: u32) -> Result<MemDisk, Refusal> {
+    let mut store = if version == 3 {
+        Example::new_in_three(alloc)?
+    } else {
+        Example::new(alloc)?
+    };
+    store.import_sample("r1")?;
+    store.import_sample("r2")?;
+    let mut bytes = store.close().bytes().to_vec(alloc)?;
+    if version == 1 {
+        put(&mut bytes, 4_111, b"1");
+        put(&mut bytes, 12_303, b"1");
     }
-    Ok(store)
+    Ok(MemDisk::from_bytes(alloc, bytes))
 }
 
 /// Upgrades, imports a third release and merges two segments.
@@ -43,24 +64,37 @@ fn complete(store: &mut Example) -> Result<(), Refusal> {
     Ok(())
 }
 
-/// The version and the imports after so many calls. The byte that opens a gate is the last but one.
-fn after(calls: u64, choice: Choice) -> (u32, u32) {
+/// The version and the imports after so many calls of the script. The byte that opens a gate is the
+/// last but one of a publication.
+fn after(version: u32, calls: u64, choice: Choice) -> (u32, u32) {
     let late = match choice {
         Choice::Lost | Choice::Filled(0) => 0,
         Choice::Kept | Choice::Filled(_) => 1,
     };
     let reached = calls.saturating_add(late);
+    let upgraded = upgrade_calls(version);
     (
-        if reached >= 6 { 3 } else { 2 },
-        if reached >= 14 { 3 } else { 2 },
+        if reached >= upgraded { 3 } else { version },
+        if reached >= upgraded.saturating_add(IMPORT) {
+            3
+        } else {
+            2
+        },
     )
 }
 
-/// Whether a stop after so many calls leaves a store that is as it has to be, and goes on.
-fn is_kept(alloc: Global, disk: &MemDisk, calls: u64, choice: Choice) -> Result<bool, Refusal> {
-    let image = image_after(disk, BEFORE.saturating_add(calls), choice)?;
+/// Whether a stop after so many calls of the script leaves a store that is as it has to be, and goes
+/// on.
+fn is_kept(
+    alloc: Global,
+    disk: &MemDisk,
+    begun_in: u32,
+    calls: u64,
+    choice: Choice,
+) -> Result<bool, Refusal> {
+    let image = image_after(disk, OPENING.saturating_add(calls), choice)?;
     let mut store = Example::of_bytes(alloc, image.as_slice())?;
-    let (version, imports) = after(calls, choice);
+    let (version, imports) = after(begun_in, calls, choice);
     if store.version() != version || !holds(alloc, &mut store, imports)? {
         return Ok(false);
     }
@@ -68,33 +102,52 @@ fn is_kept(alloc: Global, disk: &MemDisk, calls: u64, choice: Choice) -> Result<
     Ok(store.version() == 3 && holds(alloc, &mut store, 3)?)
 }
 
-#[test]
-fn each_stop_of_an_upgrade(rt: HostRuntime) -> Result<(), Fail> {
-    let Ok(mut store) = after_two(rt.alloc(), MemDisk::new(rt.alloc())) else {
-        return Err(Fail::from("no store"));
-    };
+/// Whether all stops of the script are kept, and it makes as many calls as it has to.
+fn are_kept(alloc: Global, version: u32) -> Result<bool, Refusal> {
+    let mut store = Example::opened(alloc, after_two(alloc, version)?)?;
+    if store.version() != version {
+        return Ok(false);
+    }
     go_on(&mut store)?;
     let disk = store.close();
-    assert_eq!(rt; disk.changes(), BEFORE + CALLS);
-    for calls in 0..=CALLS {
+    for calls in 0..=all_calls(version) {
         for choice in CHOICES {
-            assert!(rt;
-                is_kept(rt.alloc(), &disk, calls, choice)?,
-                "a stop after {calls}"
-            );
+            if !is_kept(alloc, &disk, version, calls, choice)? {
+                return Ok(false);
+            }
         }
+    }
+    Ok(disk.changes() == OPENING.saturating_add(all_calls(version)))
+}
+
+#[test]
+fn each_stop_of_an_upgrade(rt: HostRuntime) -> Result<(), Fail> {
+    for version in VERSIONS {
+        assert!(rt; are_kept(rt.alloc(), version)?, "version {version}");
     }
     Ok(())
 }
 
-/// A run, one of whose changing calls fails: then the store is closed, and what a stop leaves is
-/// opened with what was acknowledged, and goes on.
-fn run_with(alloc: Global, calls: u64) -> Result<Outcome, Refusal> {
-    let Ok(store) = after_two(alloc, MemDisk::new(alloc)) else {
-        return Ok(Outcome::Wrong);
-    };
-    let mut disk = store.close();
-    Fault::Change(0).strike(&mut disk, calls.saturating_add(1));
+/// What a stop leaves after a failed call is opened with what was acknowledged, and goes on.
+fn is_opened(alloc: Global, disk: &MemDisk, version: u32, imports: u32) -> Result<bool, Refusal> {
+    for choice in CHOICES {
+        let image = disk.image_now(choice)?;
+        let mut again = Example::of_bytes(alloc, image.as_slice())?;
+        if again.version() < version || again.imports() < imports {
+            return Ok(false);
+        }
+        complete(&mut again)?;
+        if again.version() != 3 || !holds(alloc, &mut again, 3)? {
+            return Ok(false);
+        }
+    }
+    Ok(true)
+}
+
+/// A run, one of whose changing calls fails.
+fn run_with(alloc: Global, begun_in: u32, calls: u64) -> Result<Outcome, Refusal> {
+    let mut disk = after_two(alloc, begun_in)?;
+    Fault::Change(0).strike(&mut disk, OPENING.saturating_add(calls));
     let mut store = Example::opened(alloc, disk)?;
     match go_on(&mut store) {
         Ok(()) => return Ok(Outcome::Whole),
@@ -102,29 +155,32 @@ fn run_with(alloc: Global, calls: u64) -> Result<Outcome, Refusal> {
         Err(_) => return Ok(Outcome::Wrong),
     }
     let (version, imports) = (store.version(), store.imports());
-    if !store.needs_reopen() {
+    if !store.needs_reopen() || !is_opened(alloc, &store.close(), version, imports)? {
         return Ok(Outcome::Wrong);
-    }
-    let disk = store.close();
-    for choice in CHOICES {
-        let image = disk.image_now(choice)?;
-        let mut again = Example::of_bytes(alloc, image.as_slice())?;
-        if again.version() < version || again.imports() < imports {
-            return Ok(Outcome::Wrong);
-        }
-        complete(&mut again)?;
-        if again.version() != 3 || !holds(alloc, &mut again, 3)? {
-            return Ok(Outcome::Wrong);
-        }
     }
     Ok(Outcome::Failed)
 }
 
+/// What comes of the runs of a store of this version: that one ended otherwise than with a failed
+/// call, or as the run that no failed call met.
+fn outcome_of_all(alloc: Global, version: u32) -> Result<Outcome, Refusal> {
+    let all = all_calls(version);
+    for calls in 0..all {
+        if run_with(alloc, version, calls)? != Outcome::Failed {
+            return Ok(Outcome::Wrong);
+        }
+    }
+    run_with(alloc, version, all)
+}
+
 #[test]
 fn each_changing_call_of_an_upgrade_fails(rt: HostRuntime) -> Result<(), Fail> {
-    for calls in 0..CALLS {
-        assert_eq!(rt; run_with(rt.alloc(), calls)?, Outcome::Failed);
+    for version in VERSIONS {
+        assert_eq!(rt;
+            outcome_of_all(rt.alloc(), version)?,
+            Outcome::Whole,
+            "version {version}"
+        );
     }
-    assert_eq!(rt; run_with(rt.alloc(), CALLS)?, Outcome::Whole);
     Ok(())
 }
