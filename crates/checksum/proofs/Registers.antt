@@ -13,6 +13,13 @@ xor_swap a b c d =
     ∙ ap (bit_xor a) (sym (xor_assoc b c d) ∙ ap (λ (x : ℕ). bit_xor x d) (xor_comm b c) ∙ xor_assoc c b d)
     ∙ sym (xor_assoc a c (bit_xor b d))
 
+-- a sum of four behind another one
+pub xor_behind : (a b c d rest : ℕ) → bit_xor rest (bit_xor a (bit_xor b (bit_xor c d))) ≡ bit_xor a (bit_xor b (bit_xor c (bit_xor d rest)))
+xor_behind a b c d rest =
+    xor_comm rest (bit_xor a (bit_xor b (bit_xor c d)))
+    ∙ xor_assoc a (bit_xor b (bit_xor c d)) rest
+    ∙ ap (bit_xor a) (xor_assoc b (bit_xor c d) rest ∙ ap (bit_xor b) (xor_assoc c d rest))
+
 -- all bits turned over twice
 pub turned_back : (r : ℕ) → bit_xor (bit_xor r 0xFFFFFFFF) 0xFFFFFFFF ≡ r
 turned_back r = xor_assoc r 0xFFFFFFFF 0xFFFFFFFF ∙ ap (bit_xor r) (xor_self 0xFFFFFFFF) ∙ xor_zero_r r

@@ -20,17 +20,15 @@ fn after_byte(register: u32, byte: u8) -> u32
     (register >> 8) ^ after_8(low ^ byte)
 }
 
-/// The register after eight bytes more: each is looked up by how far it is shifted out then.
+/// The register after eight bytes more: each is looked up by how far it is shifted out then. The
+/// last four don't wait for the register, so they stand first.
 fn after_eight(register: u32, bytes: [u8; 8]) -> u32
     ensures { result ≡ fold with_byte register bytes }
 {
     let [r0, r1, r2, r3] = register.to_le_bytes();
     let [b0, b1, b2, b3, b4, b5, b6, b7] = bytes;
-    after_64(r0 ^ b0)
-        ^ (after_56(r1 ^ b1)
-            ^ (after_48(r2 ^ b2)
-                ^ (after_40(r3 ^ b3)
-                    ^ (after_32(b4) ^ (after_24(b5) ^ (after_16(b6) ^ after_8(b7)))))))
+    (after_32(b4) ^ (after_24(b5) ^ (after_16(b6) ^ after_8(b7))))
+        ^ (after_64(r0 ^ b0) ^ (after_56(r1 ^ b1) ^ (after_48(r2 ^ b2) ^ after_40(r3 ^ b3))))
 }
 
 /// The register after these bytes.
