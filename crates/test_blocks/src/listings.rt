@@ -301,6 +301,26 @@ fn is_bad_unsummed(alloc: Global, place: usize, byte: u8) -> bool {
 }
 
 #[test]
+fn a_merged_segment_of_version_three(rt: HostRuntime) -> Result<(), Fail> {
+    let mut directory = Directory::new(rt.alloc(), Layout::Three)?;
+    directory.advance(1);
+    directory.advance(2);
+    directory.advance(2);
+    directory.advance(2);
+    directory.add(Entry {
+        first: 5,
+        bytes: 92,
+        rows: 2,
+        form: Form::Checked,
+    });
+    let mut block = [7; 4096];
+    directory.encode(&mut block);
+    assert_eq!(rt; directory.epoch(), 5);
+    assert_eq!(rt; block[4092..], [0xd7, 0x7e, 0xd4, 0x34]);
+    Ok(())
+}
+
+#[test]
 fn a_content_block_of_version_three(rt: HostRuntime) -> Result<(), Fail> {
     let alloc = rt.alloc();
     let mut directory = Directory::new(alloc, Layout::Three)?;
