@@ -31,7 +31,7 @@ links_posted [] (e ∷ edges) a = absurd a
 links_posted (rows ∷ lists) [] a = absurd a
 links_posted (rows ∷ lists) (e ∷ edges) a = (a.0.links, links_posted lists edges a.1)
 
-references_posted : (lists : List (List StampedRow)) (edges : List Edges) → EachPosted lists edges → AllPosted posted_reference lists (references_in edges)
+pub references_posted : (lists : List (List StampedRow)) (edges : List Edges) → EachPosted lists edges → AllPosted posted_reference lists (references_in edges)
 references_posted [] [] a = tt
 references_posted [] (e ∷ edges) a = absurd a
 references_posted (rows ∷ lists) [] a = absurd a
