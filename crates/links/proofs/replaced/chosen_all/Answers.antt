@@ -2,7 +2,7 @@ use Rattle.std.proofs.Common.{subst, take, take_all}
 use Rattle.as_of_index.specs.Private.Postings.{numbered}
 use Rattle.links.specs.declared.postings.Reference.{Reference}
 use Rattle.links.specs.Edges.{Edges}
-use Rattle.links.specs.Private.{GivesRankedBack, AreReplacedTaken}
+use Rattle.links.specs.Private.{references_in, GivesRankedBack, AreReplacedTaken}
 use Rattle.links.proofs.Numbering.{numbered-more}
 use Rattle.links.proofs.Collected.{none_taken, more_picked}
 use Rattle.links.proofs.replaced.chosen_all.Goals as goal
