@@ -23,3 +23,6 @@ pub mod OneNumber
 pub mod Unions
 pub mod Shown
 pub mod Changed
+pub mod Once
+pub mod Noted
+pub mod DatesOfAll

@@ -7,3 +7,5 @@ pub mod Postings
 pub mod Merging
 pub mod Numbers
 pub mod Walk
+pub mod Once
+pub mod Dates

@@ -9,7 +9,7 @@ ghost use Rattle.std.specs.Option.{option_map, option_to_list};
 ghost use Rattle.history_model.specs.declared.stamped.StampedRow.{StampedRow};
 ghost use Rattle.history_model.specs.History.{rows_at};
 ghost use Rattle.history_model.specs.Lists.{listed};
-ghost use Rattle.history_model.specs.Queries.{get, versions, page, delta};
+ghost use Rattle.history_model.specs.Queries.{get, versions, page, delta, dates};
 ghost use Rattle.segment.specs.declared.place.RowPlace.{RowPlace};
 ghost use Rattle.as_of_index.specs.Places.{max_lists, item_at, ArePlaces, Lists};
 ghost use Rattle.fault_counts.specs.Counting.{Counts, CountsDiskFault, CountsDamage};
@@ -22,6 +22,7 @@ ghost use Rattle.as_of_index.specs.Private.Walk.{walked};
 ghost use Rattle.fault_counts.specs.declared.fault.ReadFault.TheVariants as readfault;
 
 use crate::cursors::{cursors_at, latest_on, next_id};
+use crate::dates::sort_once;
 use crate::hints::{Hints, latest_from_hints};
 use crate::place_list::PlaceList;
 use crate::reader::RowReader;
@@ -471,5 +472,21 @@ impl Index {
         ensures damages { Counts CountsDamage result (R.damages reader.old) (R.damages reader.new) }
     {
         self.walk(reader, kind, Some(from.value()), time, after, limit, pin)
+    }
+
+    /// The distinct effective times of the rows that the pin shows, ascending. It looks at no place,
+    /// and reads no row.
+    pub fn dates(&self, pin: u32) -> Result<Vec<EffectiveTime>, AllocError>
+        ensures found { IfOk result (λ times. (lists : List (List StampedRow))
+            → Lists self.now lists → times.items ≡ dates (rows_at pin (listed lists))) }
+    {
+        // Its contract says that no key is listed twice.
+        let _listed = self.lists();
+        let mut times = Vec::new(self.alloc);
+        for list in &self.lists {
+            list.add_dates(&mut times, pin)?;
+        }
+        sort_once(&mut times);
+        Ok(times)
     }
 }

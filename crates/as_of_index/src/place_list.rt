@@ -1,13 +1,16 @@
 //! The places of one segment's rows.
 
-ghost use Rattle.std.specs.Prelude.{◌≡◌};
+ghost use Rattle.std.specs.Prelude.{◌≡◌, IfOk, OnOk};
 ghost use Rattle.history_model.specs.InOrder.{IsAscending};
 ghost use Rattle.history_model.specs.Queries.{is_above};
 ghost use Rattle.as_of_index.specs.Places.{place_cmp, least_by, greatest_by};
+ghost use Rattle.as_of_index.specs.Private.Dates.{AddsDates};
 ghost use Rattle.as_of_index.specs.Private.Search.{may_show, shown_part, may_change, changed_part};
 
+use crate::dates::{DateEntry, add_shown, entries_of};
 use rf2_values::EffectiveTime;
 use segment::RowPlace;
+use std::alloc::{AllocError, Global};
 use std::marker::Model;
 
 /// The places of a segment's rows, in strictly ascending key order.
@@ -20,6 +23,8 @@ pub struct PlaceList {
     pub(crate) last_time: u32,
     /// The least number of an import, and the greatest number where there is no place.
     pub(crate) first_import: u32,
+    /// Which effective times and imports the places have.
+    pub(crate) dates: Vec<DateEntry>,
 }
 
 impl Model for PlaceList {
@@ -28,6 +33,7 @@ impl Model for PlaceList {
     ghost use Rattle.segment.specs.declared.place.RowPlace.{RowPlace};
     ghost use Rattle.std.specs.Prelude.{◌≡◌};
     ghost use Rattle.as_of_index.specs.Places.{place_cmp, least_by, greatest_by};
+    ghost use Rattle.as_of_index.specs.Private.Dates.{AreEntries};
 
     ghost Value = { List RowPlace };
 
@@ -38,6 +44,7 @@ impl Model for PlaceList {
       time : a.first_time ≡ least_by (λ p. p.key.time) a.places.items;
       last : a.last_time ≡ greatest_by (λ p. p.key.time) a.places.items;
       import : a.first_import ≡ least_by (λ p. p.import) a.places.items;
+      dates : AreEntries a.places.items a.dates.items;
     } };
 }
 
@@ -90,19 +97,21 @@ pub(crate) fn first_import(places: &[RowPlace]) -> u32
 
 impl PlaceList {
     /// Places that ascend by their keys.
-    pub fn new(places: Vec<RowPlace>) -> PlaceList
+    pub fn new(alloc: Global, places: Vec<RowPlace>) -> Result<PlaceList, AllocError>
         requires { IsAscending place_cmp places.items }
-        ensures { result ≡ places.items }
+        ensures { IfOk result (λ list. list ≡ places.items) }
     {
+        let dates = entries_of(alloc, places.as_slice())?;
         let first_time = first_time(places.as_slice());
         let last_time = last_time(places.as_slice());
         let first_import = first_import(places.as_slice());
-        PlaceList {
+        Ok(PlaceList {
             places,
             first_time,
             last_time,
             first_import,
-        }
+            dates,
+        })
     }
 
     /// The places, in key order.
@@ -157,5 +166,15 @@ impl PlaceList {
         } else {
             &places[..0]
         }
+    }
+    /// Adds the effective times of the places that the pin shows. It looks at none of them.
+    pub(crate) fn add_dates(
+        &self,
+        times: &mut Vec<EffectiveTime>,
+        pin: u32,
+    ) -> Result<(), AllocError>
+        ensures { OnOk result (AddsDates pin self.now times.old.items times.new.items) }
+    {
+        add_shown(times, self.dates.as_slice(), pin)
     }
 }

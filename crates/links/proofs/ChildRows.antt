@@ -23,7 +23,8 @@ use Rattle.as_of_index.proofs.Among.{looked_up}
 use Rattle.as_of_index.proofs.Current.{standing_row, one_row, shown, current_where}
 use Rattle.links.specs.Edges.{Edges}
 use Rattle.links.specs.Laws.{EachPosted}
-use Rattle.links.specs.Private.{links_in, IsThere, AreSources}
+use Rattle.as_of_index.specs.Private.Once.{IsThere}
+use Rattle.links.specs.Private.{links_in, AreSources}
 use Rattle.links.proofs.Posted.{link_stands, link_of_child}
 
 eq_of : (m n : ℕ) → (m == n) ≡ true → m ≡ n

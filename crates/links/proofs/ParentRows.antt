@@ -14,7 +14,8 @@ use Rattle.history_model.specs.Queries.{snapshot, parents, is_parent_of, says_is
 use Rattle.history_model.proofs.InOrder.{same_ascending, IsAscending-in_order}
 use Rattle.history_model.proofs.Filtered.{both, Has-filter, Has-filter_from, Has-map, Has-map_from}
 use Rattle.history_model.proofs.Hierarchy.{row_from, from_row, both_true}
-use Rattle.links.specs.Private.{is_link, parents_told, AreOnce}
+use Rattle.as_of_index.specs.Private.Once.{AreOnce}
+use Rattle.links.specs.Private.{is_link, parents_told}
 use Rattle.links.proofs.ChildRows.{number_there}
 
 says_from : (c : ℕ) (b : Body) → is_subject c (subject_of_body b) ≡ true → is_link b ≡ true → says_is_kind c b ≡ true

@@ -1,25 +1,24 @@
 -- Words that private functions and proofs need, of this crate or of one above it.
 -- No public clause cites them.
-use Rattle.std.specs.Prelude.{List, [], ◌∷◌, map, Bool, true, false, nat_eq, ◌==◌, ◌≡◌, ◌≤◌, ◌⊎◌, ℕ}
+use Rattle.std.specs.Prelude.{◌≡◌, ◌≢◌, ◌≤◌, ◌⊎◌, ◌==◌, ℕ, Bool, true, false, nat_eq}
+use Rattle.std.specs.Prelude.{List, [], ◌∷◌, map}
 use Rattle.std.specs.List.{filter}
-use Rattle.std.specs.Prelude.{◌≢◌}
+use Rattle.std.specs.HashSet.{HashSet, contains}
+use Rattle.std.specs.Ordering.{nat_cmp}
 use Rattle.std.proofs.Common.{subst}
 use Rattle.fault_counts.specs.declared.fault.ReadFault.{ReadFault}
 use Rattle.fault_counts.specs.declared.fault.ReadFault.TheVariants as readfault
-use Rattle.std.specs.HashSet.{HashSet, contains}
-use Rattle.std.specs.Ordering.{nat_cmp}
-use Rattle.std.specs.declared.cmp.Ordering.{Ordering}
-use Rattle.std.specs.declared.cmp.Ordering.TheVariants.{Equal}
 use Rattle.rf2_values.specs.declared.row.Kind.{Kind}
 use Rattle.rf2_values.specs.declared.row.Body.{Body}
 use Rattle.rf2_values.specs.declared.row.Body.TheVariants as body
 use Rattle.rf2_values.specs.Row.{RowValue}
 use Rattle.history_model.specs.Queries.{is_a, destination_of}
 use Rattle.history_model.specs.declared.stamped.StampedRow.{StampedRow}
-use Rattle.history_model.specs.InOrder.{Has, IsAscending}
+use Rattle.history_model.specs.InOrder.{Has}
 use Rattle.segment.specs.declared.place.RowPlace.{RowPlace}
 use Rattle.as_of_index.specs.declared.chosen.Chosen.{Chosen}
 use Rattle.as_of_index.specs.Private.Chosen.{chosen, chosen_cmp, ranked_cmp}
+use Rattle.as_of_index.specs.Private.Once.{AreOnce}
 use Rattle.as_of_index.specs.Current.{IsPlaceOfRow, IsCurrentAt}
 use Rattle.links.specs.declared.postings.Subject.{Subject}
 use Rattle.links.specs.declared.postings.Link.{Link}
@@ -50,16 +49,6 @@ pub record AreTaken {X Y : Type 0} (Gives : ℕ → X → Y → Type 0) (of : X 
   pub taken : (x : ℕ × X) (y : Y) → Has xs x → of x.1 ≡ d → Gives x.0 x.1 y → Has ys y
   pub only : (y : Y) → Has ys y
       → (x : ℕ × X) × Has xs x × (of x.1 ≡ d) × Gives x.0 x.1 y
-
--- the list has one that ties with it
-abbrev pub IsThere : {Y : Type 0} → (Y → Y → Ordering) → List Y → Y → Type 0
-IsThere cmp ys y = (z : _) × Has ys z × (cmp y z ≡ Equal)
-
--- the list ascends, and has one of those that tie
-pub record AreOnce {Y : Type 0} (cmp : Y → Y → Ordering) (all once : List Y) : Type 0 where
-  pub ascending : IsAscending cmp once
-  pub there : (y : Y) → Has all y → IsThere cmp once y
-  pub only : (y : Y) → Has once y → Has all y
 
 -- a posting of list n whose row is current gives its answer, which its place tells
 pub record GivesAnswer {X Y : Type 0} (row : X → ℕ) (answer : ℕ → X → RowPlace → Y)

@@ -11,7 +11,8 @@ ghost use Rattle.history_model.specs.Queries.{children};
 ghost use Rattle.as_of_index.specs.Places.{Lists};
 ghost use Rattle.as_of_index.specs.Private.Postings.{numbered};
 ghost use Rattle.links.specs.Laws.{EachPosted};
-ghost use Rattle.links.specs.Private.{links_in, GivesSource, Takes, AreOnce, AreSources};
+ghost use Rattle.as_of_index.specs.Private.Once.{AreOnce};
+ghost use Rattle.links.specs.Private.{links_in, GivesSource, Takes, AreSources};
 
 use crate::Links;
 use crate::postings::{Link, Sealed};

@@ -15,7 +15,8 @@ ghost use Rattle.as_of_index.specs.Private.Postings.{numbered};
 ghost use Rattle.fault_counts.specs.Counting.{Counts, CountsDiskFault, CountsDamage};
 ghost use Rattle.fault_counts.specs.declared.fault.ReadFault.TheVariants as readfault;
 ghost use Rattle.links.specs.Laws.{EachPosted};
-ghost use Rattle.links.specs.Private.{references_in, ranked, GivesRanked, Takes, AreOnce, AreRanked};
+ghost use Rattle.as_of_index.specs.Private.Once.{AreOnce};
+ghost use Rattle.links.specs.Private.{references_in, ranked, GivesRanked, Takes, AreRanked};
 
 use crate::Links;
 use crate::postings::{Reference, Sealed};

@@ -17,7 +17,8 @@ ghost use Rattle.fault_counts.specs.Counting.{Counts, CountsDiskFault, CountsDam
 ghost use Rattle.fault_counts.specs.declared.fault.ReadFault.TheVariants as readfault;
 ghost use Rattle.links.specs.Edges.{subject_rank};
 ghost use Rattle.links.specs.Laws.{EachPosted};
-ghost use Rattle.links.specs.Private.{subjects_in, GivesRow, Takes, AreOnce, AreRows};
+ghost use Rattle.as_of_index.specs.Private.Once.{AreOnce};
+ghost use Rattle.links.specs.Private.{subjects_in, GivesRow, Takes, AreRows};
 
 use crate::Links;
 use crate::postings::{Sealed, Subject};
