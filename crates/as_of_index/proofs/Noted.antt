@@ -9,7 +9,8 @@ use Rattle.history_model.proofs.InOrder.{Has-append_left, Has-append_right, Has-
 use Rattle.history_model.proofs.Filtered.{Has-filter, Has-filter_from}
 use Rattle.segment.specs.declared.place.RowPlace.{RowPlace}
 use Rattle.as_of_index.specs.declared.dates.DateEntry.{DateEntry}
-use Rattle.as_of_index.specs.Private.Dates.{IsEntryOf, HasEntry, AreEntries, AddsTimes, AddsDates}
+use Rattle.as_of_index.specs.Dates.{IsEntryOf, AreEntries}
+use Rattle.as_of_index.specs.Private.Dates.{HasEntry, AddsTimes, AddsDates}
 
 -- ---- an item by its number
 

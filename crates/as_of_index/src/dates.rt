@@ -5,7 +5,8 @@ ghost use Rattle.std.specs.Prelude.{◌≡◌, ◌++◌, ◌∷◌, [], List, If
 ghost use Rattle.std.specs.Prelude.{length, take};
 ghost use Rattle.std.specs.Ordering.{nat_cmp};
 ghost use Rattle.segment.specs.declared.place.RowPlace.{RowPlace};
-ghost use Rattle.as_of_index.specs.Private.Dates.{HasEntry, AreEntries, AddsDates};
+ghost use Rattle.as_of_index.specs.Dates.{AreEntries};
+ghost use Rattle.as_of_index.specs.Private.Dates.{HasEntry, AddsDates};
 ghost use Rattle.as_of_index.specs.Private.Once.{AreOnce};
 
 use rf2_values::EffectiveTime;

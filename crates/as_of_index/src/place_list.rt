@@ -33,7 +33,7 @@ impl Model for PlaceList {
     ghost use Rattle.segment.specs.declared.place.RowPlace.{RowPlace};
     ghost use Rattle.std.specs.Prelude.{◌≡◌};
     ghost use Rattle.as_of_index.specs.Places.{place_cmp, least_by, greatest_by};
-    ghost use Rattle.as_of_index.specs.Private.Dates.{AreEntries};
+    ghost use Rattle.as_of_index.specs.Dates.{AreEntries};
 
     ghost Value = { List RowPlace };
 

@@ -29,7 +29,7 @@ impl Model for PlaceListBuilder {
     ghost use Rattle.std.specs.Prelude.{List, ◌≡◌};
     ghost use Rattle.segment.specs.declared.place.RowPlace.{RowPlace};
     ghost use Rattle.as_of_index.specs.Places.{least_by, greatest_by};
-    ghost use Rattle.as_of_index.specs.Private.Dates.{AreEntries};
+    ghost use Rattle.as_of_index.specs.Dates.{AreEntries};
 
     ghost Value = { List RowPlace };
 

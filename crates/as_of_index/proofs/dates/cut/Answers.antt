@@ -2,7 +2,7 @@ use Rattle.std.proofs.Common.{rules, sym, subst, take}
 use Rattle.std.specs.Prelude.{nat_lt}
 use Rattle.std.proofs.lemmas.Fn.{filter_same}
 use Rattle.as_of_index.specs.declared.dates.DateEntry.{DateEntry}
-use Rattle.as_of_index.specs.Private.Dates.{AreEntries}
+use Rattle.as_of_index.specs.Dates.{AreEntries}
 use Rattle.as_of_index.proofs.Noted.{entries_cut}
 use Rattle.as_of_index.proofs.dates.cut.Goals as goal
 

@@ -1,5 +1,5 @@
 use Rattle.std.proofs.Common.{take}
-use Rattle.as_of_index.specs.Private.Dates.{AreEntries}
+use Rattle.as_of_index.specs.Dates.{AreEntries}
 use Rattle.as_of_index.proofs.dates.entries_of.Given as goal
 
 abbrev pub invariant-loop-number : goal.invariant-loop-number

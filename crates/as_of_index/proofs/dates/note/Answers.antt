@@ -1,6 +1,6 @@
 use Rattle.std.proofs.Common.{rules, ◌++◌, ◌∷◌, [], refl, subst, sym}
 use Rattle.as_of_index.specs.declared.dates.DateEntry.{DateEntry}
-use Rattle.as_of_index.specs.Private.Dates.{AreEntries}
+use Rattle.as_of_index.specs.Dates.{AreEntries}
 use Rattle.as_of_index.proofs.Noted.{noted_now}
 use Rattle.as_of_index.proofs.dates.note.Goals as goal
 
