@@ -207,6 +207,18 @@ impl Index {
         }
     }
 
+    /// The place of the row with this number in a list, if there is one and the pin shows it,
+    /// whatever the date. It makes no bisection, and reads no row.
+    pub fn shown_at(&self, segment: usize, number: u32, pin: u32) -> Option<RowPlace>
+        ensures { (at : RowPlace) → (result ≡ Some at)
+            ↔ ((item_at self.now segment number ≡ Some at) × (at.import ≤ pin)) }
+    {
+        match self.place_of_row(segment, number as usize) {
+            Some(at) => { if is_shown(&at, pin) { Some(at) } else { None } }
+            None => None,
+        }
+    }
+
     /// Whether the version that stands at the place is the one at the date, of those that the pin
     /// shows. Where the list and the number of the place in it are given, that list costs no
     /// bisection.

@@ -41,7 +41,7 @@ dest_of : (c d : ℕ) (row : RowValue) → is_child_of c row ≡ true → is_chi
 dest_of c d row e f = says_dest c d row.body (both row.active (says_is_a c row.body) e).1 (both row.active (says_is_a d row.body) f).1
 
 -- a number that ties with one that is there is there
-number_there : (ids : List ℕ) (id : ℕ) → IsThere nat_cmp ids id → Has ids id
+pub number_there : (ids : List ℕ) (id : ℕ) → IsThere nat_cmp ids id → Has ids id
 number_there ids id w = subst (λ m. Has ids m) (sym (ranked id w.0 Equal (sym w.2))) w.1
 
 module _ (lists : List (List StampedRow)) (are : ArePlaces (map places_of lists)) (edges : List Edges) (posts : EachPosted lists edges) (concept date pin : ℕ) where

@@ -61,7 +61,7 @@ fn is_same_rank(a: &Chosen, b: &Chosen) -> bool
 }
 
 /// Sorts the rows in this order, and keeps one of those that tie. It takes no memory.
-fn sort_once(kept: &mut Vec<Chosen>)
+pub(crate) fn sort_once(kept: &mut Vec<Chosen>)
     ensures { AreOnce ranked_cmp kept.old.items kept.new.items }
 {
     kept.sort_unstable_by(|a, b| rank(a, b));
