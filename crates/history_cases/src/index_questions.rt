@@ -5,7 +5,7 @@ use crate::spelled::{spell_ids, spell_rows};
 use as_of_index::{ReadFault, RowReader};
 use case_files::{Answer, NoAnswer};
 use case_values::Question;
-use links::{about, children, replacements};
+use links::{about, children, descendants, replacements};
 use rf2_values::{EffectiveTime, Row};
 use std::alloc::{AllocError, Global};
 use term_prefix::{Search, find};
@@ -79,7 +79,7 @@ pub fn rows_found<R: RowReader>(
         Question::Search(time, after, limit) => {
             search(alloc, made, reader, prefix, (time, pin), (after, limit))
         }
-        Question::Children(_, _) => Ok(Vec::new(alloc)),
+        Question::Children(_, _) | Question::Descendants(_, _) => Ok(Vec::new(alloc)),
     }
 }
 
@@ -101,14 +101,31 @@ fn find_rows(alloc: Global, made: &Indexed, request: Request, prefix: &str) -> A
     Ok(format!(in alloc; "{text}, with {reads} reads and {damages} damages")?)
 }
 
-/// What the index answers.
-pub fn ask_index(alloc: Global, made: &Indexed, request: Request, prefix: &str) -> Answer {
+/// The concepts that are found, where the question asks for concepts.
+fn concepts_found(alloc: Global, made: &Indexed, request: Request) -> Result<Vec<u64>, ReadFault> {
+    let (links, index) = (&made.links, &made.index);
     let Request { question, pin } = request;
     match question {
-        Question::Children(id, date) => {
-            let found = children(alloc, &made.links, &made.index, id, date, pin)?;
-            spell_ids(alloc, &found)
+        Question::Children(id, date) => Ok(children(alloc, links, index, id, date, pin)?),
+        Question::Descendants(id, date) => descendants(alloc, links, index, id, date, pin),
+        _ => Ok(Vec::new(alloc)),
+    }
+}
+
+/// Concepts that are found. No row is read.
+fn find_concepts(alloc: Global, made: &Indexed, request: Request) -> Answer {
+    match concepts_found(alloc, made, request) {
+        Ok(ids) => spell_ids(alloc, &ids),
+        Err(_) => Err(NoAnswer::OutOfMemory),
+    }
+}
+
+/// What the index answers.
+pub fn ask_index(alloc: Global, made: &Indexed, request: Request, prefix: &str) -> Answer {
+    match request.question {
+        Question::Children(_, _) | Question::Descendants(_, _) => {
+            find_concepts(alloc, made, request)
         }
-        _ => find_rows(alloc, made, Request { question, pin }, prefix),
+        _ => find_rows(alloc, made, request, prefix),
     }
 }

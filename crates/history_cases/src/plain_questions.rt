@@ -4,25 +4,20 @@ use crate::spelled::{spell_ids, spell_row, spell_rows};
 use case_files::{Answer, NoAnswer};
 use case_values::Question;
 use rf2_values::{EffectiveTime, Kind, Row, Sctid};
-use std::alloc::{AllocError, Global};
+use std::alloc::Global;
 
 /// The component's row at a date.
 fn get(alloc: Global, shown: &[Row], kind: Kind, id: u128, date: EffectiveTime) -> Answer {
     spell_row(alloc, plain_history::get(shown, kind, id, date))
 }
 
-/// The numbers of a concept's children.
-fn children(
-    alloc: Global,
-    shown: &[Row],
-    id: Sctid,
-    date: EffectiveTime,
-) -> Result<Vec<u64>, AllocError> {
+/// Concepts.
+fn spell_concepts(alloc: Global, concepts: &[Sctid]) -> Answer {
     let mut ids = Vec::new(alloc);
-    for child in &plain_history::children(alloc, shown, id, date)? {
-        ids.push(child.value())?;
+    for concept in concepts {
+        ids.push(concept.value())?;
     }
-    Ok(ids)
+    spell_ids(alloc, &ids)
 }
 
 /// The rows that are found, where the question asks for rows.
@@ -51,7 +46,12 @@ fn find<'a>(
 pub fn ask_plainly(alloc: Global, shown: &[Row], question: Question, prefix: &str) -> Answer {
     match question {
         Question::Get(kind, id, date) => get(alloc, shown, kind, id, date),
-        Question::Children(id, date) => { spell_ids(alloc, &children(alloc, shown, id, date)?) }
+        Question::Children(id, date) => {
+            spell_concepts(alloc, &plain_history::children(alloc, shown, id, date)?)
+        }
+        Question::Descendants(id, date) => {
+            spell_concepts(alloc, &plain_history::descendants(alloc, shown, id, date)?)
+        }
         _ => spell_rows(alloc, &find(alloc, shown, question, prefix)?),
     }
 }

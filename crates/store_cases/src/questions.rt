@@ -27,15 +27,18 @@ fn lines_of_ids(alloc: Global, ids: &[u64]) -> Result<Vec<u8>, AllocError> {
     Ok(lines)
 }
 
-/// The identifiers of a concept's children.
-fn children(
+/// The concepts that are found.
+fn find_concepts(
     alloc: Global,
     store: &mut Example,
     pin: u32,
-    id: u64,
-    date: u32,
+    question: Question,
 ) -> Result<Vec<u8>, Refusal> {
-    let ids = store.children(id, date, pin)?;
+    let ids = match question {
+        Question::Children(id, date) => store.children(id.value(), date.value(), pin)?,
+        Question::Descendants(id, date) => store.descendants(id.value(), date.value(), pin)?,
+        _ => Vec::new(alloc),
+    };
     Ok(lines_of_ids(alloc, ids.as_slice())?)
 }
 
@@ -59,7 +62,9 @@ fn find(
         Question::Search(date, after, limit) => {
             store.search(prefix, date.value(), after, limit, pin)
         }
-        Question::Children(id, date) => children(alloc, store, pin, id.value(), date.value()),
+        Question::Children(_, _) | Question::Descendants(_, _) => {
+            find_concepts(alloc, store, pin, question)
+        }
     }
 }
 

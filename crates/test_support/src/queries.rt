@@ -142,6 +142,14 @@ impl Example {
         self.store.children(id, time, pin)
     }
 
+    /// The identifiers of all concepts below a concept.
+    pub fn descendants(&mut self, id: u64, date: u32, pin: u32) -> Result<Vec<u64>, Refusal> {
+        let (id, time) = (id_of(id)?, date_of(date)?);
+        self.check_pin(pin)?;
+        let pin = clamp_pin(&self.store, pin);
+        self.store.descendants(id, time, pin)
+    }
+
     /// The lines of a component's associations, each with an LF.
     pub fn replacements(&mut self, id: u64, date: u32, pin: u32) -> Result<Vec<u8>, Refusal> {
         let (id, time) = (id_of(id)?, date_of(date)?);
