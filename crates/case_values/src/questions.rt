@@ -2,9 +2,9 @@
 //! these.
 //!
 //! `get KIND ID DATE` asks for the component's row at the date, `versions KIND ID`, `replacements
-//! ID DATE`, `about KIND ID DATE`, `page KIND DATE AFTER LIMIT`, `terms DATE LIMIT "PREFIX"` and
-//! `search DATE AFTER LIMIT "PREFIX"` ask for rows, and `children ID DATE` and `descendants ID DATE`
-//! for identifiers. AFTER is a number or `-`.
+//! ID DATE`, `replaces ID DATE`, `about KIND ID DATE`, `page KIND DATE AFTER LIMIT`, `terms DATE
+//! LIMIT "PREFIX"` and `search DATE AFTER LIMIT "PREFIX"` ask for rows, and `children ID DATE` and
+//! `descendants ID DATE` for identifiers. AFTER is a number or `-`.
 
 use crate::words::{above, day_of, first_word, kind_of, number, sctid_of};
 use case_files::NoAnswer;
@@ -17,6 +17,7 @@ pub enum Question {
     Get(Kind, u128, EffectiveTime),
     Versions(Kind, u128),
     Replacements(Sctid, EffectiveTime),
+    Replaces(Sctid, EffectiveTime),
     About(Kind, Sctid, EffectiveTime),
     Page(Kind, EffectiveTime, Option<u128>, u32),
     Terms(EffectiveTime, u32),
@@ -33,6 +34,7 @@ fn ask_of_component(word: &str, words: &[&str]) -> Result<Question, NoAnswer> {
     let (id, date) = (sctid_of(*id)?, day_of(*date)?);
     match word {
         "replacements" => Ok(Question::Replacements(id, date)),
+        "replaces" => Ok(Question::Replaces(id, date)),
         "descendants" => Ok(Question::Descendants(id, date)),
         _ => Ok(Question::Children(id, date)),
     }
@@ -75,7 +77,9 @@ fn ask_for_terms(words: &[&str]) -> Result<Question, NoAnswer> {
 /// The question that words ask.
 fn question_of(word: &str, words: &[&str]) -> Result<Question, NoAnswer> {
     match (word, words.len()) {
-        ("replacements" | "children" | "descendants", _) => ask_of_component(word, words),
+        ("replacements" | "replaces" | "children" | "descendants", _) => {
+            ask_of_component(word, words)
+        }
         ("page", _) => ask_for_page(words),
         ("terms", 2) | ("search", 3) => ask_for_terms(words),
         _ => ask_of_kind(word, words),

@@ -3,15 +3,17 @@
 
 ghost use Rattle.std.specs.Prelude.{◌≡◌, ◌≤◌};
 
+use crate::reading::DiskRows;
 use crate::refusal::Refusal;
 use crate::store::Store;
 use disk_model::Disk;
-use links::descendants;
-use rf2_rows::{EffectiveTime, Sctid};
+use links::{descendants, replaces};
+use rf2_rows::{EffectiveTime, Row, Sctid};
 
 impl<D: Disk> Store<D> {
     ghost use Rattle.history_model.specs.Hierarchy.{AreDescendants};
-    ghost use Rattle.history_store.specs.Queries.{IsIndexQuery};
+    ghost use Rattle.history_model.specs.Queries.{replaces};
+    ghost use Rattle.history_store.specs.Queries.{IsRowsQuery, IsIndexQuery};
 
     /// All concepts below a concept, ascending: those that are reached from it by one or more
     /// active relationships of the type "is a", each from a concept to a child. Nothing is read.
@@ -37,5 +39,38 @@ impl<D: Disk> Store<D> {
             pin,
         )?;
         Ok(found)
+    }
+
+    /// The active associations of which a component is the target, ascending by refset, referenced
+    /// component and member: those by which it stands in the place of other components.
+    pub fn replaces(
+        &mut self,
+        id: Sctid,
+        time: EffectiveTime,
+        pin: u32,
+    ) -> Result<Vec<Row>, Refusal>
+        requires { pin ≤ self.old.history.imports }
+        ensures answer { IsRowsQuery result (λ rows. rows.items) (replaces id time) pin
+            D.is_honest D.moments D.failures D.bytes_read D.other_calls self.old self.new }
+    {
+        if self.needs_reopen {
+            return Err(Refusal::ReopenNeeded);
+        }
+        let mut reader = DiskRows::new(
+            &mut self.disk,
+            &mut self.cache,
+            &self.directory,
+            &self.index,
+        );
+        let read = replaces(
+            self.alloc,
+            self.index.links(),
+            self.index.places(),
+            &mut reader,
+            id,
+            time,
+            pin,
+        );
+        self.answered(read)
     }
 }

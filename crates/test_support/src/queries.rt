@@ -159,6 +159,15 @@ impl Example {
         Ok(lines_of(self.alloc, &rows)?)
     }
 
+    /// The lines of the associations of which a component is the target, each with an LF.
+    pub fn replaces(&mut self, id: u64, date: u32, pin: u32) -> Result<Vec<u8>, Refusal> {
+        let (id, time) = (id_of(id)?, date_of(date)?);
+        self.check_pin(pin)?;
+        let pin = clamp_pin(&self.store, pin);
+        let rows = self.store.replaces(id, time, pin)?;
+        Ok(lines_of(self.alloc, &rows)?)
+    }
+
     /// What an import brought.
     pub fn receipt(&self, number: u32) -> Result<ImportReceipt, Refusal> {
         receipt_of(&self.store, number)
