@@ -2,9 +2,9 @@
 //! these.
 //!
 //! `get KIND ID DATE` asks for the component's row at the date, `versions KIND ID`, `replacements
-//! ID DATE`, `replaces ID DATE`, `about KIND ID DATE`, `page KIND DATE AFTER LIMIT`, `terms DATE
-//! LIMIT "PREFIX"` and `search DATE AFTER LIMIT "PREFIX"` ask for rows, and `children ID DATE` and
-//! `descendants ID DATE` for identifiers. AFTER is a number or `-`.
+//! ID DATE`, `replaces ID DATE`, `about KIND ID DATE`, `timeline KIND ID`, `page KIND DATE AFTER
+//! LIMIT`, `terms DATE LIMIT "PREFIX"` and `search DATE AFTER LIMIT "PREFIX"` ask for rows, and
+//! `children ID DATE` and `descendants ID DATE` for identifiers. AFTER is a number or `-`.
 
 use crate::words::{above, day_of, first_word, kind_of, number, sctid_of};
 use case_files::NoAnswer;
@@ -19,6 +19,7 @@ pub enum Question {
     Replacements(Sctid, EffectiveTime),
     Replaces(Sctid, EffectiveTime),
     About(Kind, Sctid, EffectiveTime),
+    Timeline(Kind, Sctid),
     Page(Kind, EffectiveTime, Option<u128>, u32),
     Terms(EffectiveTime, u32),
     Search(EffectiveTime, Option<u128>, u32),
@@ -49,6 +50,7 @@ fn ask_of_kind(word: &str, words: &[&str]) -> Result<Question, NoAnswer> {
         ("about", [kind, id, date]) => {
             Ok(Question::About(kind_of(*kind)?, sctid_of(*id)?, day_of(*date)?))
         }
+        ("timeline", [kind, id]) => Ok(Question::Timeline(kind_of(*kind)?, sctid_of(*id)?)),
         ("versions", [kind, id]) => Ok(Question::Versions(kind_of(*kind)?, number(*id)?)),
         _ => Err(NoAnswer::NoQuestion),
     }

@@ -5,7 +5,7 @@ use crate::spelled::{spell_ids, spell_rows};
 use as_of_index::{ReadFault, RowReader};
 use case_files::{Answer, NoAnswer};
 use case_values::Question;
-use links::{about, children, descendants, replacements, replaces};
+use links::{about, children, descendants, replacements, replaces, timeline};
 use rf2_values::{EffectiveTime, Row};
 use std::alloc::{AllocError, Global};
 use term_prefix::{Search, find};
@@ -74,6 +74,7 @@ pub fn rows_found<R: RowReader>(
         }
         Question::Replaces(id, time) => replaces(alloc, links, index, reader, id, time, pin),
         Question::About(kind, id, time) => about(alloc, links, index, reader, kind, id, time, pin),
+        Question::Timeline(kind, id) => timeline(alloc, links, index, reader, kind, id, pin),
         Question::Terms(time, limit) => {
             search(alloc, made, reader, prefix, (time, pin), (None, limit))
         }

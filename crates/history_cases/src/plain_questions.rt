@@ -32,6 +32,7 @@ fn find<'a>(
         Question::Replacements(id, date) => plain_history::replacements(alloc, shown, id, date)?,
         Question::Replaces(id, date) => plain_history::replaces(alloc, shown, id, date)?,
         Question::About(kind, id, date) => plain_history::about(alloc, shown, kind, id, date)?,
+        Question::Timeline(kind, id) => plain_history::timeline(alloc, shown, kind, id)?,
         Question::Page(kind, date, after, limit) => {
             plain_history::page(alloc, shown, kind, date, after, limit)?
         }

@@ -7,12 +7,12 @@ use crate::reading::DiskRows;
 use crate::refusal::Refusal;
 use crate::store::Store;
 use disk_model::Disk;
-use links::{descendants, replaces};
-use rf2_rows::{EffectiveTime, Row, Sctid};
+use links::{descendants, replaces, timeline};
+use rf2_rows::{EffectiveTime, Kind, Row, Sctid};
 
 impl<D: Disk> Store<D> {
     ghost use Rattle.history_model.specs.Hierarchy.{AreDescendants};
-    ghost use Rattle.history_model.specs.Queries.{replaces};
+    ghost use Rattle.history_model.specs.Queries.{replaces, timeline};
     ghost use Rattle.history_store.specs.Queries.{IsRowsQuery, IsIndexQuery};
 
     /// All concepts below a concept, ascending: those that are reached from it by one or more
@@ -69,6 +69,34 @@ impl<D: Disk> Store<D> {
             &mut reader,
             id,
             time,
+            pin,
+        );
+        self.answered(read)
+    }
+
+    /// Of each component of a kind that ever had an active row about a component, as `about` says:
+    /// all versions, ascending by id, then by time.
+    pub fn timeline(&mut self, kind: Kind, id: Sctid, pin: u32) -> Result<Vec<Row>, Refusal>
+        requires { pin ≤ self.old.history.imports }
+        ensures answer { IsRowsQuery result (λ rows. rows.items) (timeline kind id) pin
+            D.is_honest D.moments D.failures D.bytes_read D.other_calls self.old self.new }
+    {
+        if self.needs_reopen {
+            return Err(Refusal::ReopenNeeded);
+        }
+        let mut reader = DiskRows::new(
+            &mut self.disk,
+            &mut self.cache,
+            &self.directory,
+            &self.index,
+        );
+        let read = timeline(
+            self.alloc,
+            self.index.links(),
+            self.index.places(),
+            &mut reader,
+            kind,
+            id,
             pin,
         );
         self.answered(read)

@@ -56,6 +56,7 @@ fn find(
         Question::Replacements(id, date) => store.replacements(id.value(), date.value(), pin),
         Question::Replaces(id, date) => store.replaces(id.value(), date.value(), pin),
         Question::About(kind, id, date) => store.about(kind, id.value(), date.value(), pin),
+        Question::Timeline(kind, id) => store.timeline(kind, id.value(), pin),
         Question::Page(kind, date, after, limit) => {
             store.page(kind, date.value(), after, limit, pin)
         }

@@ -38,8 +38,8 @@ ImportIsACall D view =
     → (view.is_honest old.disk ↔ view.is_honest new.disk)
     → IsCall view old (call_of result release) new
 
--- by `query` of the answers of `get`, `history`, `page`, `about`, `search`, `terms`, `replacements`
--- and `replaces` (`IsRowsQuery`)
+-- by `query` of the answers of `get`, `history`, `page`, `about`, `search`, `terms`, `replacements`,
+-- `replaces` and `timeline` (`IsRowsQuery`)
 abbrev pub QueryIsACall : (T D : Type 0) → DeviceView D → Type 0
 QueryIsACall T D view = (result : Result T Refusal) (old new : StoreValue D)
     → IsQuery result view.is_honest view.moments view.failures old new

@@ -168,6 +168,16 @@ impl Example {
         Ok(lines_of(self.alloc, &rows)?)
     }
 
+    /// The lines of all versions of the components of a kind that were ever about a component, each
+    /// with an LF.
+    pub fn timeline(&mut self, kind: Kind, id: u64, pin: u32) -> Result<Vec<u8>, Refusal> {
+        let id = id_of(id)?;
+        self.check_pin(pin)?;
+        let pin = clamp_pin(&self.store, pin);
+        let rows = self.store.timeline(kind, id, pin)?;
+        Ok(lines_of(self.alloc, &rows)?)
+    }
+
     /// What an import brought.
     pub fn receipt(&self, number: u32) -> Result<ImportReceipt, Refusal> {
         receipt_of(&self.store, number)
