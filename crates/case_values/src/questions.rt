@@ -4,7 +4,8 @@
 //! `get KIND ID DATE` asks for the component's row at the date, `versions KIND ID`, `replacements
 //! ID DATE`, `replaces ID DATE`, `about KIND ID DATE`, `timeline KIND ID`, `page KIND DATE AFTER
 //! LIMIT`, `terms DATE LIMIT "PREFIX"` and `search DATE AFTER LIMIT "PREFIX"` ask for rows, and
-//! `children ID DATE` and `descendants ID DATE` for identifiers. AFTER is a number or `-`.
+//! `children ID DATE`, `descendants ID DATE` and `ancestors ID DATE` for identifiers. AFTER is a
+//! number or `-`.
 
 use crate::words::{above, day_of, first_word, kind_of, number, sctid_of};
 use case_files::NoAnswer;
@@ -25,6 +26,7 @@ pub enum Question {
     Search(EffectiveTime, Option<u128>, u32),
     Children(Sctid, EffectiveTime),
     Descendants(Sctid, EffectiveTime),
+    Ancestors(Sctid, EffectiveTime),
 }
 
 /// A question about a component at a date.
@@ -37,6 +39,7 @@ fn ask_of_component(word: &str, words: &[&str]) -> Result<Question, NoAnswer> {
         "replacements" => Ok(Question::Replacements(id, date)),
         "replaces" => Ok(Question::Replaces(id, date)),
         "descendants" => Ok(Question::Descendants(id, date)),
+        "ancestors" => Ok(Question::Ancestors(id, date)),
         _ => Ok(Question::Children(id, date)),
     }
 }
@@ -79,9 +82,8 @@ fn ask_for_terms(words: &[&str]) -> Result<Question, NoAnswer> {
 /// The question that words ask.
 fn question_of(word: &str, words: &[&str]) -> Result<Question, NoAnswer> {
     match (word, words.len()) {
-        ("replacements" | "replaces" | "children" | "descendants", _) => {
-            ask_of_component(word, words)
-        }
+        ("replacements" | "replaces", _) => ask_of_component(word, words),
+        ("children" | "descendants" | "ancestors", _) => ask_of_component(word, words),
         ("page", _) => ask_for_page(words),
         ("terms", 2) | ("search", 3) => ask_for_terms(words),
         _ => ask_of_kind(word, words),

@@ -5,7 +5,7 @@ use crate::spelled::{spell_ids, spell_rows};
 use as_of_index::{ReadFault, RowReader};
 use case_files::{Answer, NoAnswer};
 use case_values::Question;
-use links::{about, children, descendants, replacements, replaces, timeline};
+use links::{about, ancestors, children, descendants, replacements, replaces, timeline};
 use rf2_values::{EffectiveTime, Row};
 use std::alloc::{AllocError, Global};
 use term_prefix::{Search, find};
@@ -81,7 +81,9 @@ pub fn rows_found<R: RowReader>(
         Question::Search(time, after, limit) => {
             search(alloc, made, reader, prefix, (time, pin), (after, limit))
         }
-        Question::Children(_, _) | Question::Descendants(_, _) => Ok(Vec::new(alloc)),
+        Question::Children(_, _) | Question::Descendants(_, _) | Question::Ancestors(_, _) => {
+            Ok(Vec::new(alloc))
+        }
     }
 }
 
@@ -104,28 +106,36 @@ fn find_rows(alloc: Global, made: &Indexed, request: Request, prefix: &str) -> A
 }
 
 /// The concepts that are found, where the question asks for concepts.
-fn concepts_found(alloc: Global, made: &Indexed, request: Request) -> Result<Vec<u64>, ReadFault> {
+fn concepts_found<R: RowReader>(
+    alloc: Global,
+    made: &Indexed,
+    reader: &mut R,
+    request: Request,
+) -> Result<Vec<u64>, ReadFault> {
     let (links, index) = (&made.links, &made.index);
     let Request { question, pin } = request;
     match question {
         Question::Children(id, date) => Ok(children(alloc, links, index, id, date, pin)?),
         Question::Descendants(id, date) => descendants(alloc, links, index, id, date, pin),
+        Question::Ancestors(id, date) => ancestors(alloc, links, index, reader, id, date, pin),
         _ => Ok(Vec::new(alloc)),
     }
 }
 
-/// Concepts that are found. No row is read.
+/// Concepts that are found.
 fn find_concepts(alloc: Global, made: &Indexed, request: Request) -> Answer {
-    match concepts_found(alloc, made, request) {
+    let mut reader = made.reader();
+    match concepts_found(alloc, made, &mut reader, request) {
         Ok(ids) => spell_ids(alloc, &ids),
-        Err(_) => Err(NoAnswer::OutOfMemory),
+        Err(ReadFault::OutOfMemory) => Err(NoAnswer::OutOfMemory),
+        Err(fault) => Ok(format!(in alloc; "{fault:?}")?),
     }
 }
 
 /// What the index answers.
 pub fn ask_index(alloc: Global, made: &Indexed, request: Request, prefix: &str) -> Answer {
     match request.question {
-        Question::Children(_, _) | Question::Descendants(_, _) => {
+        Question::Children(_, _) | Question::Descendants(_, _) | Question::Ancestors(_, _) => {
             find_concepts(alloc, made, request)
         }
         _ => find_rows(alloc, made, request, prefix),

@@ -54,6 +54,9 @@ pub fn ask_plainly(alloc: Global, shown: &[Row], question: Question, prefix: &st
         Question::Descendants(id, date) => {
             spell_concepts(alloc, &plain_history::descendants(alloc, shown, id, date)?)
         }
+        Question::Ancestors(id, date) => {
+            spell_concepts(alloc, &plain_history::ancestors(alloc, shown, id, date)?)
+        }
         _ => spell_rows(alloc, &find(alloc, shown, question, prefix)?),
     }
 }

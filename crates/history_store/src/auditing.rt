@@ -7,12 +7,13 @@ use crate::reading::DiskRows;
 use crate::refusal::Refusal;
 use crate::store::Store;
 use disk_model::Disk;
-use links::{descendants, replaces, timeline};
+use links::{ancestors, descendants, replaces, timeline};
 use rf2_rows::{EffectiveTime, Kind, Row, Sctid};
 
 impl<D: Disk> Store<D> {
     ghost use Rattle.history_model.specs.Hierarchy.{AreDescendants};
     ghost use Rattle.history_model.specs.Queries.{replaces, timeline};
+    ghost use Rattle.history_store.specs.Auditing.{IsAncestorsQuery};
     ghost use Rattle.history_store.specs.Queries.{IsRowsQuery, IsIndexQuery};
 
     /// All concepts below a concept, ascending: those that are reached from it by one or more
@@ -39,6 +40,40 @@ impl<D: Disk> Store<D> {
             pin,
         )?;
         Ok(found)
+    }
+
+    /// All concepts above a concept, ascending: those that are reached from it by one or more active
+    /// relationships of the type "is a", each from a concept to a parent. The relationships of the
+    /// concept and of those that are found are read.
+    pub fn ancestors(
+        &mut self,
+        id: Sctid,
+        time: EffectiveTime,
+        pin: u32,
+    ) -> Result<Vec<u64>, Refusal>
+        requires { pin ≤ self.old.history.imports }
+        ensures answer { IsAncestorsQuery result (λ ids. ids.items) id time pin
+            D.is_honest D.moments D.failures D.bytes_read D.other_calls self.old self.new }
+    {
+        if self.needs_reopen {
+            return Err(Refusal::ReopenNeeded);
+        }
+        let mut reader = DiskRows::new(
+            &mut self.disk,
+            &mut self.cache,
+            &self.directory,
+            &self.index,
+        );
+        let read = ancestors(
+            self.alloc,
+            self.index.links(),
+            self.index.places(),
+            &mut reader,
+            id,
+            time,
+            pin,
+        );
+        self.answered(read)
     }
 
     /// The active associations of which a component is the target, ascending by refset, referenced

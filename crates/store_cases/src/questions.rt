@@ -37,6 +37,7 @@ fn find_concepts(
     let ids = match question {
         Question::Children(id, date) => store.children(id.value(), date.value(), pin)?,
         Question::Descendants(id, date) => store.descendants(id.value(), date.value(), pin)?,
+        Question::Ancestors(id, date) => store.ancestors(id.value(), date.value(), pin)?,
         _ => Vec::new(alloc),
     };
     Ok(lines_of_ids(alloc, ids.as_slice())?)
@@ -64,7 +65,7 @@ fn find(
         Question::Search(date, after, limit) => {
             store.search(prefix, date.value(), after, limit, pin)
         }
-        Question::Children(_, _) | Question::Descendants(_, _) => {
+        Question::Children(_, _) | Question::Descendants(_, _) | Question::Ancestors(_, _) => {
             find_concepts(alloc, store, pin, question)
         }
     }

@@ -150,6 +150,14 @@ impl Example {
         self.store.descendants(id, time, pin)
     }
 
+    /// The identifiers of all concepts above a concept.
+    pub fn ancestors(&mut self, id: u64, date: u32, pin: u32) -> Result<Vec<u64>, Refusal> {
+        let (id, time) = (id_of(id)?, date_of(date)?);
+        self.check_pin(pin)?;
+        let pin = clamp_pin(&self.store, pin);
+        self.store.ancestors(id, time, pin)
+    }
+
     /// The lines of a component's associations, each with an LF.
     pub fn replacements(&mut self, id: u64, date: u32, pin: u32) -> Result<Vec<u8>, Refusal> {
         let (id, time) = (id_of(id)?, date_of(date)?);
