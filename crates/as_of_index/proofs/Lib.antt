@@ -22,3 +22,4 @@ pub mod Turns
 pub mod OneNumber
 pub mod Unions
 pub mod Shown
+pub mod Changed

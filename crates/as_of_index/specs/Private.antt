@@ -6,3 +6,4 @@ pub mod Chosen
 pub mod Postings
 pub mod Merging
 pub mod Numbers
+pub mod Walk

@@ -4,17 +4,20 @@ ghost use Rattle.std.specs.Prelude.{◌≡◌, ◌++◌, ◌∷◌, [], length, 
 ghost use Rattle.history_model.specs.InOrder.{IsAscending};
 ghost use Rattle.as_of_index.specs.Places.{place_cmp};
 
-use crate::place_list::{PlaceList, first_import, first_time, time_of};
+use crate::place_list::{PlaceList, first_import, first_time, last_time, time_of};
 use segment::RowPlace;
 use std::alloc::{AllocError, Global};
 use std::marker::Model;
 
-/// Places of rows, with their least time and import, so that a list of them looks at none again.
+/// Places of rows, with their least and greatest time and their least import, so that a list of them
+/// looks at none again.
 #[derive(Drop)]
 pub struct PlaceListBuilder {
     places: Vec<RowPlace>,
     /// The least effective time of a place, and the greatest number where there is none.
     first_time: u32,
+    /// The greatest effective time of a place, and 0 where there is none.
+    last_time: u32,
     /// The least number of an import, and the greatest number where there is no place.
     first_import: u32,
 }
@@ -22,7 +25,7 @@ pub struct PlaceListBuilder {
 impl Model for PlaceListBuilder {
     ghost use Rattle.std.specs.Prelude.{List, ◌≡◌};
     ghost use Rattle.segment.specs.declared.place.RowPlace.{RowPlace};
-    ghost use Rattle.as_of_index.specs.Places.{least_by};
+    ghost use Rattle.as_of_index.specs.Places.{least_by, greatest_by};
 
     ghost Value = { List RowPlace };
 
@@ -30,6 +33,7 @@ impl Model for PlaceListBuilder {
 
     ghost invariant = { λ a. record {
       time : a.first_time ≡ least_by (λ p. p.key.time) a.places.items;
+      last : a.last_time ≡ greatest_by (λ p. p.key.time) a.places.items;
       import : a.first_import ≡ least_by (λ p. p.import) a.places.items;
     } };
 }
@@ -42,6 +46,7 @@ impl PlaceListBuilder {
         PlaceListBuilder {
             places: Vec::new(alloc),
             first_time: u32::MAX,
+            last_time: 0,
             first_import: u32::MAX,
         }
     }
@@ -55,6 +60,7 @@ impl PlaceListBuilder {
             return Err(AllocError);
         }
         self.first_time = self.first_time.min(time_of(&place));
+        self.last_time = self.last_time.max(time_of(&place));
         self.first_import = self.first_import.min(place.import);
         Ok(())
     }
@@ -72,6 +78,7 @@ impl PlaceListBuilder {
     {
         self.places.truncate(len);
         self.first_time = first_time(self.places.as_slice());
+        self.last_time = last_time(self.places.as_slice());
         self.first_import = first_import(self.places.as_slice());
     }
 
@@ -83,11 +90,13 @@ impl PlaceListBuilder {
         let PlaceListBuilder {
             places,
             first_time,
+            last_time,
             first_import,
         } = self;
         PlaceList {
             places,
             first_time,
+            last_time,
             first_import,
         }
     }

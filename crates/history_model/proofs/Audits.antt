@@ -96,17 +96,17 @@ followed (suc n) rows date c near h early =
     ] refl
 
 -- the row of a component at a date, as the Snapshot has it
-record IsRowAt (kind : Kind) (id date : ℕ) (rows : List RowValue) (row : RowValue) : Type 0 where
-  current : Has (snapshot rows date) row
-  version : IsVersionOf kind id row
+pub record IsRowAt (kind : Kind) (id date : ℕ) (rows : List RowValue) (row : RowValue) : Type 0 where
+  pub current : Has (snapshot rows date) row
+  pub version : IsVersionOf kind id row
 
-row_at : (kind : Kind) (id date : ℕ) (rows : List RowValue) (row : RowValue) → get kind id date rows ≡ Some row → IsRowAt kind id date rows row
+pub row_at : (kind : Kind) (id date : ℕ) (rows : List RowValue) (row : RowValue) → get kind id date rows ≡ Some row → IsRowAt kind id date rows row
 unfolding get
 row_at kind id date rows row e =
     let f = find_has (is_version_of kind id) (snapshot rows date) row e in
     record { current = f.0; version = version_from_test kind id row f.1 }
 
-at_row : (kind : Kind) (id date : ℕ) (rows : List RowValue) (row : RowValue) → IsAscending row_cmp rows → IsRowAt kind id date rows row → get kind id date rows ≡ Some row
+pub at_row : (kind : Kind) (id date : ℕ) (rows : List RowValue) (row : RowValue) → IsAscending row_cmp rows → IsRowAt kind id date rows row → get kind id date rows ≡ Some row
 at_row kind id date rows row up r =
     let c = current_from_snapshot rows date row r.current in
     let v = r.version in

@@ -1,6 +1,7 @@
 use Rattle.std.proofs.Common.{refl}
 use Rattle.segment.specs.declared.place.RowPlace.{RowPlace}
 use Rattle.as_of_index.proofs.Shown.{least_push}
+use Rattle.as_of_index.proofs.Changed.{greatest_push}
 use Rattle.as_of_index.proofs.place_list_builder.PlaceListBuilder.push.Goals as goal
 
 pub invariant_of-self-2 : goal.invariant_of-self-2
@@ -8,8 +9,10 @@ invariant_of-self-2 c =
     let before = c.self.inside.places.items in
     let more = c.in_default.ensures.items in
     let time = least_push (λ (p : RowPlace). p.key.time) before c.args.place in
+    let last = greatest_push (λ (p : RowPlace). p.key.time) before c.args.place in
     let import = least_push (λ (p : RowPlace). p.import) before c.args.place in
     record {
       time = rw (c.min-self-inside.ensures, c.time_of.ensures, c.self.invariant.time, more, time) refl;
+      last = rw (c.max-self-inside.ensures, c.time_of-2.ensures, c.self.invariant.last, more, last) refl;
       import = rw (c.min-self-inside-2.ensures, c.self.invariant.import, more, import) refl;
     }
