@@ -3,9 +3,9 @@
 //!
 //! `get KIND ID DATE` asks for the component's row at the date, `versions KIND ID`, `replacements
 //! ID DATE`, `replaces ID DATE`, `about KIND ID DATE`, `timeline KIND ID`, `page KIND DATE AFTER
-//! LIMIT`, `terms DATE LIMIT "PREFIX"` and `search DATE AFTER LIMIT "PREFIX"` ask for rows, and
-//! `children ID DATE`, `descendants ID DATE` and `ancestors ID DATE` for identifiers. AFTER is a
-//! number or `-`.
+//! LIMIT`, `delta KIND FROM DATE AFTER LIMIT`, `terms DATE LIMIT "PREFIX"` and `search DATE AFTER
+//! LIMIT "PREFIX"` ask for rows, and `children ID DATE`, `descendants ID DATE` and `ancestors ID
+//! DATE` for identifiers. AFTER is a number or `-`.
 
 use crate::words::{above, day_of, first_word, kind_of, number, sctid_of};
 use case_files::NoAnswer;
@@ -22,6 +22,7 @@ pub enum Question {
     About(Kind, Sctid, EffectiveTime),
     Timeline(Kind, Sctid),
     Page(Kind, EffectiveTime, Option<u128>, u32),
+    Delta(Kind, EffectiveTime, EffectiveTime, Option<u128>, u32),
     Terms(EffectiveTime, u32),
     Search(EffectiveTime, Option<u128>, u32),
     Children(Sctid, EffectiveTime),
@@ -68,6 +69,16 @@ fn ask_for_page(words: &[&str]) -> Result<Question, NoAnswer> {
     Ok(Question::Page(kind, date, above(*after)?, number(*limit)?))
 }
 
+/// A question for the first rows of a kind that changed from one date to another.
+fn ask_for_delta(words: &[&str]) -> Result<Question, NoAnswer> {
+    let [kind, from, date, after, limit] = words else {
+        return Err(NoAnswer::NoQuestion);
+    };
+    let (kind, from, date) = (kind_of(*kind)?, day_of(*from)?, day_of(*date)?);
+    let (after, limit) = (above(*after)?, number(*limit)?);
+    Ok(Question::Delta(kind, from, date, after, limit))
+}
+
 /// A question for descriptions.
 fn ask_for_terms(words: &[&str]) -> Result<Question, NoAnswer> {
     match words {
@@ -85,6 +96,7 @@ fn question_of(word: &str, words: &[&str]) -> Result<Question, NoAnswer> {
         ("replacements" | "replaces", _) => ask_of_component(word, words),
         ("children" | "descendants" | "ancestors", _) => ask_of_component(word, words),
         ("page", _) => ask_for_page(words),
+        ("delta", _) => ask_for_delta(words),
         ("terms", 2) | ("search", 3) => ask_for_terms(words),
         _ => ask_of_kind(word, words),
     }

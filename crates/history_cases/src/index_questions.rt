@@ -69,6 +69,9 @@ pub fn rows_found<R: RowReader>(
         Question::Page(kind, date, after, limit) => {
             index.page(reader, kind, date, after, limit, pin)
         }
+        Question::Delta(kind, from, date, after, limit) => {
+            index.delta(reader, kind, from, date, after, limit, pin)
+        }
         Question::Replacements(id, time) => {
             replacements(alloc, links, index, reader, id, time, pin)
         }

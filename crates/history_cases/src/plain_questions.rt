@@ -36,6 +36,9 @@ fn find<'a>(
         Question::Page(kind, date, after, limit) => {
             plain_history::page(alloc, shown, kind, date, after, limit)?
         }
+        Question::Delta(kind, from, date, after, limit) => {
+            plain_history::delta(alloc, shown, kind, from, date, after, limit)?
+        }
         Question::Terms(date, limit) => plain_history::terms(alloc, shown, prefix, date, limit)?,
         Question::Search(date, after, limit) => {
             plain_history::search_terms(alloc, shown, prefix, date, after, limit)?

@@ -12,7 +12,7 @@ use rf2_rows::{EffectiveTime, Kind, Row, Sctid};
 
 impl<D: Disk> Store<D> {
     ghost use Rattle.history_model.specs.Hierarchy.{AreDescendants};
-    ghost use Rattle.history_model.specs.Queries.{replaces, timeline};
+    ghost use Rattle.history_model.specs.Queries.{replaces, timeline, delta};
     ghost use Rattle.history_store.specs.Auditing.{IsAncestorsQuery};
     ghost use Rattle.history_store.specs.Queries.{IsRowsQuery, IsIndexQuery};
 
@@ -134,6 +134,37 @@ impl<D: Disk> Store<D> {
             id,
             pin,
         );
+        self.answered(read)
+    }
+
+    /// What changed from one date to another: the first rows of a kind at the date that are later
+    /// than `from`, at most `limit`, ascending by id from above `after` on.
+    pub fn delta(
+        &mut self,
+        kind: Kind,
+        from: EffectiveTime,
+        time: EffectiveTime,
+        after: Option<u128>,
+        limit: u32,
+        pin: u32,
+    ) -> Result<Vec<Row>, Refusal>
+        requires { pin ≤ self.old.history.imports }
+        ensures answer { IsRowsQuery result (λ rows. rows.items) (delta kind from time after limit)
+            pin D.is_honest D.moments D.failures D.bytes_read D.other_calls self.old self.new }
+    {
+        if self.needs_reopen {
+            return Err(Refusal::ReopenNeeded);
+        }
+        let mut reader = DiskRows::new(
+            &mut self.disk,
+            &mut self.cache,
+            &self.directory,
+            &self.index,
+        );
+        let read = self
+            .index
+            .places()
+            .delta(&mut reader, kind, from, time, after, limit, pin);
         self.answered(read)
     }
 }

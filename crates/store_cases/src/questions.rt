@@ -61,6 +61,9 @@ fn find(
         Question::Page(kind, date, after, limit) => {
             store.page(kind, date.value(), after, limit, pin)
         }
+        Question::Delta(kind, from, date, after, limit) => {
+            store.delta(kind, from.value(), date.value(), after, limit, pin)
+        }
         Question::Terms(date, limit) => store.terms(prefix, date.value(), limit, pin),
         Question::Search(date, after, limit) => {
             store.search(prefix, date.value(), after, limit, pin)

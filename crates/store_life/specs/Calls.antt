@@ -39,7 +39,7 @@ ImportIsACall D view =
     → IsCall view old (call_of result release) new
 
 -- by `query` of the answers of `get`, `history`, `page`, `about`, `search`, `terms`, `replacements`,
--- `replaces` and `timeline` (`IsRowsQuery`), and of `ancestors` (`IsAncestorsQuery`)
+-- `replaces`, `timeline` and `delta` (`IsRowsQuery`), and of `ancestors` (`IsAncestorsQuery`)
 abbrev pub QueryIsACall : (T D : Type 0) → DeviceView D → Type 0
 QueryIsACall T D view = (result : Result T Refusal) (old new : StoreValue D)
     → IsQuery result view.is_honest view.moments view.failures old new

@@ -186,6 +186,24 @@ impl Example {
         Ok(lines_of(self.alloc, &rows)?)
     }
 
+    /// The lines of the first rows of a kind that changed from one date to another, from above
+    /// `after` on, each with an LF.
+    pub fn delta(
+        &mut self,
+        kind: Kind,
+        from: u32,
+        date: u32,
+        after: Option<u128>,
+        limit: u32,
+        pin: u32,
+    ) -> Result<Vec<u8>, Refusal> {
+        let (from, time) = (date_of(from)?, date_of(date)?);
+        self.check_pin(pin)?;
+        let pin = clamp_pin(&self.store, pin);
+        let rows = self.store.delta(kind, from, time, after, limit, pin)?;
+        Ok(lines_of(self.alloc, &rows)?)
+    }
+
     /// What an import brought.
     pub fn receipt(&self, number: u32) -> Result<ImportReceipt, Refusal> {
         receipt_of(&self.store, number)
