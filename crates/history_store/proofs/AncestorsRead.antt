@@ -81,6 +81,6 @@ module _ {T D : Type 0} (honest : D → Type 0) (moments : D → Moments) (failu
               (subst (λ d. LooksUpSome (is_listed old.catalog.entries) old.cache cache (bytes_read d) (bytes_read disk)) lent_is
               (subst (λ c. LooksUpSome (is_listed old.catalog.entries) c cache (bytes_read lent) (bytes_read disk)) lent_cache_is
               (subst (λ (e : List Entry). LooksUpSome (is_listed e) lent_cache cache (bytes_read lent) (bytes_read disk)) entries_are looked_up))));
-          bytes_read = answered_so (λ x. Bound shown lent disk (ids_of x)) (λ x. bytes_read new.disk ≤ bytes_read old.disk + relationships_cost date (rows_at pin old.history.rows) (concept ∷ ids_of x)) read result answers (λ x. bound_so (ids_of x)) (work indexed_so);
+          bytes_read = answered_so (λ x. Bound shown lent disk (ids_of x)) _ read result answers (λ x. bound_so (ids_of x)) (work indexed_so);
           bytes_read_always = λ up above are. bound_so above (work_always (lends up) indexed_so above (subst (λ rows. AreAncestors concept date (rows_at pin rows) above) (sym all_are) are));
         }

@@ -42,9 +42,9 @@ impl<D: Disk> Store<D> {
         Ok(found)
     }
 
-    /// All concepts above a concept, ascending: those that are reached from it by one or more active
-    /// relationships of the type "is a", each from a concept to a parent. The relationships of the
-    /// concept and of those that are found are read.
+    /// All concepts above a concept, ascending: those that are reached from it by one or more
+    /// active relationships of the type "is a", each from a concept to a parent. The relationships
+    /// of the concept and of those that are found are read.
     pub fn ancestors(
         &mut self,
         id: Sctid,

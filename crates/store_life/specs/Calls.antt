@@ -38,8 +38,9 @@ ImportIsACall D view =
     → (view.is_honest old.disk ↔ view.is_honest new.disk)
     → IsCall view old (call_of result release) new
 
--- by `query` of the answers of `get`, `history`, `page`, `about`, `search`, `terms`, `replacements`,
--- `replaces`, `timeline` and `delta` (`IsRowsQuery`), and of `ancestors` (`IsAncestorsQuery`)
+-- by `query` of the answers of `get`, `history`, `page`, `about`, `search`, `terms`,
+-- `replacements`, `replaces`, `timeline` and `delta` (`IsRowsQuery`), and of `ancestors`
+-- (`IsAncestorsQuery`)
 abbrev pub QueryIsACall : (T D : Type 0) → DeviceView D → Type 0
 QueryIsACall T D view = (result : Result T Refusal) (old new : StoreValue D)
     → IsQuery result view.is_honest view.moments view.failures old new
