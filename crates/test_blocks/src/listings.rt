@@ -316,7 +316,7 @@ fn a_merged_segment_of_version_three(rt: HostRuntime) -> Result<(), Fail> {
     let mut block = [7; 4096];
     directory.encode(&mut block);
     assert_eq!(rt; directory.epoch(), 5);
-    assert_eq!(rt; block[4092..], [0xd7, 0x7e, 0xd4, 0x34]);
+    assert_eq!(rt; &block[4092..], [0xd7, 0x7e, 0xd4, 0x34].as_slice());
     Ok(())
 }
 
