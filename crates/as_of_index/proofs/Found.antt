@@ -185,7 +185,7 @@ module _ (kind : Kind) (id date pin : ℕ) where
   pub in_one : (n : ℕ) (ps : List RowPlace) (x : ℕ × RowPlace) → Has (in_segment n ps) x → (p : RowPlace) × Has ps p × (x ≡ (n, p))
   in_one n ps x h = let m = Has-map (λ (p : RowPlace). (n, p)) ps x h in (m.0, m.1, sym m.2)
 
-  one_alone : (n : ℕ) (ps : List RowPlace) (xs : List (ℕ × RowPlace)) (p : RowPlace) → ((x : ℕ × RowPlace) → Has xs x → is_candidate kind id date pin x.1 ≡ true → x.1.key.time ≤ p.key.time) → IsLatestOf kind id date pin (λ p. p) ps p → IsLatestOf kind id date pin (λ (x : ℕ × RowPlace). x.1) (xs ++ in_segment n ps) (n, p)
+  pub one_alone : (n : ℕ) (ps : List RowPlace) (xs : List (ℕ × RowPlace)) (p : RowPlace) → ((x : ℕ × RowPlace) → Has xs x → is_candidate kind id date pin x.1 ≡ true → x.1.key.time ≤ p.key.time) → IsLatestOf kind id date pin (λ p. p) ps p → IsLatestOf kind id date pin (λ (x : ℕ × RowPlace). x.1) (xs ++ in_segment n ps) (n, p)
   one_alone n ps xs p older r = record {
     there = Has-append_right xs (in_segment n ps) (n, p) (Has-map_from (λ (q : RowPlace). (n, q)) ps p r.there);
     passes = r.passes;
@@ -195,7 +195,7 @@ module _ (kind : Kind) (id date pin : ℕ) where
     ];
   }
 
-  first_stays : (n : ℕ) (ps : List RowPlace) (xs : List (ℕ × RowPlace)) (b : ℕ × RowPlace) → IsLatestOf kind id date pin (λ (x : ℕ × RowPlace). x.1) xs b → ((q : RowPlace) → Has ps q → is_candidate kind id date pin q ≡ true → q.key.time ≤ b.1.key.time) → IsLatestOf kind id date pin (λ (x : ℕ × RowPlace). x.1) (xs ++ in_segment n ps) b
+  pub first_stays : (n : ℕ) (ps : List RowPlace) (xs : List (ℕ × RowPlace)) (b : ℕ × RowPlace) → IsLatestOf kind id date pin (λ (x : ℕ × RowPlace). x.1) xs b → ((q : RowPlace) → Has ps q → is_candidate kind id date pin q ≡ true → q.key.time ≤ b.1.key.time) → IsLatestOf kind id date pin (λ (x : ℕ × RowPlace). x.1) (xs ++ in_segment n ps) b
   first_stays n ps xs b a older = record {
     there = Has-append_left xs (in_segment n ps) b a.there;
     passes = a.passes;

@@ -1,7 +1,8 @@
 -- The next id of a kind, and what a page takes in turn.
-use Rattle.std.proofs.Common.{◌≡◌, ◌⊎◌, ℕ, suc, ◌+◌, ◌-◌, ◌<◌, ◌≤◌, Bool, true, false, cond, List, [], ◌∷◌, ◌++◌, length, take, map, refl, sym, ap, subst, inl, inr, ◌∙◌, arith, append-nil, append_assoc}
+use Rattle.std.proofs.Common.{◌≡◌, ℕ, suc, ◌+◌, ◌-◌, ◌<◌, ◌≤◌, Bool, true, false, cond, List, [], ◌∷◌, ◌++◌, length, take, map, refl, sym, ap, subst, inl, inr, ◌∙◌, arith, append-nil, append_assoc}
 use Rattle.std.specs.Prelude.{◌&&◌, ◌||◌, ◌==◌, not, nat_le, nat_lt, Option, Some, None}
-use Rattle.std.specs.List.{filter, find, sum_by}
+use Rattle.std.specs.List.{filter, sum_by}
+use Rattle.std.proofs.lemmas.List.Elements.{filter_agree}
 use Rattle.std.specs.Ordering.{nat_cmp}
 use Rattle.std.specs.Cmp.{ranked, tied_itself, nat_cmp_total}
 use Rattle.std.specs.declared.cmp.Ordering.{Ordering}
@@ -17,15 +18,18 @@ use Rattle.history_model.specs.declared.stamped.StampedRow.{StampedRow}
 use Rattle.history_model.specs.InOrder.{Has, IsAscending}
 use Rattle.history_model.specs.History.{row_cmp, rows_at}
 use Rattle.history_model.specs.Lists.{listed}
-use Rattle.history_model.specs.Queries.{is_kind, is_version_of, is_above, snapshot, get, all_above, page}
-use Rattle.history_model.proofs.Filtered.{both}
+use Rattle.history_model.specs.Queries.{is_kind, is_above, snapshot, get, all_above, page, changed_above, delta}
+use Rattle.history_model.specs.Queries.{is_kind_above as is_row_above}
+use Rattle.history_model.proofs.Filtered.{both, filter_first, filter_none, Rises}
 use Rattle.history_model.proofs.Keys.{same_kind}
-use Rattle.history_model.proofs.Snapshots.{version_from_test, test_from_version, page_first, page_none, current_from_snapshot, IsAscending-rows_at, IsAscending-listed, Has-listed_cases, Has-rows_at_cases}
+use Rattle.history_model.proofs.Snapshots.{Rises-current, IsAscending-snapshot, take-nil, and-true, current_from_snapshot, IsAscending-rows_at, IsAscending-listed, Has-listed_cases, Has-rows_at_cases}
+use Rattle.history_model.proofs.Audits.{row_at, at_row}
 use Rattle.segment.specs.declared.place.RowPlace.{RowPlace}
 use Rattle.as_of_index.specs.declared.search.Start.TheVariants.{Components}
 use Rattle.segment.specs.Standing.{places_of}
 use Rattle.as_of_index.specs.Places.{place_cmp}
-use Rattle.as_of_index.specs.Private.Search.{all_places, is_of, is_shown, IsNext, IsNextId, IsNextShown, is_kind_above}
+use Rattle.as_of_index.specs.Private.Search.{all_places, is_of, is_shown, is_changed, IsNext, IsNextId, IsNextChanged, is_kind_above}
+use Rattle.as_of_index.specs.Private.Walk.{is_walked, walked}
 use Rattle.as_of_index.proofs.Standing.{place_of_row}
 
 pub less_by_id : (a b : RowPlace) → kind_place a.key.kind ≡ kind_place b.key.kind → nat_cmp a.key.id b.key.id ≡ Less → place_cmp a b ≡ Less
@@ -95,24 +99,6 @@ module _ (kind : Kind) (after : Option ℕ) (xs : List (ℕ × RowPlace)) where
       let outside = kind_not_passed (kind_place y.1.key.kind) (kind_place kind) (is_above after y.1.key.id) e in
       let inside = n y h in absurd (cc)
 
--- ---- what a find says
-
-found_test : {X : Type 0} (p : X → Bool) (xs : List X) (b : X) → find p xs ≡ Some b → Has xs b × (p b ≡ true)
-found_test p [] b e = absurd (cc)
-found_test p (x ∷ xs) b e =
-    elim (p x) as (λ t. p x ≡ t → cond t (Some x) (find p xs) ≡ Some b → Has (x ∷ xs) b × (p b ≡ true)) [
-      | true ↦ λ f g. let same : x ≡ b = cc in (inl same, subst (λ z. p z ≡ true) same f)
-      | false ↦ λ f g. let r = found_test p xs b g in (inr r.0, r.1)
-    ] refl e
-
-found_nothing : {X : Type 0} (p : X → Bool) (xs : List X) (x : X) → find p xs ≡ None → Has xs x → p x ≡ false
-found_nothing p [] x e h = absurd h
-found_nothing p (y ∷ ys) x e h =
-    elim (p y) as (λ t. p y ≡ t → cond t (Some y) (find p ys) ≡ None → p x ≡ false) [
-      | true ↦ λ f g. absurd (cc)
-      | false ↦ λ f g. elim h [ inl s ↦ subst (λ z. p z ≡ false) s f | inr t ↦ found_nothing p ys x g t ]
-    ] refl e
-
 pub filter_same : {X : Type 0} (p q : X → Bool) (xs : List X) → ((x : X) → Has xs x → p x ≡ q x) → filter p xs ≡ filter q xs
 filter_same p q [] each = refl
 filter_same p q (x ∷ xs) each =
@@ -123,6 +109,26 @@ same_test false a b f g = refl
 same_test true true b f g = sym (f refl)
 same_test true false true f g = g refl
 same_test true false false f g = refl
+
+three_tests : (k a b f : Bool) → (((k && a) && f) ≡ true → b ≡ true) → (b ≡ true → a ≡ true) → ((k && a) && f) ≡ ((k && b) && f)
+three_tests false a b f there back = refl
+three_tests true true true true there back = refl
+three_tests true true false true there back = sym (there refl)
+three_tests true false true true there back = back refl
+three_tests true false false true there back = refl
+three_tests true true true false there back = refl
+three_tests true true false false there back = refl
+three_tests true false true false there back = refl
+three_tests true false false false there back = refl
+
+-- a test that passes wherever another one does
+four_tests : (k a f b : Bool) → (b ≡ true → a ≡ true) → (((k && a) && f) && b) ≡ ((k && b) && f)
+four_tests false a f b back = refl
+four_tests true true true b back = and-true b
+four_tests true true false true back = refl
+four_tests true true false false back = refl
+four_tests true false f true back = absurd (let no = back refl in cc)
+four_tests true false f false back = refl
 
 pub above_further : (after : Option ℕ) (m n : ℕ) → is_above after m ≡ true → nat_lt m n ≡ true → is_above after n ≡ true
 above_further None m n e f = refl
@@ -140,116 +146,162 @@ kind_places k l e = let f = ap kind_place e in grind (arith, nat_tests, f)
 id_at : (after : Option ℕ) (k kind : ℕ) (a : Bool) → k ≡ kind → a ≡ true → (k == kind && a) ≡ true
 id_at after k kind a e f = rw f (grind (arith, nat_tests, e))
 
+both_so : (a b : Bool) → a ≡ true → b ≡ true → (a && b) ≡ true
+both_so true b e f = f
+both_so false b e f = absurd (cc)
+
 shown_test : (t i date pin : ℕ) → t ≤ date → i ≤ pin → (nat_le t date && nat_le i pin) ≡ true
 shown_test t i date pin e f = grind (arith, nat_tests, e, f)
 
-module _ (kind : Kind) (date pin : ℕ) (lists : List (List StampedRow)) where
+-- ---- what is found at a date: a page, or a Delta
+
+kind_of_test : (kind : Kind) (row : RowValue) → is_kind kind row ≡ true → kind_of row ≡ kind
+kind_of_test kind row e = same_kind (kind_of row) kind (kind_is (kind_place (kind_of row)) (kind_place kind) true (rw e refl))
+
+module _ (kind : Kind) (from : Option ℕ) (date : ℕ) (rows : List RowValue) (up : IsAscending row_cmp rows) where
+  -- what the tests say
+  record IsWalked (after : Option ℕ) (row : RowValue) : Type 0 where
+    kind_is : kind_of row ≡ kind
+    above : is_above after row.id ≡ true
+    later : is_above from row.time ≡ true
+
+  walked_row : (after : Option ℕ) (row : RowValue) → is_walked kind from after row ≡ true → IsWalked after row
+  walked_row after row e =
+      let p = both (is_kind kind row && is_above after row.id) (is_above from row.time) e in
+      let q = both (is_kind kind row) (is_above after row.id) p.0 in
+      record { kind_is = kind_of_test kind row q.0; above = q.1; later = p.1 }
+
+  walked_first : (after : Option ℕ) (limit : ℕ) (b : RowValue) → Has (snapshot rows date) b → IsWalked after b → ((c : RowValue) → Has (snapshot rows date) c → IsWalked after c → b.id ≤ c.id) → walked kind from date after (suc limit) rows ≡ b ∷ walked kind from date (Some b.id) limit rows
+  unfolding walked
+  walked_first after limit b h want first =
+      let rises : Rises (is_walked kind from after) (λ row. row.id) (snapshot rows date) = Rises-current (is_walked kind from after) kind rows date (λ x e. (walked_row after x e).kind_is) (snapshot rows date) (IsAscending-snapshot rows date up) (λ x there. current_from_snapshot rows date x there) in
+      let kind_test : is_kind kind b ≡ true = kind_places (kind_of b) kind want.kind_is in
+      let split = filter_first (is_walked kind from after) (λ row. row.id) (snapshot rows date) b rises h
+      (let above = want.above in let later = want.later in rw (kind_test, above, later) refl)
+      (λ x there e. first x there (walked_row after x e)) in
+      ap (take (suc limit)) split
+      ∙ ap (λ xs. b ∷ take limit xs) (filter_agree _ _ (λ x. four_tests (is_kind kind x) (is_above after x.id) (is_above from x.time) (nat_lt b.id x.id) (λ lt. above_further after b.id x.id want.above lt)) (snapshot rows date))
+
+  walked_none : (after : Option ℕ) (limit : ℕ) → ((c : RowValue) → Has (snapshot rows date) c → IsWalked after c → ⊥) → walked kind from date after limit rows ≡ []
+  unfolding walked
+  walked_none after limit none = ap (take limit) (filter_none (is_walked kind from after) (snapshot rows date) (λ x there.
+      elim (is_walked kind from after x) as (λ t. is_walked kind from after x ≡ t → t ≡ false) [
+        | true ↦ λ e. absurd (none x there (walked_row after x e))
+        | false ↦ λ e. refl
+      ] refl)) ∙ take-nil limit
+
+pub walked_page : (kind : Kind) (date : ℕ) (after : Option ℕ) (limit : ℕ) (rows : List RowValue) → walked kind None date after limit rows ≡ page kind date after limit rows
+unfolding walked page all_above
+walked_page kind date after limit rows = ap (take limit) (filter_same (is_walked kind None after) (is_row_above kind after) (snapshot rows date) (λ x h. sym (and-true (is_row_above kind after x))))
+
+pub walked_delta : (kind : Kind) (from date : ℕ) (after : Option ℕ) (limit : ℕ) (rows : List RowValue) → walked kind (Some from) date after limit rows ≡ delta kind from date after limit rows
+unfolding walked delta changed_above
+walked_delta kind from date after limit rows = refl
+
+module _ (kind : Kind) (from : Option ℕ) (date pin : ℕ) (lists : List (List StampedRow)) where
   abbrev shown : List RowValue
   shown = rows_at pin (listed lists)
 
   abbrev places : List (ℕ × RowPlace)
   places = all_places 0 (map places_of lists)
 
-  -- a row that comes is shown where it stands
-  shown_there : (c : RowValue) (p : RowPlace) (s : StampedRow) → p.key ≡ key_of c → p.import ≡ s.import → c.time ≤ date → s.import ≤ pin → is_shown date pin p ≡ true
-  shown_there c p s key_is import_is early le =
+  -- a row that comes is changed where it stands
+  changed_there : (c : RowValue) (p : RowPlace) (s : StampedRow) → p.key ≡ key_of c → p.import ≡ s.import → c.time ≤ date → s.import ≤ pin → is_above from c.time ≡ true → is_changed from date pin p ≡ true
+  changed_there c p s key_is import_is early le later =
       let times : p.key.time ≡ c.time = ap (λ (z : Key). z.time) key_is in
-      shown_test p.key.time p.import date pin (omega arith) (omega arith)
+      both_so (is_shown date pin p) (is_above from p.key.time) (shown_test p.key.time p.import date pin (omega arith) (omega arith)) (ap (is_above from) times ∙ later)
 
   -- the next id is not above that of a row that comes
-  not_passed : (last : Option ℕ) (id : ℕ) → IsNextShown kind last date pin places (Some id) → (c : RowValue) → Has shown c → kind_of c ≡ kind → is_above last c.id ≡ true → c.time ≤ date → id ≤ c.id
-  unfolding IsNextShown
-  not_passed last id n c h k a early =
-      let w = Has-rows_at_cases pin (listed lists) c h in
+  not_passed : (last : Option ℕ) (id : ℕ) → IsNextChanged kind last from date pin places (Some id) → (c : RowValue) → Has (snapshot shown date) c → kind_of c ≡ kind → is_above last c.id ≡ true → is_above from c.time ≡ true → id ≤ c.id
+  unfolding IsNextChanged
+  not_passed last id n c h k a later =
+      let current = current_from_snapshot shown date c h in
+      let w = Has-rows_at_cases pin (listed lists) c current.known in
       let q = place_of_row 0 lists w.stamped_row (Has-listed_cases lists w.stamped_row w.known) in
       let key_is : q.0.1.key ≡ key_of c = q.2.key_is ∙ ap key_of w.same in
       let kinds : kind_place q.0.1.key.kind ≡ kind_place kind = ap (λ (z : Key). kind_place z.kind) key_is ∙ ap kind_place k in
       let ids : q.0.1.key.id ≡ c.id = ap (λ (z : Key). z.id) key_is in
-      let le = n.first q.0 q.1 (id_at last _ _ _ kinds (ap (is_above last) ids ∙ a)) (shown_there c q.0.1 w.stamped_row key_is q.2.import_is early w.early) in
+      let le = n.first q.0 q.1 (id_at last _ _ _ kinds (ap (is_above last) ids ∙ a)) (changed_there c q.0.1 w.stamped_row key_is q.2.import_is current.early w.early later) in
       omega arith
 
-  nothing_passed : (last : Option ℕ) → IsNextShown kind last date pin places None → (c : RowValue) → Has shown c → kind_of c ≡ kind → is_above last c.id ≡ true → c.time ≤ date → ⊥
-  unfolding IsNextShown
-  nothing_passed last n c h k a early =
-      let w = Has-rows_at_cases pin (listed lists) c h in
+  nothing_passed : (last : Option ℕ) → IsNextChanged kind last from date pin places None → (c : RowValue) → Has (snapshot shown date) c → kind_of c ≡ kind → is_above last c.id ≡ true → is_above from c.time ≡ true → ⊥
+  unfolding IsNextChanged
+  nothing_passed last n c h k a later =
+      let current = current_from_snapshot shown date c h in
+      let w = Has-rows_at_cases pin (listed lists) c current.known in
       let q = place_of_row 0 lists w.stamped_row (Has-listed_cases lists w.stamped_row w.known) in
       let key_is : q.0.1.key ≡ key_of c = q.2.key_is ∙ ap key_of w.same in
       let kinds : kind_place q.0.1.key.kind ≡ kind_place kind = ap (λ (z : Key). kind_place z.kind) key_is ∙ ap kind_place k in
       let ids : q.0.1.key.id ≡ c.id = ap (λ (z : Key). z.id) key_is in
-      n q.0 q.1 (id_at last _ _ _ kinds (ap (is_above last) ids ∙ a)) (shown_there c q.0.1 w.stamped_row key_is q.2.import_is early w.early)
+      n q.0 q.1 (id_at last _ _ _ kinds (ap (is_above last) ids ∙ a)) (changed_there c q.0.1 w.stamped_row key_is q.2.import_is current.early w.early later)
 
-  next_above : (last : Option ℕ) (id : ℕ) → IsNextShown kind last date pin places (Some id) → is_above last id ≡ true
-  unfolding IsNextShown
+  next_above : (last : Option ℕ) (id : ℕ) → IsNextChanged kind last from date pin places (Some id) → is_above last id ≡ true
+  unfolding IsNextChanged
   next_above last id n = n.above
 
   ascends : IsAscending row_cmp shown
   ascends = IsAscending-rows_at pin (listed lists) (IsAscending-listed lists)
 
-  pub page_nobody : (last : Option ℕ) (id n : ℕ) → IsNextShown kind last date pin places (Some id) → get kind id date shown ≡ None → page kind date last n shown ≡ page kind date (Some id) n shown
-  unfolding page all_above get
-  page_nobody last id n next none = ap (take n) (filter_same (λ row. is_kind kind row && is_above last row.id) (λ row. is_kind kind row && nat_lt id row.id) (snapshot shown date) (λ x h.
-      same_test (is_kind kind x) (is_above last x.id) (nat_lt id x.id)
+  -- the component has no row that comes
+  abbrev pub NoneComes : ℕ → Type 0
+  NoneComes id = (row : RowValue) → get kind id date shown ≡ Some row → is_above from row.time ≡ true → ⊥
+
+  pub walk_nobody : (last : Option ℕ) (id n : ℕ) → IsNextChanged kind last from date pin places (Some id) → NoneComes id → walked kind from date last n shown ≡ walked kind from date (Some id) n shown
+  unfolding walked
+  walk_nobody last id n next none = ap (take n) (filter_same (is_walked kind from last) (is_walked kind from (Some id)) (snapshot shown date) (λ x h.
+      three_tests (is_kind kind x) (is_above last x.id) (nat_lt id x.id) (is_above from x.time)
       (λ e.
-      let q = both (is_kind kind x) (is_above last x.id) e in
-      let k = same_kind (kind_of x) kind (kind_is (kind_place (kind_of x)) (kind_place kind) true (rw q.0 refl)) in
-      let current = current_from_snapshot shown date x h in
-      let le = not_passed last id next x current.known k q.1 current.early in
-      above_test id x.id le (λ same. let yes = test_from_version kind id x k same in let not_so = found_nothing (is_version_of kind id) (snapshot shown date) x none h in absurd (cc)))
+      let w = walked_row kind from date shown ascends last x e in
+      let le = not_passed last id next x h w.kind_is w.above w.later in
+      above_test id x.id le (λ same. none x (at_row kind id date shown x ascends (record { current = h; version = record { kind_is = w.kind_is; id_is = same } })) w.later))
       (λ e. above_further last id x.id (next_above last id next) e)))
 
-  pub page_nomore : (last : Option ℕ) (n : ℕ) → IsNextShown kind last date pin places None → page kind date last n shown ≡ []
-  page_nomore last n next = page_none kind date last n shown (λ c h v. nothing_passed last next c h v.kind_is v.above v.early)
+  pub walk_nomore : (last : Option ℕ) (n : ℕ) → IsNextChanged kind last from date pin places None → walked kind from date last n shown ≡ []
+  walk_nomore last n next = walked_none kind from date shown ascends last n (λ c h w. nothing_passed last next c h w.kind_is w.above w.later)
 
-  pub page_somebody : (last : Option ℕ) (id n : ℕ) (b : RowValue) → IsNextShown kind last date pin places (Some id) → get kind id date shown ≡ Some b → page kind date last (suc n) shown ≡ b ∷ page kind date (Some id) n shown
-  unfolding get
-  page_somebody last id n b next found =
-      let f = found_test (is_version_of kind id) (snapshot shown date) b found in
-      let v = version_from_test kind id b f.1 in
-      let current = current_from_snapshot shown date b f.0 in
-      page_first kind date last n shown b ascends current.known (record { kind_is = v.kind_is; above = subst (λ m. is_above last m ≡ true) (sym v.id_is) (next_above last id next); early = current.early })
-      (λ c h w.
-      let le = not_passed last id next c h w.kind_is w.above w.early in
-      let own = v.id_is in
-      elim (nat_lt b.id c.id) as (λ t. nat_lt b.id c.id ≡ t → (b.id < c.id) ⊎ ((b.id ≡ c.id) × (c.time ≤ b.time))) [
-        | true ↦ λ e. inl (grind (arith, nat_tests, e))
-        | false ↦ λ e. let same : b.id ≡ c.id = grind (arith, nat_tests, e, le, own) in inr (same, current.latest c h (record { kind_is = w.kind_is ∙ sym v.kind_is; id_is = sym same }) w.early)
-      ] refl)
-      ∙ ap (λ m. b ∷ page kind date (Some m) n shown) v.id_is
+  pub walk_somebody : (last : Option ℕ) (id n : ℕ) (b : RowValue) → IsNextChanged kind last from date pin places (Some id) → get kind id date shown ≡ Some b → is_above from b.time ≡ true → walked kind from date last (suc n) shown ≡ b ∷ walked kind from date (Some id) n shown
+  walk_somebody last id n b next found later =
+      let r = row_at kind id date shown b found in
+      let own = r.version.id_is in
+      walked_first kind from date shown ascends last n b r.current
+      (record { kind_is = r.version.kind_is; above = subst (λ m. is_above last m ≡ true) (sym own) (next_above last id next); later = later })
+      (λ c h w. let le = not_passed last id next c h w.kind_is w.above w.later in omega arith)
+      ∙ ap (λ m. b ∷ walked kind from date (Some m) n shown) own
 
   -- ---- the steps of the loop
 
-  pub page_more : (last : Option ℕ) (id limit : ℕ) (rows target : List RowValue) (b : RowValue) → length rows < limit → IsNextShown kind last date pin places (Some id) → get kind id date shown ≡ Some b → rows ++ page kind date last (limit - length rows) shown ≡ target → (rows ++ b ∷ []) ++ page kind date (Some id) (limit - length (rows ++ b ∷ [])) shown ≡ target
-  page_more last id limit rows target b lt next found so_far =
+  pub walk_more : (last : Option ℕ) (id limit : ℕ) (rows target : List RowValue) (b : RowValue) → length rows < limit → IsNextChanged kind last from date pin places (Some id) → get kind id date shown ≡ Some b → is_above from b.time ≡ true → rows ++ walked kind from date last (limit - length rows) shown ≡ target → (rows ++ b ∷ []) ++ walked kind from date (Some id) (limit - length (rows ++ b ∷ [])) shown ≡ target
+  walk_more last id limit rows target b lt next found later so_far =
       let longer = length_push rows b in
       let left : limit - length (rows ++ b ∷ []) ≡ limit - (length rows + 1) = ap (λ n. limit - n) longer in
       let one_less : limit - length rows ≡ suc (limit - (length rows + 1)) = omega arith in
-      ap (λ n. (rows ++ b ∷ []) ++ page kind date (Some id) n shown) left
-      ∙ append_assoc rows (b ∷ []) (page kind date (Some id) (limit - (length rows + 1)) shown)
-      ∙ ap (λ ys. rows ++ ys) (sym (page_somebody last id (limit - (length rows + 1)) b next found))
-      ∙ ap (λ n. rows ++ page kind date last n shown) (sym one_less) ∙ so_far
+      ap (λ n. (rows ++ b ∷ []) ++ walked kind from date (Some id) n shown) left
+      ∙ append_assoc rows (b ∷ []) (walked kind from date (Some id) (limit - (length rows + 1)) shown)
+      ∙ ap (λ ys. rows ++ ys) (sym (walk_somebody last id (limit - (length rows + 1)) b next found later))
+      ∙ ap (λ n. rows ++ walked kind from date last n shown) (sym one_less) ∙ so_far
 
   -- what a page takes, of which the next row is the first
-  pub page_cost : (f : RowValue → ℕ) (last : Option ℕ) (id limit : ℕ) (rows : List RowValue) (b c : RowValue) → length rows < limit → IsNextShown kind last date pin places (Some id) → get kind id date shown ≡ Some b → sum_by f (page kind date last (limit - length rows) shown) ≡ f b + sum_by f (page kind date (Some id) (limit - length (rows ++ c ∷ [])) shown)
-  page_cost f last id limit rows b c lt next found =
+  pub walk_cost : (f : RowValue → ℕ) (last : Option ℕ) (id limit : ℕ) (rows : List RowValue) (b c : RowValue) → length rows < limit → IsNextChanged kind last from date pin places (Some id) → get kind id date shown ≡ Some b → is_above from b.time ≡ true → sum_by f (walked kind from date last (limit - length rows) shown) ≡ f b + sum_by f (walked kind from date (Some id) (limit - length (rows ++ c ∷ [])) shown)
+  walk_cost f last id limit rows b c lt next found later =
       let longer = length_push rows c in
       let left : limit - (length rows + 1) ≡ limit - length (rows ++ c ∷ []) = ap (λ n. limit - n) (sym longer) in
       let one_less : limit - length rows ≡ suc (limit - (length rows + 1)) = omega arith in
-      ap (λ n. sum_by f (page kind date last n shown)) one_less
-      ∙ ap (sum_by f) (page_somebody last id (limit - (length rows + 1)) b next found)
-      ∙ sum_by-cons f b (page kind date (Some id) (limit - (length rows + 1)) shown)
-      ∙ ap (λ n. f b + sum_by f (page kind date (Some id) n shown)) left
+      ap (λ n. sum_by f (walked kind from date last n shown)) one_less
+      ∙ ap (sum_by f) (walk_somebody last id (limit - (length rows + 1)) b next found later)
+      ∙ sum_by-cons f b (walked kind from date (Some id) (limit - (length rows + 1)) shown)
+      ∙ ap (λ n. f b + sum_by f (walked kind from date (Some id) n shown)) left
 
-  pub page_same : (last : Option ℕ) (id n : ℕ) (rows target : List RowValue) → IsNextShown kind last date pin places (Some id) → get kind id date shown ≡ None → rows ++ page kind date last n shown ≡ target → rows ++ page kind date (Some id) n shown ≡ target
-  page_same last id n rows target next none so_far = ap (λ ys. rows ++ ys) (sym (page_nobody last id n next none)) ∙ so_far
+  pub walk_same : (last : Option ℕ) (id n : ℕ) (rows target : List RowValue) → IsNextChanged kind last from date pin places (Some id) → NoneComes id → rows ++ walked kind from date last n shown ≡ target → rows ++ walked kind from date (Some id) n shown ≡ target
+  walk_same last id n rows target next none so_far = ap (λ ys. rows ++ ys) (sym (walk_nobody last id n next none)) ∙ so_far
 
-  pub page_done : (last : Option ℕ) (n : ℕ) (rows target : List RowValue) → IsNextShown kind last date pin places None → rows ++ page kind date last n shown ≡ target → rows ≡ target
-  page_done last n rows target next so_far = sym (append-nil rows) ∙ ap (λ ys. rows ++ ys) (sym (page_nomore last n next)) ∙ so_far
+  pub walk_done : (last : Option ℕ) (n : ℕ) (rows target : List RowValue) → IsNextChanged kind last from date pin places None → rows ++ walked kind from date last n shown ≡ target → rows ≡ target
+  walk_done last n rows target next so_far = sym (append-nil rows) ∙ ap (λ ys. rows ++ ys) (sym (walk_nomore last n next)) ∙ so_far
 
-  pub page_full : (last : Option ℕ) (limit : ℕ) (rows target : List RowValue) → limit ≤ length rows → rows ++ page kind date last (limit - length rows) shown ≡ target → rows ≡ target
-  unfolding page
-  page_full last limit rows target le so_far =
+  pub walk_full : (last : Option ℕ) (limit : ℕ) (rows target : List RowValue) → limit ≤ length rows → rows ++ walked kind from date last (limit - length rows) shown ≡ target → rows ≡ target
+  unfolding walked
+  walk_full last limit rows target le so_far =
       let nothing : limit - length rows ≡ 0 = omega arith in
-      sym (append-nil rows) ∙ ap (λ n. rows ++ page kind date last n shown) (sym nothing) ∙ so_far
+      sym (append-nil rows) ∙ ap (λ n. rows ++ walked kind from date last n shown) (sym nothing) ∙ so_far
 
 -- ---- fewer are left
 
@@ -291,9 +343,9 @@ pub weaker : (k a b : Bool) → (b ≡ true → a ≡ true) → (k && b) ≡ tru
 weaker true a b f e = f e
 weaker false a b f e = e
 
-pub fewer_left : (kind : Kind) (last : Option ℕ) (date pin id : ℕ) (xs : List (ℕ × RowPlace)) → IsNextShown kind last date pin xs (Some id) → length (filter (λ x. is_kind_above kind (Some id) x.1) xs) < length (filter (λ x. is_kind_above kind last x.1) xs)
-unfolding IsNextShown
-fewer_left kind last date pin id xs n =
+pub fewer_left : (kind : Kind) (last from : Option ℕ) (date pin id : ℕ) (xs : List (ℕ × RowPlace)) → IsNextChanged kind last from date pin xs (Some id) → length (filter (λ x. is_kind_above kind (Some id) x.1) xs) < length (filter (λ x. is_kind_above kind last x.1) xs)
+unfolding IsNextChanged
+fewer_left kind last from date pin id xs n =
     let b = n.there.0 in
     let own = n.there.2 in
     let at_own : is_above last b.1.key.id ≡ true = ap (is_above last) (own_id _ _ b.1.key.id id own) ∙ n.above in

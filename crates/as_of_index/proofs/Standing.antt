@@ -14,11 +14,12 @@ use Rattle.history_model.specs.History.{stamped_cmp, rows_at}
 use Rattle.history_model.specs.Lists.{listed, AreLists}
 use Rattle.history_model.specs.Lists.{EachApart as RowsApart}
 use Rattle.history_model.specs.Private.{ShareNoKey as RowsShareNoKey}
-use Rattle.history_model.specs.Queries.{get}
+use Rattle.history_model.specs.Queries.{is_above, get}
 use Rattle.history_model.proofs.InOrder.{Has-all, all_from_has, Has-append_left, Has-append_right, Has-append_cases}
 use Rattle.history_model.proofs.Filtered.{Has-map, Has-map_from}
 use Rattle.history_model.proofs.Keys.{same_kind}
-use Rattle.history_model.proofs.Snapshots.{IsVersionOf, get_is, get_none, IsConsistent-from_ascending, IsAscending-rows_at, IsAscending-listed, Has-listed_cases, Has-listed_from, Has-rows_at_cases, Has-rows_at_from}
+use Rattle.history_model.proofs.Audits.{row_at}
+use Rattle.history_model.proofs.Snapshots.{IsVersionOf, current_from_snapshot, get_is, get_none, IsConsistent-from_ascending, IsAscending-rows_at, IsAscending-listed, Has-listed_cases, Has-listed_from, Has-rows_at_cases, Has-rows_at_from}
 use Rattle.segment.specs.Standing.{record_len}
 use Rattle.segment.specs.declared.place.RowPlace.{RowPlace}
 use Rattle.segment.specs.Standing.{row_place, with_places, places_of, StandsAt}
@@ -26,7 +27,7 @@ use Rattle.as_of_index.specs.Places.{place_cmp, EachApart, ArePlaces}
 use Rattle.as_of_index.specs.Private.Search.{ShareNoKey}
 use Rattle.segment.proofs.Posting.{Says, says_posted, says, placed, row_there}
 use Rattle.as_of_index.specs.Search.{IsPlaceOf}
-use Rattle.as_of_index.specs.Private.Search.{in_segment, all_places, is_candidate, IsPick}
+use Rattle.as_of_index.specs.Private.Search.{in_segment, all_places, is_candidate, IsPick, IsPickFrom}
 use Rattle.as_of_index.proofs.Found.{Picks, candidate, candidate_test}
 
 -- ---- the rows' lists are lists
@@ -125,13 +126,13 @@ module _ (kind : Kind) (id date pin : ℕ) (lists : List (List StampedRow)) (are
   shown = rows_at pin (listed lists)
 
   -- a version that is shown has a candidate
-  record HasCandidate (c : RowValue) : Type 0 where
-    x : ℕ × RowPlace
-    there : Has (all_places 0 (map places_of lists)) x
-    passes : is_candidate kind id date pin x.1 ≡ true
-    time_is : x.1.key.time ≡ c.time
+  pub record HasCandidate (c : RowValue) : Type 0 where
+    pub x : ℕ × RowPlace
+    pub there : Has (all_places 0 (map places_of lists)) x
+    pub passes : is_candidate kind id date pin x.1 ≡ true
+    pub time_is : x.1.key.time ≡ c.time
 
-  candidate_of : (c : RowValue) → Has shown c → IsVersionOf kind id c → c.time ≤ date → HasCandidate c
+  pub candidate_of : (c : RowValue) → Has shown c → IsVersionOf kind id c → c.time ≤ date → HasCandidate c
   candidate_of c h v early =
       let w = Has-rows_at_cases pin (listed lists) c h in
       let q = place_of_row 0 lists w.stamped_row (Has-listed_cases lists w.stamped_row w.known) in
@@ -170,3 +171,22 @@ module _ (kind : Kind) (id date pin : ℕ) (lists : List (List StampedRow)) (are
             (omega arith)
             (λ c h v early. let q = candidate_of c h v early in let le = l.latest q.x q.there q.passes in let e = q.time_is in omega arith),
       )
+
+-- ---- and what one says that is later than a date
+
+-- the component's row that stands there, which is later than `from`; where none does, its row isn't
+abbrev pub IsChange : Kind → ℕ → Option ℕ → ℕ → ℕ → List (List StampedRow) → Option (ℕ × RowPlace) → Type 0
+IsChange kind id from date pin lists None = (row : RowValue) → get kind id date (rows_at pin (listed lists)) ≡ Some row → is_above from row.time ≡ true → ⊥
+IsChange kind id from date pin lists (Some x) = (s : StampedRow) × StandsAt lists x.0 x.1 s × (get kind id date (rows_at pin (listed lists)) ≡ Some s.row) × (is_above from s.row.time ≡ true)
+
+pub change_from_pick : (kind : Kind) (id : ℕ) (from : Option ℕ) (date pin : ℕ) (lists : List (List StampedRow)) (are : AreLists lists) (best : Option (ℕ × RowPlace)) → IsPickFrom kind id from date pin (λ (x : ℕ × RowPlace). x.1) (all_places 0 (map places_of lists)) best → IsChange kind id from date pin lists best
+unfolding IsPick IsPickFrom
+change_from_pick kind id from date pin lists are None none = λ row found late.
+    let r = row_at kind id date (rows_at pin (listed lists)) row found in
+    let c = current_from_snapshot (rows_at pin (listed lists)) date row r.current in
+    let k = candidate_of kind id date pin lists are row c.known r.version c.early in
+    none k.x k.there k.passes (ap (is_above from) k.time_is ∙ late)
+change_from_pick kind id from date pin lists are (Some b) p =
+    let w = get_from_pick kind id date pin lists are (Some b) p.0 in
+    let key_is = (says 0 w.1.rows (w.0, b.1) w.1.there).key_is in
+    (w.0, w.1, w.2, ap (λ (k : Key). is_above from k.time) (sym key_is) ∙ p.1)

@@ -12,7 +12,7 @@ use Rattle.segment.specs.declared.place.RowPlace.{RowPlace}
 use Rattle.as_of_index.specs.declared.search.Start.{Start}
 use Rattle.as_of_index.specs.declared.search.Start.TheVariants.{AfterVersion, Later, Components}
 use Rattle.as_of_index.specs.Places.{place_cmp}
-use Rattle.as_of_index.specs.Private.Search.{is_before, SplitsAt, IsPassed, ArePassed, IsNextShown}
+use Rattle.as_of_index.specs.Private.Search.{is_before, SplitsAt, IsPassed, ArePassed, IsNextChanged}
 use Rattle.as_of_index.proofs.Ordered.{before-falls}
 
 -- ---- where a cursor stops
@@ -128,6 +128,6 @@ module _ (kind : Kind) (id : ℕ) (lists : List (List RowPlace)) (cursors : List
   others_ahead None above a = passed_further (Components kind None) (Components kind (Some id)) (λ p e. component-none (kind_place p.key.kind) (kind_place kind) p.key.id id e) lists cursors a
   others_ahead (Some last) above a = passed_further (Components kind (Some last)) (Components kind (Some id)) (λ p e. component-some (kind_place p.key.kind) (kind_place kind) p.key.id id last above e) lists cursors a
 
-pub id_above : (kind : Kind) (last : Option ℕ) (date pin : ℕ) (xs : List (ℕ × RowPlace)) (id : ℕ) → IsNextShown kind last date pin xs (Some id) → is_above last id ≡ true
-unfolding IsNextShown
-id_above kind last date pin xs id n = n.above
+pub id_above : (kind : Kind) (last from : Option ℕ) (date pin : ℕ) (xs : List (ℕ × RowPlace)) (id : ℕ) → IsNextChanged kind last from date pin xs (Some id) → is_above last id ≡ true
+unfolding IsNextChanged
+id_above kind last from date pin xs id n = n.above

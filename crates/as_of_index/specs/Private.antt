@@ -6,3 +6,6 @@ pub mod Chosen
 pub mod Postings
 pub mod Merging
 pub mod Numbers
+pub mod Walk
+pub mod Once
+pub mod Dates

@@ -1,12 +1,13 @@
 //! One cursor a list: all that stands before it is passed over. A list that shows nothing at a date
-//! and a pin is walked as an empty one.
+//! and a pin is walked as an empty one, and so is one of which nothing is later than `from`, if that
+//! is given.
 
-ghost use Rattle.std.specs.Prelude.{IfOk, None};
-ghost use Rattle.as_of_index.specs.Private.Search.{all_places, shown_parts, ArePassed, IsPick};
-ghost use Rattle.as_of_index.specs.Private.Search.{IsNextShown};
+ghost use Rattle.std.specs.Prelude.{◌≡◌, IfOk, None};
+ghost use Rattle.as_of_index.specs.Private.Search.{all_places, changed_parts, ArePassed, IsPickFrom};
+ghost use Rattle.as_of_index.specs.Private.Search.{IsNextChanged, later_than};
 ghost use Rattle.as_of_index.specs.declared.search.Start.TheVariants as starts;
 
-use crate::place_list::PlaceList;
+use crate::place_list::{PlaceList, is_later, time_of};
 use crate::search::{Start, go_on, id_at, later, latest_from, lesser, place};
 use rf2_values::{EffectiveTime, Kind};
 use segment::RowPlace;
@@ -17,15 +18,16 @@ pub(crate) fn cursors_at(
     alloc: Global,
     lists: &[PlaceList],
     start: &Start,
+    from: Option<u32>,
     time: EffectiveTime,
     pin: u32,
 ) -> Result<Vec<usize>, AllocError>
     ensures { IfOk result
-        (λ cursors. ArePassed start.now (shown_parts time pin lists.now) cursors.items) }
+        (λ cursors. ArePassed start.now (changed_parts from time pin lists.now) cursors.items) }
 {
     let mut cursors = Vec::with_capacity(alloc, lists.len())?;
     for list in lists {
-        cursors.push(place(list.shown_part(time, pin), *start))?;
+        cursors.push(place(list.changed_part(from, time, pin), *start))?;
     }
     Ok(cursors)
 }
@@ -36,19 +38,20 @@ pub(crate) fn next_id(
     cursors: &mut Vec<usize>,
     kind: Kind,
     after: Option<u128>,
+    from: Option<u32>,
     time: EffectiveTime,
     pin: u32,
 ) -> Option<u128>
     requires { ArePassed (starts.Components kind after)
-        (shown_parts time pin lists.now) cursors.old.items }
-    ensures next { IsNextShown kind after time pin (all_places 0 lists.now) result }
+        (changed_parts from time pin lists.now) cursors.old.items }
+    ensures next { IsNextChanged kind after from time pin (all_places 0 lists.now) result }
     ensures passed { ArePassed (starts.Components kind after)
-        (shown_parts time pin lists.now) cursors.new.items }
+        (changed_parts from time pin lists.now) cursors.new.items }
 {
     let start = Start::Components { kind, after };
     let mut best = None;
     for (segment, list) in lists.iter().enumerate() {
-        let places = list.shown_part(time, pin);
+        let places = list.changed_part(from, time, pin);
         let first = go_on(places, cursors[segment], &start);
         cursors[segment] = first;
         best = lesser(best, id_at(places, first, kind));
@@ -56,24 +59,41 @@ pub(crate) fn next_id(
     best
 }
 
-/// The latest version of the component up to the date
-/// that the pin shows, and the number of its list.
+/// The place, if it is later than `from`.
+fn later_than(from: Option<u32>, found: Option<RowPlace>) -> Option<RowPlace>
+    ensures { result ≡ later_than from found }
+{
+    match found {
+        Some(p) => {
+            if is_later(from, time_of(&p)) {
+                Some(p)
+            } else {
+                None
+            }
+        }
+        None => None,
+    }
+}
+
+/// The latest version of the component up to the date that the pin shows, if it is later than
+/// `from`, and the number of its list.
 pub(crate) fn latest_on(
     lists: &[PlaceList],
     cursors: &[usize],
     kind: Kind,
     id: u128,
+    from: Option<u32>,
     time: EffectiveTime,
     pin: u32,
 ) -> Option<(usize, RowPlace)>
-    requires { ArePassed (starts.Later kind id None) (shown_parts time pin lists.now) cursors.now }
-    ensures { IsPick kind id time pin (λ x. x.1) (all_places 0 lists.now) result }
+    requires { ArePassed (starts.Later kind id None) (changed_parts from time pin lists.now) cursors.now }
+    ensures { IsPickFrom kind id from time pin (λ x. x.1) (all_places 0 lists.now) result }
 {
     let mut best = None;
     for (segment, list) in lists.iter().enumerate() {
-        let places = list.shown_part(time, pin);
+        let places = list.changed_part(from, time, pin);
         let found = latest_from(places, cursors[segment], kind, id, time, pin);
-        if let Some(p) = found {
+        if let Some(p) = later_than(from, found) {
             best = later(best, segment, Some(p));
         }
     }

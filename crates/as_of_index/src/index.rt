@@ -10,7 +10,7 @@ ghost use Rattle.rf2_values.specs.Key.{key_of};
 ghost use Rattle.history_model.specs.declared.stamped.StampedRow.{StampedRow};
 ghost use Rattle.history_model.specs.History.{rows_at};
 ghost use Rattle.history_model.specs.Lists.{listed};
-ghost use Rattle.history_model.specs.Queries.{get, versions, page};
+ghost use Rattle.history_model.specs.Queries.{get, versions, page, delta, dates};
 ghost use Rattle.segment.specs.declared.place.RowPlace.{RowPlace};
 ghost use Rattle.as_of_index.specs.Places.{max_lists, item_at, ArePlaces, Lists};
 ghost use Rattle.fault_counts.specs.Counting.{Counts, CountsDiskFault, CountsDamage};
@@ -19,9 +19,11 @@ ghost use Rattle.as_of_index.specs.Private.Current.{is_same_place};
 ghost use Rattle.as_of_index.specs.Search.{IsPlaceOf};
 ghost use Rattle.as_of_index.specs.Private.Search.{all_places, IsPick, IsNext, IsNextId};
 ghost use Rattle.as_of_index.specs.Private.Search.{IsNextVersion};
+ghost use Rattle.as_of_index.specs.Private.Walk.{walked};
 ghost use Rattle.fault_counts.specs.declared.fault.ReadFault.TheVariants as readfault;
 
 use crate::cursors::{cursors_at, latest_on, next_id};
+use crate::dates::sort_once;
 use crate::hints::{Hints, latest_from_hints};
 use crate::place_list::PlaceList;
 use crate::reader::RowReader;
@@ -208,6 +210,18 @@ impl Index {
         }
     }
 
+    /// The place of the row with this number in a list, if there is one and the pin shows it,
+    /// whatever the date. It makes no bisection, and reads no row.
+    pub fn shown_at(&self, segment: usize, number: u32, pin: u32) -> Option<RowPlace>
+        ensures { (at : RowPlace) → (result ≡ Some at)
+            ↔ ((item_at self.now segment number ≡ Some at) × (at.import ≤ pin)) }
+    {
+        match self.place_of_row(segment, number as usize) {
+            Some(at) => { if is_shown(&at, pin) { Some(at) } else { None } }
+            None => None,
+        }
+    }
+
     /// Whether the version that stands at the place is the one at the date, of those that the pin
     /// shows. Where the list and the number of the place in it are given, that list costs no
     /// bisection.
@@ -347,6 +361,57 @@ impl Index {
         Ok(rows)
     }
 
+    /// The first rows of a kind at the date with an id above `after` and later than `from`, if these
+    /// are given, ascending by id, of the rows that the pin shows.
+    fn walk<R: RowReader>(
+        &self,
+        reader: &mut R,
+        kind: Kind,
+        from: Option<u32>,
+        time: EffectiveTime,
+        after: Option<u128>,
+        limit: u32,
+        pin: u32,
+    ) -> Result<Vec<Row>, ReadFault>
+        ensures found { R.is_honest reader.old → Lists self.now (R.lists reader.old)
+            → IfOk result (λ rows. rows.items
+            ≡ walked kind from time after limit (rows_at pin (listed (R.lists reader.old)))) }
+        ensures undamaged { R.is_honest reader.old → Lists self.now (R.lists reader.old)
+            → IfErr result (λ e. e ≢ readfault.Damaged) }
+        ensures work { IfOk result (λ rows.
+            R.work reader.new ≤ R.work reader.old + sum_by R.cost rows.items) }
+        ensures work_always { Lists self.now (R.lists reader.old)
+            → R.work reader.new ≤ R.work reader.old + sum_by R.cost
+            (walked kind from time after limit (rows_at pin (listed (R.lists reader.old)))) }
+        ensures lists { R.lists reader.new ≡ R.lists reader.old }
+        ensures honesty { R.is_honest reader.old → R.is_honest reader.new }
+        ensures stays { R.stays reader.old reader.new }
+        ensures disk_faults { Counts CountsDiskFault result
+            (R.disk_faults reader.old) (R.disk_faults reader.new) }
+        ensures damages { Counts CountsDamage result (R.damages reader.old) (R.damages reader.new) }
+    {
+        let lists = self.lists.as_slice();
+        let mut rows = Vec::new(self.alloc);
+        let mut last = after;
+        let start = Start::Components { kind, after };
+        let mut cursors = cursors_at(self.alloc, lists, &start, from, time, pin)?;
+        while rows.len() < limit as usize {
+            match next_id(lists, &mut cursors, kind, last, from, time, pin) {
+                Some(id) => {
+                    if let Some((segment, at)) = latest_on(
+                        lists, &cursors, kind, id, from, time, pin,
+                    ) {
+                        let found = reader.row(self.alloc, segment, at)?;
+                        rows.push(found.row)?;
+                    }
+                    last = Some(id);
+                }
+                None => return Ok(rows),
+            }
+        }
+        Ok(rows)
+    }
+
     /// The first rows of a kind at the date with an id above `after`, ascending by id, of the rows
     /// that the pin shows. It makes one bisection a list, and then goes on by a cursor a list. It
     /// passes over lists all of whose rows are of later dates, or all of later imports.
@@ -383,23 +448,58 @@ impl Index {
             (R.disk_faults reader.old) (R.disk_faults reader.new) }
         ensures damages { Counts CountsDamage result (R.damages reader.old) (R.damages reader.new) }
     {
-        let lists = self.lists.as_slice();
-        let mut rows = Vec::new(self.alloc);
-        let mut last = after;
-        let start = Start::Components { kind, after };
-        let mut cursors = cursors_at(self.alloc, lists, &start, time, pin)?;
-        while rows.len() < limit as usize {
-            match next_id(lists, &mut cursors, kind, last, time, pin) {
-                Some(id) => {
-                    if let Some((segment, at)) = latest_on(lists, &cursors, kind, id, time, pin) {
-                        let found = reader.row(self.alloc, segment, at)?;
-                        rows.push(found.row)?;
-                    }
-                    last = Some(id);
-                }
-                None => return Ok(rows),
-            }
+        self.walk(reader, kind, None, time, after, limit, pin)
+    }
+
+    /// What changed from one date to another: the first rows of a kind at the date that are later than
+    /// `from`, with an id above `after`, ascending by id, of the rows that the pin shows. It goes as
+    /// `page` does, and passes over lists none of whose rows are later than `from` too.
+    pub fn delta<R: RowReader>(
+        &self,
+        reader: &mut R,
+        kind: Kind,
+        from: EffectiveTime,
+        time: EffectiveTime,
+        after: Option<u128>,
+        limit: u32,
+        pin: u32,
+    ) -> Result<Vec<Row>, ReadFault>
+        ensures found { R.is_honest reader.old → Lists self.now (R.lists reader.old)
+            → IfOk result (λ rows. rows.items
+            ≡ delta kind from time after limit (rows_at pin (listed (R.lists reader.old)))) }
+        ensures undamaged { R.is_honest reader.old → Lists self.now (R.lists reader.old)
+            → IfErr result (λ e. e ≢ readfault.Damaged) }
+        // No more is read than the rows that it answers take, each read once.
+        ensures work { IfOk result (λ rows.
+            R.work reader.new ≤ R.work reader.old + sum_by R.cost rows.items) }
+        // Whatever it answers and whatever was read, no more is read than the rows of this Delta
+        // take, each counted once.
+        ensures work_always { Lists self.now (R.lists reader.old)
+            → R.work reader.new ≤ R.work reader.old + sum_by R.cost
+            (delta kind from time after limit (rows_at pin (listed (R.lists reader.old)))) }
+        ensures lists { R.lists reader.new ≡ R.lists reader.old }
+        ensures honesty { R.is_honest reader.old → R.is_honest reader.new }
+        ensures stays { R.stays reader.old reader.new }
+        ensures disk_faults { Counts CountsDiskFault result
+            (R.disk_faults reader.old) (R.disk_faults reader.new) }
+        ensures damages { Counts CountsDamage result (R.damages reader.old) (R.damages reader.new) }
+    {
+        self.walk(reader, kind, Some(from.value()), time, after, limit, pin)
+    }
+
+    /// The distinct effective times of the rows that the pin shows, ascending. It looks at no place,
+    /// and reads no row.
+    pub fn dates(&self, pin: u32) -> Result<Vec<EffectiveTime>, AllocError>
+        ensures found { IfOk result (λ times. (lists : List (List StampedRow))
+            → Lists self.now lists → times.items ≡ dates (rows_at pin (listed lists))) }
+    {
+        // Its contract says that no key is listed twice.
+        let _listed = self.lists();
+        let mut times = Vec::new(self.alloc);
+        for list in &self.lists {
+            list.add_dates(&mut times, pin)?;
         }
-        Ok(rows)
+        sort_once(&mut times);
+        Ok(times)
     }
 }

@@ -4,6 +4,7 @@
 
 mod chosen;
 mod cursors;
+mod dates;
 mod hints;
 mod index;
 pub mod laws;

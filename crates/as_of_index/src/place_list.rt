@@ -1,12 +1,16 @@
 //! The places of one segment's rows.
 
-ghost use Rattle.std.specs.Prelude.{◌≡◌};
+ghost use Rattle.std.specs.Prelude.{◌≡◌, IfOk, OnOk};
 ghost use Rattle.history_model.specs.InOrder.{IsAscending};
-ghost use Rattle.as_of_index.specs.Places.{place_cmp, least_by};
-ghost use Rattle.as_of_index.specs.Private.Search.{may_show, shown_part};
+ghost use Rattle.history_model.specs.Queries.{is_above};
+ghost use Rattle.as_of_index.specs.Places.{place_cmp, least_by, greatest_by};
+ghost use Rattle.as_of_index.specs.Private.Dates.{AddsDates};
+ghost use Rattle.as_of_index.specs.Private.Search.{may_show, shown_part, may_change, changed_part};
 
+use crate::dates::{DateEntry, add_shown, entries_of};
 use rf2_values::EffectiveTime;
 use segment::RowPlace;
+use std::alloc::{AllocError, Global};
 use std::marker::Model;
 
 /// The places of a segment's rows, in strictly ascending key order.
@@ -15,8 +19,12 @@ pub struct PlaceList {
     pub(crate) places: Vec<RowPlace>,
     /// The least effective time of a place, and the greatest number where there is none.
     pub(crate) first_time: u32,
+    /// The greatest effective time of a place, and 0 where there is none.
+    pub(crate) last_time: u32,
     /// The least number of an import, and the greatest number where there is no place.
     pub(crate) first_import: u32,
+    /// Which effective times and imports the places have.
+    pub(crate) dates: Vec<DateEntry>,
 }
 
 impl Model for PlaceList {
@@ -24,7 +32,8 @@ impl Model for PlaceList {
     ghost use Rattle.history_model.specs.InOrder.{IsAscending};
     ghost use Rattle.segment.specs.declared.place.RowPlace.{RowPlace};
     ghost use Rattle.std.specs.Prelude.{◌≡◌};
-    ghost use Rattle.as_of_index.specs.Places.{place_cmp, least_by};
+    ghost use Rattle.as_of_index.specs.Places.{place_cmp, least_by, greatest_by};
+    ghost use Rattle.as_of_index.specs.Dates.{AreEntries};
 
     ghost Value = { List RowPlace };
 
@@ -33,7 +42,9 @@ impl Model for PlaceList {
     ghost invariant = { λ a. record {
       ascending : IsAscending place_cmp a.places.items;
       time : a.first_time ≡ least_by (λ p. p.key.time) a.places.items;
+      last : a.last_time ≡ greatest_by (λ p. p.key.time) a.places.items;
       import : a.first_import ≡ least_by (λ p. p.import) a.places.items;
+      dates : AreEntries a.places.items a.dates.items;
     } };
 }
 
@@ -54,6 +65,26 @@ pub(crate) fn first_time(places: &[RowPlace]) -> u32
     first
 }
 
+pub(crate) fn last_time(places: &[RowPlace]) -> u32
+    ensures { result ≡ greatest_by (λ p. p.key.time) places.now }
+{
+    let mut last = 0;
+    for p in places {
+        last = last.max(time_of(p));
+    }
+    last
+}
+
+/// Whether the time is later than `from`, if that is given.
+pub(crate) fn is_later(from: Option<u32>, time: u32) -> bool
+    ensures { result ≡ is_above from time }
+{
+    match from {
+        None => true,
+        Some(from) => from < time,
+    }
+}
+
 pub(crate) fn first_import(places: &[RowPlace]) -> u32
     ensures { result ≡ least_by (λ p. p.import) places.now }
 {
@@ -66,17 +97,21 @@ pub(crate) fn first_import(places: &[RowPlace]) -> u32
 
 impl PlaceList {
     /// Places that ascend by their keys.
-    pub fn new(places: Vec<RowPlace>) -> PlaceList
+    pub fn new(alloc: Global, places: Vec<RowPlace>) -> Result<PlaceList, AllocError>
         requires { IsAscending place_cmp places.items }
-        ensures { result ≡ places.items }
+        ensures { IfOk result (λ list. list ≡ places.items) }
     {
+        let dates = entries_of(alloc, places.as_slice())?;
         let first_time = first_time(places.as_slice());
+        let last_time = last_time(places.as_slice());
         let first_import = first_import(places.as_slice());
-        PlaceList {
+        Ok(PlaceList {
             places,
             first_time,
+            last_time,
             first_import,
-        }
+            dates,
+        })
     }
 
     /// The places, in key order.
@@ -105,5 +140,41 @@ impl PlaceList {
         } else {
             &places[..0]
         }
+    }
+
+    /// Whether not all places are up to `from` either, if that is given.
+    fn may_change(&self, from: Option<u32>, time: EffectiveTime, pin: u32) -> bool
+        ensures { result ≡ may_change from time pin self.now }
+    {
+        self.may_show(time, pin) && is_later(from, self.last_time)
+    }
+
+    /// The places, in key order, or none where `shown_part` has none, or where all are up to `from`,
+    /// if that is given.
+    pub(crate) fn changed_part(
+        &self,
+        from: Option<u32>,
+        time: EffectiveTime,
+        pin: u32,
+    ) -> &[RowPlace]
+        ensures part { result.now ≡ changed_part from time pin self.now }
+        ensures ascending { IsAscending place_cmp result.now }
+    {
+        let places = self.places.as_slice();
+        if self.may_change(from, time, pin) {
+            places
+        } else {
+            &places[..0]
+        }
+    }
+    /// Adds the effective times of the places that the pin shows. It looks at none of them.
+    pub(crate) fn add_dates(
+        &self,
+        times: &mut Vec<EffectiveTime>,
+        pin: u32,
+    ) -> Result<(), AllocError>
+        ensures { OnOk result (AddsDates pin self.now times.old.items times.new.items) }
+    {
+        add_shown(times, self.dates.as_slice(), pin)
     }
 }

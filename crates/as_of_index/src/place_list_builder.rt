@@ -4,25 +4,32 @@ ghost use Rattle.std.specs.Prelude.{◌≡◌, ◌++◌, ◌∷◌, [], length, 
 ghost use Rattle.history_model.specs.InOrder.{IsAscending};
 ghost use Rattle.as_of_index.specs.Places.{place_cmp};
 
-use crate::place_list::{PlaceList, first_import, first_time, time_of};
+use crate::dates::{DateEntry, cut, note};
+use crate::place_list::{PlaceList, first_import, first_time, last_time, time_of};
 use segment::RowPlace;
 use std::alloc::{AllocError, Global};
 use std::marker::Model;
 
-/// Places of rows, with their least time and import, so that a list of them looks at none again.
+/// Places of rows, with their least and greatest time, their least import and their dates, so that a
+/// list of them looks at none again.
 #[derive(Drop)]
 pub struct PlaceListBuilder {
     places: Vec<RowPlace>,
     /// The least effective time of a place, and the greatest number where there is none.
     first_time: u32,
+    /// The greatest effective time of a place, and 0 where there is none.
+    last_time: u32,
     /// The least number of an import, and the greatest number where there is no place.
     first_import: u32,
+    /// Which effective times and imports the places have.
+    dates: Vec<DateEntry>,
 }
 
 impl Model for PlaceListBuilder {
     ghost use Rattle.std.specs.Prelude.{List, ◌≡◌};
     ghost use Rattle.segment.specs.declared.place.RowPlace.{RowPlace};
-    ghost use Rattle.as_of_index.specs.Places.{least_by};
+    ghost use Rattle.as_of_index.specs.Places.{least_by, greatest_by};
+    ghost use Rattle.as_of_index.specs.Dates.{AreEntries};
 
     ghost Value = { List RowPlace };
 
@@ -30,7 +37,9 @@ impl Model for PlaceListBuilder {
 
     ghost invariant = { λ a. record {
       time : a.first_time ≡ least_by (λ p. p.key.time) a.places.items;
+      last : a.last_time ≡ greatest_by (λ p. p.key.time) a.places.items;
       import : a.first_import ≡ least_by (λ p. p.import) a.places.items;
+      dates : AreEntries a.places.items a.dates.items;
     } };
 }
 
@@ -42,8 +51,17 @@ impl PlaceListBuilder {
         PlaceListBuilder {
             places: Vec::new(alloc),
             first_time: u32::MAX,
+            last_time: 0,
             first_import: u32::MAX,
+            dates: Vec::new(alloc),
         }
+    }
+
+    /// Makes room for so many places more.
+    pub fn reserve(&mut self, more: usize) -> Result<(), AllocError>
+        ensures { self.new ≡ self.old }
+    {
+        self.places.reserve(more)
     }
 
     /// Adds a place. An `Err` changes nothing.
@@ -51,10 +69,14 @@ impl PlaceListBuilder {
         ensures ok { OnOk result (self.new ≡ self.old ++ place ∷ []) }
         ensures err { OnErr result (self.new ≡ self.old) }
     {
-        if let Err(_) = self.places.push(place) {
-            return Err(AllocError);
-        }
+        let number = self.len();
+        self.places.reserve(1)?;
+        note(&mut self.dates, &place, number)?;
+        let Ok(()) = self.places.push(place) else {
+            unreachable!()
+        };
         self.first_time = self.first_time.min(time_of(&place));
+        self.last_time = self.last_time.max(time_of(&place));
         self.first_import = self.first_import.min(place.import);
         Ok(())
     }
@@ -71,7 +93,9 @@ impl PlaceListBuilder {
         ensures { self.new ≡ take len self.old }
     {
         self.places.truncate(len);
+        cut(&mut self.dates, len);
         self.first_time = first_time(self.places.as_slice());
+        self.last_time = last_time(self.places.as_slice());
         self.first_import = first_import(self.places.as_slice());
     }
 
@@ -83,12 +107,16 @@ impl PlaceListBuilder {
         let PlaceListBuilder {
             places,
             first_time,
+            last_time,
             first_import,
+            dates,
         } = self;
         PlaceList {
             places,
             first_time,
+            last_time,
             first_import,
+            dates,
         }
     }
 }

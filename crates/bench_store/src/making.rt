@@ -196,12 +196,14 @@ impl Made {
         })
     }
 
-    /// Lists some places; false where they may not be listed.
-    fn list(&mut self, places: Vec<RowPlace>) -> bool {
+    /// Lists some places; false where they may not be listed, or there is no memory.
+    fn list(&mut self, alloc: Global, places: Vec<RowPlace>) -> bool {
         if !may_list(&places) {
             return false;
         }
-        let list = PlaceList::new(places);
+        let Ok(list) = PlaceList::new(alloc, places) else {
+            return false;
+        };
         if !may_add(&self.index, &list) {
             return false;
         }
@@ -209,8 +211,8 @@ impl Made {
         true
     }
 
-    /// Adds a list; false where it may not be added.
-    fn add(&mut self, pushed: Pushed) -> bool {
+    /// Adds a list; false where it may not be added, or there is no memory.
+    fn add(&mut self, alloc: Global, pushed: Pushed) -> bool {
         if self.terms.lists() >= MAX_LISTS || self.links.lists() >= MAX_LISTS {
             return false;
         }
@@ -222,7 +224,7 @@ impl Made {
         } = pushed;
         self.terms.add(terms.seal());
         self.links.add(links.seal());
-        self.list(places)
+        self.list(alloc, places)
     }
 }
 
@@ -260,7 +262,7 @@ pub(crate) fn make_lists(alloc: Global, size: u64, lists: u64, order: Order) -> 
     for number in 0..lists {
         let mut pushed = Pushed::new(alloc);
         push_list(&mut pushed, alloc, size, (number, lists), order)?;
-        if !made.add(pushed) {
+        if !made.add(alloc, pushed) {
             return None;
         }
     }

@@ -2,11 +2,12 @@
 //! these.
 //!
 //! `get KIND ID DATE` asks for the component's row at the date, `versions KIND ID`, `replacements
-//! ID DATE`, `about KIND ID DATE`, `page KIND DATE AFTER LIMIT`, `terms DATE LIMIT "PREFIX"` and
-//! `search DATE AFTER LIMIT "PREFIX"` ask for rows, and `children ID DATE` for identifiers. AFTER
-//! is a number or `-`.
+//! ID DATE`, `replaces ID DATE`, `about KIND ID DATE`, `timeline KIND ID`, `page KIND DATE AFTER
+//! LIMIT`, `delta KIND FROM DATE AFTER LIMIT`, `terms DATE LIMIT "PREFIX"` and `search DATE AFTER
+//! LIMIT "PREFIX"` ask for rows, `children ID DATE`, `descendants ID DATE` and `ancestors ID DATE`
+//! for identifiers, and `dates` for days. AFTER is a number or `-`.
 
-use crate::words::{above, day_of, first_word, kind_of, number, sctid_of};
+use crate::words::{above, day_of, kind_of, number, sctid_of};
 use case_files::NoAnswer;
 use rf2_rows::{EffectiveTime, Kind, Sctid};
 use std::alloc::Global;
@@ -17,11 +18,17 @@ pub enum Question {
     Get(Kind, u128, EffectiveTime),
     Versions(Kind, u128),
     Replacements(Sctid, EffectiveTime),
+    Replaces(Sctid, EffectiveTime),
     About(Kind, Sctid, EffectiveTime),
+    Timeline(Kind, Sctid),
     Page(Kind, EffectiveTime, Option<u128>, u32),
+    Delta(Kind, EffectiveTime, EffectiveTime, Option<u128>, u32),
     Terms(EffectiveTime, u32),
     Search(EffectiveTime, Option<u128>, u32),
     Children(Sctid, EffectiveTime),
+    Descendants(Sctid, EffectiveTime),
+    Ancestors(Sctid, EffectiveTime),
+    Dates,
 }
 
 /// A question about a component at a date.
@@ -32,6 +39,9 @@ fn ask_of_component(word: &str, words: &[&str]) -> Result<Question, NoAnswer> {
     let (id, date) = (sctid_of(*id)?, day_of(*date)?);
     match word {
         "replacements" => Ok(Question::Replacements(id, date)),
+        "replaces" => Ok(Question::Replaces(id, date)),
+        "descendants" => Ok(Question::Descendants(id, date)),
+        "ancestors" => Ok(Question::Ancestors(id, date)),
         _ => Ok(Question::Children(id, date)),
     }
 }
@@ -45,6 +55,7 @@ fn ask_of_kind(word: &str, words: &[&str]) -> Result<Question, NoAnswer> {
         ("about", [kind, id, date]) => {
             Ok(Question::About(kind_of(*kind)?, sctid_of(*id)?, day_of(*date)?))
         }
+        ("timeline", [kind, id]) => Ok(Question::Timeline(kind_of(*kind)?, sctid_of(*id)?)),
         ("versions", [kind, id]) => Ok(Question::Versions(kind_of(*kind)?, number(*id)?)),
         _ => Err(NoAnswer::NoQuestion),
     }
@@ -57,6 +68,16 @@ fn ask_for_page(words: &[&str]) -> Result<Question, NoAnswer> {
     };
     let (kind, date) = (kind_of(*kind)?, day_of(*date)?);
     Ok(Question::Page(kind, date, above(*after)?, number(*limit)?))
+}
+
+/// A question for the first rows of a kind that changed from one date to another.
+fn ask_for_delta(words: &[&str]) -> Result<Question, NoAnswer> {
+    let [kind, from, date, after, limit] = words else {
+        return Err(NoAnswer::NoQuestion);
+    };
+    let (kind, from, date) = (kind_of(*kind)?, day_of(*from)?, day_of(*date)?);
+    let (after, limit) = (above(*after)?, number(*limit)?);
+    Ok(Question::Delta(kind, from, date, after, limit))
 }
 
 /// A question for descriptions.
@@ -73,8 +94,11 @@ fn ask_for_terms(words: &[&str]) -> Result<Question, NoAnswer> {
 /// The question that words ask.
 fn question_of(word: &str, words: &[&str]) -> Result<Question, NoAnswer> {
     match (word, words.len()) {
-        ("replacements" | "children", _) => ask_of_component(word, words),
+        ("replacements" | "replaces", _) => ask_of_component(word, words),
+        ("children" | "descendants" | "ancestors", _) => ask_of_component(word, words),
         ("page", _) => ask_for_page(words),
+        ("delta", _) => ask_for_delta(words),
+        ("dates", 0) => Ok(Question::Dates),
         ("terms", 2) | ("search", 3) => ask_for_terms(words),
         _ => ask_of_kind(word, words),
     }
@@ -82,7 +106,9 @@ fn question_of(word: &str, words: &[&str]) -> Result<Question, NoAnswer> {
 
 /// The question that a text asks.
 pub fn read_question(alloc: Global, text: &str) -> Result<Question, NoAnswer> {
-    let (word, text) = first_word(text)?;
     let words: Vec<&str> = text.split(' ').collect(alloc)?;
-    question_of(word, words.as_slice())
+    match words.as_slice() {
+        [word, words @ ..] => question_of(*word, words),
+        [] => Err(NoAnswer::NoQuestion),
+    }
 }

@@ -1,11 +1,11 @@
 //! What an index answers.
 
 use crate::indexed::Indexed;
-use crate::spelled::{spell_ids, spell_rows};
+use crate::spelled::{spell_dates, spell_ids, spell_rows};
 use as_of_index::{ReadFault, RowReader};
 use case_files::{Answer, NoAnswer};
 use case_values::Question;
-use links::{about, children, replacements};
+use links::{about, ancestors, children, descendants, replacements, replaces, timeline};
 use rf2_values::{EffectiveTime, Row};
 use std::alloc::{AllocError, Global};
 use term_prefix::{Search, find};
@@ -69,17 +69,25 @@ pub fn rows_found<R: RowReader>(
         Question::Page(kind, date, after, limit) => {
             index.page(reader, kind, date, after, limit, pin)
         }
+        Question::Delta(kind, from, date, after, limit) => {
+            index.delta(reader, kind, from, date, after, limit, pin)
+        }
         Question::Replacements(id, time) => {
             replacements(alloc, links, index, reader, id, time, pin)
         }
+        Question::Replaces(id, time) => replaces(alloc, links, index, reader, id, time, pin),
         Question::About(kind, id, time) => about(alloc, links, index, reader, kind, id, time, pin),
+        Question::Timeline(kind, id) => timeline(alloc, links, index, reader, kind, id, pin),
         Question::Terms(time, limit) => {
             search(alloc, made, reader, prefix, (time, pin), (None, limit))
         }
         Question::Search(time, after, limit) => {
             search(alloc, made, reader, prefix, (time, pin), (after, limit))
         }
-        Question::Children(_, _) => Ok(Vec::new(alloc)),
+        Question::Children(_, _)
+        | Question::Descendants(_, _)
+        | Question::Ancestors(_, _)
+        | Question::Dates => Ok(Vec::new(alloc)),
     }
 }
 
@@ -101,14 +109,40 @@ fn find_rows(alloc: Global, made: &Indexed, request: Request, prefix: &str) -> A
     Ok(format!(in alloc; "{text}, with {reads} reads and {damages} damages")?)
 }
 
-/// What the index answers.
-pub fn ask_index(alloc: Global, made: &Indexed, request: Request, prefix: &str) -> Answer {
+/// The concepts that are found, where the question asks for concepts.
+fn concepts_found<R: RowReader>(
+    alloc: Global,
+    made: &Indexed,
+    reader: &mut R,
+    request: Request,
+) -> Result<Vec<u64>, ReadFault> {
+    let (links, index) = (&made.links, &made.index);
     let Request { question, pin } = request;
     match question {
-        Question::Children(id, date) => {
-            let found = children(alloc, &made.links, &made.index, id, date, pin)?;
-            spell_ids(alloc, &found)
+        Question::Children(id, date) => Ok(children(alloc, links, index, id, date, pin)?),
+        Question::Descendants(id, date) => descendants(alloc, links, index, id, date, pin),
+        Question::Ancestors(id, date) => ancestors(alloc, links, index, reader, id, date, pin),
+        _ => Ok(Vec::new(alloc)),
+    }
+}
+
+/// Concepts that are found.
+fn find_concepts(alloc: Global, made: &Indexed, request: Request) -> Answer {
+    let mut reader = made.reader();
+    match concepts_found(alloc, made, &mut reader, request) {
+        Ok(ids) => spell_ids(alloc, &ids),
+        Err(ReadFault::OutOfMemory) => Err(NoAnswer::OutOfMemory),
+        Err(fault) => Ok(format!(in alloc; "{fault:?}")?),
+    }
+}
+
+/// What the index answers.
+pub fn ask_index(alloc: Global, made: &Indexed, request: Request, prefix: &str) -> Answer {
+    match request.question {
+        Question::Children(_, _) | Question::Descendants(_, _) | Question::Ancestors(_, _) => {
+            find_concepts(alloc, made, request)
         }
-        _ => find_rows(alloc, made, Request { question, pin }, prefix),
+        Question::Dates => spell_dates(alloc, &made.index.dates(request.pin)?),
+        _ => find_rows(alloc, made, request, prefix),
     }
 }

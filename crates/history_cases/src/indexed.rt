@@ -38,7 +38,7 @@ fn list_places(alloc: Global, rows: &[StampedRow]) -> Result<PlaceList, NoAnswer
     if !may_list(&places) {
         return Err(NoAnswer::NoQuestion);
     }
-    Ok(PlaceList::new(places))
+    Ok(PlaceList::new(alloc, places)?)
 }
 
 /// Adds the places of a list, which have to be listed nowhere else.

@@ -1,28 +1,23 @@
 //! What the plain programs answer, of the rows that a pin shows.
 
-use crate::spelled::{spell_ids, spell_row, spell_rows};
+use crate::spelled::{spell_dates, spell_ids, spell_row, spell_rows};
 use case_files::{Answer, NoAnswer};
 use case_values::Question;
 use rf2_values::{EffectiveTime, Kind, Row, Sctid};
-use std::alloc::{AllocError, Global};
+use std::alloc::Global;
 
 /// The component's row at a date.
 fn get(alloc: Global, shown: &[Row], kind: Kind, id: u128, date: EffectiveTime) -> Answer {
     spell_row(alloc, plain_history::get(shown, kind, id, date))
 }
 
-/// The numbers of a concept's children.
-fn children(
-    alloc: Global,
-    shown: &[Row],
-    id: Sctid,
-    date: EffectiveTime,
-) -> Result<Vec<u64>, AllocError> {
+/// Concepts.
+fn spell_concepts(alloc: Global, concepts: &[Sctid]) -> Answer {
     let mut ids = Vec::new(alloc);
-    for child in &plain_history::children(alloc, shown, id, date)? {
-        ids.push(child.value())?;
+    for concept in concepts {
+        ids.push(concept.value())?;
     }
-    Ok(ids)
+    spell_ids(alloc, &ids)
 }
 
 /// The rows that are found, where the question asks for rows.
@@ -35,9 +30,14 @@ fn find<'a>(
     Ok(match question {
         Question::Versions(kind, id) => plain_history::versions(alloc, shown, kind, id)?,
         Question::Replacements(id, date) => plain_history::replacements(alloc, shown, id, date)?,
+        Question::Replaces(id, date) => plain_history::replaces(alloc, shown, id, date)?,
         Question::About(kind, id, date) => plain_history::about(alloc, shown, kind, id, date)?,
+        Question::Timeline(kind, id) => plain_history::timeline(alloc, shown, kind, id)?,
         Question::Page(kind, date, after, limit) => {
             plain_history::page(alloc, shown, kind, date, after, limit)?
+        }
+        Question::Delta(kind, from, date, after, limit) => {
+            plain_history::delta(alloc, shown, kind, from, date, after, limit)?
         }
         Question::Terms(date, limit) => plain_history::terms(alloc, shown, prefix, date, limit)?,
         Question::Search(date, after, limit) => {
@@ -51,7 +51,16 @@ fn find<'a>(
 pub fn ask_plainly(alloc: Global, shown: &[Row], question: Question, prefix: &str) -> Answer {
     match question {
         Question::Get(kind, id, date) => get(alloc, shown, kind, id, date),
-        Question::Children(id, date) => { spell_ids(alloc, &children(alloc, shown, id, date)?) }
+        Question::Children(id, date) => {
+            spell_concepts(alloc, &plain_history::children(alloc, shown, id, date)?)
+        }
+        Question::Descendants(id, date) => {
+            spell_concepts(alloc, &plain_history::descendants(alloc, shown, id, date)?)
+        }
+        Question::Ancestors(id, date) => {
+            spell_concepts(alloc, &plain_history::ancestors(alloc, shown, id, date)?)
+        }
+        Question::Dates => spell_dates(alloc, &plain_history::dates(alloc, shown)?),
         _ => spell_rows(alloc, &find(alloc, shown, question, prefix)?),
     }
 }

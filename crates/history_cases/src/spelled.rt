@@ -1,8 +1,8 @@
-//! How rows and identifiers that are found stand in an answer: one a line, or `none`.
+//! How rows, identifiers and days that are found stand in an answer: one a line, or `none`.
 
 use case_files::Answer;
 use case_values::line_of;
-use rf2_values::Row;
+use rf2_values::{EffectiveTime, Row};
 use std::alloc::{AllocError, Global};
 
 /// Adds a line to some.
@@ -36,6 +36,17 @@ pub fn spell_ids(alloc: Global, ids: &[u64]) -> Answer {
     let mut text = String::new(alloc);
     for id in ids {
         let line = format!(in alloc; "{id}")?;
+        put_line(&mut text, line.as_str())?;
+    }
+    or_none(text)
+}
+
+/// Days.
+pub fn spell_dates(alloc: Global, dates: &[EffectiveTime]) -> Answer {
+    let mut text = String::new(alloc);
+    for date in dates {
+        let day = date.value();
+        let line = format!(in alloc; "{day}")?;
         put_line(&mut text, line.as_str())?;
     }
     or_none(text)

@@ -50,7 +50,7 @@ module _ (p : RowValue → Bool) (rank : RowValue → ℕ) where
         | false ↦ λ f. below n xs a.1
       ] a.0
 
-  ascends : (xs : List RowValue) → Rises p rank xs → IsAscending by_rank (filter p xs)
+  pub ascends : (xs : List RowValue) → Rises p rank xs → IsAscending by_rank (filter p xs)
   ascends [] r = tt
   ascends (x ∷ xs) r =
       elim (p x) as (λ t. (t ≡ true → AllByRecursion (λ y. p y ≡ true → rank x < rank y) xs) → IsAscending by_rank (cond t (x ∷ filter p xs) (filter p xs))) [
@@ -63,7 +63,7 @@ All-take P zero xs a = tt
 All-take P (suc n) [] a = tt
 All-take P (suc n) (x ∷ xs) a = (a.0, All-take P n xs a.1)
 
-IsAscending-take : {X : Type 0} (cmp : X → X → Ordering) (n : ℕ) (xs : List X) → IsAscending cmp xs → IsAscending cmp (take n xs)
+pub IsAscending-take : {X : Type 0} (cmp : X → X → Ordering) (n : ℕ) (xs : List X) → IsAscending cmp xs → IsAscending cmp (take n xs)
 IsAscending-take cmp zero xs a = tt
 IsAscending-take cmp (suc n) [] a = tt
 IsAscending-take cmp (suc n) (x ∷ xs) a = (All-take (λ y. cmp x y ≡ Less) n xs a.0, IsAscending-take cmp n xs a.1)

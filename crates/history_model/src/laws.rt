@@ -19,6 +19,19 @@ ghost use Rattle.history_model.specs.Laws.{BothReceiptsCountTheSame, EachImportH
 ghost use Rattle.history_model.specs.Laws.{ImportReceiptStays};
 ghost use Rattle.history_model.specs.Laws.{OneReceiptForAnImport, ReceiptsCountTheRows};
 ghost use Rattle.history_model.specs.Laws.{ReceiptsCountWhatIsShown};
+ghost use Rattle.history_model.specs.Hierarchy.{ParentsHaveChildren, AncestorsHaveDescendants};
+ghost use Rattle.history_model.specs.Hierarchy.{ChildrenAreDescendants, DescendantsOfDescendants};
+ghost use Rattle.history_model.specs.Hierarchy.{OneListOfDescendants, OneListOfAncestors};
+ghost use Rattle.history_model.specs.Hierarchy.{EachHasDescendants, EachHasAncestors};
+ghost use Rattle.history_model.specs.Hierarchy.{DescendantsStay, AncestorsStay};
+ghost use Rattle.history_model.specs.Audit.{DeltaIsWhatDiffers, DeltaHasTheLaterRow};
+ghost use Rattle.history_model.specs.Audit.{DeltaFromTheFirst, DeltaBackwardsIsEmpty};
+ghost use Rattle.history_model.specs.Audit.{TwoDeltasCoverBoth, DeltaAscends, DeltaStays};
+ghost use Rattle.history_model.specs.Audit.{TimelineIsAll, TimelineHasWhatIsAbout};
+ghost use Rattle.history_model.specs.Audit.{TimelineAscends, TimelineStays};
+ghost use Rattle.history_model.specs.Audit.{ReplacesAreAll, BothEndsAreOne, ReplacesAscend};
+ghost use Rattle.history_model.specs.Audit.{ReplacesStay};
+ghost use Rattle.history_model.specs.Audit.{DatesAreThoseOfVersions, DatesAscend, DatesStay};
 
 /// A history is a chain of row sets, each within the next.
 pub fn each_history_is_a_chain()
@@ -221,4 +234,144 @@ pub fn receipts_count_what_is_shown()
 /// The receipts of all imports count all rows.
 pub fn receipts_count_the_rows()
     ensures { ReceiptsCountTheRows }
+{}
+
+/// One concept is a parent of another exactly if that one is its child.
+pub fn parents_have_children()
+    ensures { ParentsHaveChildren }
+{}
+
+/// One concept is an ancestor of another exactly if that one is its descendant.
+pub fn ancestors_have_descendants()
+    ensures { AncestorsHaveDescendants }
+{}
+
+/// Each child is a descendant.
+pub fn children_are_descendants()
+    ensures { ChildrenAreDescendants }
+{}
+
+/// The descendants of a descendant are descendants.
+pub fn descendants_of_descendants()
+    ensures { DescendantsOfDescendants }
+{}
+
+/// A concept has one list of descendants.
+pub fn one_list_of_descendants()
+    ensures { OneListOfDescendants }
+{}
+
+/// A concept has one list of ancestors.
+pub fn one_list_of_ancestors()
+    ensures { OneListOfAncestors }
+{}
+
+/// Each concept has a list of descendants.
+pub fn each_has_descendants()
+    ensures { EachHasDescendants }
+{}
+
+/// Each concept has a list of ancestors.
+pub fn each_has_ancestors()
+    ensures { EachHasAncestors }
+{}
+
+/// The descendants at a pin are unchanged by later imports.
+pub fn descendants_stay()
+    ensures { DescendantsStay }
+{}
+
+/// The ancestors at a pin are unchanged by later imports.
+pub fn ancestors_stay()
+    ensures { AncestorsStay }
+{}
+
+/// A Delta has the components of which the rows at the two dates differ.
+pub fn delta_is_what_differs()
+    ensures { DeltaIsWhatDiffers }
+{}
+
+/// Of each component that changed, a Delta has the row at the later date.
+pub fn delta_has_the_later_row()
+    ensures { DeltaHasTheLaterRow }
+{}
+
+/// A Delta from before all rows is a page.
+pub fn delta_from_the_first()
+    ensures { DeltaFromTheFirst }
+{}
+
+/// Nothing changes from a date to an earlier one.
+pub fn delta_backwards_is_empty()
+    ensures { DeltaBackwardsIsEmpty }
+{}
+
+/// Two Deltas, the one from where the other ends, cover the one over both.
+pub fn two_deltas_cover_both()
+    ensures { TwoDeltasCoverBoth }
+{}
+
+/// A Delta ascends by id.
+pub fn delta_ascends()
+    ensures { DeltaAscends }
+{}
+
+/// A Delta at a pin is unchanged by later imports.
+pub fn delta_stays()
+    ensures { DeltaStays }
+{}
+
+/// A timeline has all versions of what is about the component at some date, and nothing else.
+pub fn timeline_is_all()
+    ensures { TimelineIsAll }
+{}
+
+/// What is about a component at any date is in its timeline.
+pub fn timeline_has_what_is_about()
+    ensures { TimelineHasWhatIsAbout }
+{}
+
+/// A timeline ascends by id, then by time.
+pub fn timeline_ascends()
+    ensures { TimelineAscends }
+{}
+
+/// A timeline at a pin is unchanged by later imports.
+pub fn timeline_stays()
+    ensures { TimelineStays }
+{}
+
+/// No association of which the component is the target is left out.
+pub fn replaces_are_all()
+    ensures { ReplacesAreAll }
+{}
+
+/// What replaces a component, and what it replaces, are the same associations.
+pub fn both_ends_are_one()
+    ensures { BothEndsAreOne }
+{}
+
+/// What a component replaces ascends by reference set, referenced component and member.
+pub fn replaces_ascend()
+    ensures { ReplacesAscend }
+{}
+
+/// What a component replaces at a pin is unchanged by later imports.
+pub fn replaces_stay()
+    ensures { ReplacesStay }
+{}
+
+/// The dates are the effective times of all versions.
+pub fn dates_are_those_of_versions()
+    ensures { DatesAreThoseOfVersions }
+{}
+
+/// The dates ascend, each once.
+pub fn dates_ascend()
+    ensures { DatesAscend }
+{}
+
+/// The dates at a pin are unchanged by later imports.
+pub fn dates_stay()
+    ensures { DatesStay }
 {}

@@ -38,7 +38,7 @@ is_answer (Ok x) result is = is
 is_answer (Err fault) result is = is
 
 -- what holds of what was read, holds of what is answered
-answered_so : {T : Type 0} (P Q : T → Type 0) (read : Result T ReadFault) (result : Result T Refusal) → IsAnswerOf read result → ((x : T) → P x → Q x) → IfOk read P → IfOk result Q
+pub answered_so : {T : Type 0} (P Q : T → Type 0) (read : Result T ReadFault) (result : Result T Refusal) → IsAnswerOf read result → ((x : T) → P x → Q x) → IfOk read P → IfOk result Q
 answered_so P Q (Ok x) result is so h = subst (λ r. IfOk r Q) (sym is) (so x h)
 answered_so P Q (Err fault) result is so h = subst (λ r. IfOk r Q) (sym is) tt
 
@@ -63,7 +63,7 @@ read_beside (Err readfault.DiskFault) old new disk cache r = (r.0, refused_besid
 read_beside (Err readfault.Damaged) old new disk cache r = (r.0, refused_beside _ old new disk cache r.1)
 
 -- the rows were read, and what was read is answered
-answered_query : {T D : Type 0} (honest : D → Type 0) (moments : D → Moments) (failures : D → ℕ) (old new : StoreValue D) (lent disk : D) (cache : LruCache ℕ (List ℕ)) (read : Result T ReadFault) (result : Result T Refusal)
+pub answered_query : {T D : Type 0} (honest : D → Type 0) (moments : D → Moments) (failures : D → ℕ) (old new : StoreValue D) (lent disk : D) (cache : LruCache ℕ (List ℕ)) (read : Result T ReadFault) (result : Result T Refusal)
     → old.needs_reopen ≡ false → lent ≡ old.disk → MomentsStay (honest lent) (honest disk) (moments lent) (moments disk) → CountsBy CountsDiskFault read (failures lent) (failures disk)
     → (honest old.disk → IfErr read (λ e. e ≢ readfault.Damaged))
     → IsAnswerOf read result → IsReadingOf result (record old { disk = disk; cache = cache }) new → new.disk ≡ disk → (honest disk → new.needs_reopen ≡ false → IsAcknowledged moments new)
@@ -83,7 +83,7 @@ answered_query honest moments failures old new lent disk cache read result still
     }
 
 -- a store that has to be opened again isn't touched
-closed_query : {T D : Type 0} (honest : D → Type 0) (moments : D → Moments) (failures : D → ℕ) (s : StoreValue D) → s.needs_reopen ≡ true → IsQuery {T = T} (Err refusals.ReopenNeeded) honest moments failures s s
+pub closed_query : {T D : Type 0} (honest : D → Type 0) (moments : D → Moments) (failures : D → ℕ) (s : StoreValue D) → s.needs_reopen ≡ true → IsQuery {T = T} (Err refusals.ReopenNeeded) honest moments failures s s
 closed_query honest moments failures s needs = record {
   undamaged = λ up same. absurd (cc);
   read = (needs, record { history = refl; catalog = refl; closed = λ same. absurd (cc); still = λ other. refl });

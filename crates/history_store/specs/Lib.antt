@@ -7,6 +7,7 @@ pub mod Prepared
 pub mod Answers
 pub mod Openings
 pub mod Queries
+pub mod Auditing
 pub mod Written
 pub mod Calls
 pub mod MergeAnswers

@@ -5,6 +5,7 @@
 //! place of each row. Rows are read where they are listed, through a cache of blocks.
 #![tactic(auto)]
 
+mod auditing;
 mod beginning;
 mod brought;
 mod counting;

@@ -26,7 +26,7 @@ impl<D: Disk> Store<D> {
 
     /// What was read of the rows, as the store answers it. Where
     /// the device failed, the store has to be opened again.
-    fn answered<T>(&mut self, read: Result<T, ReadFault>) -> Result<T, Refusal>
+    pub(crate) fn answered<T>(&mut self, read: Result<T, ReadFault>) -> Result<T, Refusal>
         requires still { self.old.needs_reopen ≡ false }
         ensures same { MatchResult read (λ found. result ≡ Ok found)
             (λ fault. result ≡ Err (of_read fault)) }

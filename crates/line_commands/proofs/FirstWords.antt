@@ -1,6 +1,6 @@
 -- Words, and what is read of a text that they begin.
 use Rattle.std.proofs.Common.{◌≡◌, ◌≢◌, ℕ, suc, ◌<◌, ◌^◌, Bool, true, false, ◌&&◌, eqb, Option, Some, None, List, [], ◌∷◌, ◌++◌, length, get_or, refl, sym, ap, subst, ◌∙◌, arith, inl, inr}
-use Rattle.std.specs.Prelude.{decimal, codes, not}
+use Rattle.std.specs.Prelude.{decimal, codes, not, if◌then◌else◌}
 use Rattle.std.specs.Int.{IsInRange}
 use Rattle.std.specs.Str.{bytes_eq}
 use Rattle.std.proofs.lemmas.Bool.{and_parts, false≢true, eq-eqb}
@@ -12,9 +12,12 @@ use Rattle.rf2_values.specs.declared.row.Kind.TheVariants as kinds
 use Rattle.rf2_values.specs.Row.{IsIdOf, SpellsId}
 use Rattle.rf2_values.specs.Member.{IsMemberByte}
 use Rattle.rf2_values.proofs.Decimals.{own}
-use Rattle.line_commands.specs.Commands.{Command, Import, Get, History, Children, Terms, Search, Replaced, About, Page, Receipt, Pin, Unpin, Merge, Step, Publish, Abandon, Trim, Status, word_of, letter}
+use Rattle.line_commands.specs.declared.words.QuestionWord.{QuestionWord}
+use Rattle.line_commands.specs.declared.words.QuestionWord.TheVariants as asking
+use Rattle.line_commands.specs.Questions.{Question, Get, History, Children, Ancestors, Descendants, Terms, Search, Replaced, Replaces, About, Timeline, Page, Delta, Dates, Receipt, word_of_question, letter}
+use Rattle.line_commands.specs.Commands.{Command, Ask, At, Import, Pin, Unpin, Merge, Step, Publish, Abandon, Trim, Status, word_of}
 use Rattle.line_commands.specs.Requests.{with_rest, spaced}
-use Rattle.line_commands.specs.Private.{IsWord, behind}
+use Rattle.line_commands.specs.Private.{IsWord, IsOther, text_of_question, behind}
 
 -- ---- what has no space
 
@@ -42,18 +45,29 @@ letter_word kinds.Relationship = from_test (codes "R") refl
 letter_word kinds.Association = from_test (codes "A") refl
 letter_word kinds.Concrete = from_test (codes "V") refl
 
+pub question_is_word : (question : Question) → IsWord (word_of_question question)
+unfolding test
+question_is_word (Get kind id date) = from_test (codes "GET") refl
+question_is_word (History kind id) = from_test (codes "HISTORY") refl
+question_is_word (Children concept date) = from_test (codes "CHILDREN") refl
+question_is_word (Ancestors concept date) = from_test (codes "ANCESTORS") refl
+question_is_word (Descendants concept date) = from_test (codes "DESCENDANTS") refl
+question_is_word (Terms prefix date limit) = from_test (codes "TERMS") refl
+question_is_word (Search prefix date after limit) = from_test (codes "SEARCH") refl
+question_is_word (Replaced id date) = from_test (codes "REPLACED") refl
+question_is_word (Replaces id date) = from_test (codes "REPLACES") refl
+question_is_word (About kind id date) = from_test (codes "ABOUT") refl
+question_is_word (Timeline kind id) = from_test (codes "TIMELINE") refl
+question_is_word (Page kind date after limit) = from_test (codes "PAGE") refl
+question_is_word (Delta kind from date after limit) = from_test (codes "DELTA") refl
+question_is_word Dates = from_test (codes "DATES") refl
+question_is_word (Receipt number) = from_test (codes "RECEIPT") refl
+
 pub command_is_word : (command : Command) → IsWord (word_of command)
 unfolding test
+command_is_word (Ask question) = question_is_word question
+command_is_word (At number question) = from_test (codes "AT") refl
 command_is_word (Import name) = from_test (codes "IMPORT") refl
-command_is_word (Get kind id date) = from_test (codes "GET") refl
-command_is_word (History kind id) = from_test (codes "HISTORY") refl
-command_is_word (Children concept date) = from_test (codes "CHILDREN") refl
-command_is_word (Terms prefix date limit) = from_test (codes "TERMS") refl
-command_is_word (Search prefix date after limit) = from_test (codes "SEARCH") refl
-command_is_word (Replaced id date) = from_test (codes "REPLACED") refl
-command_is_word (About kind id date) = from_test (codes "ABOUT") refl
-command_is_word (Page kind date after limit) = from_test (codes "PAGE") refl
-command_is_word (Receipt number) = from_test (codes "RECEIPT") refl
 command_is_word (Pin number) = from_test (codes "PIN") refl
 command_is_word Unpin = from_test (codes "UNPIN") refl
 command_is_word Merge = from_test (codes "MERGE") refl
@@ -109,6 +123,60 @@ one_head a b (Some x) (Some y) h g e = let same = peel a b x y h g e in (same.0,
 pub spaced_is : (word : List ℕ) (texts : List (List ℕ)) → spaced (word ∷ texts) ≡ with_rest word (behind texts)
 spaced_is word [] = refl
 spaced_is word (t ∷ ts) = refl
+
+-- the words of questions
+question_words : List (List ℕ)
+question_words = codes "GET" ∷ codes "HISTORY" ∷ codes "CHILDREN" ∷ codes "ANCESTORS" ∷ codes "DESCENDANTS" ∷ codes "TERMS" ∷ codes "SEARCH" ∷ codes "REPLACED" ∷ codes "REPLACES" ∷ codes "ABOUT" ∷ codes "TIMELINE" ∷ codes "PAGE" ∷ codes "DELTA" ∷ codes "DATES" ∷ codes "RECEIPT" ∷ []
+
+among : List ℕ → List (List ℕ) → Bool
+among word [] = false
+among word (one ∷ others) = if bytes_eq word one then true else among word others
+
+is_among : (question : Question) → among (word_of_question question) question_words ≡ true
+unfolding among question_words
+is_among (Get kind id date) = refl
+is_among (History kind id) = refl
+is_among (Children concept date) = refl
+is_among (Ancestors concept date) = refl
+is_among (Descendants concept date) = refl
+is_among (Terms prefix date limit) = refl
+is_among (Search prefix date after limit) = refl
+is_among (Replaced id date) = refl
+is_among (Replaces id date) = refl
+is_among (About kind id date) = refl
+is_among (Timeline kind id) = refl
+is_among (Page kind date after limit) = refl
+is_among (Delta kind from date after limit) = refl
+is_among Dates = refl
+is_among (Receipt number) = refl
+
+-- no other command has a question's word
+pub not_asked : (question : Question) (command : Command) → IsOther command → word_of_question question ≡ word_of command → ⊥
+unfolding among question_words
+not_asked question (Ask asked) h e = h
+not_asked question command h e = false≢true (ap (λ (word : List ℕ). among word question_words) (sym e) ∙ is_among question)
+
+-- what is the word neither of a question nor of another command is no command's
+pub no_command : (text : List ℕ) → ((question : Question) → text ≢ word_of_question question) → ((command : Command) → IsOther command → text ≢ word_of command) → (command : Command) → text ≢ word_of command
+no_command text none others (Ask question) e = none question e
+no_command text none others command e = others command tt e
+
+pub some_question : (w : QuestionWord) → (q : Question) × (word_of_question q ≡ text_of_question w)
+some_question asking.Get = (Get kinds.Concept 0 0, refl)
+some_question asking.History = (History kinds.Concept 0, refl)
+some_question asking.Children = (Children 0 0, refl)
+some_question asking.Ancestors = (Ancestors 0 0, refl)
+some_question asking.Descendants = (Descendants 0 0, refl)
+some_question asking.Terms = (Terms [] 0 0, refl)
+some_question asking.Search = (Search [] 0 None 0, refl)
+some_question asking.Replaced = (Replaced 0 0, refl)
+some_question asking.Replaces = (Replaces 0 0, refl)
+some_question asking.About = (About kinds.Concept 0 0, refl)
+some_question asking.Timeline = (Timeline kinds.Concept 0, refl)
+some_question asking.Page = (Page kinds.Concept 0 None 0, refl)
+some_question asking.Delta = (Delta kinds.Concept 0 0 None 0, refl)
+some_question asking.Dates = (Dates, refl)
+some_question asking.Receipt = (Receipt 0, refl)
 
 pub one_letter : (k l : Kind) → letter k ≡ letter l → k ≡ l
 one_letter kinds.Concept kinds.Concept e = refl

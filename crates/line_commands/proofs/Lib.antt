@@ -1,3 +1,5 @@
+pub mod AtForms
+pub mod Dated
 pub mod FirstWords
 pub mod Forms
 pub mod NameTexts

@@ -1,7 +1,6 @@
 -- A line is read in one way.
 use Rattle.std.proofs.Common.{◌≡◌, ℕ, ◌<◌, ◌^◌, Option, Some, None, List, ◌∷◌, ◌++◌, refl, sym, ap, subst, ◌∙◌, arith, append_assoc}
 use Rattle.std.specs.Prelude.{decimal}
-use Rattle.std.specs.Int.{from_be_bytes, w128}
 use Rattle.std.specs.Str.{bytes_eq}
 use Rattle.std.proofs.lemmas.Bool.{false≢true}
 use Rattle.std.proofs.lemmas.Option.{same_Some}
@@ -12,11 +11,12 @@ use Rattle.rf2_values.specs.Time.{IsTime}
 use Rattle.rf2_values.specs.Row.{IsIdOf, SpellsId, IsConcept, IsComponent}
 use Rattle.rf2_values.proofs.Ids.{same_ids}
 use Rattle.line_commands.specs.declared.unread.Unread.TheVariants as unread
-use Rattle.line_commands.specs.Commands.{Command, Import, Get, History, Children, Terms, Search, Replaced, About, Page, Receipt, Pin, Unpin, Merge, Step, Publish, Abandon, Trim, Status, word_of, letter, IsSubjectOf, SpellsArguments, SpellsAfter}
+use Rattle.line_commands.specs.Questions.{Question, Get, History, Children, Ancestors, Descendants, Terms, Search, Replaced, Replaces, About, Timeline, Page, Delta, Dates, Receipt, word_of_question, letter, IsSubjectOf, SpellsQuestion, SpellsAfter}
+use Rattle.line_commands.specs.Commands.{Command, Ask, At, Import, Pin, Unpin, Merge, Step, Publish, Abandon, Trim, Status, word_of, SpellsArguments}
 use Rattle.line_commands.specs.Requests.{with_rest, sessions, Asks, HasSession, HasCommand}
 use Rattle.line_commands.specs.Private.{IsWord, behind}
 use Rattle.line_commands.specs.Laws.{OneReading, AskedIsRead, OneRefusal}
-use Rattle.line_commands.proofs.FirstWords.{decimal_word, letter_word, command_is_word, none_word, id_word, peel, one_head, spaced_is, one_letter, not_dash}
+use Rattle.line_commands.proofs.FirstWords.{decimal_word, letter_word, question_is_word, command_is_word, none_word, id_word, peel, one_head, spaced_is, not_asked, one_letter, not_dash}
 
 -- ---- one number, one identifier
 
@@ -45,6 +45,22 @@ same_ids_of : (k l : Kind) (m n : ℕ) (t u : List ℕ) → k ≡ l → t ≡ u 
 same_ids_of k l m n t u kind text hm hn sm sn =
     same_ids k m n t hm (subst (λ (x : Kind). IsIdOf x n) (sym kind) hn) sm (subst (λ (x : Kind). SpellsId x n t) (sym kind) (subst (λ (x : List ℕ). SpellsId l n x) (sym text) sn))
 
+-- a concept and a date are spelled in one way
+same_concept_dates : (id jd date day : ℕ) → IsConcept id → IsConcept jd → IsTime date → IsTime day → decimal id ++ 32 ∷ decimal date ≡ decimal jd ++ 32 ∷ decimal day → (id ≡ jd) × (date ≡ day)
+same_concept_dates id jd date day h g day_is other_is e =
+    let low = h.sctid.high in
+    let high = g.sctid.high in
+    let first = peel (decimal id) (decimal jd) _ _ (decimal_word id (omega arith)) (decimal_word jd (omega arith)) e in
+    (same_concepts id jd h g first.0, same_times date day day_is other_is first.1)
+
+-- so are a component and a date
+same_component_dates : (id jd date day : ℕ) → IsComponent id → IsComponent jd → IsTime date → IsTime day → decimal id ++ 32 ∷ decimal date ≡ decimal jd ++ 32 ∷ decimal day → (id ≡ jd) × (date ≡ day)
+same_component_dates id jd date day h g day_is other_is e =
+    let low = h.sctid.high in
+    let high = g.sctid.high in
+    let first = peel (decimal id) (decimal jd) _ _ (decimal_word id (omega arith)) (decimal_word jd (omega arith)) e in
+    (same_components id jd h g first.0, same_times date day day_is other_is first.1)
+
 -- an identifier or none is spelled in one way
 same_after : (k l : Kind) (a b : Option ℕ) (t u : List ℕ) → k ≡ l → t ≡ u → SpellsAfter k a t → SpellsAfter l b u → a ≡ b
 same_after k l None None t u kind text s t' = refl
@@ -59,7 +75,7 @@ subject_below kinds.Relationship id h = let high = h.sctid.high in omega arith
 subject_below kinds.Association id h = let high = h.sctid.high in omega arith
 subject_below kinds.Concrete id h = let high = h.sctid.high in omega arith
 
--- ---- one command
+-- ---- one question
 
 pub after_word : (k : Kind) (after : Option ℕ) (t : List ℕ) → SpellsAfter k after t → IsWord t
 after_word k None t h = subst IsWord (sym h) none_word
@@ -68,9 +84,8 @@ after_word k (Some id) t h = id_word k id t h.0 h.1
 rest_same : (xs ys : List (List ℕ)) (x y : List (List ℕ)) → xs ≡ x → ys ≡ y → behind xs ≡ behind ys → behind x ≡ behind y
 rest_same xs ys x y e f same = sym (ap behind e) ∙ same ∙ ap behind f
 
-one_command : (c d : Command) (xs ys : List (List ℕ)) → word_of c ≡ word_of d → SpellsArguments c xs → SpellsArguments d ys → behind xs ≡ behind ys → c ≡ d
-one_command (Import name) (Import other) xs ys w s t same = ap (λ (n : List ℕ). Import n) (same_Some _ _ (rest_same xs ys _ _ s.1 t.1 same))
-one_command (Get k id date) (Get l jd day) xs ys w s t same =
+one_question : (p q : Question) (xs ys : List (List ℕ)) → word_of_question p ≡ word_of_question q → SpellsQuestion p xs → SpellsQuestion q ys → behind xs ≡ behind ys → p ≡ q
+one_question (Get k id date) (Get l jd day) xs ys w s t same =
     let whole = same_Some _ _ (rest_same xs ys _ _ s.4 t.4 same) in
     let first = peel (letter k) (letter l) _ _ (letter_word k) (letter_word l) whole in
     let second = peel s.0 t.0 _ _ (id_word k id s.0 s.1 s.2) (id_word l jd t.0 t.1 t.2) first.1 in
@@ -78,21 +93,22 @@ one_command (Get k id date) (Get l jd day) xs ys w s t same =
     let ids = same_ids_of k l id jd s.0 t.0 kind second.0 s.1 t.1 s.2 t.2 in
     let days = same_times date day s.3 t.3 second.1 in
     ap (λ (x : Kind). Get x id date) kind ∙ ap (λ (x : ℕ). Get l x date) ids ∙ ap (λ (x : ℕ). Get l jd x) days
-one_command (History k id) (History l jd) xs ys w s t same =
+one_question (History k id) (History l jd) xs ys w s t same =
     let whole = same_Some _ _ (rest_same xs ys _ _ s.3 t.3 same) in
     let first = peel (letter k) (letter l) _ _ (letter_word k) (letter_word l) whole in
     let kind = one_letter k l first.0 in
     let ids = same_ids_of k l id jd s.0 t.0 kind first.1 s.1 t.1 s.2 t.2 in
     ap (λ (x : Kind). History x id) kind ∙ ap (λ (x : ℕ). History l x) ids
-one_command (Children id date) (Children jd day) xs ys w s t same =
-    let whole = same_Some _ _ (rest_same xs ys _ _ s.2 t.2 same) in
-    let low = s.0.sctid.high in
-    let high = t.0.sctid.high in
-    let first = peel (decimal id) (decimal jd) _ _ (decimal_word id (omega arith)) (decimal_word jd (omega arith)) whole in
-    let ids = same_concepts id jd s.0 t.0 first.0 in
-    let days = same_times date day s.1 t.1 first.1 in
-    ap (λ (x : ℕ). Children x date) ids ∙ ap (λ (x : ℕ). Children jd x) days
-one_command (Terms prefix date limit) (Terms other day most) xs ys w s t same =
+one_question (Children id date) (Children jd day) xs ys w s t same =
+    let e = same_concept_dates id jd date day s.0 t.0 s.1 t.1 (same_Some _ _ (rest_same xs ys _ _ s.2 t.2 same)) in
+    ap (λ (x : ℕ). Children x date) e.0 ∙ ap (λ (x : ℕ). Children jd x) e.1
+one_question (Ancestors id date) (Ancestors jd day) xs ys w s t same =
+    let e = same_concept_dates id jd date day s.0 t.0 s.1 t.1 (same_Some _ _ (rest_same xs ys _ _ s.2 t.2 same)) in
+    ap (λ (x : ℕ). Ancestors x date) e.0 ∙ ap (λ (x : ℕ). Ancestors jd x) e.1
+one_question (Descendants id date) (Descendants jd day) xs ys w s t same =
+    let e = same_concept_dates id jd date day s.0 t.0 s.1 t.1 (same_Some _ _ (rest_same xs ys _ _ s.2 t.2 same)) in
+    ap (λ (x : ℕ). Descendants x date) e.0 ∙ ap (λ (x : ℕ). Descendants jd x) e.1
+one_question (Terms prefix date limit) (Terms other day most) xs ys w s t same =
     let whole = same_Some _ _ (rest_same xs ys _ _ s.5 t.5 same) in
     let first = peel (decimal date) (decimal day) _ _ (decimal_word date (time_below date s.0)) (decimal_word day (time_below day t.0)) whole in
     let low = s.2 in
@@ -101,7 +117,7 @@ one_command (Terms prefix date limit) (Terms other day most) xs ys w s t same =
     let days = same_times date day s.0 t.0 first.0 in
     let limits = same_numbers limit most (omega arith) (omega arith) second.0 in
     ap (λ (x : ℕ). Terms prefix x limit) days ∙ ap (λ (x : ℕ). Terms prefix day x) limits ∙ ap (λ (x : List ℕ). Terms x day most) second.1
-one_command (Search prefix date after limit) (Search other day since most) xs ys w s t same =
+one_question (Search prefix date after limit) (Search other day since most) xs ys w s t same =
     let whole = same_Some _ _ (rest_same xs ys _ _ s.7 t.7 same) in
     let first = peel (decimal date) (decimal day) _ _ (decimal_word date (time_below date s.2)) (decimal_word day (time_below day t.2)) whole in
     let second = peel s.0 t.0 _ _ (after_word kinds.Description after s.0 s.1) (after_word kinds.Description since t.0 t.1) first.1 in
@@ -112,15 +128,13 @@ one_command (Search prefix date after limit) (Search other day since most) xs ys
     let afters = same_after kinds.Description kinds.Description after since s.0 t.0 refl second.0 s.1 t.1 in
     let limits = same_numbers limit most (omega arith) (omega arith) third.0 in
     ap (λ (x : ℕ). Search prefix x after limit) days ∙ ap (λ (x : Option ℕ). Search prefix day x limit) afters ∙ ap (λ (x : ℕ). Search prefix day since x) limits ∙ ap (λ (x : List ℕ). Search x day since most) third.1
-one_command (Replaced id date) (Replaced jd day) xs ys w s t same =
-    let whole = same_Some _ _ (rest_same xs ys _ _ s.2 t.2 same) in
-    let low = s.0.sctid.high in
-    let high = t.0.sctid.high in
-    let first = peel (decimal id) (decimal jd) _ _ (decimal_word id (omega arith)) (decimal_word jd (omega arith)) whole in
-    let ids = same_components id jd s.0 t.0 first.0 in
-    let days = same_times date day s.1 t.1 first.1 in
-    ap (λ (x : ℕ). Replaced x date) ids ∙ ap (λ (x : ℕ). Replaced jd x) days
-one_command (About k id date) (About l jd day) xs ys w s t same =
+one_question (Replaced id date) (Replaced jd day) xs ys w s t same =
+    let e = same_component_dates id jd date day s.0 t.0 s.1 t.1 (same_Some _ _ (rest_same xs ys _ _ s.2 t.2 same)) in
+    ap (λ (x : ℕ). Replaced x date) e.0 ∙ ap (λ (x : ℕ). Replaced jd x) e.1
+one_question (Replaces id date) (Replaces jd day) xs ys w s t same =
+    let e = same_component_dates id jd date day s.0 t.0 s.1 t.1 (same_Some _ _ (rest_same xs ys _ _ s.2 t.2 same)) in
+    ap (λ (x : ℕ). Replaces x date) e.0 ∙ ap (λ (x : ℕ). Replaces jd x) e.1
+one_question (About k id date) (About l jd day) xs ys w s t same =
     let whole = same_Some _ _ (rest_same xs ys _ _ s.2 t.2 same) in
     let first = peel (letter k) (letter l) _ _ (letter_word k) (letter_word l) whole in
     let second = peel (decimal id) (decimal jd) _ _ (decimal_word id (subject_below k id s.0)) (decimal_word jd (subject_below l jd t.0)) first.1 in
@@ -128,7 +142,13 @@ one_command (About k id date) (About l jd day) xs ys w s t same =
     let ids = same_numbers id jd (subject_below k id s.0) (subject_below l jd t.0) second.0 in
     let days = same_times date day s.1 t.1 second.1 in
     ap (λ (x : Kind). About x id date) kind ∙ ap (λ (x : ℕ). About l x date) ids ∙ ap (λ (x : ℕ). About l jd x) days
-one_command (Page k date after limit) (Page l day since most) xs ys w s t same =
+one_question (Timeline k id) (Timeline l jd) xs ys w s t same =
+    let whole = same_Some _ _ (rest_same xs ys _ _ s.1 t.1 same) in
+    let first = peel (letter k) (letter l) _ _ (letter_word k) (letter_word l) whole in
+    let kind = one_letter k l first.0 in
+    let ids = same_numbers id jd (subject_below k id s.0) (subject_below l jd t.0) first.1 in
+    ap (λ (x : Kind). Timeline x id) kind ∙ ap (λ (x : ℕ). Timeline l x) ids
+one_question (Page k date after limit) (Page l day since most) xs ys w s t same =
     let whole = same_Some _ _ (rest_same xs ys _ _ s.5 t.5 same) in
     let first = peel (letter k) (letter l) _ _ (letter_word k) (letter_word l) whole in
     let kind = one_letter k l first.0 in
@@ -140,10 +160,41 @@ one_command (Page k date after limit) (Page l day since most) xs ys w s t same =
     let limits = same_numbers limit most (omega arith) (omega arith) third.1 in
     let afters = same_after k l after since s.0 t.0 kind third.0 s.1 t.1 in
     ap (λ (x : Kind). Page x date after limit) kind ∙ ap (λ (x : ℕ). Page l x after limit) days ∙ ap (λ (x : Option ℕ). Page l day x limit) afters ∙ ap (λ (x : ℕ). Page l day since x) limits
-one_command (Receipt m) (Receipt n) xs ys w s t same =
+one_question (Delta k from date after limit) (Delta l since day last most) xs ys w s t same =
+    let whole = same_Some _ _ (rest_same xs ys _ _ s.6 t.6 same) in
+    let first = peel (letter k) (letter l) _ _ (letter_word k) (letter_word l) whole in
+    let kind = one_letter k l first.0 in
+    let second = peel (decimal from) (decimal since) _ _ (decimal_word from (time_below from s.2)) (decimal_word since (time_below since t.2)) first.1 in
+    let froms = same_times from since s.2 t.2 second.0 in
+    let third = peel (decimal date) (decimal day) _ _ (decimal_word date (time_below date s.3)) (decimal_word day (time_below day t.3)) second.1 in
+    let days = same_times date day s.3 t.3 third.0 in
+    let fourth = peel s.0 t.0 _ _ (after_word k after s.0 s.1) (after_word l last t.0 t.1) third.1 in
+    let low = s.5 in
+    let high = t.5 in
+    let limits = same_numbers limit most (omega arith) (omega arith) fourth.1 in
+    let afters = same_after k l after last s.0 t.0 kind fourth.0 s.1 t.1 in
+    ap (λ (x : Kind). Delta x from date after limit) kind ∙ ap (λ (x : ℕ). Delta l x date after limit) froms ∙ ap (λ (x : ℕ). Delta l since x after limit) days ∙ ap (λ (x : Option ℕ). Delta l since day x limit) afters ∙ ap (λ (x : ℕ). Delta l since day last x) limits
+one_question Dates Dates xs ys w s t same = refl
+one_question (Receipt m) (Receipt n) xs ys w s t same =
     let low = s.1 in
     let high = t.1 in
     ap (λ (x : ℕ). Receipt x) (same_numbers m n (omega arith) (omega arith) (same_Some _ _ (rest_same xs ys _ _ s.2 t.2 same)))
+one_question p q xs ys w s t same = absurd (false≢true (sym (ap (bytes_eq (word_of_question p)) w)))
+
+-- ---- one command
+
+one_command : (c d : Command) (xs ys : List (List ℕ)) → word_of c ≡ word_of d → SpellsArguments c xs → SpellsArguments d ys → behind xs ≡ behind ys → c ≡ d
+one_command (Ask p) (Ask q) xs ys w s t same = ap Ask (one_question p q xs ys w s t same)
+one_command (At m p) (At n q) xs ys w s t same =
+    let whole = same_Some _ _ (rest_same xs ys _ _ s.3 t.3 same) in
+    let low = s.2 in
+    let high = t.2 in
+    let first = peel (decimal m) (decimal n) _ _ (decimal_word m (omega arith)) (decimal_word n (omega arith)) whole in
+    let numbers = same_numbers m n (omega arith) (omega arith) first.0 in
+    let words = one_head (word_of_question p) (word_of_question q) _ _ (question_is_word p) (question_is_word q) (sym (spaced_is (word_of_question p) s.0) ∙ first.1 ∙ spaced_is (word_of_question q) t.0) in
+    let questions = one_question p q s.0 t.0 words.0 s.1 t.1 words.1 in
+    ap (λ (x : ℕ). At x p) numbers ∙ ap (λ (x : Question). At n x) questions
+one_command (Import name) (Import other) xs ys w s t same = ap (λ (n : List ℕ). Import n) (same_Some _ _ (rest_same xs ys _ _ s.1 t.1 same))
 one_command (Pin None) (Pin None) xs ys w s t same = refl
 one_command (Pin None) (Pin (Some n)) xs ys w s t same = let e = rest_same xs ys _ _ s t.1 same in absurd cc
 one_command (Pin (Some n)) (Pin None) xs ys w s t same = let e = rest_same xs ys _ _ s.1 t same in absurd cc
@@ -161,6 +212,8 @@ one_command Publish Publish xs ys w s t same = refl
 one_command Abandon Abandon xs ys w s t same = refl
 one_command Trim Trim xs ys w s t same = refl
 one_command Status Status xs ys w s t same = refl
+one_command (Ask p) d xs ys w s t same = absurd (not_asked p d tt w)
+one_command c (Ask q) xs ys w s t same = absurd (not_asked q c tt (sym w))
 one_command c d xs ys w s t same = absurd (false≢true (sym (ap (bytes_eq (word_of c)) w)))
 
 -- ---- one reading

@@ -2,27 +2,20 @@
 use Rattle.std.proofs.Common.{◌≡◌, ◌≢◌, ℕ, ◌<◌, ◌≤◌, Option, Some, None, List, [], ◌∷◌, ◌++◌, length, refl, sym, ap, ◌∙◌}
 use Rattle.std.specs.Prelude.{decimal}
 use Rattle.std.proofs.lemmas.Option.{same_Some, none-some}
-use Rattle.rf2_values.specs.declared.row.Kind.TheVariants as kinds
 use Rattle.line_commands.specs.declared.words.Word.{Word}
 use Rattle.line_commands.specs.declared.words.Word.TheVariants as words
 use Rattle.line_commands.specs.declared.unread.Unread.TheVariants as unread
-use Rattle.line_commands.specs.Commands.{Command, Import, Get, History, Children, Terms, Search, Replaced, About, Page, Receipt, Pin, Unpin, Merge, Step, Publish, Abandon, Trim, Status, word_of}
+use Rattle.line_commands.specs.Questions.{Dates}
+use Rattle.line_commands.specs.Commands.{Command, Ask, At, Import, Pin, Unpin, Merge, Step, Publish, Abandon, Trim, Status, word_of}
 use Rattle.line_commands.specs.Requests.{with_rest, sessions, request_limit, IsUnread, HasSession, HasCommand}
 use Rattle.line_commands.specs.Private.{IsWord, text_of_word, behind, IsSpelled}
-use Rattle.line_commands.proofs.FirstWords.{command_is_word, one_head}
+use Rattle.line_commands.proofs.FirstWords.{command_is_word, one_head, some_question}
 use Rattle.line_commands.proofs.Readings.{session_word, begun, line_begins}
 
 some_command : (w : Word) → (c : Command) × (word_of c ≡ text_of_word w)
+some_command (words.Question w) = let q = some_question w in (Ask q.0, q.1)
+some_command words.At = (At 0 Dates, refl)
 some_command words.Import = (Import [], refl)
-some_command words.Get = (Get kinds.Concept 0 0, refl)
-some_command words.History = (History kinds.Concept 0, refl)
-some_command words.Children = (Children 0 0, refl)
-some_command words.Terms = (Terms [] 0 0, refl)
-some_command words.Search = (Search [] 0 None 0, refl)
-some_command words.Replaced = (Replaced 0 0, refl)
-some_command words.About = (About kinds.Concept 0 0, refl)
-some_command words.Page = (Page kinds.Concept 0 None 0, refl)
-some_command words.Receipt = (Receipt 0, refl)
 some_command words.Pin = (Pin None, refl)
 some_command words.Unpin = (Unpin, refl)
 some_command words.Merge = (Merge, refl)

@@ -1,26 +1,45 @@
 -- Words that only this crate's private functions need of one another. No public clause cites them.
 use Rattle.std.specs.Prelude.{◌≡◌, ◌≢◌, ℕ, List, [], ◌∷◌, codes, Option, Some, None, All}
 use Rattle.line_commands.specs.declared.command.Command.{Command as RustCommand}
+use Rattle.line_commands.specs.declared.question.Question.{Question as RustQuestion}
 use Rattle.line_commands.specs.declared.words.Word.{Word}
 use Rattle.line_commands.specs.declared.words.Word.TheVariants as words
-use Rattle.line_commands.specs.Commands.{Command, word_of, SpellsArguments}
-use Rattle.line_commands.specs.Requests.{command_of, spaced}
+use Rattle.line_commands.specs.declared.words.QuestionWord.{QuestionWord}
+use Rattle.line_commands.specs.declared.words.QuestionWord.TheVariants as asking
+use Rattle.line_commands.specs.Questions.{Question, word_of_question, SpellsQuestion}
+use Rattle.line_commands.specs.Commands.{Command, Ask, word_of, SpellsArguments}
+use Rattle.line_commands.specs.Requests.{question_of, command_of, spaced}
 
 -- a text without a space
 abbrev pub IsWord : List ℕ → Type 0
 IsWord text = All (λ b. b ≢ 32) text
 
+-- a command that isn't a question alone
+abbrev pub IsOther : Command → Type 0
+IsOther (Ask question) = ⊥
+IsOther command = Unit {0}
+
+abbrev pub text_of_question : QuestionWord → List ℕ
+text_of_question asking.Get = codes "GET"
+text_of_question asking.History = codes "HISTORY"
+text_of_question asking.Children = codes "CHILDREN"
+text_of_question asking.Ancestors = codes "ANCESTORS"
+text_of_question asking.Descendants = codes "DESCENDANTS"
+text_of_question asking.Terms = codes "TERMS"
+text_of_question asking.Search = codes "SEARCH"
+text_of_question asking.Replaced = codes "REPLACED"
+text_of_question asking.Replaces = codes "REPLACES"
+text_of_question asking.About = codes "ABOUT"
+text_of_question asking.Timeline = codes "TIMELINE"
+text_of_question asking.Page = codes "PAGE"
+text_of_question asking.Delta = codes "DELTA"
+text_of_question asking.Dates = codes "DATES"
+text_of_question asking.Receipt = codes "RECEIPT"
+
 abbrev pub text_of_word : Word → List ℕ
+text_of_word (words.Question word) = text_of_question word
+text_of_word words.At = codes "AT"
 text_of_word words.Import = codes "IMPORT"
-text_of_word words.Get = codes "GET"
-text_of_word words.History = codes "HISTORY"
-text_of_word words.Children = codes "CHILDREN"
-text_of_word words.Terms = codes "TERMS"
-text_of_word words.Search = codes "SEARCH"
-text_of_word words.Replaced = codes "REPLACED"
-text_of_word words.About = codes "ABOUT"
-text_of_word words.Page = codes "PAGE"
-text_of_word words.Receipt = codes "RECEIPT"
 text_of_word words.Pin = codes "PIN"
 text_of_word words.Unpin = codes "UNPIN"
 text_of_word words.Merge = codes "MERGE"
@@ -34,6 +53,19 @@ text_of_word words.Status = codes "STATUS"
 abbrev pub behind : List (List ℕ) → Option (List ℕ)
 behind [] = None
 behind (text ∷ texts) = Some (spaced (text ∷ texts))
+
+-- the word and what stands behind it are the question's
+pub record IsSpelledQuestion (word : List ℕ) (rest : Option (List ℕ)) (question : Question)
+    : Type 0 where
+  pub word_is : word_of_question question ≡ word
+  pub arguments : List (List ℕ)
+  pub spelled : SpellsQuestion question arguments
+  pub rest_is : behind arguments ≡ rest
+
+-- which question it was read as: one that it spells, and none only where it spells none
+abbrev pub IsQuestionReadAs : List ℕ → Option (List ℕ) → Option RustQuestion → Type 0
+IsQuestionReadAs word rest (Some question) = IsSpelledQuestion word rest (question_of question)
+IsQuestionReadAs word rest None = (question : Question) → IsSpelledQuestion word rest question → ⊥
 
 -- the word and what stands behind it are the command's
 pub record IsSpelled (word : List ℕ) (rest : Option (List ℕ)) (command : Command) : Type 0 where

@@ -1,25 +1,39 @@
 //! Words, parted by single spaces.
 
 ghost use Rattle.std.specs.Prelude.{◌≡◌, ◌≢◌, ◌++◌, ◌∷◌, List, ℕ, MatchOption, option_map};
-ghost use Rattle.line_commands.specs.Commands.{Command as Asked, word_of};
+ghost use Rattle.line_commands.specs.Questions.{Question as Asked, word_of_question};
+ghost use Rattle.line_commands.specs.Commands.{Command as Commanded, word_of};
 ghost use Rattle.line_commands.specs.Requests.{with_rest};
-ghost use Rattle.line_commands.specs.Private.{IsWord, text_of_word};
+ghost use Rattle.line_commands.specs.Private.{IsWord, IsOther, text_of_question, text_of_word};
 
 use bstr::ByteSlice;
+
+/// The word of a question.
+#[derive(Clone, Copy)]
+pub(crate) enum QuestionWord {
+    Get,
+    History,
+    Children,
+    Ancestors,
+    Descendants,
+    Terms,
+    Search,
+    Replaced,
+    Replaces,
+    About,
+    Timeline,
+    Page,
+    Delta,
+    Dates,
+    Receipt,
+}
 
 /// The word of a command.
 #[derive(Clone, Copy)]
 pub(crate) enum Word {
+    Question(QuestionWord),
+    At,
     Import,
-    Get,
-    History,
-    Children,
-    Terms,
-    Search,
-    Replaced,
-    About,
-    Page,
-    Receipt,
     Pin,
     Unpin,
     Merge,
@@ -62,22 +76,40 @@ pub(crate) fn cut_twice(text: &[u8]) -> Option<(&[u8], &[u8], &[u8])>
     Some((first, second, rest))
 }
 
-/// The command that the text names.
-pub(crate) fn command_word(text: &[u8]) -> Option<Word>
-    ensures { MatchOption result ((command : Asked) → text.now ≢ word_of command)
+/// The question that the text names.
+pub(crate) fn question_word(text: &[u8]) -> Option<QuestionWord>
+    ensures { MatchOption result ((question : Asked) → text.now ≢ word_of_question question)
+        (λ w. text.now ≡ text_of_question w) }
+{
+    match text {
+        b"GET" => Some(QuestionWord::Get),
+        b"HISTORY" => Some(QuestionWord::History),
+        b"CHILDREN" => Some(QuestionWord::Children),
+        b"ANCESTORS" => Some(QuestionWord::Ancestors),
+        b"DESCENDANTS" => Some(QuestionWord::Descendants),
+        b"TERMS" => Some(QuestionWord::Terms),
+        b"SEARCH" => Some(QuestionWord::Search),
+        b"REPLACED" => Some(QuestionWord::Replaced),
+        b"REPLACES" => Some(QuestionWord::Replaces),
+        b"ABOUT" => Some(QuestionWord::About),
+        b"TIMELINE" => Some(QuestionWord::Timeline),
+        b"PAGE" => Some(QuestionWord::Page),
+        b"DELTA" => Some(QuestionWord::Delta),
+        b"DATES" => Some(QuestionWord::Dates),
+        b"RECEIPT" => Some(QuestionWord::Receipt),
+        _ => None,
+    }
+}
+
+/// The command that the text names, if it is more than a question.
+fn other_word(text: &[u8]) -> Option<Word>
+    ensures { MatchOption result
+        ((command : Commanded) → IsOther command → text.now ≢ word_of command)
         (λ w. text.now ≡ text_of_word w) }
 {
     match text {
+        b"AT" => Some(Word::At),
         b"IMPORT" => Some(Word::Import),
-        b"GET" => Some(Word::Get),
-        b"HISTORY" => Some(Word::History),
-        b"CHILDREN" => Some(Word::Children),
-        b"TERMS" => Some(Word::Terms),
-        b"SEARCH" => Some(Word::Search),
-        b"REPLACED" => Some(Word::Replaced),
-        b"ABOUT" => Some(Word::About),
-        b"PAGE" => Some(Word::Page),
-        b"RECEIPT" => Some(Word::Receipt),
         b"PIN" => Some(Word::Pin),
         b"UNPIN" => Some(Word::Unpin),
         b"MERGE" => Some(Word::Merge),
@@ -87,5 +119,16 @@ pub(crate) fn command_word(text: &[u8]) -> Option<Word>
         b"TRIM" => Some(Word::Trim),
         b"STATUS" => Some(Word::Status),
         _ => None,
+    }
+}
+
+/// The command that the text names.
+pub(crate) fn command_word(text: &[u8]) -> Option<Word>
+    ensures { MatchOption result ((command : Commanded) → text.now ≢ word_of command)
+        (λ w. text.now ≡ text_of_word w) }
+{
+    match question_word(text) {
+        Some(word) => Some(Word::Question(word)),
+        None => other_word(text),
     }
 }

@@ -8,14 +8,14 @@ use Rattle.history_model.specs.Brought.{ImportReceiptOf}
 use Rattle.import_check.specs.declared.release.Release.{Release}
 use Rattle.history_store.specs.declared.refusal.Refusal.TheVariants as store
 use Rattle.history_store.specs.StoreValue.{IsAcknowledged}
-use Rattle.line_commands.specs.Commands.{Command, Import, Receipt as AskReceipt}
+use Rattle.line_commands.specs.Questions.{Question, Receipt as AskReceipt}
+use Rattle.line_commands.specs.Commands.{Command, Ask, Import}
 use Rattle.line_commands.specs.Requests.{Asks}
 use Rattle.line_server.specs.declared.refusal.LineRefusal.{LineRefusal}
 use Rattle.line_server.specs.declared.refusal.LineRefusal.TheVariants as refusals
-use Rattle.line_server.specs.Pins.{pin_of}
 use Rattle.line_server.specs.Sources.{Releases, SourceView, source_view}
 use Rattle.line_server.specs.ReplyValue.{Answer, Done}
-use Rattle.line_server.specs.Replies.{Server, Replies, Same, found, shown, imports_seen, receipt_of}
+use Rattle.line_server.specs.Replies.{Server, Replies, Same, IsFound, IsAskedOf, receipt_of}
 use Rattle.store_life.specs.Life.{Imported, taken, Called, IsLife}
 use Rattle.store_life.specs.Laws.{AgreeUpTo, BroughtAlike}
 use Rattle.line_server.specs.Turns.{Turn, IsTurn, Run}
@@ -27,32 +27,35 @@ IsSure (Err (refusals.Store store.OutOfMemory)) = ⊥
 IsSure (Err (refusals.Store store.DiskFault)) = ⊥
 IsSure _ = Unit {0}
 
--- A query of a session is answered alike in two states in which the session
--- looks at one number of imports, and the histories agree up to it.
+-- A question is answered alike in two states in which it is asked of one number of imports, and the
+-- histories agree up to it. So behind AT it is answered as a session is that is pinned to them.
 abbrev pub PinnedIsUndisturbed : (D : Type 0) → (D → Type 0) → Type 0
 PinnedIsUndisturbed D honest = (releases others : Releases) (a b after next : Server D)
-    (line : List ℕ) (session pin : ℕ) (command : Command) (query : Answer)
-    (one two : Result Answer LineRefusal)
+    (line text : List ℕ) (session other pin : ℕ) (command also : Command) (question : Question)
+    (query : Answer) (one two : Result Answer LineRefusal)
     → honest a.store.disk → honest b.store.disk → a.store.needs_reopen ≡ false
     → b.store.needs_reopen ≡ false
-    → Asks line session command → found command (shown a session) ≡ Some query
-    → pin_of a.pins session a.store.history.imports ≡ pin
-    → pin_of b.pins session b.store.history.imports ≡ pin
+    → Asks line session command → Asks text other also
+    → IsAskedOf a session command question pin → IsAskedOf b other also question pin
+    → IsFound question (rows_at pin a.store.history.rows) query
     → AgreeUpTo pin a.store.history b.store.history
     → Replies (honest a.store.disk) releases line one a after
-    → Replies (honest b.store.disk) others line two b next
+    → Replies (honest b.store.disk) others text two b next
     → IsSure one → IsSure two → one ≡ two
 
--- A RECEIPT of a session is answered alike in two states in which the session
--- looks at one number of imports, and the import brought the same rows.
+-- A RECEIPT is answered alike in two states in which it is asked of one number of imports, and the
+-- import brought the same rows.
 abbrev pub PinnedReceiptIsUndisturbed : (D : Type 0) → (D → Type 0) → Type 0
 PinnedReceiptIsUndisturbed D honest = (releases others : Releases) (a b after next : Server D)
-    (line : List ℕ) (session pin number : ℕ) (one two : Result Answer LineRefusal)
-    → a.store.needs_reopen ≡ b.store.needs_reopen → Asks line session (AskReceipt number)
-    → imports_seen a session ≡ pin → imports_seen b session ≡ pin
+    (line text : List ℕ) (session other pin number : ℕ) (command also : Command)
+    (one two : Result Answer LineRefusal)
+    → a.store.needs_reopen ≡ b.store.needs_reopen
+    → Asks line session command → Asks text other also
+    → IsAskedOf a session command (AskReceipt number) pin
+    → IsAskedOf b other also (AskReceipt number) pin
     → BroughtAlike number a.store.history b.store.history
     → Replies (honest a.store.disk) releases line one a after
-    → Replies (honest b.store.disk) others line two b next → one ≡ two
+    → Replies (honest b.store.disk) others text two b next → one ≡ two
 
 -- lines that are answered are calls on the store, one after the other
 abbrev pub LinesAreCalls : {D : Type 0} → SourceView → DeviceView D → Type 0
@@ -120,10 +123,10 @@ RunKeepsPin D view =
 abbrev pub PinnedSeesItsImports : (D : Type 0) → DeviceView D → Type 0
 PinnedSeesItsImports D view =
     (has : Releases) (session pin : ℕ) (start : Server D) (turns : List Turn) (turn : Turn)
-    (command : Command) (query : Answer)
+    (question : Question) (query : Answer)
     → StaysPinned has view session pin start turns turn
-    → Asks turn.line session command
-    → found command (rows_at pin start.store.history.rows) ≡ Some query
+    → Asks turn.line session (Ask question)
+    → IsFound question (rows_at pin start.store.history.rows) query
     → IsSure turn.outcome → turn.outcome ≡ Ok query
 
 -- As long as a session stays pinned, a RECEIPT of an import that the pin shows is answered by what
@@ -133,7 +136,7 @@ PinnedSeesItsReceipts D view =
     (has : Releases) (session pin number brought : ℕ) (latest : Option ℕ)
     (start : Server D) (turns : List Turn) (turn : Turn)
     → StaysPinned has view session pin start turns turn
-    → Asks turn.line session (AskReceipt number) → number ≤ pin
+    → Asks turn.line session (Ask (AskReceipt number)) → number ≤ pin
     → ImportReceiptOf start.store.history number brought latest
     → turn.outcome ≡ Ok (Done (receipt_of number brought latest))
 
@@ -143,12 +146,12 @@ abbrev pub PinnedRunsAreUndisturbed : (D : Type 0) → DeviceView D
     → Type 0
 PinnedRunsAreUndisturbed D view =
     (has others : Releases) (session pin : ℕ) (a b : Server D) (before also : List Turn)
-    (one two : Turn) (command : Command) (query : Answer)
+    (one two : Turn) (question : Question) (query : Answer)
     → StaysPinned has view session pin a before one
     → StaysPinned others view session pin b also two
     → AgreeUpTo pin a.store.history b.store.history
-    → one.line ≡ two.line → Asks one.line session command
-    → found command (rows_at pin a.store.history.rows) ≡ Some query
+    → one.line ≡ two.line → Asks one.line session (Ask question)
+    → IsFound question (rows_at pin a.store.history.rows) query
     → IsSure one.outcome → IsSure two.outcome → one.outcome ≡ two.outcome
 
 -- In any two runs a RECEIPT of a pinned session is answered alike, where the import brought the
@@ -161,5 +164,5 @@ PinnedReceiptsAreUndisturbed D view =
     → StaysPinned has view session pin a before one
     → StaysPinned others view session pin b also two
     → BroughtAlike number a.store.history b.store.history
-    → one.line ≡ two.line → Asks one.line session (AskReceipt number)
+    → one.line ≡ two.line → Asks one.line session (Ask (AskReceipt number))
     → one.outcome ≡ two.outcome

@@ -3,14 +3,14 @@
 use Rattle.std.specs.Prelude.{ℕ, List, Option, Result, ◌≡◌, ◌≤◌, Ok, Err}
 use Rattle.store_life.specs.DeviceView.{DeviceView}
 use Rattle.history_store.specs.StoreValue.{StoreValue}
+use Rattle.line_commands.specs.Questions.{Question, SpellsQuestion}
 use Rattle.line_commands.specs.Commands.{Command, SpellsArguments}
 use Rattle.line_commands.specs.Requests.{Asks}
 use Rattle.line_server.specs.declared.refusal.LineRefusal.{LineRefusal}
 use Rattle.line_server.specs.Sources.{Releases, SourceView, source_view}
 use Rattle.line_server.specs.ReplyValue.{Answer, reply_value, ReplyValue}
-use Rattle.line_server.specs.Replies.{server, Server}
+use Rattle.line_server.specs.Replies.{server, Server, IsAskedOf}
 use Rattle.line_server.specs.Turns.{HasTurn}
-use Rattle.line_server.specs.Pins.{pin_of}
 
 -- some line asks the command
 abbrev pub CanBeAsked : Command → Type 0
@@ -36,11 +36,15 @@ IsCarriedOut result view command old new =
     → IsResponse result (source_view (Unit {0}) has) view session command (server pins old)
     (server pins new)
 
--- the command was carried out so, for any session that looks at so many imports
-abbrev pub IsQueried : {D : Type 0} → Result ReplyValue LineRefusal → DeviceView D → Command → ℕ
+-- some line asks the question
+abbrev pub QuestionCanBeAsked : Question → Type 0
+QuestionCanBeAsked question = (arguments : List (List ℕ)) × SpellsQuestion question arguments
+
+-- the question was carried out so, for any session and command that ask it of so many imports
+abbrev pub IsQueried : {D : Type 0} → Result ReplyValue LineRefusal → DeviceView D → Question → ℕ
     → StoreValue D → StoreValue D → Type 0
-IsQueried result view command pin old new =
-    (has : Releases) (session : ℕ) (pins : List (Option ℕ))
-    → pin_of pins session old.history.imports ≡ pin
+IsQueried result view question pin old new =
+    (has : Releases) (session : ℕ) (pins : List (Option ℕ)) (command : Command)
+    → IsAskedOf (server pins old) session command question pin
     → IsResponse result (source_view (Unit {0}) has) view session command (server pins old)
     (server pins new)

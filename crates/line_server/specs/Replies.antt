@@ -6,8 +6,9 @@ use Rattle.rf2_values.specs.Row.{RowValue}
 use Rattle.history_model.specs.declared.receipt.Receipt.{Receipt}
 use Rattle.history_model.specs.History.{rows_at}
 use Rattle.history_model.specs.Brought.{ImportReceiptOf}
-use Rattle.history_model.specs.Queries.{get, versions, page, terms, search_terms, children}
-use Rattle.history_model.specs.Queries.{replacements, about}
+use Rattle.history_model.specs.Queries.{get, versions, page, delta, terms, search_terms, children}
+use Rattle.history_model.specs.Queries.{replacements, replaces, about, timeline, dates}
+use Rattle.history_model.specs.Hierarchy.{AreAncestors, AreDescendants}
 use Rattle.import_check.specs.declared.release.Release.{Release}
 use Rattle.import_check.specs.Release.{files_of}
 use Rattle.history_store.specs.declared.refusal.Refusal.{Refusal}
@@ -18,15 +19,17 @@ use Rattle.history_store.specs.Answers.{IsImportOf, IsImportOnAnyDisk, IsReadRef
 use Rattle.history_store.specs.MergeAnswers.{IsBeginningOf, IsSteppingOf, IsPublishingOf}
 use Rattle.history_store.specs.MergeAnswers.{IsAbandoningOf, IsTrimmingOf}
 use Rattle.line_commands.specs.declared.unread.Unread.{Unread}
-use Rattle.line_commands.specs.Commands.{Command, Import, Get, History, Children, Terms, Search}
-use Rattle.line_commands.specs.Commands.{Replaced, About, Page, Receipt as AskReceipt, Pin, Unpin}
-use Rattle.line_commands.specs.Commands.{Merge, Step, Publish, Abandon, Trim, Status}
+use Rattle.line_commands.specs.Questions.{Question, Get, History, Children, Ancestors, Descendants}
+use Rattle.line_commands.specs.Questions.{Terms, Search, Replaced, Replaces, About, Timeline, Page}
+use Rattle.line_commands.specs.Questions.{Delta, Dates as AskDates, Receipt as AskReceipt}
+use Rattle.line_commands.specs.Commands.{Command, Ask, At, Import, Pin, Unpin, Merge, Step, Publish}
+use Rattle.line_commands.specs.Commands.{Abandon, Trim, Status}
 use Rattle.line_commands.specs.Requests.{Asks, IsUnread}
 use Rattle.line_server.specs.declared.refusal.LineRefusal.{LineRefusal}
 use Rattle.line_server.specs.declared.refusal.LineRefusal.TheVariants as refusals
 use Rattle.line_server.specs.Pins.{pin_of}
 use Rattle.line_server.specs.Sources.{Releases}
-use Rattle.line_server.specs.ReplyValue.{Answer, Rows, Ids, Done}
+use Rattle.line_server.specs.ReplyValue.{Answer, Rows, Ids, Dates, Done}
 
 -- what a reply rests on: what sessions are pinned to, and the store
 pub record Server (D : Type 0) : Type 0 where
@@ -56,26 +59,41 @@ imports_seen server session = pin_of server.pins session server.store.history.im
 abbrev pub shown : {D : Type 0} → Server D → ℕ → List RowValue
 shown server session = rows_at (imports_seen server session) server.store.history.rows
 
--- what a query finds in the rows that are shown; the other commands ask for none of them
-abbrev pub found : Command → List RowValue → Option Answer
-found (Get kind id date) rows = Some (Rows (option_to_list (get kind id date rows)))
-found (History kind id) rows = Some (Rows (versions kind id rows))
-found (Children concept date) rows = Some (Ids (children concept date rows))
-found (Terms prefix date limit) rows = Some (Rows (terms prefix date limit rows))
-found (Search prefix date after limit) rows =
-    Some (Rows (search_terms prefix date after limit rows))
-found (Replaced id date) rows = Some (Rows (replacements id date rows))
-found (About kind id date) rows = Some (Rows (about kind id date rows))
-found (Page kind date after limit) rows = Some (Rows (page kind date after limit rows))
-found _ rows = None
+-- What a question finds in the rows that are shown. A receipt isn't found in them.
+abbrev pub IsFound : Question → List RowValue → Answer → Type 0
+IsFound (Get kind id date) rows answer = answer ≡ Rows (option_to_list (get kind id date rows))
+IsFound (History kind id) rows answer = answer ≡ Rows (versions kind id rows)
+IsFound (Children concept date) rows answer = answer ≡ Ids (children concept date rows)
+IsFound (Ancestors concept date) rows answer =
+    (ids : List ℕ) × AreAncestors concept date rows ids × (answer ≡ Ids ids)
+IsFound (Descendants concept date) rows answer =
+    (ids : List ℕ) × AreDescendants concept date rows ids × (answer ≡ Ids ids)
+IsFound (Terms prefix date limit) rows answer = answer ≡ Rows (terms prefix date limit rows)
+IsFound (Search prefix date after limit) rows answer =
+    answer ≡ Rows (search_terms prefix date after limit rows)
+IsFound (Replaced id date) rows answer = answer ≡ Rows (replacements id date rows)
+IsFound (Replaces id date) rows answer = answer ≡ Rows (replaces id date rows)
+IsFound (About kind id date) rows answer = answer ≡ Rows (about kind id date rows)
+IsFound (Timeline kind id) rows answer = answer ≡ Rows (timeline kind id rows)
+IsFound (Page kind date after limit) rows answer = answer ≡ Rows (page kind date after limit rows)
+IsFound (Delta kind from date after limit) rows answer =
+    answer ≡ Rows (delta kind from date after limit rows)
+IsFound AskDates rows answer = answer ≡ Dates (dates rows)
+IsFound (AskReceipt number) rows answer = ⊥
 
--- The answer is what is found: rows where rows are, which on an honest disk are these rows.
--- Identifiers are found without the disk.
-abbrev pub IsFinding : Type 0 → Option Answer → Answer → Type 0
-IsFinding honest (Some (Rows rows)) answer =
-    (given : List RowValue) × (answer ≡ Rows given) × (honest → given ≡ rows)
-IsFinding honest (Some (Ids ids)) answer = answer ≡ Ids ids
-IsFinding honest _ answer = ⊥
+-- The answer is what is found: on every disk where the index alone finds it, and else, where rows
+-- are read, on an honest disk. What is answered on any disk are rows, or of ANCESTORS identifiers.
+abbrev pub IsFinding : Type 0 → Question → List RowValue → Answer → Type 0
+IsFinding honest (Children concept date) rows answer =
+    IsFound (Children concept date) rows answer
+IsFinding honest (Descendants concept date) rows answer =
+    IsFound (Descendants concept date) rows answer
+IsFinding honest AskDates rows answer = IsFound AskDates rows answer
+IsFinding honest (AskReceipt number) rows answer = ⊥
+IsFinding honest (Ancestors concept date) rows answer =
+    (ids : List ℕ) × (answer ≡ Ids ids) × (honest → IsFound (Ancestors concept date) rows answer)
+IsFinding honest question rows answer =
+    (given : List RowValue) × (answer ≡ Rows given) × (honest → IsFound question rows answer)
 
 -- a session is pinned, or unpinned; the store and its disk are as before
 abbrev pub IsPinned : {D : Type 0} → Server D → Server D → ℕ → Option ℕ → Type 0
@@ -110,20 +128,32 @@ abbrev pub receipt_of : ℕ → ℕ → Option ℕ → List (List ℕ)
 receipt_of number brought latest =
     decimal number ∷ decimal brought ∷ number_or_none latest ∷ []
 
--- An import that the session sees brought so many rows; nothing changes.
-pub record IsReceived {D : Type 0} (session number : ℕ) (answer : Answer) (old new : Server D)
+-- An import among the first `seen` brought so many rows; nothing changes.
+pub record IsReceived {D : Type 0} (seen number : ℕ) (answer : Answer) (old new : Server D)
     : Type 0 where
   pub open_still : old.store.needs_reopen ≡ false
-  pub seen : number ≤ imports_seen old session
+  pub within : number ≤ seen
   pub brought : ℕ
   pub latest : Option ℕ
   pub receipt : ImportReceiptOf old.store.history number brought latest
   pub answer_is : answer ≡ Done (receipt_of number brought latest)
   pub unchanged : new ≡ old
 
--- when a command is answered, and what comes after
+-- when a question is answered that is asked of the first `seen` imports; nothing changes by it
+abbrev pub IsAnswerAt : {D : Type 0} → Type 0 → ℕ → Question → Answer → Server D → Server D → Type 0
+IsAnswerAt honest seen (AskReceipt number) answer old new = IsReceived seen number answer old new
+IsAnswerAt honest seen question answer old new =
+    (old.store.needs_reopen ≡ false) × Same old new
+    × IsFinding honest question (rows_at seen old.store.history.rows) answer
+
+-- When a command is answered, and what comes after. A question is asked of the imports that its
+-- session sees, or behind AT of the first so many: as a session is answered that is pinned to them.
 abbrev pub IsAnswer : {D : Type 0} → Type 0 → Releases → ℕ → Command → Answer → Server D → Server D
     → Type 0
+IsAnswer honest releases session (Ask question) answer old new =
+    IsAnswerAt honest (imports_seen old session) question answer old new
+IsAnswer honest releases session (At number question) answer old new =
+    (number ≤ old.store.history.imports) × IsAnswerAt honest number question answer old new
 IsAnswer honest releases session (Import name) answer old new =
     (receipt : Receipt) × IsImported honest releases name (Ok receipt) old new
     × (answer ≡ Done (decimal receipt.number ∷ decimal receipt.new ∷ decimal receipt.repeated ∷ []))
@@ -151,11 +181,6 @@ IsAnswer honest releases session Trim answer old new =
     × (answer ≡ Done [])
 IsAnswer honest releases session Status answer old new =
     (old.store.needs_reopen ≡ false) × (new ≡ old) × (answer ≡ Done (status_of old.store))
-IsAnswer honest releases session (AskReceipt number) answer old new =
-    IsReceived session number answer old new
-IsAnswer honest releases session command answer old new =
-    (old.store.needs_reopen ≡ false) × Same old new
-    × IsFinding honest (found command (shown old session)) answer
 
 -- ---- what is refused
 
@@ -178,10 +203,27 @@ pub record IsUnfound {D : Type 0} (honest : Type 0) (refusal : Refusal)
   pub undamaged : honest → refusal ≢ store.Damaged
   pub pins : new.pins ≡ old.pins
 
+-- when a question that is asked of the first `seen` imports is refused as the store refuses
+abbrev pub IsRefusalAt : {D : Type 0} → Type 0 → ℕ → Question → Refusal → Server D → Server D
+    → Type 0
+IsRefusalAt honest seen (AskReceipt number) refusal old new =
+    (number ≤ seen) × IsClosed refusal old new
+IsRefusalAt honest seen (Children concept date) refusal old new =
+    IsClosed refusal old new ⊎ IsLacking refusal old new
+IsRefusalAt honest seen (Descendants concept date) refusal old new =
+    IsClosed refusal old new ⊎ IsLacking refusal old new
+IsRefusalAt honest seen AskDates refusal old new =
+    IsClosed refusal old new ⊎ IsLacking refusal old new
+IsRefusalAt honest seen question refusal old new = IsUnfound honest refusal old new
+
 -- When a command is refused as the store refuses. Of an import the source is asked first, and
 -- memory may run out there too. On an honest disk no step of a merge finds damage.
 abbrev pub IsStoreRefusal : {D : Type 0} → Type 0 → Releases → ℕ → Command → Refusal → Server D
     → Server D → Type 0
+IsStoreRefusal honest releases session (Ask question) refusal old new =
+    IsRefusalAt honest (imports_seen old session) question refusal old new
+IsStoreRefusal honest releases session (At number question) refusal old new =
+    (number ≤ old.store.history.imports) × IsRefusalAt honest number question refusal old new
 IsStoreRefusal honest releases session (Import name) store.OutOfMemory old new = Same old new
 IsStoreRefusal honest releases session (Import name) refusal old new =
     IsImported honest releases name (Err refusal) old new
@@ -199,19 +241,20 @@ IsStoreRefusal honest releases session Abandon refusal old new =
 IsStoreRefusal honest releases session Trim refusal old new =
     IsTrimmingOf (Err refusal) old.store new.store × (new.pins ≡ old.pins)
 IsStoreRefusal honest releases session Status refusal old new = IsClosed refusal old new
-IsStoreRefusal honest releases session (AskReceipt number) refusal old new =
-    (number ≤ imports_seen old session) × IsClosed refusal old new
-IsStoreRefusal honest releases session (Children concept date) refusal old new =
-    IsClosed refusal old new ⊎ IsLacking refusal old new
-IsStoreRefusal honest releases session command refusal old new = IsUnfound honest refusal old new
 
--- No import has the number: the store has fewer than are to be pinned,
--- or the session sees fewer than the one whose receipt is asked.
+-- the question asks for the receipt of an import behind the first `seen`
+abbrev pub IsUnseen : ℕ → Question → Type 0
+IsUnseen seen (AskReceipt number) = seen < number
+IsUnseen seen question = ⊥
+
+-- No import has the number: the store has fewer than are to be pinned, or than AT names,
+-- or fewer are seen than the one whose receipt is asked.
 abbrev pub IsOutOfRange : {D : Type 0} → ℕ → Command → Server D → Type 0
-IsOutOfRange session command old =
-    (number : ℕ)
-    × (((command ≡ Pin (Some number)) × (old.store.history.imports < number))
-    ⊎ ((command ≡ AskReceipt number) × (imports_seen old session < number)))
+IsOutOfRange session (Pin (Some number)) old = old.store.history.imports < number
+IsOutOfRange session (Ask question) old = IsUnseen (imports_seen old session) question
+IsOutOfRange session (At number question) old =
+    (old.store.history.imports < number) ⊎ IsUnseen number question
+IsOutOfRange session command old = ⊥
 
 -- when a command is refused, and what comes after
 abbrev pub IsRefusal : {D : Type 0} → Type 0 → Releases → ℕ → Command → LineRefusal → Server D
@@ -243,3 +286,10 @@ Replies honest releases text outcome old new =
     ⊎
     ((reason : Unread) × IsUnread text reason × (outcome ≡ Err (refusals.Unread reason))
     × (new ≡ old))
+
+-- the session's command asks the question of the first `pin` imports
+abbrev pub IsAskedOf : {D : Type 0} → Server D → ℕ → Command → Question → ℕ → Type 0
+IsAskedOf server session command question pin =
+    ((command ≡ Ask question) × (imports_seen server session ≡ pin))
+    ⊎
+    ((command ≡ At pin question) × (pin ≤ server.store.history.imports))

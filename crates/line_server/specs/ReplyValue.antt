@@ -13,10 +13,11 @@ use Rattle.line_server.specs.declared.refusal.LineRefusal.TheVariants as refusal
 pub data Answer : Type 0 where
   Rows : List RowValue → Answer
   Ids : List ℕ → Answer
+  Dates : List ℕ → Answer
   -- the words after `OK`
   Done : List (List ℕ) → Answer
 
--- the lines of a reply: those of rows or identifiers, and the last one
+-- the lines of a reply: those of rows, identifiers or dates, and the last one
 pub record ReplyValue : Type 0 where
   pub body : List ℕ
   pub last : List ℕ
@@ -52,10 +53,14 @@ row_line row = line (codes "ROW" ∷ canonical row ∷ [])
 abbrev pub id_line : ℕ → List ℕ
 id_line id = line (codes "ID" ∷ decimal id ∷ [])
 
--- one line for each row or identifier
+abbrev pub date_line : ℕ → List ℕ
+date_line date = line (codes "DATE" ∷ decimal date ∷ [])
+
+-- one line for each row, identifier or date
 abbrev pub body_of : Result Answer LineRefusal → List ℕ
 body_of (Ok (Rows rows)) = flat_map row_line rows
 body_of (Ok (Ids ids)) = flat_map id_line ids
+body_of (Ok (Dates dates)) = flat_map date_line dates
 body_of (Ok (Done words)) = []
 body_of (Err refusal) = []
 
@@ -63,6 +68,7 @@ body_of (Err refusal) = []
 abbrev pub last_of : Result Answer LineRefusal → List ℕ
 last_of (Ok (Rows rows)) = line (codes "END" ∷ decimal (length rows) ∷ [])
 last_of (Ok (Ids ids)) = line (codes "END" ∷ decimal (length ids) ∷ [])
+last_of (Ok (Dates dates)) = line (codes "END" ∷ decimal (length dates) ∷ [])
 last_of (Ok (Done words)) = line (codes "OK" ∷ words)
 last_of (Err refusal) =
     line (codes "ERR" ∷ decimal (number_of refusal) ∷ name_of refusal ∷ place_of refusal)

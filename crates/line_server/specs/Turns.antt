@@ -11,14 +11,18 @@ use Rattle.history_store.specs.Answers.{CountsRefusal}
 use Rattle.history_store.specs.Merging.{trimmed_len}
 use Rattle.history_store.specs.Queries.{ReadsThroughCache, StepsThroughCache}
 use Rattle.history_store.specs.Reading.{row_cost}
-use Rattle.line_commands.specs.Commands.{Command, Import, Step, Publish, Trim, Get, History, Terms}
-use Rattle.line_commands.specs.Commands.{Search, Replaced, About, Page}
+use Rattle.history_store.specs.Auditing.{relationships_cost}
+use Rattle.rf2_values.specs.Row.{RowValue}
+use Rattle.history_model.specs.History.{rows_at}
+use Rattle.line_commands.specs.Questions.{Question, Children, Ancestors, Descendants, Dates}
+use Rattle.line_commands.specs.Questions.{Receipt}
+use Rattle.line_commands.specs.Commands.{Command, Ask, At, Import, Step, Publish, Trim}
 use Rattle.line_commands.specs.Requests.{Asks}
 use Rattle.line_server.specs.declared.refusal.LineRefusal.{LineRefusal}
 use Rattle.line_server.specs.declared.refusal.LineRefusal.TheVariants as refusals
 use Rattle.line_server.specs.Sources.{Releases, SourceView}
-use Rattle.line_server.specs.ReplyValue.{Answer, Rows, ReplyValue, reply_value, bytes_of}
-use Rattle.line_server.specs.Replies.{Server, Replies}
+use Rattle.line_server.specs.ReplyValue.{Answer, Rows, Ids, ReplyValue, reply_value, bytes_of}
+use Rattle.line_server.specs.Replies.{Server, Replies, imports_seen}
 use Rattle.store_life.specs.Life.{Call, Imported, Failed, Other, IsCall}
 
 -- a line, how it is answered, and what that did to the store's history
@@ -60,46 +64,61 @@ abbrev pub ReadsFor : Result Answer LineRefusal → ℕ → ℕ → Type 0
 ReadsFor (Ok (Rows rows)) old new = new ≤ old + sum_by row_cost rows
 ReadsFor _ old new = Unit {0}
 
--- A query for rows leaves what a stop may leave of an honest disk as it was. On every disk it reads
--- blocks of listed segments alone, and none that is kept in memory.
-abbrev pub LeavesQueried : {D : Type 0} → DeviceView D → Result Answer LineRefusal → StoreValue D
-    → StoreValue D → Type 0
-LeavesQueried view outcome old new =
+-- The ancestors of a concept took no more reading than the active relationships do of which it or
+-- one of them is the source.
+abbrev pub ReadsAbove : ℕ → ℕ → List RowValue → Result Answer LineRefusal → ℕ → ℕ → Type 0
+ReadsAbove concept date rows (Ok (Ids ids)) old new =
+    new ≤ old + relationships_cost date rows (concept ∷ ids)
+ReadsAbove concept date rows _ old new = Unit {0}
+
+-- A question whose answer is read leaves what a stop may leave of an honest disk as it was. On
+-- every disk it reads blocks of listed segments alone, and none that is kept in memory.
+abbrev pub LeavesQueried : {D : Type 0} → DeviceView D → StoreValue D → StoreValue D → Type 0
+LeavesQueried view old new =
     (view.is_honest old.disk → view.moments new.disk ≡ view.moments old.disk)
     × ReadsThroughCache view.bytes_read old new
+
+-- what a question of the first `seen` imports leaves of the disk: the device as it was, where the
+-- index alone answers
+abbrev pub LeavesAsked : {D : Type 0} → DeviceView D → ℕ → Question → Result Answer LineRefusal
+    → StoreValue D → StoreValue D → Type 0
+LeavesAsked view seen (Children concept date) outcome old new = new.disk ≡ old.disk
+LeavesAsked view seen (Descendants concept date) outcome old new = new.disk ≡ old.disk
+LeavesAsked view seen Dates outcome old new = new.disk ≡ old.disk
+LeavesAsked view seen (Receipt number) outcome old new = new.disk ≡ old.disk
+LeavesAsked view seen (Ancestors concept date) outcome old new = LeavesQueried view old new
+    × ReadsAbove concept date (rows_at seen old.history.rows) outcome (view.bytes_read old.disk)
+    (view.bytes_read new.disk)
+LeavesAsked view seen question outcome old new =
+    LeavesQueried view old new
     × ReadsFor outcome (view.bytes_read old.disk) (view.bytes_read new.disk)
 
 -- What a command leaves of the disk. On an honest one IMPORT, STEP and PUBLISH may change what a
 -- stop leaves, but not where they are refused for another reason than the device. After TRIM a read
 -- gives what it gave before, up to the last block that is listed or reserved, and nothing behind
 -- that. STEP looks blocks up as a query does, and may then forget those that the merge has
--- reserved; PUBLISH reads one byte at most, and TRIM none. Every other command that asks for no
--- rows leaves the device as it was.
-abbrev pub LeavesDisk : {D : Type 0} → DeviceView D → Command → Result Answer LineRefusal
+-- reserved; PUBLISH reads one byte at most, and TRIM none. A question of a session that sees `seen`
+-- imports leaves what is said above, and every other command leaves the device as it was.
+abbrev pub LeavesDisk : {D : Type 0} → DeviceView D → ℕ → Command → Result Answer LineRefusal
     → StoreValue D → StoreValue D → Type 0
-LeavesDisk view (Import name) outcome old new =
+LeavesDisk view seen (Ask question) outcome old new = LeavesAsked view seen question outcome old new
+LeavesDisk view seen (At number question) outcome old new =
+    LeavesAsked view number question outcome old new
+LeavesDisk view seen (Import name) outcome old new =
     view.is_honest old.disk → IfRefused outcome (view.moments new.disk ≡ view.moments old.disk)
-LeavesDisk view (Step rows) outcome old new =
+LeavesDisk view seen (Step rows) outcome old new =
     (view.is_honest old.disk → IfRefused outcome (view.moments new.disk ≡ view.moments old.disk))
     × StepsThroughCache view.bytes_read old new
-LeavesDisk view Publish outcome old new =
+LeavesDisk view seen Publish outcome old new =
     (view.is_honest old.disk → IfRefused outcome (view.moments new.disk ≡ view.moments old.disk))
     × (view.bytes_read new.disk ≤ view.bytes_read old.disk + 1)
-LeavesDisk view Trim outcome old new =
+LeavesDisk view seen Trim outcome old new =
     (view.is_honest old.disk
     → OnOk outcome ((view.moments new.disk).state.now ≡ take (trimmed_len old.catalog)
     (view.moments old.disk).state.now)
     × IfRefused outcome (view.moments new.disk ≡ view.moments old.disk))
     × (view.bytes_read new.disk ≡ view.bytes_read old.disk)
-LeavesDisk view (Get kind id date) outcome old new = LeavesQueried view outcome old new
-LeavesDisk view (History kind id) outcome old new = LeavesQueried view outcome old new
-LeavesDisk view (Terms prefix date limit) outcome old new = LeavesQueried view outcome old new
-LeavesDisk view (Search prefix date after limit) outcome old new =
-    LeavesQueried view outcome old new
-LeavesDisk view (Replaced id date) outcome old new = LeavesQueried view outcome old new
-LeavesDisk view (About kind id date) outcome old new = LeavesQueried view outcome old new
-LeavesDisk view (Page kind date after limit) outcome old new = LeavesQueried view outcome old new
-LeavesDisk view command outcome old new = new.disk ≡ old.disk
+LeavesDisk view seen command outcome old new = new.disk ≡ old.disk
 
 -- One line was answered: as if the source had certain releases, and where it is honest, as its own
 -- releases say.
@@ -112,7 +131,7 @@ pub record IsTurn {D : Type 0} (source : SourceView) (view : DeviceView D) (old 
   pub counts : CountsOutcome turn.outcome (view.failures old.store.disk)
       (view.failures new.store.disk)
   pub disk : (session : ℕ) (command : Command) → Asks turn.line session command
-      → LeavesDisk view command turn.outcome old.store new.store
+      → LeavesDisk view (imports_seen old session) command turn.outcome old.store new.store
 
 -- a line was answered by a turn of which this holds
 abbrev pub HasTurn : {D : Type 0} → SourceView → DeviceView D → List ℕ → Server D → Server D

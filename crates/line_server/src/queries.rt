@@ -2,8 +2,8 @@
 
 ghost use Rattle.std.specs.Prelude.{◌≤◌};
 ghost use Rattle.store_life.specs.DeviceView.{device_view};
-ghost use Rattle.line_commands.specs.Commands.{Get, History, Children, Terms, Search, Replaced};
-ghost use Rattle.line_commands.specs.Commands.{About, Page, Receipt};
+ghost use Rattle.line_commands.specs.Questions.{Get, History, Children, Terms, Search, Replaced};
+ghost use Rattle.line_commands.specs.Questions.{About, Page, Receipt};
 ghost use Rattle.line_server.specs.Private.{IsQueried};
 
 use crate::refusal::LineRefusal;

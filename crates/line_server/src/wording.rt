@@ -3,7 +3,7 @@
 ghost use Rattle.std.specs.Prelude.{◌≡◌, ◌≤◌, ◌<◌, ◌+◌, ◌++◌, ◌∷◌, [], ℕ, List, Option, Ok, Err};
 ghost use Rattle.std.specs.Prelude.{decimal, IfOk, length, codes};
 ghost use Rattle.arrayvec.specs.ArrayString.{array_string_len};
-ghost use Rattle.line_server.specs.ReplyValue.{Rows, Ids, Done, reply_value, line};
+ghost use Rattle.line_server.specs.ReplyValue.{Rows, Ids, Dates, Done, reply_value, line};
 ghost use Rattle.line_server.specs.Replies.{number_or_none, receipt_of};
 
 use crate::refusal::LineRefusal;
@@ -152,7 +152,7 @@ pub fn reply_refusal(alloc: Global, refusal: LineRefusal) -> Reply
     }
 }
 
-/// The last line of a reply that lists rows or identifiers.
+/// The last line of a reply that lists rows, identifiers or dates.
 fn end(count: usize) -> ArrayString<128>
     ensures bytes { result.bytes ++ 10 ∷ [] ≡ line (codes "END" ∷ decimal count ∷ []) }
     ensures short { array_string_len result < 128 }
@@ -186,4 +186,17 @@ pub(crate) fn reply_ids(alloc: Global, ids: &[u64]) -> Result<Reply, AllocError>
         body.push(b'\n')?;
     }
     Ok(reply(body, end(ids.len())))
+}
+
+/// The reply that lists dates.
+pub(crate) fn reply_dates(alloc: Global, dates: &[EffectiveTime]) -> Result<Reply, AllocError>
+    ensures { IfOk result (λ reply. reply ≡ reply_value (Ok (Dates dates.now))) }
+{
+    let mut body = Vec::new(alloc);
+    for &date in dates {
+        body.extend_from_slice(b"DATE ")?;
+        body.extend_from_slice(Buffer::new().format(date.value()).as_bytes())?;
+        body.push(b'\n')?;
+    }
+    Ok(reply(body, end(dates.len())))
 }

@@ -23,7 +23,8 @@ use Rattle.as_of_index.proofs.Among.{looked_up}
 use Rattle.as_of_index.proofs.Current.{standing_row, one_row, shown, current_where}
 use Rattle.links.specs.Edges.{Edges}
 use Rattle.links.specs.Laws.{EachPosted}
-use Rattle.links.specs.Private.{links_in, IsThere, AreSources}
+use Rattle.as_of_index.specs.Private.Once.{IsThere}
+use Rattle.links.specs.Private.{links_in, AreSources}
 use Rattle.links.proofs.Posted.{link_stands, link_of_child}
 
 eq_of : (m n : ℕ) → (m == n) ≡ true → m ≡ n
@@ -41,7 +42,7 @@ dest_of : (c d : ℕ) (row : RowValue) → is_child_of c row ≡ true → is_chi
 dest_of c d row e f = says_dest c d row.body (both row.active (says_is_a c row.body) e).1 (both row.active (says_is_a d row.body) f).1
 
 -- a number that ties with one that is there is there
-number_there : (ids : List ℕ) (id : ℕ) → IsThere nat_cmp ids id → Has ids id
+pub number_there : (ids : List ℕ) (id : ℕ) → IsThere nat_cmp ids id → Has ids id
 number_there ids id w = subst (λ m. Has ids m) (sym (ranked id w.0 Equal (sym w.2))) w.1
 
 module _ (lists : List (List StampedRow)) (are : ArePlaces (map places_of lists)) (edges : List Edges) (posts : EachPosted lists edges) (concept date pin : ℕ) where

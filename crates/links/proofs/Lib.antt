@@ -4,6 +4,10 @@ pub mod Ranked
 pub mod ChildRows
 pub mod ReplacingRows
 pub mod Posted
+pub mod ReplacedRows
+pub mod TimelineRows
 pub mod SubjectOrder
 pub mod AboutRows
 pub mod MergedEdges
+pub mod ParentRows
+pub mod Seen

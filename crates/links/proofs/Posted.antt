@@ -1,5 +1,5 @@
 -- Links, references and subjects that were pushed, each with the number of its row, are of rows of their lists, and none is left out.
-use Rattle.std.proofs.Common.{◌≡◌, ℕ, zero, suc, ◌+◌, true, false, List, [], ◌∷◌, ◌++◌, length, map, refl, sym, ap, subst, inl, inr, ◌∙◌, arith}
+use Rattle.std.proofs.Common.{◌≡◌, ℕ, zero, suc, ◌+◌, true, false, List, [], ◌∷◌, ◌++◌, length, refl, sym, ap, subst, inl, inr, ◌∙◌, arith}
 use Rattle.std.specs.Prelude.{◌==◌, Option, Some, None, slice_set, remove, if◌then◌else◌}
 use Rattle.std.proofs.lemmas.Bool.Decides.{nat_tests}
 use Rattle.rf2_values.specs.declared.row.Body.{Body}
@@ -31,7 +31,7 @@ links_posted [] (e ∷ edges) a = absurd a
 links_posted (rows ∷ lists) [] a = absurd a
 links_posted (rows ∷ lists) (e ∷ edges) a = (a.0.links, links_posted lists edges a.1)
 
-references_posted : (lists : List (List StampedRow)) (edges : List Edges) → EachPosted lists edges → AllPosted posted_reference lists (references_in edges)
+pub references_posted : (lists : List (List StampedRow)) (edges : List Edges) → EachPosted lists edges → AllPosted posted_reference lists (references_in edges)
 references_posted [] [] a = tt
 references_posted [] (e ∷ edges) a = absurd a
 references_posted (rows ∷ lists) [] a = absurd a

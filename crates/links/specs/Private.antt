@@ -1,15 +1,24 @@
 -- Words that private functions and proofs need, of this crate or of one above it.
 -- No public clause cites them.
-use Rattle.std.specs.Prelude.{List, map, ◌≡◌, ◌⊎◌, ℕ}
+use Rattle.std.specs.Prelude.{◌≡◌, ◌≢◌, ◌≤◌, ◌⊎◌, ◌==◌, ℕ, Bool, true, false, nat_eq}
+use Rattle.std.specs.Prelude.{List, [], ◌∷◌, map}
+use Rattle.std.specs.List.{filter}
+use Rattle.std.specs.HashSet.{HashSet, contains}
 use Rattle.std.specs.Ordering.{nat_cmp}
-use Rattle.std.specs.declared.cmp.Ordering.{Ordering}
-use Rattle.std.specs.declared.cmp.Ordering.TheVariants.{Equal}
+use Rattle.std.proofs.Common.{subst}
+use Rattle.fault_counts.specs.declared.fault.ReadFault.{ReadFault}
+use Rattle.fault_counts.specs.declared.fault.ReadFault.TheVariants as readfault
 use Rattle.rf2_values.specs.declared.row.Kind.{Kind}
+use Rattle.rf2_values.specs.declared.row.Body.{Body}
+use Rattle.rf2_values.specs.declared.row.Body.TheVariants as body
+use Rattle.rf2_values.specs.Row.{RowValue}
+use Rattle.history_model.specs.Queries.{is_a, destination_of}
 use Rattle.history_model.specs.declared.stamped.StampedRow.{StampedRow}
-use Rattle.history_model.specs.InOrder.{Has, IsAscending}
+use Rattle.history_model.specs.InOrder.{Has}
 use Rattle.segment.specs.declared.place.RowPlace.{RowPlace}
 use Rattle.as_of_index.specs.declared.chosen.Chosen.{Chosen}
 use Rattle.as_of_index.specs.Private.Chosen.{chosen, chosen_cmp, ranked_cmp}
+use Rattle.as_of_index.specs.Private.Once.{AreOnce}
 use Rattle.as_of_index.specs.Current.{IsPlaceOfRow, IsCurrentAt}
 use Rattle.links.specs.declared.postings.Subject.{Subject}
 use Rattle.links.specs.declared.postings.Link.{Link}
@@ -40,16 +49,6 @@ pub record AreTaken {X Y : Type 0} (Gives : ℕ → X → Y → Type 0) (of : X 
   pub taken : (x : ℕ × X) (y : Y) → Has xs x → of x.1 ≡ d → Gives x.0 x.1 y → Has ys y
   pub only : (y : Y) → Has ys y
       → (x : ℕ × X) × Has xs x × (of x.1 ≡ d) × Gives x.0 x.1 y
-
--- the list has one that ties with it
-abbrev pub IsThere : {Y : Type 0} → (Y → Y → Ordering) → List Y → Y → Type 0
-IsThere cmp ys y = (z : _) × Has ys z × (cmp y z ≡ Equal)
-
--- the list ascends, and has one of those that tie
-pub record AreOnce {Y : Type 0} (cmp : Y → Y → Ordering) (all once : List Y) : Type 0 where
-  pub ascending : IsAscending cmp once
-  pub there : (y : Y) → Has all y → IsThere cmp once y
-  pub only : (y : Y) → Has once y → Has all y
 
 -- a posting of list n whose row is current gives its answer, which its place tells
 pub record GivesAnswer {X Y : Type 0} (row : X → ℕ) (answer : ℕ → X → RowPlace → Y)
@@ -86,6 +85,29 @@ abbrev pub AreRanked : List (List StampedRow) → ℕ → ℕ → ℕ → List (
 AreRanked lists date pin d xs kept =
     (all : List Chosen) × AreRankedTaken lists date pin d xs all × AreOnce ranked_cmp all kept
 
+-- what is to be read for a reference of list n, seen from its target: its place, with refset and
+-- what it refers to
+abbrev pub ranked_back : ℕ → Reference → RowPlace → Chosen
+ranked_back n r at = record { segment = n; at = at; refset = r.refset; target = r.referenced }
+
+abbrev pub GivesRankedBack : List (List StampedRow) → ℕ → ℕ → ℕ → Reference → Chosen → Type 0
+GivesRankedBack = GivesAnswer (λ r. r.row) ranked_back
+
+-- a reference that is current and has the target gives what is to be read
+abbrev pub GivesReplaced : List (List StampedRow) → ℕ → ℕ → ℕ → ℕ → Reference → Chosen → Type 0
+GivesReplaced lists date pin target n r k =
+    (r.target ≡ target) × GivesRankedBack lists date pin n r k
+
+abbrev pub AreReplacedTaken : List (List StampedRow) → ℕ → ℕ → ℕ → List (ℕ × Reference)
+    → List Chosen → Type 0
+AreReplacedTaken lists date pin = AreTaken (GivesRankedBack lists date pin) (λ r. r.target)
+
+abbrev pub AreReplaced : List (List StampedRow) → ℕ → ℕ → ℕ → List (ℕ × Reference) → List Chosen
+    → Type 0
+AreReplaced lists date pin target xs kept =
+    (all : List Chosen) × AreReplacedTaken lists date pin target xs all
+    × AreOnce ranked_cmp all kept
+
 -- a subject whose row is current gives what is to be read
 abbrev pub GivesRow : List (List StampedRow) → ℕ → ℕ → ℕ → Subject → Chosen → Type 0
 GivesRow = GivesAnswer (λ x. x.row) (λ n x at. chosen n at)
@@ -99,3 +121,52 @@ abbrev pub AreRows : List (List StampedRow) → Kind → ℕ → ℕ → ℕ →
     → Type 0
 AreRows lists kind date pin d xs kept =
     (all : List Chosen) × AreRowsTaken lists kind date pin d xs all × AreOnce chosen_cmp all kept
+
+-- a subject whose row the pin shows gives the id of the row's component
+pub record GivesId (lists : List (List StampedRow)) (pin n : ℕ) (x : Subject) (id : ℕ)
+    : Type 0 where
+  pub at : RowPlace
+  pub row_there : IsPlaceOfRow lists n x.row at
+  pub shown : at.import ≤ pin
+  pub id_is : at.key.id ≡ id
+
+abbrev pub AreIdsTaken : List (List StampedRow) → Kind → ℕ → ℕ → List (ℕ × Subject) → List ℕ
+    → Type 0
+AreIdsTaken lists kind pin d =
+    AreTaken (GivesId lists pin) (λ x. subject_rank x.subject x.kind) (subject_rank d kind)
+
+abbrev pub AreIds : List (List StampedRow) → Kind → ℕ → ℕ → List (ℕ × Subject) → List ℕ → Type 0
+AreIds lists kind pin d xs ids =
+    (all : List ℕ) × AreIdsTaken lists kind pin d xs all × AreOnce nat_cmp all ids
+
+-- none is there twice
+abbrev pub AreDistinct : List ℕ → Type 0
+AreDistinct [] = Unit {0}
+AreDistinct (x ∷ xs) = (Has xs x → ⊥) × AreDistinct xs
+
+-- the set has what the list has, which has nothing twice
+pub record AreSeen {S : Type 0} (seen : HashSet ℕ S) (found : List ℕ) : Type 0 where
+  pub listed : (x : ℕ) → contains nat_eq seen x ≡ true → Has found x
+  pub seen_is : (x : ℕ) → Has found x → contains nat_eq seen x ≡ true
+  pub distinct : AreDistinct found
+
+-- an "is a" relationship
+abbrev pub is_link : Body → Bool
+is_link (body.Concept c) = false
+is_link (body.Description d) = false
+is_link (body.Relationship r) = r.type_id == is_a
+is_link (body.Association a) = false
+is_link (body.Concrete c) = false
+
+-- the destinations of the "is a" relationships among the rows
+abbrev pub parents_told : List RowValue → List ℕ
+parents_told rows = map (λ row. destination_of row.body) (filter (λ row. is_link row.body) rows)
+
+-- the lack of memory
+abbrev pub IsMemory : ReadFault → Type 0
+IsMemory readfault.OutOfMemory = Unit {0}
+IsMemory readfault.DiskFault = ⊥
+IsMemory readfault.Damaged = ⊥
+
+pub memory_is_no_damage : readfault.OutOfMemory ≢ readfault.Damaged
+memory_is_no_damage e = subst IsMemory e tt

@@ -11,7 +11,8 @@ ghost use Rattle.history_model.specs.Queries.{children};
 ghost use Rattle.as_of_index.specs.Places.{Lists};
 ghost use Rattle.as_of_index.specs.Private.Postings.{numbered};
 ghost use Rattle.links.specs.Laws.{EachPosted};
-ghost use Rattle.links.specs.Private.{links_in, GivesSource, Takes, AreOnce, AreSources};
+ghost use Rattle.as_of_index.specs.Private.Once.{AreOnce};
+ghost use Rattle.links.specs.Private.{links_in, GivesSource, Takes, AreSources};
 
 use crate::Links;
 use crate::postings::{Link, Sealed};
@@ -51,7 +52,7 @@ fn add_sources(
 }
 
 /// Sorts the numbers, and keeps each once. It takes no memory.
-fn sort_once(ids: &mut Vec<u64>)
+pub(crate) fn sort_once(ids: &mut Vec<u64>)
     ensures { AreOnce nat_cmp ids.old.items ids.new.items }
 {
     ids.sort_unstable();
@@ -79,6 +80,24 @@ fn sources(
     Ok(ids)
 }
 
+/// The children of the concept with a number, as `children` says.
+pub(crate) fn children_of(
+    alloc: Global,
+    links: &Links,
+    index: &Index,
+    concept: u64,
+    time: EffectiveTime,
+    pin: u32,
+) -> Result<Vec<u64>, AllocError>
+    ensures found { IfOk result (λ ids. (lists : List (List StampedRow)) → Lists index.now lists
+        → EachPosted lists links.now
+        → ids.items ≡ children concept time (rows_at pin (listed lists))) }
+{
+    // Its contract says that no key is listed twice.
+    let _listed = index.lists();
+    sources(alloc, links.as_slice(), index, concept, time, pin)
+}
+
 /// The distinct sources of active "is a" relationships to the concept at the date, ascending, of
 /// the rows that the pin shows. It reads no row: each posted link to the concept costs a bisection
 /// a list, and those that count are sorted at the end.
@@ -96,7 +115,5 @@ pub fn children(
         → EachPosted lists links.now
         → ids.items ≡ children concept time (rows_at pin (listed lists))) }
 {
-    // Its contract says that no key is listed twice.
-    let _listed = index.lists();
-    sources(alloc, links.as_slice(), index, concept.value(), time, pin)
+    children_of(alloc, links, index, concept.value(), time, pin)
 }

@@ -16,7 +16,8 @@ ghost use Rattle.as_of_index.specs.Private.Postings.{numbered};
 ghost use Rattle.fault_counts.specs.Counting.{Counts, CountsDiskFault, CountsDamage};
 ghost use Rattle.fault_counts.specs.declared.fault.ReadFault.TheVariants as readfault;
 ghost use Rattle.links.specs.Laws.{EachPosted};
-ghost use Rattle.links.specs.Private.{references_in, ranked, GivesRanked, Takes, AreOnce, AreRanked};
+ghost use Rattle.as_of_index.specs.Private.Once.{AreOnce};
+ghost use Rattle.links.specs.Private.{references_in, ranked, GivesRanked, Takes, AreRanked};
 
 use crate::Links;
 use crate::postings::{Reference, Sealed};
@@ -62,7 +63,7 @@ fn is_same_rank(a: &Chosen, b: &Chosen) -> bool
 }
 
 /// Sorts the rows in this order, and keeps one of those that tie. It takes no memory.
-fn sort_once(kept: &mut Vec<Chosen>)
+pub(crate) fn sort_once(kept: &mut Vec<Chosen>)
     ensures { AreOnce ranked_cmp kept.old.items kept.new.items }
 {
     kept.sort_unstable_by(|a, b| rank(a, b));

@@ -18,7 +18,8 @@ ghost use Rattle.fault_counts.specs.Counting.{Counts, CountsDiskFault, CountsDam
 ghost use Rattle.fault_counts.specs.declared.fault.ReadFault.TheVariants as readfault;
 ghost use Rattle.links.specs.Edges.{subject_rank};
 ghost use Rattle.links.specs.Laws.{EachPosted};
-ghost use Rattle.links.specs.Private.{subjects_in, GivesRow, Takes, AreOnce, AreRows};
+ghost use Rattle.as_of_index.specs.Private.Once.{AreOnce};
+ghost use Rattle.links.specs.Private.{subjects_in, GivesRow, Takes, AreRows};
 
 use crate::Links;
 use crate::postings::{Sealed, Subject};
@@ -43,7 +44,7 @@ fn is_up_to(x: &Subject, id: u64, kind: Kind) -> bool
 }
 
 /// The subjects that are a component, of rows of a kind.
-fn subjects_of(list: &[Subject], id: u64, kind: Kind) -> &[Subject]
+pub(crate) fn subjects_of(list: &[Subject], id: u64, kind: Kind) -> &[Subject]
     ensures { IsNonDecreasingBy (λ x. subject_rank x.subject x.kind) list.now → (x : _)
         → Has result.now x
         ↔ (Has list.now x × (subject_rank x.subject x.kind ≡ subject_rank id kind)) }
@@ -128,6 +129,46 @@ fn chosen_all(
     Ok(kept)
 }
 
+/// What is about the component with a number, as `about` says.
+pub(crate) fn about_of<R: RowReader>(
+    alloc: Global,
+    links: &Links,
+    index: &Index,
+    reader: &mut R,
+    kind: Kind,
+    id: u64,
+    time: EffectiveTime,
+    pin: u32,
+) -> Result<Vec<Row>, ReadFault>
+    ensures found { R.is_honest reader.old → Lists index.now (R.lists reader.old)
+        → EachPosted (R.lists reader.old) links.now
+        → IfOk result (λ rows.
+        rows.items ≡ about kind id time (rows_at pin (listed (R.lists reader.old)))) }
+    ensures undamaged { R.is_honest reader.old → Lists index.now (R.lists reader.old)
+        → EachPosted (R.lists reader.old) links.now
+        → IfErr result (λ e. e ≢ readfault.Damaged) }
+    // No more is read than the rows that it answers take, each read once.
+    ensures work { IfOk result (λ rows.
+        R.work reader.new ≤ R.work reader.old + sum_by R.cost rows.items) }
+    // Whatever it answers and whatever was read, no more is read than the rows about the component
+    // take, each counted once.
+    ensures work_always { Lists index.now (R.lists reader.old)
+        → EachPosted (R.lists reader.old) links.now
+        → R.work reader.new ≤ R.work reader.old + sum_by R.cost
+        (about kind id time (rows_at pin (listed (R.lists reader.old)))) }
+    ensures lists { R.lists reader.new ≡ R.lists reader.old }
+    ensures honesty { R.is_honest reader.old → R.is_honest reader.new }
+    ensures stays { R.stays reader.old reader.new }
+    ensures disk_faults { Counts CountsDiskFault result
+        (R.disk_faults reader.old) (R.disk_faults reader.new) }
+    ensures damages { Counts CountsDamage result (R.damages reader.old) (R.damages reader.new) }
+{
+    // Its contract says that no key is listed twice.
+    let _listed = index.lists();
+    let kept = chosen_all(alloc, links.as_slice(), index, kind, id, time, pin)?;
+    read_all(alloc, reader, kept.as_slice())
+}
+
 /// The active rows of a kind at the date that are about the component, ascending by id, of the rows
 /// that the pin shows. It makes two bisections a list, and for each posted row of the component and
 /// kind one more a list.
@@ -168,8 +209,5 @@ pub fn about<R: RowReader>(
         (R.disk_faults reader.old) (R.disk_faults reader.new) }
     ensures damages { Counts CountsDamage result (R.damages reader.old) (R.damages reader.new) }
 {
-    // Its contract says that no key is listed twice.
-    let _listed = index.lists();
-    let kept = chosen_all(alloc, links.as_slice(), index, kind, id.value(), time, pin)?;
-    read_all(alloc, reader, kept.as_slice())
+    about_of(alloc, links, index, reader, kind, id.value(), time, pin)
 }

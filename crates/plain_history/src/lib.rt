@@ -3,14 +3,18 @@
 //! These functions serve to compare others with. They may take time that is quadratic in the rows.
 #![tactic(auto)]
 
+mod audit;
 mod descriptions;
 mod edges;
+mod hierarchy;
 mod known;
 mod releases;
 mod snapshots;
 
+pub use audit::{dates, delta, replaces, timeline};
 pub use descriptions::{search_terms, terms};
 pub use edges::{about, children, replacements};
+pub use hierarchy::{ancestors, descendants, parents};
 pub use known::KnownRows;
 pub use releases::{accepts, after_release, import_receipt, receipt, rows_at};
 pub use snapshots::{get, page, snapshot, versions};

@@ -19,7 +19,7 @@ pub(crate) fn is_kind(row: &Row, kind: Kind) -> bool
 }
 
 /// Whether the row is a version of the component.
-fn is_version_of(row: &Row, kind: Kind, id: u128) -> bool
+pub(crate) fn is_version_of(row: &Row, kind: Kind, id: u128) -> bool
     ensures { result ≡ is_version_of kind id row.now }
 {
     is_kind(row, kind) && row.id == id
@@ -85,7 +85,7 @@ pub(crate) fn is_above(after: Option<u128>, id: u128) -> bool
     }
 }
 
-fn is_kind_above(row: &Row, kind: Kind, after: Option<u128>) -> bool
+pub(crate) fn is_kind_above(row: &Row, kind: Kind, after: Option<u128>) -> bool
     ensures { result ≡ is_kind_above kind after row.now }
 {
     is_kind(row, kind) && is_above(after, row.id)

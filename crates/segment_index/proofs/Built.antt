@@ -1,6 +1,7 @@
 -- What is kept of rows, with one row more.
 use Rattle.std.proofs.Common.{◌≡◌, ℕ, zero, suc, ◌+◌, ◌≤◌, List, [], ◌∷◌, ◌++◌, length, take, map, refl, sym, ap, ◌∙◌, arith, length-append}
 use Rattle.std.proofs.lemmas.List.{map-append}
+use Rattle.std.proofs.Math.Seq.{take-append_seam}
 use Rattle.history_model.specs.declared.stamped.StampedRow.{StampedRow}
 use Rattle.history_model.specs.InOrder.{IsAscending}
 use Rattle.history_model.specs.History.{stamped_cmp}
@@ -18,6 +19,7 @@ use Rattle.term_prefix.specs.Pushed.{posted_term}
 use Rattle.links.specs.Edges.{Edges, no_edges, edges_of, joined_edges, posted_edges}
 use Rattle.links.proofs.Posted.{pushed_one_by_one}
 use Rattle.segment_index.specs.Indexed.{terms_of, links_of, IsBuilt}
+use Rattle.segment_index.proofs.Moving.{length-places}
 
 -- ---- no rows
 
@@ -72,6 +74,19 @@ built_push rows next places more terms terms' links links' bytes bytes' number r
       links_are = links_is ∙ ap (λ (e : Edges). joined_edges e (edges_of row.row number)) is.links_are ∙ sym (ap posted_edges next_is ∙ pushed_one_by_one rows row ∙ ap (λ n. joined_edges (posted_edges rows) (edges_of row.row n)) (sym number_is));
       bytes_are = omega (arith, len, whole, bytes_is, is.bytes_are);
     }
+
+-- ---- a row that is taken away again
+
+pub place_taken_away : (rows : List StampedRow) (places more left : List RowPlace) (place : RowPlace) (number : ℕ) → places ≡ places_of rows → number ≡ length rows → more ≡ places ++ place ∷ [] → left ≡ take number more → left ≡ places
+place_taken_away rows places more left place number is number_is more_is left_is =
+    let count : number ≡ length places = number_is ∙ sym (length-places 0 rows) ∙ sym (ap length is) in
+    left_is ∙ (λ i. take (count i) (more_is i)) ∙ take-append_seam places (place ∷ [])
+
+pub row_taken_away : (rows more left : List StampedRow) (row : StampedRow) (number : ℕ) → number ≡ length rows → more ≡ rows ++ row ∷ [] → left ≡ take number more → left ≡ rows
+row_taken_away rows more left row number number_is more_is left_is = left_is ∙ (λ i. take (number_is i) (more_is i)) ∙ take-append_seam rows (row ∷ [])
+
+pub built_same : (rows same : List StampedRow) (places same_places : List RowPlace) (terms same_terms : List TermAt) (links same_links : Edges) (bytes : ℕ) → IsBuilt rows places terms links bytes → same ≡ rows → same_places ≡ places → same_terms ≡ terms → same_links ≡ links → IsBuilt same same_places same_terms same_links bytes
+built_same rows same places same_places terms same_terms links same_links bytes is r p t l = rw (r, p, t, l) is
 
 -- where a row's record ends, behind those of the others
 pub ends_within : (rows : List StampedRow) (row : StampedRow) (at : ℕ) (place : RowPlace) → at ≡ length (segment_of rows) → place ≡ row_place row at → at + place.bytes ≡ length (segment_of (rows ++ row ∷ []))

@@ -8,7 +8,7 @@ ghost use Rattle.term_prefix.specs.Pushed.{posted_term};
 ghost use Rattle.links.specs.Edges.{edges_of, joined_edges};
 
 use crate::sealed::SegmentIndex;
-use as_of_index::PlaceList;
+use as_of_index::PlaceListBuilder;
 use history_model::{GhostRows, StampedRow};
 use segment::RowPlace;
 use std::alloc::{AllocError, Global};
@@ -17,7 +17,7 @@ use std::marker::Model;
 /// What is kept of the rows of one segment, as they are pushed one after the other.
 #[derive(Drop)]
 pub struct IndexBuilder {
-    places: Vec<RowPlace>,
+    places: PlaceListBuilder,
     terms: term_prefix::Postings,
     links: links::Postings,
     rows: GhostRows,
@@ -34,7 +34,7 @@ impl Model for IndexBuilder {
 
     ghost view = { λ a. a.rows };
 
-    ghost invariant = { λ a. IsBuilt a.rows a.places.items a.terms a.links a.bytes };
+    ghost invariant = { λ a. IsBuilt a.rows a.places a.terms a.links a.bytes };
 }
 
 /// Adds what is posted of the row with a number. An `Err` changes nothing.
@@ -64,8 +64,10 @@ impl IndexBuilder {
     pub fn with_capacity(alloc: Global, rows: usize) -> Result<IndexBuilder, AllocError>
         ensures { IfOk result (λ index. index ≡ []) }
     {
+        let mut places = PlaceListBuilder::new(alloc);
+        places.reserve(rows)?;
         Ok(IndexBuilder {
-            places: Vec::with_capacity(alloc, rows)?,
+            places,
             terms: term_prefix::Postings::new(alloc),
             links: links::Postings::new(alloc),
             rows: GhostRows::new(alloc),
@@ -81,19 +83,21 @@ impl IndexBuilder {
         ensures err { OnErr result (self.new ≡ self.old) }
     {
         let at = RowPlace::new(row, self.bytes);
+        let bytes = at.bytes;
         let len = self.rows.len();
-        self.places.reserve(1)?;
-        self.rows.push(row)?;
+        self.places.push(at)?;
+        if let Err(error) = self.rows.push(row) {
+            self.places.cut_to(len);
+            return Err(error);
+        }
         match post(&mut self.terms, &mut self.links, row, len as u32) {
             Ok(()) => {
-                self.bytes += at.bytes;
-                let Ok(()) = self.places.push(at) else {
-                    unreachable!()
-                };
+                self.bytes += bytes;
                 Ok(())
             }
             Err(error) => {
                 self.rows.cut_to(len);
+                self.places.cut_to(len);
                 Err(error)
             }
         }
@@ -112,7 +116,7 @@ impl IndexBuilder {
             ..
         } = self;
         SegmentIndex {
-            places: PlaceList::new(places),
+            places: places.seal(),
             terms: terms.seal(),
             links: links.seal(),
             rows,

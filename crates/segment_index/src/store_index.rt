@@ -54,7 +54,8 @@ fn index_of(alloc: Global, places: Vec<Vec<RowPlace>>) -> Result<Index, AllocErr
 {
     let mut index = Index::new(alloc)?;
     for list in places {
-        index.add(PlaceList::new(list));
+        let list = PlaceList::new(alloc, list)?;
+        index.add(list);
     }
     Ok(index)
 }

@@ -27,15 +27,19 @@ fn lines_of_ids(alloc: Global, ids: &[u64]) -> Result<Vec<u8>, AllocError> {
     Ok(lines)
 }
 
-/// The identifiers of a concept's children.
-fn children(
+/// The concepts that are found.
+fn find_concepts(
     alloc: Global,
     store: &mut Example,
     pin: u32,
-    id: u64,
-    date: u32,
+    question: Question,
 ) -> Result<Vec<u8>, Refusal> {
-    let ids = store.children(id, date, pin)?;
+    let ids = match question {
+        Question::Children(id, date) => store.children(id.value(), date.value(), pin)?,
+        Question::Descendants(id, date) => store.descendants(id.value(), date.value(), pin)?,
+        Question::Ancestors(id, date) => store.ancestors(id.value(), date.value(), pin)?,
+        _ => Vec::new(alloc),
+    };
     Ok(lines_of_ids(alloc, ids.as_slice())?)
 }
 
@@ -51,15 +55,22 @@ fn find(
         Question::Get(kind, id, date) => store.line_at(kind, id, date.value(), pin),
         Question::Versions(kind, id) => store.history(kind, id, pin),
         Question::Replacements(id, date) => store.replacements(id.value(), date.value(), pin),
+        Question::Replaces(id, date) => store.replaces(id.value(), date.value(), pin),
         Question::About(kind, id, date) => store.about(kind, id.value(), date.value(), pin),
+        Question::Timeline(kind, id) => store.timeline(kind, id.value(), pin),
         Question::Page(kind, date, after, limit) => {
             store.page(kind, date.value(), after, limit, pin)
+        }
+        Question::Delta(kind, from, date, after, limit) => {
+            store.delta(kind, from.value(), date.value(), after, limit, pin)
         }
         Question::Terms(date, limit) => store.terms(prefix, date.value(), limit, pin),
         Question::Search(date, after, limit) => {
             store.search(prefix, date.value(), after, limit, pin)
         }
-        Question::Children(id, date) => children(alloc, store, pin, id.value(), date.value()),
+        Question::Children(_, _) | Question::Descendants(_, _) | Question::Ancestors(_, _) => {
+            find_concepts(alloc, store, pin, question)
+        }
     }
 }
 

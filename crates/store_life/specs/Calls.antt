@@ -38,14 +38,16 @@ ImportIsACall D view =
     → (view.is_honest old.disk ↔ view.is_honest new.disk)
     → IsCall view old (call_of result release) new
 
--- by `query` of the answers of `get`, `history`, `page`, `about`, `search`, `terms` and
--- `replacements` (`IsRowsQuery`)
+-- by `query` of the answers of `get`, `history`, `page`, `about`, `search`, `terms`,
+-- `replacements`, `replaces`, `timeline` and `delta` (`IsRowsQuery`), and of `ancestors`
+-- (`IsAncestorsQuery`)
 abbrev pub QueryIsACall : (T D : Type 0) → DeviceView D → Type 0
 QueryIsACall T D view = (result : Result T Refusal) (old new : StoreValue D)
     → IsQuery result view.is_honest view.moments view.failures old new
     → IsCall view old Other new
 
--- by `unchanged` of `Store::children · answer`, and where a call only borrows the store
+-- by `unchanged` of the answers of `children` and `descendants` (`IsIndexQuery`), and where a call
+-- only borrows the store
 abbrev pub UnchangedIsACall : (D : Type 0) → DeviceView D → Type 0
 UnchangedIsACall D view = (old new : StoreValue D) → new ≡ old → IsCall view old Other new
 

@@ -17,12 +17,13 @@ pub fn import_is_a_call<D: Disk>()
     ensures { ImportIsACall D (device_view D.is_honest D.moments D.failures D.bytes_read) }
 {}
 
-/// So does what each question but `Store::children` ensures.
+/// So does what each question ensures that reads rows.
 pub fn query_is_a_call<T, D: Disk>()
     ensures { QueryIsACall T D (device_view D.is_honest D.moments D.failures D.bytes_read) }
 {}
 
-/// So does what `Store::children` ensures, and every call that only borrows the store is one, too.
+/// So does what each question ensures that reads none, and every call that only borrows the store
+/// is one, too.
 pub fn unchanged_is_a_call<D: Disk>()
     ensures { UnchangedIsACall D (device_view D.is_honest D.moments D.failures D.bytes_read) }
 {}

@@ -27,9 +27,9 @@ fn check_may_add(
     index: &Index,
     first: RowPlace,
 ) -> Result<(), Fail> {
-    let again = PlaceList::new(vec![in alloc; first]?);
+    let again = PlaceList::new(alloc, vec![in alloc; first]?)?;
     assert!(rt; !may_add(index, &again));
-    assert!(rt; may_add(index, &PlaceList::new(Vec::new(alloc))));
+    assert!(rt; may_add(index, &PlaceList::new(alloc, Vec::new(alloc))?));
     assert!(rt; !may_list(&[first, first]));
     Ok(())
 }
@@ -58,13 +58,13 @@ fn an_index_has_room_for_so_many_lists(rt: HostRuntime) -> Result<(), Fail> {
     let alloc = rt.alloc();
     let mut full = Index::new(alloc)?;
     for _ in 0..MAX_LISTS {
-        let empty = PlaceList::new(Vec::new(alloc));
+        let empty = PlaceList::new(alloc, Vec::new(alloc))?;
         if may_add(&full, &empty) {
             full.add(empty);
         }
     }
     assert_eq!(rt; full.lists(), MAX_LISTS);
-    assert!(rt; !may_add(&full, &PlaceList::new(Vec::new(alloc))));
+    assert!(rt; !may_add(&full, &PlaceList::new(alloc, Vec::new(alloc))?));
     Ok(())
 }
 

@@ -20,11 +20,11 @@ fn places_of(alloc: Global, rows: &[StampedRow]) -> Result<Vec<RowPlace>, Fail> 
 }
 
 /// A list of places, which have to be in order.
-pub(crate) fn listed(places: Vec<RowPlace>) -> Result<PlaceList, Fail> {
+pub(crate) fn listed(alloc: Global, places: Vec<RowPlace>) -> Result<PlaceList, Fail> {
     if !may_list(&places) {
         return Err(Fail::from("not in order"));
     }
-    Ok(PlaceList::new(places))
+    Ok(PlaceList::new(alloc, places)?)
 }
 
 /// Adds a list of places.
@@ -40,7 +40,7 @@ pub(crate) fn add(index: &mut Index, list: PlaceList) -> Result<(), Fail> {
 pub(crate) fn index_of(alloc: Global, lists: &[Vec<StampedRow>]) -> Result<Index, Fail> {
     let mut index = Index::new(alloc)?;
     for rows in lists {
-        add(&mut index, listed(places_of(alloc, rows)?)?)?;
+        add(&mut index, listed(alloc, places_of(alloc, rows)?)?)?;
     }
     Ok(index)
 }

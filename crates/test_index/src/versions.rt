@@ -46,5 +46,5 @@ pub(crate) fn versions(alloc: Global, of_first: bool) -> Result<PlaceList, Fail>
             places.push(version(number)?)?;
         }
     }
-    listed(places)
+    listed(alloc, places)
 }

@@ -142,12 +142,65 @@ impl Example {
         self.store.children(id, time, pin)
     }
 
+    /// The identifiers of all concepts below a concept.
+    pub fn descendants(&mut self, id: u64, date: u32, pin: u32) -> Result<Vec<u64>, Refusal> {
+        let (id, time) = (id_of(id)?, date_of(date)?);
+        self.check_pin(pin)?;
+        let pin = clamp_pin(&self.store, pin);
+        self.store.descendants(id, time, pin)
+    }
+
+    /// The identifiers of all concepts above a concept.
+    pub fn ancestors(&mut self, id: u64, date: u32, pin: u32) -> Result<Vec<u64>, Refusal> {
+        let (id, time) = (id_of(id)?, date_of(date)?);
+        self.check_pin(pin)?;
+        let pin = clamp_pin(&self.store, pin);
+        self.store.ancestors(id, time, pin)
+    }
+
     /// The lines of a component's associations, each with an LF.
     pub fn replacements(&mut self, id: u64, date: u32, pin: u32) -> Result<Vec<u8>, Refusal> {
         let (id, time) = (id_of(id)?, date_of(date)?);
         self.check_pin(pin)?;
         let pin = clamp_pin(&self.store, pin);
         let rows = self.store.replacements(id, time, pin)?;
+        Ok(lines_of(self.alloc, &rows)?)
+    }
+
+    /// The lines of the associations of which a component is the target, each with an LF.
+    pub fn replaces(&mut self, id: u64, date: u32, pin: u32) -> Result<Vec<u8>, Refusal> {
+        let (id, time) = (id_of(id)?, date_of(date)?);
+        self.check_pin(pin)?;
+        let pin = clamp_pin(&self.store, pin);
+        let rows = self.store.replaces(id, time, pin)?;
+        Ok(lines_of(self.alloc, &rows)?)
+    }
+
+    /// The lines of all versions of the components of a kind that were ever about a component, each
+    /// with an LF.
+    pub fn timeline(&mut self, kind: Kind, id: u64, pin: u32) -> Result<Vec<u8>, Refusal> {
+        let id = id_of(id)?;
+        self.check_pin(pin)?;
+        let pin = clamp_pin(&self.store, pin);
+        let rows = self.store.timeline(kind, id, pin)?;
+        Ok(lines_of(self.alloc, &rows)?)
+    }
+
+    /// The lines of the first rows of a kind that changed from one date to another, from above
+    /// `after` on, each with an LF.
+    pub fn delta(
+        &mut self,
+        kind: Kind,
+        from: u32,
+        date: u32,
+        after: Option<u128>,
+        limit: u32,
+        pin: u32,
+    ) -> Result<Vec<u8>, Refusal> {
+        let (from, time) = (date_of(from)?, date_of(date)?);
+        self.check_pin(pin)?;
+        let pin = clamp_pin(&self.store, pin);
+        let rows = self.store.delta(kind, from, time, after, limit, pin)?;
         Ok(lines_of(self.alloc, &rows)?)
     }
 

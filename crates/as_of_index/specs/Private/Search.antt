@@ -13,7 +13,7 @@ use Rattle.history_model.specs.Queries.{is_above}
 use Rattle.segment.specs.declared.place.RowPlace.{RowPlace}
 use Rattle.as_of_index.specs.declared.search.Start.{Start}
 use Rattle.as_of_index.specs.declared.search.Start.TheVariants as start
-use Rattle.as_of_index.specs.Places.{place_cmp, least_by}
+use Rattle.as_of_index.specs.Places.{place_cmp, least_by, greatest_by}
 
 -- no key is in both lists
 abbrev pub ShareNoKey : List RowPlace → List RowPlace → Type 0
@@ -47,8 +47,21 @@ may_show date pin places =
 abbrev pub shown_part : ℕ → ℕ → List RowPlace → List RowPlace
 shown_part date pin places = if may_show date pin places then places else []
 
-abbrev pub shown_parts : ℕ → ℕ → List (List RowPlace) → List (List RowPlace)
-shown_parts date pin lists = map (shown_part date pin) lists
+-- the date and the pin show what stands there, and it is later than `from`, if that is given
+abbrev pub is_changed : Option ℕ → ℕ → ℕ → RowPlace → Bool
+is_changed from date pin p = is_shown date pin p && is_above from p.key.time
+
+-- nor are all up to `from`, if that is given
+abbrev pub may_change : Option ℕ → ℕ → ℕ → List RowPlace → Bool
+may_change from date pin places =
+    may_show date pin places && is_above from (greatest_by (λ p. p.key.time) places)
+
+-- the places, or none of them where none can be changed
+abbrev pub changed_part : Option ℕ → ℕ → ℕ → List RowPlace → List RowPlace
+changed_part from date pin places = if may_change from date pin places then places else []
+
+abbrev pub changed_parts : Option ℕ → ℕ → ℕ → List (List RowPlace) → List (List RowPlace)
+changed_parts from date pin lists = map (changed_part from date pin) lists
 
 -- whether a search that begins here passes over the key
 abbrev pub is_before : Start → RowPlace → Bool
@@ -107,6 +120,21 @@ IsPick kind id date pin place xs None =
     (x : _) → Has xs x → is_candidate kind id date pin (place x) ≡ true → ⊥
 IsPick kind id date pin place xs (Some b) = IsLatestOf kind id date pin place xs b
 
+-- the latest of these that is a candidate, where that one is later than `from`, if that is given;
+-- where there is none, no candidate is
+unfoldable pub IsPickFrom : Kind → ℕ → Option ℕ → ℕ → ℕ → {X : Type 0} → (X → RowPlace) → List X
+    → Option X → Type 0
+IsPickFrom kind id from date pin place xs None =
+    (x : _) → Has xs x → is_candidate kind id date pin (place x) ≡ true
+    → is_above from (place x).key.time ≡ true → ⊥
+IsPickFrom kind id from date pin place xs (Some b) =
+    IsLatestOf kind id date pin place xs b × (is_above from (place b).key.time ≡ true)
+
+-- the place, if it is later than `from`
+abbrev pub later_than : Option ℕ → Option RowPlace → Option RowPlace
+later_than from None = None
+later_than from (Some p) = elim (is_above from p.key.time) [ true ↦ Some p | false ↦ None ]
+
 -- of the best so far and the one of list n the later one, and the best so far where they tie
 abbrev pub later_of : Option (ℕ × RowPlace) → ℕ → Option RowPlace → Option (ℕ × RowPlace)
 later_of best n None = best
@@ -150,18 +178,19 @@ IsNextId kind after xs None = (x : ℕ × RowPlace) → Has xs x → is_kind_abo
     → ⊥
 IsNextId kind after xs (Some id) = IsLeastId kind after xs id
 
--- the id of a place of the kind above `after`, with no place between that the date and the pin show
-pub record IsFirstShown (kind : Kind) (after : Option ℕ) (date pin : ℕ)
+-- the id of a place of the kind above `after`, with no place between that is changed
+pub record IsFirstChanged (kind : Kind) (after from : Option ℕ) (date pin : ℕ)
     (xs : List (ℕ × RowPlace)) (id : ℕ) : Type 0 where
   pub above : is_above after id ≡ true
   pub there : (x : ℕ × RowPlace) × Has xs x × (is_of kind id x.1 ≡ true)
   pub first : (x : ℕ × RowPlace) → Has xs x → is_kind_above kind after x.1 ≡ true
-      → is_shown date pin x.1 ≡ true → id ≤ x.1.key.id
+      → is_changed from date pin x.1 ≡ true → id ≤ x.1.key.id
 
-unfoldable pub IsNextShown : Kind → Option ℕ → ℕ → ℕ → List (ℕ × RowPlace) → Option ℕ → Type 0
-IsNextShown kind after date pin xs None = (x : ℕ × RowPlace) → Has xs x
-    → is_kind_above kind after x.1 ≡ true → is_shown date pin x.1 ≡ true → ⊥
-IsNextShown kind after date pin xs (Some id) = IsFirstShown kind after date pin xs id
+unfoldable pub IsNextChanged : Kind → Option ℕ → Option ℕ → ℕ → ℕ → List (ℕ × RowPlace) → Option ℕ
+    → Type 0
+IsNextChanged kind after from date pin xs None = (x : ℕ × RowPlace) → Has xs x
+    → is_kind_above kind after x.1 ≡ true → is_changed from date pin x.1 ≡ true → ⊥
+IsNextChanged kind after from date pin xs (Some id) = IsFirstChanged kind after from date pin xs id
 
 -- the id of a place of the kind
 abbrev pub id_of_kind : Kind → Option RowPlace → Option ℕ

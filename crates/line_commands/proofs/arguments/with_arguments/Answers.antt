@@ -1,37 +1,16 @@
 use Rattle.line_commands.proofs.arguments.with_arguments.Goals as goal
 
+pub returns-in-Question : goal.returns-in-Question
+returns-in-Question c = rw c.in-Question.is c.ask.ensures
+
+pub returns-in-At : goal.returns-in-At
+returns-in-At c = rw c.in-At.is c.at.ensures
+
 pub returns-in-Import : goal.returns-in-Import
 returns-in-Import c = rw c.in-Import.is c.import.ensures
-
-pub returns-in-Get : goal.returns-in-Get
-returns-in-Get c = rw c.in-Get.is c.get.ensures
-
-pub returns-in-History : goal.returns-in-History
-returns-in-History c = rw c.in-History.is c.history.ensures
-
-pub returns-in-Children : goal.returns-in-Children
-returns-in-Children c = rw c.in-Children.is c.children.ensures
-
-pub returns-in-Terms : goal.returns-in-Terms
-returns-in-Terms c = rw c.in-Terms.is c.terms.ensures
-
-pub returns-in-Replaced : goal.returns-in-Replaced
-returns-in-Replaced c = rw c.in-Replaced.is c.replaced.ensures
-
-pub returns-in-Page : goal.returns-in-Page
-returns-in-Page c = rw c.in-Page.is c.page.ensures
 
 pub returns-in-Pin : goal.returns-in-Pin
 returns-in-Pin c = rw c.in-Pin.is c.pin.ensures
 
 pub returns-in-Step : goal.returns-in-Step
 returns-in-Step c = rw c.in-Step.is c.step.ensures
-
-pub returns-in-Search : goal.returns-in-Search
-returns-in-Search c = rw c.in-Search.is c.search.ensures
-
-pub returns-in-About : goal.returns-in-About
-returns-in-About c = rw c.in-About.is c.about.ensures
-
-pub returns-in-Receipt : goal.returns-in-Receipt
-returns-in-Receipt c = rw c.in-Receipt.is c.receipt.ensures

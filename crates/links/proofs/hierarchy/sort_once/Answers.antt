@@ -1,7 +1,7 @@
 use Rattle.std.specs.Prelude.{nat_eq}
 use Rattle.std.specs.Cmp.{nat_cmp_total, unsigned_ties}
 use Rattle.std.proofs.lemmas.List.Filters.{dedup_is}
-use Rattle.links.proofs.Collected.{sorted_once}
+use Rattle.as_of_index.proofs.Once.{sorted_once}
 use Rattle.links.proofs.hierarchy.sort_once.Goals as goal
 
 pub returns : goal.returns

@@ -5,7 +5,7 @@ use Rattle.std.proofs.lemmas.List.Sorted.{answers_always, ranks_by}
 use Rattle.as_of_index.specs.declared.chosen.Chosen.{Chosen}
 use Rattle.as_of_index.specs.Private.Chosen.{ranked_cmp}
 use Rattle.links.proofs.Ranked.{ranked_total}
-use Rattle.links.proofs.Collected.{sorted_once}
+use Rattle.as_of_index.proofs.Once.{sorted_once}
 use Rattle.links.proofs.references.sort_once.Goals as goal
 
 pub returns : goal.returns

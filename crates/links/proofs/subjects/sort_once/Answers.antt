@@ -5,7 +5,7 @@ use Rattle.std.proofs.lemmas.List.Sorted.{answers_always, ranks_by}
 use Rattle.as_of_index.specs.declared.chosen.Chosen.{Chosen}
 use Rattle.as_of_index.specs.Private.Chosen.{chosen_cmp}
 use Rattle.as_of_index.proofs.Current.{chosen_total}
-use Rattle.links.proofs.Collected.{sorted_once}
+use Rattle.as_of_index.proofs.Once.{sorted_once}
 use Rattle.links.proofs.subjects.sort_once.Goals as goal
 
 pub returns : goal.returns

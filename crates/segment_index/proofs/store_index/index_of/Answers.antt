@@ -17,13 +17,13 @@ pub add-requires-clause-places : goal.add-requires-clause-places
 add-requires-clause-places c =
     let rest = map (vec_items {X = RowPlace} {Z = Global}) (into_iter_items c.next.new.self) in
     let split = c.loop-list.invariant.split ∙ ap (λ (l : List (Vec RowPlace Global)). c.loop-list.index ++ map vec_items l) c.in-Some.ensures.steps.0 ∙ sym (append_assoc c.loop-list.index (c.in-Some.list.items ∷ []) rest) in
-    subst (λ (p : List RowPlace). ArePlaces (c.loop-list.index ++ p ∷ [])) (sym c.new-in-loop-list.ensures) (places_before (c.loop-list.index ++ c.in-Some.list.items ∷ []) rest (subst ArePlaces split c.requires.places))
+    subst (λ (p : List RowPlace). ArePlaces (c.loop-list.index ++ p ∷ [])) (sym c.in_ok-list.ensures) (places_before (c.loop-list.index ++ c.in-Some.list.items ∷ []) rest (subst ArePlaces split c.requires.places))
 
 pub loop-list-preserved : goal.loop-list-preserved
 loop-list-preserved c =
     let rest = map (vec_items {X = RowPlace} {Z = Global}) (into_iter_items c.next.new.self) in
     let split = c.loop-list.invariant.split ∙ ap (λ (l : List (Vec RowPlace Global)). c.loop-list.index ++ map vec_items l) c.in-Some.ensures.steps.0 ∙ sym (append_assoc c.loop-list.index (c.in-Some.list.items ∷ []) rest) in
-    let added = c.add.ensures ∙ ap (λ (p : List RowPlace). c.loop-list.index ++ p ∷ []) c.new-in-loop-list.ensures in
+    let added = c.add.ensures ∙ ap (λ (p : List RowPlace). c.loop-list.index ++ p ∷ []) c.in_ok-list.ensures in
     record {
       can = tt;
       finite = tt;

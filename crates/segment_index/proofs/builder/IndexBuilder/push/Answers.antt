@@ -1,8 +1,7 @@
 use Rattle.std.proofs.Common.{◌^◌, ◌<◌, ◌++◌, ◌∷◌, [], List, length, refl, sym, ap, subst, ◌∙◌, arith}
 use Rattle.history_model.specs.declared.stamped.StampedRow.{StampedRow}
-use Rattle.segment.specs.declared.place.RowPlace.{RowPlace}
 use Rattle.segment.specs.Records.{segment_of}
-use Rattle.segment_index.proofs.Built.{as_many_bytes, built_push, ends_within}
+use Rattle.segment_index.proofs.Built.{as_many_bytes, built_push, built_same, ends_within, place_taken_away, row_taken_away}
 use Rattle.segment_index.proofs.builder.IndexBuilder.push.Goals as goal
 
 pub overflow_add-self : goal.overflow_add-self
@@ -21,7 +20,20 @@ overflow_cast-len c =
     let bytes = c.self.invariant.bytes_are in
     omega (arith, short, ends, few, count, bytes)
 
+pub invariant_of-self-in-Err : goal.invariant_of-self-in-Err
+invariant_of-self-in-Err c =
+    let inside = c.self.inside in
+    let places = place_taken_away inside.rows inside.places c.push.new.self c.cut_to.new.self c.new-at.result c.len-len.result c.self.invariant.places_are c.len-len.ensures c.in_ok-push.ensures.ok c.cut_to.ensures in
+    built_same inside.rows c.push-2.new.self inside.places c.cut_to.new.self inside.terms inside.terms inside.links inside.links inside.bytes c.self.invariant c.in-Err.ensures.err places refl refl
+
 pub invariant_of-self-in-Ok : goal.invariant_of-self-in-Ok
 invariant_of-self-in-Ok c =
-    let places = c.in-Ok-push.ensures.items ∙ ap (λ (l : List RowPlace). l ++ c.new-at.result ∷ []) c.in_ok-reserve.ensures.items in
-    built_push c.self.inside.rows c.push.new.self c.self.inside.places.items c.push-in-Ok.new.self.items c.self.inside.terms c.post.new.terms c.self.inside.links c.post.new.links c.self.inside.bytes _ c.len-len.result c.args.row.now c.new-at.result c.self.invariant c.new-at.ensures c.len-len.ensures c.in_ok-push.ensures.ok places c.in-Ok.ensures.ok.0 c.in-Ok.ensures.ok.1 refl
+    let inside = c.self.inside in
+    built_push inside.rows c.push-2.new.self inside.places c.push.new.self inside.terms c.post.new.terms inside.links c.post.new.links inside.bytes _ c.len-len.result c.args.row.now c.new-at.result c.self.invariant c.new-at.ensures c.len-len.ensures c.in_default.ensures.ok c.in_ok-push.ensures.ok c.in-Ok.ensures.ok.0 c.in-Ok.ensures.ok.1 refl
+
+pub invariant_of-self-in-Err-post : goal.invariant_of-self-in-Err-post
+invariant_of-self-in-Err-post c =
+    let inside = c.self.inside in
+    let rows = row_taken_away inside.rows c.push-2.new.self c.cut_to-in-Err-post.new.self c.args.row.now c.len-len.result c.len-len.ensures c.in_default.ensures.ok c.cut_to-in-Err-post.ensures in
+    let places = place_taken_away inside.rows inside.places c.push.new.self c.cut_to-in-Err-post-2.new.self c.new-at.result c.len-len.result c.self.invariant.places_are c.len-len.ensures c.in_ok-push.ensures.ok c.cut_to-in-Err-post-2.ensures in
+    built_same inside.rows c.cut_to-in-Err-post.new.self inside.places c.cut_to-in-Err-post-2.new.self inside.terms c.post.new.terms inside.links c.post.new.links inside.bytes c.self.invariant rows places c.in-Err-post.ensures.err.0 c.in-Err-post.ensures.err.1

@@ -7,7 +7,7 @@ use Rattle.as_of_index.specs.Places.{place_cmp}
 use Rattle.segment_index.proofs.Built.{ascending_places}
 use Rattle.segment_index.proofs.builder.IndexBuilder.seal.Goals as goal
 
-pub new-requires : goal.new-requires
-new-requires c =
+pub seal-requires : goal.seal-requires
+seal-requires c =
     let up = subst (λ (l : List StampedRow). IsAscending stamped_cmp l) (sym c.self.view_is) c.requires in
     subst (λ (p : List RowPlace). IsAscending place_cmp p) (sym c.self.invariant.places_are) (ascending_places c.self.inside.rows up)

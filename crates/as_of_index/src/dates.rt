@@ -1,0 +1,106 @@
+//! Which effective times the places of a list have, and in which imports, so that the dates of a
+//! store are known without a look at each place.
+
+ghost use Rattle.std.specs.Prelude.{◌≡◌, ◌++◌, ◌∷◌, [], List, IfOk, OnOk, OnErr, IsTrue};
+ghost use Rattle.std.specs.Prelude.{length, take};
+ghost use Rattle.std.specs.Ordering.{nat_cmp};
+ghost use Rattle.segment.specs.declared.place.RowPlace.{RowPlace};
+ghost use Rattle.as_of_index.specs.Dates.{AreEntries};
+ghost use Rattle.as_of_index.specs.Private.Dates.{HasEntry, AddsDates};
+ghost use Rattle.as_of_index.specs.Private.Once.{AreOnce};
+
+use rf2_values::EffectiveTime;
+use segment::RowPlace;
+use std::alloc::{AllocError, Global};
+
+/// An effective time and an import that some place has. There are few of them: a list has one for
+/// each date that an import brought.
+#[derive(Clone, Copy)]
+pub(crate) struct DateEntry {
+    pub(crate) time: EffectiveTime,
+    pub(crate) import: u32,
+    /// The number of the first such place.
+    pub(crate) first: usize,
+}
+
+/// Whether the entry with a number is of the place.
+fn is_noted(entries: &[DateEntry], number: usize, place: &RowPlace) -> bool
+    ensures { IsTrue result → HasEntry entries.now place.now }
+{
+    match entries.get(number) {
+        Some(entry) => entry.time == place.key.time && entry.import == place.import,
+        None => false,
+    }
+}
+
+/// Notes the place with a number, which stands behind those that were noted. An `Err` changes
+/// nothing.
+pub(crate) fn note(
+    entries: &mut Vec<DateEntry>,
+    place: &RowPlace,
+    number: usize,
+) -> Result<(), AllocError>
+    ensures ok { OnOk result ((places : List RowPlace) → length places ≡ number
+        → AreEntries places entries.old.items
+        → AreEntries (places ++ place.now ∷ []) entries.new.items) }
+    ensures err { OnErr result (entries.new.items ≡ entries.old.items) }
+{
+    let (time, import) = (place.key.time, place.import);
+    let at = entries.partition_point(|entry| (entry.time, entry.import) < (time, import));
+    if is_noted(entries, at, place) {
+        return Ok(());
+    }
+    entries.insert(
+        at,
+        DateEntry {
+            time,
+            import,
+            first: number,
+        },
+    )?;
+    Ok(())
+}
+
+/// Leaves the entries of the first so many places.
+pub(crate) fn cut(entries: &mut Vec<DateEntry>, len: usize)
+    ensures { (places : List RowPlace) → AreEntries places entries.old.items
+        → AreEntries (take len places) entries.new.items }
+{
+    entries.retain(|entry| entry.first < len);
+}
+
+/// The entries of places.
+pub(crate) fn entries_of(alloc: Global, places: &[RowPlace]) -> Result<Vec<DateEntry>, AllocError>
+    ensures { IfOk result (λ entries. AreEntries places.now entries.items) }
+{
+    let mut entries = Vec::new(alloc);
+    for (number, place) in places.iter().enumerate() {
+        note(&mut entries, place, number)?;
+    }
+    Ok(entries)
+}
+
+/// Adds the times of those entries that the pin shows.
+pub(crate) fn add_shown(
+    times: &mut Vec<EffectiveTime>,
+    entries: &[DateEntry],
+    pin: u32,
+) -> Result<(), AllocError>
+    ensures { OnOk result ((places : List RowPlace) → AreEntries places entries.now
+        → AddsDates pin places times.old.items times.new.items) }
+{
+    for entry in entries {
+        if entry.import <= pin {
+            times.push(entry.time)?;
+        }
+    }
+    Ok(())
+}
+
+/// Sorts the times, and keeps each once. It takes no memory.
+pub(crate) fn sort_once(times: &mut Vec<EffectiveTime>)
+    ensures { AreOnce nat_cmp times.old.items times.new.items }
+{
+    times.sort_unstable();
+    times.dedup();
+}

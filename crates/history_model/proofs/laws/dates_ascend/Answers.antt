@@ -1,0 +1,5 @@
+use Rattle.history_model.proofs.Audits as audits
+use Rattle.history_model.proofs.laws.dates_ascend.Goals as goal
+
+pub returns : goal.returns
+returns c = audits.dates_ascend

@@ -1,0 +1,5 @@
+use Rattle.history_model.proofs.Audits as audits
+use Rattle.history_model.proofs.laws.delta_is_what_differs.Goals as goal
+
+pub returns : goal.returns
+returns c = audits.delta_is_what_differs

@@ -1,0 +1,170 @@
+//! The questions of an audit: what lies above and below a concept, what became of a component, and
+//! what changed. None of them changes what a store holds.
+
+ghost use Rattle.std.specs.Prelude.{◌≡◌, ◌≤◌};
+
+use crate::reading::DiskRows;
+use crate::refusal::Refusal;
+use crate::store::Store;
+use disk_model::Disk;
+use links::{ancestors, descendants, replaces, timeline};
+use rf2_rows::{EffectiveTime, Kind, Row, Sctid};
+
+impl<D: Disk> Store<D> {
+    ghost use Rattle.history_model.specs.Hierarchy.{AreDescendants};
+    ghost use Rattle.history_model.specs.Queries.{replaces, timeline, delta};
+    ghost use Rattle.history_store.specs.Auditing.{IsAncestorsQuery};
+    ghost use Rattle.history_store.specs.Queries.{IsRowsQuery, IsIndexQuery};
+
+    /// All concepts below a concept, ascending: those that are reached from it by one or more
+    /// active relationships of the type "is a", each from a concept to a child. Nothing is read.
+    pub fn descendants(
+        &mut self,
+        id: Sctid,
+        time: EffectiveTime,
+        pin: u32,
+    ) -> Result<Vec<u64>, Refusal>
+        requires { pin ≤ self.old.history.imports }
+        ensures answer { IsIndexQuery result (λ ids rows. AreDescendants id time rows ids.items) pin
+            self.old self.new }
+    {
+        if self.needs_reopen {
+            return Err(Refusal::ReopenNeeded);
+        }
+        let found = descendants(
+            self.alloc,
+            self.index.links(),
+            self.index.places(),
+            id,
+            time,
+            pin,
+        )?;
+        Ok(found)
+    }
+
+    /// All concepts above a concept, ascending: those that are reached from it by one or more
+    /// active relationships of the type "is a", each from a concept to a parent. The relationships
+    /// of the concept and of those that are found are read.
+    pub fn ancestors(
+        &mut self,
+        id: Sctid,
+        time: EffectiveTime,
+        pin: u32,
+    ) -> Result<Vec<u64>, Refusal>
+        requires { pin ≤ self.old.history.imports }
+        ensures answer { IsAncestorsQuery result (λ ids. ids.items) id time pin
+            D.is_honest D.moments D.failures D.bytes_read D.other_calls self.old self.new }
+    {
+        if self.needs_reopen {
+            return Err(Refusal::ReopenNeeded);
+        }
+        let mut reader = DiskRows::new(
+            &mut self.disk,
+            &mut self.cache,
+            &self.directory,
+            &self.index,
+        );
+        let read = ancestors(
+            self.alloc,
+            self.index.links(),
+            self.index.places(),
+            &mut reader,
+            id,
+            time,
+            pin,
+        );
+        self.answered(read)
+    }
+
+    /// The active associations of which a component is the target, ascending by refset, referenced
+    /// component and member: those by which it stands in the place of other components.
+    pub fn replaces(
+        &mut self,
+        id: Sctid,
+        time: EffectiveTime,
+        pin: u32,
+    ) -> Result<Vec<Row>, Refusal>
+        requires { pin ≤ self.old.history.imports }
+        ensures answer { IsRowsQuery result (λ rows. rows.items) (replaces id time) pin
+            D.is_honest D.moments D.failures D.bytes_read D.other_calls self.old self.new }
+    {
+        if self.needs_reopen {
+            return Err(Refusal::ReopenNeeded);
+        }
+        let mut reader = DiskRows::new(
+            &mut self.disk,
+            &mut self.cache,
+            &self.directory,
+            &self.index,
+        );
+        let read = replaces(
+            self.alloc,
+            self.index.links(),
+            self.index.places(),
+            &mut reader,
+            id,
+            time,
+            pin,
+        );
+        self.answered(read)
+    }
+
+    /// Of each component of a kind that ever had an active row about a component, as `about` says:
+    /// all versions, ascending by id, then by time.
+    pub fn timeline(&mut self, kind: Kind, id: Sctid, pin: u32) -> Result<Vec<Row>, Refusal>
+        requires { pin ≤ self.old.history.imports }
+        ensures answer { IsRowsQuery result (λ rows. rows.items) (timeline kind id) pin
+            D.is_honest D.moments D.failures D.bytes_read D.other_calls self.old self.new }
+    {
+        if self.needs_reopen {
+            return Err(Refusal::ReopenNeeded);
+        }
+        let mut reader = DiskRows::new(
+            &mut self.disk,
+            &mut self.cache,
+            &self.directory,
+            &self.index,
+        );
+        let read = timeline(
+            self.alloc,
+            self.index.links(),
+            self.index.places(),
+            &mut reader,
+            kind,
+            id,
+            pin,
+        );
+        self.answered(read)
+    }
+
+    /// What changed from one date to another: the first rows of a kind at the date that are later
+    /// than `from`, at most `limit`, ascending by id from above `after` on.
+    pub fn delta(
+        &mut self,
+        kind: Kind,
+        from: EffectiveTime,
+        time: EffectiveTime,
+        after: Option<u128>,
+        limit: u32,
+        pin: u32,
+    ) -> Result<Vec<Row>, Refusal>
+        requires { pin ≤ self.old.history.imports }
+        ensures answer { IsRowsQuery result (λ rows. rows.items) (delta kind from time after limit)
+            pin D.is_honest D.moments D.failures D.bytes_read D.other_calls self.old self.new }
+    {
+        if self.needs_reopen {
+            return Err(Refusal::ReopenNeeded);
+        }
+        let mut reader = DiskRows::new(
+            &mut self.disk,
+            &mut self.cache,
+            &self.directory,
+            &self.index,
+        );
+        let read = self
+            .index
+            .places()
+            .delta(&mut reader, kind, from, time, after, limit, pin);
+        self.answered(read)
+    }
+}

@@ -1,0 +1,17 @@
+use Rattle.line_commands.proofs.Forms.{none_read, about_uncut, about_no_kind, about_no_id, about_no_time, about_found}
+use Rattle.line_commands.proofs.questions.about.Goals as goal
+
+pub returns-in_err-letter : goal.returns-in_err-letter
+returns-in_err-letter c = none_read _ _ c.from_residual.result c.from_residual.ensures (λ question s. about_uncut _ c.in_err-letter.ensures question s)
+
+pub returns-in_err-kind : goal.returns-in_err-kind
+returns-in_err-kind c = none_read _ _ c.from_residual-in_err-kind.result c.from_residual-in_err-kind.ensures (λ question s. about_no_kind _ _ _ _ c.in_ok-letter.ensures.0 c.in_ok-letter.ensures.1 c.in_ok-letter.ensures.2 question c.in_err-kind.ensures s)
+
+pub returns-in_err-id : goal.returns-in_err-id
+returns-in_err-id c = none_read _ _ c.from_residual-in_err-id.result c.from_residual-in_err-id.ensures (λ question s. about_no_id _ _ _ _ c.in_ok-letter.ensures.0 c.in_ok-letter.ensures.1 c.in_ok-letter.ensures.2 question c.in_ok-kind.kind c.in_ok-kind.ensures c.in_err-id.ensures s)
+
+pub returns-in_err-time : goal.returns-in_err-time
+returns-in_err-time c = none_read _ _ c.from_residual-in_err-time.result c.from_residual-in_err-time.ensures (λ question s. about_no_time _ _ _ _ c.in_ok-letter.ensures.0 c.in_ok-letter.ensures.1 c.in_ok-letter.ensures.2 question c.in_err-time.ensures s)
+
+pub returns : goal.returns
+returns c = about_found _ _ _ _ c.in_ok-kind.kind c.in_ok-id.id c.in_ok-time.time c.in_ok-letter.ensures.2 c.in_ok-kind.ensures c.in_ok-id.ensures.0 c.in_ok-id.ensures.1 c.in_ok-time.ensures.0 c.in_ok-time.ensures.1

@@ -1,0 +1,12 @@
+use Rattle.line_commands.proofs.Forms.{no_cuts}
+use Rattle.line_commands.proofs.Dated.{uncut_dated, no_component, no_component_date}
+use Rattle.line_commands.proofs.questions.component_and_date.Goals as goal
+
+pub returns-in_err-id : goal.returns-in_err-id
+returns-in_err-id c = no_cuts _ _ c.from_residual.result c.from_residual.ensures (λ n t is time. uncut_dated c.args.text.now c.in_err-id.ensures n t)
+
+pub returns-in_err-id-2 : goal.returns-in_err-id-2
+returns-in_err-id-2 c = no_cuts _ _ c.from_residual-in_err-id-2.result c.from_residual-in_err-id-2.ensures (no_component c.args.text.now _ _ c.in_ok-id.ensures.0 c.in_ok-id.ensures.1 c.in_err-id-2.ensures)
+
+pub returns-in_err-time : goal.returns-in_err-time
+returns-in_err-time c = no_cuts _ _ c.from_residual-in_err-time.result c.from_residual-in_err-time.ensures (no_component_date c.args.text.now _ _ c.in_ok-id.ensures.0 c.in_ok-id.ensures.1 c.in_err-time.ensures)

@@ -1,0 +1,12 @@
+use Rattle.line_commands.proofs.Forms.{no_cuts}
+use Rattle.line_commands.proofs.Dated.{uncut_dated, no_concept, no_concept_date}
+use Rattle.line_commands.proofs.questions.concept_and_date.Goals as goal
+
+pub returns-in_err-concept : goal.returns-in_err-concept
+returns-in_err-concept c = no_cuts _ _ c.from_residual.result c.from_residual.ensures (λ n t is time. uncut_dated c.args.text.now c.in_err-concept.ensures n t)
+
+pub returns-in_err-concept-2 : goal.returns-in_err-concept-2
+returns-in_err-concept-2 c = no_cuts _ _ c.from_residual-in_err-concept-2.result c.from_residual-in_err-concept-2.ensures (no_concept c.args.text.now _ _ c.in_ok-concept.ensures.0 c.in_ok-concept.ensures.1 c.in_err-concept-2.ensures)
+
+pub returns-in_err-time : goal.returns-in_err-time
+returns-in_err-time c = no_cuts _ _ c.from_residual-in_err-time.result c.from_residual-in_err-time.ensures (no_concept_date c.args.text.now _ _ c.in_ok-concept.ensures.0 c.in_ok-concept.ensures.1 c.in_err-time.ensures)

@@ -1,0 +1,43 @@
+use Rattle.line_commands.proofs.questions.with_arguments.Goals as goal
+
+pub returns-in-Get : goal.returns-in-Get
+returns-in-Get c = rw c.in-Get.is c.get.ensures
+
+pub returns-in-History : goal.returns-in-History
+returns-in-History c = rw c.in-History.is c.history.ensures
+
+pub returns-in-Children : goal.returns-in-Children
+returns-in-Children c = rw c.in-Children.is c.children.ensures
+
+pub returns-in-Ancestors : goal.returns-in-Ancestors
+returns-in-Ancestors c = rw c.in-Ancestors.is c.ancestors.ensures
+
+pub returns-in-Descendants : goal.returns-in-Descendants
+returns-in-Descendants c = rw c.in-Descendants.is c.descendants.ensures
+
+pub returns-in-Terms : goal.returns-in-Terms
+returns-in-Terms c = rw c.in-Terms.is c.terms.ensures
+
+pub returns-in-Search : goal.returns-in-Search
+returns-in-Search c = rw c.in-Search.is c.search.ensures
+
+pub returns-in-Replaced : goal.returns-in-Replaced
+returns-in-Replaced c = rw c.in-Replaced.is c.replaced.ensures
+
+pub returns-in-Replaces : goal.returns-in-Replaces
+returns-in-Replaces c = rw c.in-Replaces.is c.replaces.ensures
+
+pub returns-in-About : goal.returns-in-About
+returns-in-About c = rw c.in-About.is c.about.ensures
+
+pub returns-in-Timeline : goal.returns-in-Timeline
+returns-in-Timeline c = rw c.in-Timeline.is c.timeline.ensures
+
+pub returns-in-Page : goal.returns-in-Page
+returns-in-Page c = rw c.in-Page.is c.page.ensures
+
+pub returns-in-Delta : goal.returns-in-Delta
+returns-in-Delta c = rw c.in-Delta.is c.delta.ensures
+
+pub returns-in-Receipt : goal.returns-in-Receipt
+returns-in-Receipt c = rw c.in-Receipt.is c.receipt.ensures

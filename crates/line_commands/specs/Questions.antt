@@ -1,0 +1,110 @@
+-- Questions, and how they are spelled.
+use Rattle.std.specs.Prelude.{◌≡◌, ℕ, ◌≤◌, ◌<◌, ◌^◌, List, [], ◌∷◌, length, codes, decimal, Option}
+use Rattle.std.specs.Prelude.{Some, None}
+use Rattle.std.specs.Str.{IsUtf8}
+use Rattle.rf2_values.specs.declared.row.Kind.{Kind}
+use Rattle.rf2_values.specs.declared.row.Kind.TheVariants as kinds
+use Rattle.rf2_values.specs.Row.{IsIdOf, SpellsId, IsConcept, IsComponent}
+use Rattle.rf2_values.specs.Time.{IsTime}
+
+-- What is asked of the imports that a session sees. A question changes nothing, and its answer
+-- depends on what the session is pinned to.
+pub data Question : Type 0 where
+  Get : (kind : Kind) (id date : ℕ) → Question
+  History : (kind : Kind) (id : ℕ) → Question
+  Children : (concept date : ℕ) → Question
+  Ancestors : (concept date : ℕ) → Question
+  Descendants : (concept date : ℕ) → Question
+  Terms : (prefix : List ℕ) (date limit : ℕ) → Question
+  Search : (prefix : List ℕ) (date : ℕ) (after : Option ℕ) (limit : ℕ) → Question
+  Replaced : (id date : ℕ) → Question
+  Replaces : (id date : ℕ) → Question
+  About : (kind : Kind) (id date : ℕ) → Question
+  Timeline : (kind : Kind) (id : ℕ) → Question
+  Page : (kind : Kind) (date : ℕ) (after : Option ℕ) (limit : ℕ) → Question
+  Delta : (kind : Kind) (from date : ℕ) (after : Option ℕ) (limit : ℕ) → Question
+  Dates : Question
+  Receipt : (number : ℕ) → Question
+
+-- the word of a question
+abbrev pub word_of_question : Question → List ℕ
+word_of_question (Get kind id date) = codes "GET"
+word_of_question (History kind id) = codes "HISTORY"
+word_of_question (Children concept date) = codes "CHILDREN"
+word_of_question (Ancestors concept date) = codes "ANCESTORS"
+word_of_question (Descendants concept date) = codes "DESCENDANTS"
+word_of_question (Terms prefix date limit) = codes "TERMS"
+word_of_question (Search prefix date after limit) = codes "SEARCH"
+word_of_question (Replaced id date) = codes "REPLACED"
+word_of_question (Replaces id date) = codes "REPLACES"
+word_of_question (About kind id date) = codes "ABOUT"
+word_of_question (Timeline kind id) = codes "TIMELINE"
+word_of_question (Page kind date after limit) = codes "PAGE"
+word_of_question (Delta kind from date after limit) = codes "DELTA"
+word_of_question Dates = codes "DATES"
+word_of_question (Receipt number) = codes "RECEIPT"
+
+-- the most rows that one answer may be asked for
+abbrev pub most_rows : ℕ
+most_rows = 1000
+
+-- the letter of a kind
+abbrev pub letter : Kind → List ℕ
+letter kinds.Concept = codes "C"
+letter kinds.Description = codes "D"
+letter kinds.Relationship = codes "R"
+letter kinds.Association = codes "A"
+letter kinds.Concrete = codes "V"
+
+-- what a row of the kind can be about: any component where it
+-- is an association, and else a concept; a concept is about nothing
+abbrev pub IsSubjectOf : Kind → ℕ → Type 0
+IsSubjectOf kinds.Concept id = ⊥
+IsSubjectOf kinds.Description id = IsConcept id
+IsSubjectOf kinds.Relationship id = IsConcept id
+IsSubjectOf kinds.Association id = IsComponent id
+IsSubjectOf kinds.Concrete id = IsConcept id
+
+-- an identifier of the kind, or `-` for none
+abbrev pub SpellsAfter : Kind → Option ℕ → List ℕ → Type 0
+SpellsAfter kind None text = text ≡ codes "-"
+SpellsAfter kind (Some id) text = IsIdOf kind id × SpellsId kind id text
+
+-- How the arguments of a question are spelled. The last one of TERMS and SEARCH may hold spaces.
+abbrev pub SpellsQuestion : Question → List (List ℕ) → Type 0
+SpellsQuestion (Get kind id date) texts =
+    (text : List ℕ) × IsIdOf kind id × SpellsId kind id text × IsTime date
+    × (texts ≡ letter kind ∷ text ∷ decimal date ∷ [])
+SpellsQuestion (History kind id) texts =
+    (text : List ℕ) × IsIdOf kind id × SpellsId kind id text × (texts ≡ letter kind ∷ text ∷ [])
+SpellsQuestion (Children concept date) texts =
+    IsConcept concept × IsTime date × (texts ≡ decimal concept ∷ decimal date ∷ [])
+SpellsQuestion (Ancestors concept date) texts =
+    IsConcept concept × IsTime date × (texts ≡ decimal concept ∷ decimal date ∷ [])
+SpellsQuestion (Descendants concept date) texts =
+    IsConcept concept × IsTime date × (texts ≡ decimal concept ∷ decimal date ∷ [])
+SpellsQuestion (Terms prefix date limit) texts =
+    IsTime date × (1 ≤ limit) × (limit ≤ most_rows) × (1 ≤ length prefix) × IsUtf8 prefix
+    × (texts ≡ decimal date ∷ decimal limit ∷ prefix ∷ [])
+SpellsQuestion (Search prefix date after limit) texts =
+    (text : List ℕ) × SpellsAfter kinds.Description after text × IsTime date × (1 ≤ limit)
+    × (limit ≤ most_rows) × (1 ≤ length prefix) × IsUtf8 prefix
+    × (texts ≡ decimal date ∷ text ∷ decimal limit ∷ prefix ∷ [])
+SpellsQuestion (Replaced id date) texts =
+    IsComponent id × IsTime date × (texts ≡ decimal id ∷ decimal date ∷ [])
+SpellsQuestion (Replaces id date) texts =
+    IsComponent id × IsTime date × (texts ≡ decimal id ∷ decimal date ∷ [])
+SpellsQuestion (About kind id date) texts =
+    IsSubjectOf kind id × IsTime date × (texts ≡ letter kind ∷ decimal id ∷ decimal date ∷ [])
+SpellsQuestion (Timeline kind id) texts =
+    IsSubjectOf kind id × (texts ≡ letter kind ∷ decimal id ∷ [])
+SpellsQuestion (Page kind date after limit) texts =
+    (text : List ℕ) × SpellsAfter kind after text × IsTime date × (1 ≤ limit) × (limit ≤ most_rows)
+    × (texts ≡ letter kind ∷ decimal date ∷ text ∷ decimal limit ∷ [])
+SpellsQuestion (Delta kind from date after limit) texts =
+    (text : List ℕ) × SpellsAfter kind after text × IsTime from × IsTime date × (1 ≤ limit)
+    × (limit ≤ most_rows)
+    × (texts ≡ letter kind ∷ decimal from ∷ decimal date ∷ text ∷ decimal limit ∷ [])
+SpellsQuestion Dates texts = texts ≡ []
+SpellsQuestion (Receipt number) texts =
+    (1 ≤ number) × (number < 2 ^ 32) × (texts ≡ decimal number ∷ [])

@@ -1,0 +1,94 @@
+//! Questions, as a line asks them.
+
+use rf2_values::{EffectiveTime, Kind, Sctid};
+
+/// What a line asks of the imports that its session sees. A question changes nothing,
+/// and its answer depends on what the session is pinned to.
+#[derive(Clone, Copy, Debug, PartialEq, Eq)]
+pub enum Question<'a> {
+    /// What a component looked like on a date.
+    Get {
+        kind: Kind,
+        id: u128,
+        time: EffectiveTime,
+    },
+    /// All versions of a component.
+    History {
+        kind: Kind,
+        id: u128,
+    },
+    /// The concepts with an "is a" relationship to a concept on a date.
+    Children {
+        concept: Sctid,
+        time: EffectiveTime,
+    },
+    /// The concepts that one or more "is a" relationships lead to from a concept on a date.
+    Ancestors {
+        concept: Sctid,
+        time: EffectiveTime,
+    },
+    /// The concepts from which one or more "is a" relationships lead to a concept on a date.
+    Descendants {
+        concept: Sctid,
+        time: EffectiveTime,
+    },
+    /// The descriptions whose terms begin with a prefix on a date.
+    Terms {
+        prefix: &'a str,
+        time: EffectiveTime,
+        limit: u32,
+    },
+    /// The descriptions whose terms begin with a prefix on a date, by identifier,
+    /// from the one after `after`.
+    Search {
+        prefix: &'a str,
+        time: EffectiveTime,
+        after: Option<u128>,
+        limit: u32,
+    },
+    /// The active associations of a component on a date: what replaces it, or may replace it.
+    Replaced {
+        id: Sctid,
+        time: EffectiveTime,
+    },
+    /// The active associations on a date whose target is a component: what it replaces, or may
+    /// replace.
+    Replaces {
+        id: Sctid,
+        time: EffectiveTime,
+    },
+    /// The rows of a kind that are about a component on a date.
+    About {
+        kind: Kind,
+        id: Sctid,
+        time: EffectiveTime,
+    },
+    /// All versions of the components of a kind that were ever about a component.
+    Timeline {
+        kind: Kind,
+        id: Sctid,
+    },
+    /// What the components of a kind looked like on a date, by identifier, from the one after
+    /// `after`.
+    Page {
+        kind: Kind,
+        time: EffectiveTime,
+        after: Option<u128>,
+        limit: u32,
+    },
+    /// What the components of a kind looked like on a date that had changed since another one, by
+    /// identifier, from the one after `after`.
+    Delta {
+        kind: Kind,
+        from: EffectiveTime,
+        time: EffectiveTime,
+        after: Option<u128>,
+        limit: u32,
+    },
+    /// The effective times of all rows.
+    Dates,
+    /// How many rows an import brought, and the latest date among them.
+    Receipt {
+        number: u32,
+    },
+}

@@ -1,0 +1,233 @@
+//! The arguments of each question. Each function says what stands
+//! behind its question's word, or none where it spells no such question.
+
+ghost use Rattle.std.specs.Prelude.{◌≡◌, ◌≢◌, ◌++◌, ◌∷◌, ℕ, MatchOption, Some, None, codes};
+ghost use Rattle.std.specs.Prelude.{decimal, option_map};
+ghost use Rattle.rf2_values.specs.Row.{IsConcept, IsComponent};
+ghost use Rattle.rf2_values.specs.Time.{IsTime};
+ghost use Rattle.line_commands.specs.Private.{IsQuestionReadAs, text_of_question};
+
+use crate::columns::{after, component, date, identifier, kind, limit, prefix, sctid_of, subject};
+use crate::question::Question;
+use crate::words::{QuestionWord, cut, cut_twice};
+use rf2_values::{Class, EffectiveTime, Kind, Sctid};
+
+/// The most rows that one answer may be asked for.
+const MOST_ROWS: u32 = 1000;
+
+/// A concept and a date.
+fn concept_and_date(text: &[u8]) -> Option<(Sctid, EffectiveTime)>
+    ensures { MatchOption result
+        ((c t : ℕ) → IsConcept c → IsTime t → text.now ≢ decimal c ++ 32 ∷ decimal t)
+        (λ x. IsConcept x.0 × IsTime x.1 × (text.now ≡ decimal x.0 ++ 32 ∷ decimal x.1)) }
+{
+    let (concept, time) = cut(text)?;
+    let concept = sctid_of(concept, Class::Concept)?;
+    let time = date(time)?;
+    Some((concept, time))
+}
+
+/// A component and a date.
+fn component_and_date(text: &[u8]) -> Option<(Sctid, EffectiveTime)>
+    ensures { MatchOption result
+        ((n t : ℕ) → IsComponent n → IsTime t → text.now ≢ decimal n ++ 32 ∷ decimal t)
+        (λ x. IsComponent x.0 × IsTime x.1 × (text.now ≡ decimal x.0 ++ 32 ∷ decimal x.1)) }
+{
+    let (id, time) = cut(text)?;
+    let id = component(id)?;
+    let time = date(time)?;
+    Some((id, time))
+}
+
+fn get(text: &[u8]) -> Option<Question<'_>>
+    ensures { IsQuestionReadAs (codes "GET") (Some text.now) result }
+{
+    let (letter, id, time) = cut_twice(text)?;
+    let kind = kind(letter)?;
+    let id = identifier(kind, id)?;
+    let time = date(time)?;
+    Some(Question::Get { kind, id, time })
+}
+
+fn history(text: &[u8]) -> Option<Question<'_>>
+    ensures { IsQuestionReadAs (codes "HISTORY") (Some text.now) result }
+{
+    let (letter, id) = cut(text)?;
+    let kind = kind(letter)?;
+    let id = identifier(kind, id)?;
+    Some(Question::History { kind, id })
+}
+
+fn children(text: &[u8]) -> Option<Question<'_>>
+    ensures { IsQuestionReadAs (codes "CHILDREN") (Some text.now) result }
+{
+    let (concept, time) = concept_and_date(text)?;
+    Some(Question::Children { concept, time })
+}
+
+fn ancestors(text: &[u8]) -> Option<Question<'_>>
+    ensures { IsQuestionReadAs (codes "ANCESTORS") (Some text.now) result }
+{
+    let (concept, time) = concept_and_date(text)?;
+    Some(Question::Ancestors { concept, time })
+}
+
+fn descendants(text: &[u8]) -> Option<Question<'_>>
+    ensures { IsQuestionReadAs (codes "DESCENDANTS") (Some text.now) result }
+{
+    let (concept, time) = concept_and_date(text)?;
+    Some(Question::Descendants { concept, time })
+}
+
+fn terms(text: &[u8]) -> Option<Question<'_>>
+    ensures { IsQuestionReadAs (codes "TERMS") (Some text.now) result }
+{
+    let (time, most, rest) = cut_twice(text)?;
+    let time = date(time)?;
+    let limit = limit(most, MOST_ROWS)?;
+    let prefix = prefix(rest)?;
+    Some(Question::Terms {
+        prefix,
+        time,
+        limit,
+    })
+}
+
+fn search(text: &[u8]) -> Option<Question<'_>>
+    ensures { IsQuestionReadAs (codes "SEARCH") (Some text.now) result }
+{
+    let (time, from, rest) = cut_twice(text)?;
+    let (most, rest) = cut(rest)?;
+    let time = date(time)?;
+    let after = after(Kind::Description, from)?;
+    let limit = limit(most, MOST_ROWS)?;
+    let prefix = prefix(rest)?;
+    Some(Question::Search {
+        prefix,
+        time,
+        after,
+        limit,
+    })
+}
+
+fn replaced(text: &[u8]) -> Option<Question<'_>>
+    ensures { IsQuestionReadAs (codes "REPLACED") (Some text.now) result }
+{
+    let (id, time) = component_and_date(text)?;
+    Some(Question::Replaced { id, time })
+}
+
+fn replaces(text: &[u8]) -> Option<Question<'_>>
+    ensures { IsQuestionReadAs (codes "REPLACES") (Some text.now) result }
+{
+    let (id, time) = component_and_date(text)?;
+    Some(Question::Replaces { id, time })
+}
+
+fn about(text: &[u8]) -> Option<Question<'_>>
+    ensures { IsQuestionReadAs (codes "ABOUT") (Some text.now) result }
+{
+    let (letter, id, time) = cut_twice(text)?;
+    let kind = kind(letter)?;
+    let id = subject(kind, id)?;
+    let time = date(time)?;
+    Some(Question::About { kind, id, time })
+}
+
+fn timeline(text: &[u8]) -> Option<Question<'_>>
+    ensures { IsQuestionReadAs (codes "TIMELINE") (Some text.now) result }
+{
+    let (letter, id) = cut(text)?;
+    let kind = kind(letter)?;
+    let id = subject(kind, id)?;
+    Some(Question::Timeline { kind, id })
+}
+
+fn page(text: &[u8]) -> Option<Question<'_>>
+    ensures { IsQuestionReadAs (codes "PAGE") (Some text.now) result }
+{
+    let (letter, time, rest) = cut_twice(text)?;
+    let (from, count) = cut(rest)?;
+    let kind = kind(letter)?;
+    let time = date(time)?;
+    let after = after(kind, from)?;
+    let limit = limit(count, MOST_ROWS)?;
+    Some(Question::Page {
+        kind,
+        time,
+        after,
+        limit,
+    })
+}
+
+fn delta(text: &[u8]) -> Option<Question<'_>>
+    ensures { IsQuestionReadAs (codes "DELTA") (Some text.now) result }
+{
+    let (letter, from, rest) = cut_twice(text)?;
+    let (time, last, count) = cut_twice(rest)?;
+    let kind = kind(letter)?;
+    let from = date(from)?;
+    let time = date(time)?;
+    let after = after(kind, last)?;
+    let limit = limit(count, MOST_ROWS)?;
+    Some(Question::Delta {
+        kind,
+        from,
+        time,
+        after,
+        limit,
+    })
+}
+
+fn receipt(text: &[u8]) -> Option<Question<'_>>
+    ensures { IsQuestionReadAs (codes "RECEIPT") (Some text.now) result }
+{
+    match limit(text, u32::MAX) {
+        Some(number) => Some(Question::Receipt { number }),
+        None => None,
+    }
+}
+
+/// The question with this word and no arguments.
+fn alone<'a>(word: QuestionWord) -> Option<Question<'a>>
+    ensures { IsQuestionReadAs (text_of_question word) None result }
+{
+    match word {
+        QuestionWord::Dates => Some(Question::Dates),
+        _ => None,
+    }
+}
+
+/// The question with this word and these arguments.
+fn with_arguments(word: QuestionWord, text: &[u8]) -> Option<Question<'_>>
+    ensures { IsQuestionReadAs (text_of_question word) (Some text.now) result }
+{
+    match word {
+        QuestionWord::Get => get(text),
+        QuestionWord::History => history(text),
+        QuestionWord::Children => children(text),
+        QuestionWord::Ancestors => ancestors(text),
+        QuestionWord::Descendants => descendants(text),
+        QuestionWord::Terms => terms(text),
+        QuestionWord::Search => search(text),
+        QuestionWord::Replaced => replaced(text),
+        QuestionWord::Replaces => replaces(text),
+        QuestionWord::About => about(text),
+        QuestionWord::Timeline => timeline(text),
+        QuestionWord::Page => page(text),
+        QuestionWord::Delta => delta(text),
+        QuestionWord::Receipt => receipt(text),
+        QuestionWord::Dates => None,
+    }
+}
+
+/// The question with this word, and what stands behind it.
+pub(crate) fn question<'a>(word: QuestionWord, rest: Option<&'a [u8]>) -> Option<Question<'a>>
+    ensures { IsQuestionReadAs (text_of_question word) (option_map (λ text. text.now) rest.entry)
+        result }
+{
+    match rest {
+        Some(text) => with_arguments(word, text),
+        None => alone(word),
+    }
+}

@@ -1,0 +1,92 @@
+//! Questions: their answers, of so many imports.
+
+ghost use Rattle.std.specs.Prelude.{◌≤◌, ℕ, List, Option};
+ghost use Rattle.store_life.specs.DeviceView.{device_view};
+ghost use Rattle.line_commands.specs.Commands.{At};
+ghost use Rattle.line_commands.specs.Requests.{question_of};
+ghost use Rattle.line_server.specs.Private.{IsCarriedOut, IsQueried, QuestionCanBeAsked};
+
+use crate::auditing::{
+    answer_ancestors, answer_dates, answer_delta, answer_descendants, answer_replaces,
+    answer_timeline,
+};
+use crate::queries::{
+    answer_about, answer_children, answer_get, answer_history, answer_page, answer_receipt,
+    answer_replaced, answer_search, answer_terms,
+};
+use crate::refusal::LineRefusal;
+use crate::reply::Reply;
+use disk_model::Disk;
+use history_store::Store;
+use line_commands::Question;
+use std::alloc::Global;
+
+/// Answers a question of the first `pin` imports.
+pub(crate) fn ask<D: Disk>(
+    alloc: Global,
+    question: &Question<'_>,
+    pin: u32,
+    store: &mut Store<D>,
+) -> Result<Reply, LineRefusal>
+    requires asked { QuestionCanBeAsked (question_of question.now) }
+    requires within { pin ≤ store.old.history.imports }
+    ensures { IsQueried result (device_view D.is_honest D.moments D.failures D.bytes_read)
+        (question_of question.now) pin store.old store.new }
+{
+    match *question {
+        Question::Get { kind, id, time } => answer_get(alloc, kind, id, time, pin, store),
+        Question::History { kind, id } => answer_history(alloc, kind, id, pin, store),
+        Question::Children { concept, time } => answer_children(alloc, concept, time, pin, store),
+        Question::Ancestors { concept, time } => answer_ancestors(alloc, concept, time, pin, store),
+        Question::Descendants { concept, time } => {
+            answer_descendants(alloc, concept, time, pin, store)
+        }
+        Question::Terms {
+            prefix,
+            time,
+            limit,
+        } => answer_terms(alloc, prefix, time, limit, pin, store),
+        Question::Search {
+            prefix,
+            time,
+            after,
+            limit,
+        } => answer_search(alloc, prefix, time, after, limit, pin, store),
+        Question::Replaced { id, time } => answer_replaced(alloc, id, time, pin, store),
+        Question::Replaces { id, time } => answer_replaces(alloc, id, time, pin, store),
+        Question::About { kind, id, time } => answer_about(alloc, kind, id, time, pin, store),
+        Question::Timeline { kind, id } => answer_timeline(alloc, kind, id, pin, store),
+        Question::Page {
+            kind,
+            time,
+            after,
+            limit,
+        } => answer_page(alloc, kind, time, after, limit, pin, store),
+        Question::Delta {
+            kind,
+            from,
+            time,
+            after,
+            limit,
+        } => answer_delta(alloc, kind, from, time, after, limit, pin, store),
+        Question::Dates => answer_dates(alloc, pin, store),
+        Question::Receipt { number } => answer_receipt(alloc, number, pin, store),
+    }
+}
+
+/// Answers a question as a session is answered that is pinned to the first `number` imports.
+pub(crate) fn ask_at<D: Disk>(
+    alloc: Global,
+    number: u32,
+    question: &Question<'_>,
+    store: &mut Store<D>,
+) -> Result<Reply, LineRefusal>
+    requires { QuestionCanBeAsked (question_of question.now) }
+    ensures { IsCarriedOut result (device_view D.is_honest D.moments D.failures D.bytes_read)
+        (At number (question_of question.now)) store.old store.new }
+{
+    if number > store.imports() {
+        return Err(LineRefusal::PinRange);
+    }
+    ask(alloc, question, number, store)
+}

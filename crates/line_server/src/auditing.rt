@@ -1,0 +1,112 @@
+//! The questions of an audit: what the store finds, as a reply.
+
+ghost use Rattle.std.specs.Prelude.{◌≤◌};
+ghost use Rattle.store_life.specs.DeviceView.{device_view};
+ghost use Rattle.line_commands.specs.Questions.{Ancestors, Descendants, Replaces, Timeline, Delta};
+ghost use Rattle.line_commands.specs.Questions.{Dates};
+ghost use Rattle.line_server.specs.Private.{IsQueried};
+
+use crate::refusal::LineRefusal;
+use crate::reply::Reply;
+use crate::wording::{reply_dates, reply_ids, reply_rows};
+use disk_model::Disk;
+use history_store::Store;
+use rf2_rows::{EffectiveTime, Kind, Sctid};
+use std::alloc::Global;
+
+/// All concepts above a concept on a date.
+pub(crate) fn answer_ancestors<D: Disk>(
+    alloc: Global,
+    concept: Sctid,
+    time: EffectiveTime,
+    pin: u32,
+    store: &mut Store<D>,
+) -> Result<Reply, LineRefusal>
+    requires { pin ≤ store.old.history.imports }
+    ensures { IsQueried result (device_view D.is_honest D.moments D.failures D.bytes_read)
+        (Ancestors concept time) pin store.old store.new }
+{
+    let found = store.ancestors(concept, time, pin)?;
+    Ok(reply_ids(alloc, &found)?)
+}
+
+/// All concepts below a concept on a date.
+pub(crate) fn answer_descendants<D: Disk>(
+    alloc: Global,
+    concept: Sctid,
+    time: EffectiveTime,
+    pin: u32,
+    store: &mut Store<D>,
+) -> Result<Reply, LineRefusal>
+    requires { pin ≤ store.old.history.imports }
+    ensures { IsQueried result (device_view D.is_honest D.moments D.failures D.bytes_read)
+        (Descendants concept time) pin store.old store.new }
+{
+    let found = store.descendants(concept, time, pin)?;
+    Ok(reply_ids(alloc, &found)?)
+}
+
+/// The active associations on a date of which a component is the target.
+pub(crate) fn answer_replaces<D: Disk>(
+    alloc: Global,
+    id: Sctid,
+    time: EffectiveTime,
+    pin: u32,
+    store: &mut Store<D>,
+) -> Result<Reply, LineRefusal>
+    requires { pin ≤ store.old.history.imports }
+    ensures { IsQueried result (device_view D.is_honest D.moments D.failures D.bytes_read)
+        (Replaces id time) pin store.old store.new }
+{
+    let found = store.replaces(id, time, pin)?;
+    Ok(reply_rows(alloc, &found)?)
+}
+
+/// All versions of the components of a kind that were ever about a component.
+pub(crate) fn answer_timeline<D: Disk>(
+    alloc: Global,
+    kind: Kind,
+    id: Sctid,
+    pin: u32,
+    store: &mut Store<D>,
+) -> Result<Reply, LineRefusal>
+    requires { pin ≤ store.old.history.imports }
+    ensures { IsQueried result (device_view D.is_honest D.moments D.failures D.bytes_read)
+        (Timeline kind id) pin store.old store.new }
+{
+    let found = store.timeline(kind, id, pin)?;
+    Ok(reply_rows(alloc, &found)?)
+}
+
+/// What changed from one date to another, by identifier.
+pub(crate) fn answer_delta<D: Disk>(
+    alloc: Global,
+    kind: Kind,
+    from: EffectiveTime,
+    time: EffectiveTime,
+    after: Option<u128>,
+    limit: u32,
+    pin: u32,
+    store: &mut Store<D>,
+) -> Result<Reply, LineRefusal>
+    requires { pin ≤ store.old.history.imports }
+    ensures { IsQueried result (device_view D.is_honest D.moments D.failures D.bytes_read)
+        (Delta kind from time after limit) pin store.old store.new }
+{
+    let found = store.delta(kind, from, time, after, limit, pin)?;
+    Ok(reply_rows(alloc, &found)?)
+}
+
+/// The effective times of all rows.
+pub(crate) fn answer_dates<D: Disk>(
+    alloc: Global,
+    pin: u32,
+    store: &mut Store<D>,
+) -> Result<Reply, LineRefusal>
+    requires { pin ≤ store.old.history.imports }
+    ensures { IsQueried result (device_view D.is_honest D.moments D.failures D.bytes_read)
+        Dates pin store.old store.new }
+{
+    let found = store.dates(pin)?;
+    Ok(reply_dates(alloc, &found)?)
+}

@@ -1,0 +1,90 @@
+//! Which concepts are below a concept.
+
+ghost use Rattle.std.specs.Prelude.{◌≡◌, List, IfOk, IfErr};
+ghost use Rattle.history_model.specs.declared.stamped.StampedRow.{StampedRow};
+ghost use Rattle.history_model.specs.History.{rows_at};
+ghost use Rattle.history_model.specs.Lists.{listed};
+ghost use Rattle.history_model.specs.Hierarchy.{AreDescendants};
+ghost use Rattle.as_of_index.specs.Places.{Lists};
+ghost use Rattle.fault_counts.specs.declared.fault.ReadFault.TheVariants as readfault;
+ghost use Rattle.links.specs.Laws.{EachPosted};
+
+use crate::Links;
+use crate::hierarchy::children_of;
+use crate::reaching::{Steps, reached};
+use as_of_index::{Index, ReadFault};
+use rf2_values::{EffectiveTime, Sctid};
+use std::alloc::Global;
+
+/// From each concept to its children, at a date and a pin.
+#[derive(Drop)]
+struct Downwards<'a> {
+    links: &'a Links,
+    index: &'a Index,
+    time: EffectiveTime,
+    pin: u32,
+}
+
+impl Steps for Downwards<'_> {
+    ghost use Rattle.std.specs.Prelude.{◌≡◌, ℕ, List, ⊤};
+    ghost use Rattle.std.proofs.Common.{refl, ◌∙◌};
+    ghost use Rattle.history_model.specs.declared.stamped.StampedRow.{StampedRow};
+    ghost use Rattle.history_model.specs.History.{rows_at};
+    ghost use Rattle.history_model.specs.Lists.{listed};
+    ghost use Rattle.history_model.specs.Queries.{children};
+    ghost use Rattle.as_of_index.specs.Places.{Lists};
+    ghost use Rattle.fault_counts.specs.declared.fault.ReadFault.TheVariants as readfault;
+    ghost use Rattle.links.specs.Laws.{EachPosted};
+
+    ghost leads = { λ d next. (lists : List (List StampedRow)) × Lists d.index.now lists
+        × EachPosted lists d.links.now
+        × ((concept : ℕ) → next concept ≡ children concept d.time (rows_at d.pin (listed lists))) };
+
+    ghost stays = { λ a b. b ≡ a };
+
+    ghost fails = { λ d e. e ≡ readfault.OutOfMemory };
+
+    ghost work = { λ d. 0 };
+
+    ghost costs = { λ d cost. ⊤ };
+
+    ghost disk_faults = { λ d. 0 };
+
+    ghost damages = { λ d. 0 };
+
+    ghost stays_still = { λ d. refl };
+
+    ghost stays_on = { λ a b c ab bc. bc ∙ ab };
+
+    ghost fails_by_memory = { λ d. refl };
+
+    fn next(&mut self, alloc: Global, concept: u64) -> Result<Vec<u64>, ReadFault> {
+        let found = children_of(alloc, self.links, self.index, concept, self.time, self.pin)?;
+        Ok(found)
+    }
+}
+
+/// The concepts that are reached from the concept from child to child at the date, ascending, of
+/// the rows that the pin shows. It reads no row. Each of them takes two bisections a list, and each
+/// posted link to it one more a list.
+pub fn descendants(
+    alloc: Global,
+    links: &Links,
+    index: &Index,
+    concept: Sctid,
+    time: EffectiveTime,
+    pin: u32,
+) -> Result<Vec<u64>, ReadFault>
+    ensures found { (lists : List (List StampedRow)) → Lists index.now lists
+        → EachPosted lists links.now → IfOk result (λ ids.
+        AreDescendants concept time (rows_at pin (listed lists)) ids.items) }
+    ensures fails { IfErr result (λ e. e ≡ readfault.OutOfMemory) }
+{
+    let mut steps = Downwards {
+        links,
+        index,
+        time,
+        pin,
+    };
+    reached(alloc, &mut steps, concept.value())
+}

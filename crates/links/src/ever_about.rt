@@ -1,0 +1,153 @@
+//! What was ever about a component, as the posted subjects say.
+
+ghost use Rattle.std.specs.Prelude.{◌≡◌, ◌≢◌, ◌+◌, ◌≤◌, List, flat_map, IfOk, IfErr, OnOk};
+ghost use Rattle.std.specs.List.{sum_by};
+ghost use Rattle.std.specs.Ordering.{nat_cmp};
+ghost use Rattle.history_model.specs.declared.stamped.StampedRow.{StampedRow};
+ghost use Rattle.history_model.specs.History.{rows_at};
+ghost use Rattle.history_model.specs.Lists.{listed};
+ghost use Rattle.history_model.specs.Queries.{versions, timeline};
+ghost use Rattle.as_of_index.specs.Places.{Lists};
+ghost use Rattle.as_of_index.specs.Private.Postings.{numbered};
+ghost use Rattle.fault_counts.specs.Counting.{Counts, CountsDiskFault, CountsDamage};
+ghost use Rattle.fault_counts.specs.declared.fault.ReadFault.TheVariants as readfault;
+ghost use Rattle.links.specs.Laws.{EachPosted};
+ghost use Rattle.as_of_index.specs.Private.Once.{AreOnce};
+ghost use Rattle.links.specs.Private.{subjects_in, GivesId, Takes, AreIds};
+
+use crate::Links;
+use crate::postings::{Sealed, Subject};
+use crate::subjects::subjects_of;
+use as_of_index::{Index, ReadFault, RowReader};
+use rf2_values::{Kind, Row, Sctid};
+use segment::RowPlace;
+use std::alloc::{AllocError, Global};
+
+fn id_of(at: &RowPlace) -> u128
+    ensures { result ≡ at.now.key.id }
+{
+    at.key.id
+}
+
+/// Adds the ids of the rows of those subjects that the pin shows.
+fn add_ids(
+    ids: &mut Vec<u128>,
+    subjects: &[Subject],
+    segment: usize,
+    index: &Index,
+    pin: u32,
+) -> Result<(), AllocError>
+    ensures { OnOk result ((lists : List (List StampedRow)) → Lists index.now lists
+        → Takes (GivesId lists pin segment) subjects.now ids.old.items ids.new.items) }
+{
+    for x in subjects {
+        if let Some(at) = index.shown_at(segment, x.row, pin) {
+            ids.push(id_of(&at))?;
+        }
+    }
+    Ok(())
+}
+
+/// Sorts the ids, and keeps each once. It takes no memory.
+fn sort_once(ids: &mut Vec<u128>)
+    ensures { AreOnce nat_cmp ids.old.items ids.new.items }
+{
+    ids.sort_unstable();
+    ids.dedup();
+}
+
+/// The ids of the components of a kind of which some version that the pin shows is posted as about
+/// the component, ascending.
+fn ids_of(
+    alloc: Global,
+    links: &[Sealed],
+    index: &Index,
+    kind: Kind,
+    id: u64,
+    pin: u32,
+) -> Result<Vec<u128>, AllocError>
+    ensures { IfOk result (λ ids. (lists : List (List StampedRow)) → Lists index.now lists
+        → AreIds lists kind pin id (numbered 0 (subjects_in links.now)) ids.items) }
+{
+    let mut ids = Vec::new(alloc);
+    for (segment, list) in links.iter().enumerate() {
+        let those = subjects_of(list.subjects(), id, kind);
+        add_ids(&mut ids, those, segment, index, pin)?;
+    }
+    sort_once(&mut ids);
+    Ok(ids)
+}
+
+/// All versions of these components that the pin shows, component by component.
+fn versions_of<R: RowReader>(
+    alloc: Global,
+    index: &Index,
+    reader: &mut R,
+    kind: Kind,
+    ids: &[u128],
+    pin: u32,
+) -> Result<Vec<Row>, ReadFault>
+    ensures found { R.is_honest reader.old → Lists index.now (R.lists reader.old)
+        → IfOk result (λ rows. rows.items ≡ flat_map
+        (λ id. versions kind id (rows_at pin (listed (R.lists reader.old)))) ids.now) }
+    ensures undamaged { R.is_honest reader.old → Lists index.now (R.lists reader.old)
+        → IfErr result (λ e. e ≢ readfault.Damaged) }
+    ensures work { IfOk result (λ rows.
+        R.work reader.new ≤ R.work reader.old + sum_by R.cost rows.items) }
+    ensures work_always { Lists index.now (R.lists reader.old)
+        → R.work reader.new ≤ R.work reader.old + sum_by R.cost (flat_map
+        (λ id. versions kind id (rows_at pin (listed (R.lists reader.old)))) ids.now) }
+    ensures lists { R.lists reader.new ≡ R.lists reader.old }
+    ensures honesty { R.is_honest reader.old → R.is_honest reader.new }
+    ensures stays { R.stays reader.old reader.new }
+    ensures disk_faults { Counts CountsDiskFault result
+        (R.disk_faults reader.old) (R.disk_faults reader.new) }
+    ensures damages { Counts CountsDamage result (R.damages reader.old) (R.damages reader.new) }
+{
+    let mut rows = Vec::new(alloc);
+    for id in ids {
+        let mut versions = index.history(reader, kind, *id, pin)?;
+        rows.append(&mut versions)?;
+    }
+    Ok(rows)
+}
+
+/// Of each component of a kind that ever had an active row about the component: all its versions
+/// that the pin shows, by id, then by time. It makes two bisections a list, and for each version
+/// that it answers one more a list.
+pub fn timeline<R: RowReader>(
+    alloc: Global,
+    links: &Links,
+    index: &Index,
+    reader: &mut R,
+    kind: Kind,
+    id: Sctid,
+    pin: u32,
+) -> Result<Vec<Row>, ReadFault>
+    ensures found { R.is_honest reader.old → Lists index.now (R.lists reader.old)
+        → EachPosted (R.lists reader.old) links.now
+        → IfOk result (λ rows.
+        rows.items ≡ timeline kind id (rows_at pin (listed (R.lists reader.old)))) }
+    ensures undamaged { R.is_honest reader.old → Lists index.now (R.lists reader.old)
+        → IfErr result (λ e. e ≢ readfault.Damaged) }
+    // No more is read than the rows that it answers take, each read once.
+    ensures work { IfOk result (λ rows.
+        R.work reader.new ≤ R.work reader.old + sum_by R.cost rows.items) }
+    // Whatever it answers and whatever was read, no more is read than these versions take, each
+    // counted once.
+    ensures work_always { Lists index.now (R.lists reader.old)
+        → EachPosted (R.lists reader.old) links.now
+        → R.work reader.new ≤ R.work reader.old + sum_by R.cost
+        (timeline kind id (rows_at pin (listed (R.lists reader.old)))) }
+    ensures lists { R.lists reader.new ≡ R.lists reader.old }
+    ensures honesty { R.is_honest reader.old → R.is_honest reader.new }
+    ensures stays { R.stays reader.old reader.new }
+    ensures disk_faults { Counts CountsDiskFault result
+        (R.disk_faults reader.old) (R.disk_faults reader.new) }
+    ensures damages { Counts CountsDamage result (R.damages reader.old) (R.damages reader.new) }
+{
+    // Its contract says that no key is listed twice.
+    let _listed = index.lists();
+    let ids = ids_of(alloc, links.as_slice(), index, kind, id.value(), pin)?;
+    versions_of(alloc, index, reader, kind, ids.as_slice(), pin)
+}

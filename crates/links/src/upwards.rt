@@ -1,0 +1,214 @@
+//! Which concepts are above a concept.
+
+ghost use Rattle.std.specs.Prelude.{◌≡◌, ◌≢◌, ◌+◌, ◌≤◌, ◌∷◌, ℕ, List, map, true, false};
+ghost use Rattle.std.specs.Prelude.{IfOk, IfErr, MatchOption};
+ghost use Rattle.std.specs.List.{filter, sum_by};
+ghost use Rattle.history_model.specs.History.{rows_at};
+ghost use Rattle.history_model.specs.Lists.{listed};
+ghost use Rattle.history_model.specs.Queries.{about, parents, destination_of};
+ghost use Rattle.history_model.specs.Hierarchy.{AreAncestors};
+ghost use Rattle.rf2_values.specs.declared.row.Kind.TheVariants as kinds;
+ghost use Rattle.as_of_index.specs.Places.{Lists};
+ghost use Rattle.fault_counts.specs.Counting.{Counts, CountsDiskFault, CountsDamage};
+ghost use Rattle.fault_counts.specs.declared.fault.ReadFault.TheVariants as readfault;
+ghost use Rattle.links.specs.Laws.{EachPosted};
+ghost use Rattle.links.specs.Private.{is_link, parents_told};
+
+use crate::Links;
+use crate::hierarchy::sort_once;
+use crate::reaching::{Steps, reached};
+use crate::subjects::about_of;
+use as_of_index::{Index, ReadFault, RowReader};
+use history_model::IS_A;
+use rf2_values::{Body, EffectiveTime, Kind, Row, Sctid};
+use std::alloc::{AllocError, Global};
+
+/// The destination of an "is a" relationship.
+fn parent_in(row: &Row) -> Option<u64>
+    ensures { MatchOption result (is_link row.now.body ≡ false)
+        (λ parent. (is_link row.now.body ≡ true) × (parent ≡ destination_of row.now.body)) }
+{
+    match &row.body {
+        Body::Relationship(r) if r.type_id.value() == IS_A => Some(r.destination.value()),
+        _ => None,
+    }
+}
+
+/// The destinations of those of the rows that are "is a" relationships.
+fn parents_in(alloc: Global, rows: &[Row]) -> Result<Vec<u64>, AllocError>
+    ensures { IfOk result (λ ids. ids.items ≡ parents_told rows.now) }
+{
+    let mut ids = Vec::new(alloc);
+    for row in rows {
+        if let Some(parent) = parent_in(row) {
+            ids.push(parent)?;
+        }
+    }
+    Ok(ids)
+}
+
+/// The destinations of the concept's active "is a" relationships at the date, ascending. It reads
+/// all active relationships of which the concept is the source.
+fn parents_of<R: RowReader>(
+    alloc: Global,
+    links: &Links,
+    index: &Index,
+    reader: &mut R,
+    concept: u64,
+    time: EffectiveTime,
+    pin: u32,
+) -> Result<Vec<u64>, ReadFault>
+    ensures found { R.is_honest reader.old → Lists index.now (R.lists reader.old)
+        → EachPosted (R.lists reader.old) links.now
+        → IfOk result (λ ids.
+        ids.items ≡ parents concept time (rows_at pin (listed (R.lists reader.old)))) }
+    ensures undamaged { R.is_honest reader.old → Lists index.now (R.lists reader.old)
+        → EachPosted (R.lists reader.old) links.now
+        → IfErr result (λ e. e ≢ readfault.Damaged) }
+    ensures work_always { Lists index.now (R.lists reader.old)
+        → EachPosted (R.lists reader.old) links.now
+        → R.work reader.new ≤ R.work reader.old + sum_by R.cost
+        (about kinds.Relationship concept time (rows_at pin (listed (R.lists reader.old)))) }
+    ensures lists { R.lists reader.new ≡ R.lists reader.old }
+    ensures honesty { R.is_honest reader.old → R.is_honest reader.new }
+    ensures stays { R.stays reader.old reader.new }
+    ensures disk_faults { Counts CountsDiskFault result
+        (R.disk_faults reader.old) (R.disk_faults reader.new) }
+    ensures damages { Counts CountsDamage result (R.damages reader.old) (R.damages reader.new) }
+{
+    let rows = about_of(
+        alloc,
+        links,
+        index,
+        reader,
+        Kind::Relationship,
+        concept,
+        time,
+        pin,
+    )?;
+    let mut ids = parents_in(alloc, rows.as_slice())?;
+    sort_once(&mut ids);
+    Ok(ids)
+}
+
+/// From each concept to its parents, at a date and a pin.
+#[derive(Drop)]
+struct Upwards<'a, R: RowReader> {
+    links: &'a Links,
+    index: &'a Index,
+    reader: &'a mut R,
+    time: EffectiveTime,
+    pin: u32,
+}
+
+impl<R: RowReader> Steps for Upwards<'_, R> {
+    ghost use Rattle.std.specs.Prelude.{◌≡◌, ◌≢◌, ℕ, List};
+    ghost use Rattle.std.specs.List.{sum_by};
+    ghost use Rattle.std.proofs.Common.{refl, ◌∙◌};
+    ghost use Rattle.history_model.specs.History.{rows_at};
+    ghost use Rattle.history_model.specs.Lists.{listed};
+    ghost use Rattle.history_model.specs.Queries.{parents, about};
+    ghost use Rattle.rf2_values.specs.declared.row.Kind.TheVariants as kinds;
+    ghost use Rattle.as_of_index.specs.Places.{Lists};
+    ghost use Rattle.fault_counts.specs.declared.fault.ReadFault.TheVariants as readfault;
+    ghost use Rattle.links.specs.Laws.{EachPosted};
+    ghost use Rattle.links.specs.Private.{memory_is_no_damage};
+
+    ghost leads = { λ u next. R.is_honest u.reader.now × Lists u.index.now (R.lists u.reader.now)
+        × EachPosted (R.lists u.reader.now) u.links.now
+        × ((concept : ℕ) → next concept
+        ≡ parents concept u.time (rows_at u.pin (listed (R.lists u.reader.now)))) };
+
+    ghost stays = { λ a b. R.stays a.reader.now b.reader.now
+        × (R.lists b.reader.now ≡ R.lists a.reader.now)
+        × (R.is_honest a.reader.now → R.is_honest b.reader.now)
+        × (b.reader.ghost_name ≡ a.reader.ghost_name) };
+
+    ghost fails = { λ u e. R.is_honest u.reader.now → Lists u.index.now (R.lists u.reader.now)
+        → EachPosted (R.lists u.reader.now) u.links.now → e ≢ readfault.Damaged };
+
+    ghost work = { λ u. R.work u.reader.now };
+
+    ghost costs = { λ u cost. Lists u.index.now (R.lists u.reader.now)
+        × EachPosted (R.lists u.reader.now) u.links.now
+        × ((concept : ℕ) → cost concept ≡ sum_by R.cost (about kinds.Relationship concept
+        u.time (rows_at u.pin (listed (R.lists u.reader.now))))) };
+
+    ghost disk_faults = { λ u. R.disk_faults u.reader.now };
+
+    ghost damages = { λ u. R.damages u.reader.now };
+
+    ghost stays_still = { λ u. (R.stays_still u.reader.now, refl, λ h. h, refl) };
+
+    ghost stays_on = { λ a b c ab bc. (
+      R.stays_on a.reader.now b.reader.now c.reader.now ab.0 bc.0,
+      bc.1 ∙ ab.1,
+      λ h. bc.2 (ab.2 h),
+      bc.3 ∙ ab.3,
+    ) };
+
+    ghost fails_by_memory = { λ u honest listed_so posted. memory_is_no_damage };
+
+    fn next(&mut self, alloc: Global, concept: u64) -> Result<Vec<u64>, ReadFault> {
+        parents_of(
+            alloc,
+            self.links,
+            self.index,
+            self.reader,
+            concept,
+            self.time,
+            self.pin,
+        )
+    }
+}
+
+/// The concepts that are reached from the concept from parent to parent at the date, ascending, of
+/// the rows that the pin shows. It reads the active relationships of which the concept, or one that
+/// is reached, is the source.
+pub fn ancestors<R: RowReader>(
+    alloc: Global,
+    links: &Links,
+    index: &Index,
+    reader: &mut R,
+    concept: Sctid,
+    time: EffectiveTime,
+    pin: u32,
+) -> Result<Vec<u64>, ReadFault>
+    ensures found { R.is_honest reader.old → Lists index.now (R.lists reader.old)
+        → EachPosted (R.lists reader.old) links.now
+        → IfOk result (λ ids. AreAncestors concept time
+        (rows_at pin (listed (R.lists reader.old))) ids.items) }
+    ensures undamaged { R.is_honest reader.old → Lists index.now (R.lists reader.old)
+        → EachPosted (R.lists reader.old) links.now
+        → IfErr result (λ e. e ≢ readfault.Damaged) }
+    // No more is read than the relationships take of which the concept is the source, or one that
+    // is answered.
+    ensures work { Lists index.now (R.lists reader.old)
+        → EachPosted (R.lists reader.old) links.now → IfOk result (λ ids.
+        R.work reader.new ≤ R.work reader.old + sum_by (λ c. sum_by R.cost
+        (about kinds.Relationship c time (rows_at pin (listed (R.lists reader.old)))))
+        (concept ∷ ids.items)) }
+    // Whatever it answers, an honest reader has read no more than the relationships take of which
+    // the concept is the source, or one that is to be found.
+    ensures work_always { R.is_honest reader.old → Lists index.now (R.lists reader.old)
+        → EachPosted (R.lists reader.old) links.now → (ids : List ℕ)
+        → AreAncestors concept time (rows_at pin (listed (R.lists reader.old))) ids
+        → R.work reader.new ≤ R.work reader.old + sum_by (λ c. sum_by R.cost
+        (about kinds.Relationship c time (rows_at pin (listed (R.lists reader.old)))))
+        (concept ∷ ids) }
+    ensures lists { R.lists reader.new ≡ R.lists reader.old }
+    ensures honesty { R.is_honest reader.old → R.is_honest reader.new }
+    ensures stays { R.stays reader.old reader.new }
+    ensures disk_faults { Counts CountsDiskFault result
+        (R.disk_faults reader.old) (R.disk_faults reader.new) }
+    ensures damages { Counts CountsDamage result (R.damages reader.old) (R.damages reader.new) }
+{
+    let mut steps = Upwards {
+        links,
+        index,
+        reader,
+        time,
+        pin,
+    };
+    reached(alloc, &mut steps, concept.value())
+}
