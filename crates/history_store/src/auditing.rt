@@ -168,7 +168,8 @@ impl<D: Disk> Store<D> {
         self.answered(read)
     }
 
-    /// The distinct effective times of all rows, ascending. Nothing is read.
+    /// The days that have rows, ascending: the distinct effective times of what the first `pin`
+    /// imports brought. Nothing is read.
     pub fn dates(&mut self, pin: u32) -> Result<Vec<EffectiveTime>, Refusal>
         requires { pin ≤ self.old.history.imports }
         ensures answer { IsIndexQuery result (λ times rows. times.items ≡ dates rows) pin
