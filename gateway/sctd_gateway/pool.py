@@ -208,9 +208,10 @@ class Session:
         self.receipt = "-"
 
     async def begin(self) -> None:
-        """Learns what the pin shows."""
-        last = ["RECEIPT %d" % self.pin] if self.pin else []
-        dates, *receipts = await self.ask(["DATES", *last])
+        """Learns what the pin shows. Where that is remembered nothing is asked yet."""
+        lines = ["DATES", *(["RECEIPT %d" % self.pin] if self.pin else [])]
+        known = [reply for reply in self.remembered(lines) if reply is not None]
+        dates, *receipts = known if len(known) == len(lines) else await self.ask(lines)
         self.days = days_of(dates)
         if receipts:
             self.receipt = "RECEIPT %d: %s" % (self.pin, receipt_of(receipts[0]))
@@ -219,10 +220,14 @@ class Session:
         if not self.sure and self.connection.whole:
             await self.ask([])
 
+    def remembered(self, lines: Sequence[str]) -> list[Reply | None]:
+        """The reply to each line that is remembered."""
+        remembers = self.pool.is_of_this_hub(self.connection)
+        return [self.pool.memory.get(self.pin, line) if remembers else None for line in lines]
+
     async def ask(self, lines: Sequence[str], keep: bool = True) -> list[Reply]:
         """The reply to each line, those that are remembered without asking."""
-        remembers = self.pool.is_of_this_hub(self.connection)
-        known = [self.pool.memory.get(self.pin, line) if remembers else None for line in lines]
+        known = self.remembered(lines)
         missing = [line for line, reply in zip(lines, known) if reply is None]
         if missing or not self.sure:
             told = await self.told(missing)
