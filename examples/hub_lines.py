@@ -14,9 +14,11 @@ LINES_A_TURN = 32
 READ_SIZE = 1 << 16
 # The lines that change nothing but the pin of their own session. A line is known by its first word,
 # and the program knows a command by the same word: whatever isn't in this list isn't a question.
+# Behind AT the program takes questions alone.
 QUESTIONS = frozenset((
-    b"GET", b"HISTORY", b"ABOUT", b"CHILDREN", b"SEARCH", b"TERMS", b"REPLACED", b"PAGE",
-    b"RECEIPT", b"STATUS", b"PIN", b"UNPIN"))
+    b"GET", b"HISTORY", b"ABOUT", b"TIMELINE", b"CHILDREN", b"ANCESTORS", b"DESCENDANTS", b"SEARCH",
+    b"TERMS", b"REPLACED", b"REPLACES", b"PAGE", b"DELTA", b"DATES", b"RECEIPT", b"AT", b"STATUS",
+    b"PIN", b"UNPIN"))
 BACKUP = b"BACKUP"
 # What the hub itself answers. The program's refusals have a number where these have a word.
 TOO_LONG = b"ERR 40 Long\n"

@@ -27,18 +27,39 @@ Fault = namedtuple("Fault", "what file old new tests")
 
 FAULTS = [
     Fault(
-        "every relationship leads to a parent",
+        "each code lies below each other one",
         "store.py",
-        "if row.type == IS_A]",
-        "]",
+        " if top in ancestors}",
+        "}",
         "test_validation test_releases",
     ),
     Fault(
-        "a walk upwards ends after one step",
+        "what lies below a code is taken for what lies above it",
         "store.py",
-        "            level = sorted(above - seen)\n",
-        "            level = []\n",
+        "\"ANCESTORS %s %s\"",
+        "\"DESCENDANTS %s %s\"",
         "test_validation",
+    ),
+    Fault(
+        "the children are taken for all that lies below",
+        "store.py",
+        "\"DESCENDANTS %s %s\"",
+        "\"CHILDREN %s %s\"",
+        "test_value_sets test_releases",
+    ),
+    Fault(
+        "of many codes each lies below the top",
+        "store.py",
+        "inside = set(await self.descendants(top, day))",
+        "inside = set(others)",
+        "test_value_sets test_large_answers",
+    ),
+    Fault(
+        "the history has the first version of each component alone",
+        "store.py",
+        "[list(versions) for _,",
+        "[list(versions)[:1] for _,",
+        "test_page",
     ),
     Fault(
         "replies stay when another hub comes",
@@ -58,8 +79,8 @@ FAULTS = [
     Fault(
         "subtrees stay when another hub comes",
         "pool.py",
-        "self.subtrees, self.receipts = Subtrees(), []",
-        "self.receipts = []",
+        "self.subtrees, self.present = Subtrees(), None",
+        "self.present = None",
         "test_hub",
     ),
     Fault(
@@ -86,16 +107,16 @@ FAULTS = [
     Fault(
         "a pin in the address is passed over",
         "pool.py",
-        "        self.pin = len(pool.receipts) if pin is None else pin\n",
-        "        self.pin = len(pool.receipts)\n",
+        "        self.pin = present if pin is None else pin\n",
+        "        self.pin = present\n",
         "test_lookup",
     ),
     Fault(
-        "releases after the pin are told",
-        "store.py",
-        "receipts = self.session.receipts[: self.pin]",
-        "receipts = self.session.receipts",
-        "test_value_sets",
+        "questions are asked of all imports",
+        "pool.py",
+        "[\"AT %d %s\" % (self.pin, line) for line in lines]",
+        "[*lines]",
+        "test_value_sets test_page",
     ),
     Fault(
         "a version after the latest release is answered",
@@ -319,8 +340,8 @@ FAULTS = [
     Fault(
         "a walk has no end",
         "store.py",
-        "            if len(seen | below) > limits.WALK_CONCEPTS:\n",
-        "            if False:\n",
+        "        if len(codes) > limits.WALK_CONCEPTS:\n",
+        "        if False:\n",
         "test_large_answers",
     ),
     Fault(

@@ -259,7 +259,7 @@ class Served:
             if not piece:
                 raise SystemExit("sctd ended with %d replies to come" % left)
             told.append(piece)
-            left -= not piece.startswith((b"ROW ", b"ID "))
+            left -= not piece.startswith((b"ROW ", b"ID ", b"DATE "))
         sender.join()
         return b"".join(told)
 

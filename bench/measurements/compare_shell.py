@@ -8,7 +8,9 @@ of make_release.py are made in FOLDER, if they aren't there. Both sides import t
 shell by `.import` into a table a kind, keyed by id and date, and makes its indexes after the rows.
 Then both import the same release once more, which brings nothing new, and the Delta; and both are
 asked the same questions, each kind in a process of its own, whose answers have to be the same lines.
-Last, the two segments of sctd's store are merged, line by line.
+Before those of an audit the shell makes indexes for them, with nothing of sctd's beside them. Then
+the two segments of sctd's store are merged, line by line. Last, both import a release by which all
+concepts are a tree below the root, and are asked for all of them, and for what is above some.
 
 The tables of the shell have no number of an import, so that no question is pinned, and terms are
 searched without regard to case in ASCII alone. It may keep as many bytes of pages in memory as `sctd`
@@ -20,12 +22,14 @@ imports have to count the rows as this script does. The status is 1 where a repl
 another one. Standard library, and the command sqlite3.
 """
 
+import itertools
 import os
 import random
 import subprocess
 import sys
 import time
 
+import make_release as rf2
 from compare import BEGINNINGS, COLUMNS, HERE, IS_A, SUBJECTS, TABLES, TEXTS, Served
 
 # So many rows of a kind are held at most, of which the questions are drawn.
@@ -42,6 +46,16 @@ INDEXES = (
     "CREATE INDEX descriptions ON description (concept) WHERE active = 1;",
     "CREATE INDEX relationships ON relationship (source) WHERE active = 1;",
 )
+# For an audit: without them a Delta and the dates would read whole tables.
+AUDIT_INDEXES = (
+    "CREATE INDEX parents ON relationship (source, destination) WHERE active = 1 AND type = %d;" % IS_A,
+    "CREATE INDEX targets ON association (target) WHERE active = 1;",
+    *("CREATE INDEX times_of_%s ON %s (time);" % (table, table) for table in TABLES.values()),
+)
+# The day of the release that makes a tree of the concepts.
+TREE_DAY = "20260731"
+# Between two dates, as numbers.
+YEAR = 10000
 SETTINGS = ("PRAGMA journal_mode = WAL;", "PRAGMA synchronous = FULL;")
 
 
@@ -144,7 +158,10 @@ class Shell:
 def query_of(line):
     """The query of a line of the protocol."""
     words = line.split(" ")
-    command, kind = words[1], words[2]
+    command = words[1]
+    if command in AUDITS:
+        return AUDITS[command](*words[2:])
+    kind = words[2]
     if command == "GET":
         return ("SELECT %s FROM %s x WHERE id = %s AND time <= %s ORDER BY time DESC LIMIT 1;"
                 % (", ".join(COLUMNS[kind]), TABLES[kind], words[3], words[4]))
@@ -161,6 +178,63 @@ def query_of(line):
     newest = NEWEST.format(date=date, table="description")
     return ("SELECT %s FROM description x WHERE x.active = 1 AND x.term LIKE '%s%%'%s ORDER BY x.id LIMIT %s;"
             % (", ".join(COLUMNS["D"]), prefix.replace("'", "''"), newest, limit))
+
+
+def delta_query(kind, begin, date, after, limit):
+    """By the better of the shell's two ways: the index on dates for few rows, and for many, which
+    a plus tells it, the order of the table."""
+    newest = NEWEST.format(date=date, table=TABLES[kind])
+    time = "x.time"
+    if int(date) - int(begin) > 2 * YEAR:
+        time, newest = "+x.time", newest.replace("x.time <=", "+x.time <=", 1)
+    return ("SELECT %s FROM %s x WHERE %s > %s AND x.id > %s%s ORDER BY x.id LIMIT %s;"
+            % (", ".join(COLUMNS[kind]), TABLES[kind], time, begin, after, newest, limit))
+
+
+def timeline_query(kind, concept):
+    table = TABLES[kind]
+    return ("SELECT %s FROM %s WHERE id IN (SELECT id FROM %s WHERE active = 1 AND %s = %s) ORDER BY id, time;"
+            % (", ".join(COLUMNS[kind]), table, table, SUBJECTS[kind], concept))
+
+
+def replaces_query(target, date):
+    newest = NEWEST.format(date=date, table="association")
+    return ("SELECT %s FROM association x WHERE x.active = 1 AND x.target = %s%s"
+            " ORDER BY x.refset, x.referenced, x.id;" % (", ".join(COLUMNS["A"]), target, newest))
+
+
+def reach_query(here, there, concept, date):
+    """What is reached from a concept, from one column of a relationship to the other."""
+    is_a = "x.active = 1 AND x.type = %d%s" % (IS_A, NEWEST.format(date=date, table="relationship"))
+    return ("WITH RECURSIVE met (id) AS (SELECT x.{1} FROM relationship x WHERE x.{0} = {2} AND {3}"
+            " UNION SELECT x.{1} FROM met JOIN relationship x ON x.{0} = met.id WHERE {3})"
+            " SELECT id FROM met ORDER BY id;").format(here, there, concept, is_a)
+
+
+def ancestors_query(concept, date):
+    return reach_query("source", "destination", concept, date)
+
+
+def descendants_query(concept, date):
+    return reach_query("destination", "source", concept, date)
+
+
+def dates_query():
+    """Each next date is looked up in the index of its table, which SQLite doesn't do by itself."""
+    steps = ["SELECT day FROM (WITH RECURSIVE met (day) AS (SELECT min(time) FROM {0} UNION ALL SELECT"
+             " (SELECT min(time) FROM {0} WHERE time > day) FROM met WHERE day NOT NULL)"
+             " SELECT day FROM met WHERE day NOT NULL)".format(table) for table in TABLES.values()]
+    return " UNION ".join(steps) + " ORDER BY day;"
+
+
+AUDITS = {
+    "DELTA": delta_query,
+    "TIMELINE": timeline_query,
+    "REPLACES": replaces_query,
+    "ANCESTORS": ancestors_query,
+    "DESCENDANTS": descendants_query,
+    "DATES": dates_query,
+}
 
 
 def is_plain(term):
@@ -186,13 +260,74 @@ def questions(rows, chance):
             "0 ABOUT %s %s %s" % (kind, chance.choice(rows[kind])[4], date()) for _ in range(10000)]
 
 
+def audits(rows, chance):
+    """The lists of an audit's questions, each with its title."""
+    def concept():
+        return chance.choice(rows["C"])[0]
+
+    def date():
+        return chance.choice(["20120731", "20191231", "20251231", "20261231"])
+
+    for first, last, title in (("20250131", "20261231", "of the last releases"),
+                               ("20120731", "20191231", "of seven years")):
+        yield "1,000 pages of 1,000 %s" % title, [
+            "0 DELTA %s %s %s %s 1000" % (kind, first, last, chance.choice(rows[kind])[0])
+            for kind in itertools.islice(itertools.cycle("CDR"), 1000)]
+    for kind, title in (("D", "the descriptions"), ("R", "the relationships")):
+        yield "%s that 10,000 concepts ever had" % title, [
+            "0 TIMELINE %s %s" % (kind, chance.choice(rows[kind])[4]) for _ in range(10000)]
+    yield "what 10,000 components replace", [
+        "0 REPLACES %s %s" % (chance.choice(rows["A"])[6], date()) for _ in range(10000)]
+    yield "all concepts above 1,000 concepts", ["0 ANCESTORS %s %s" % (concept(), date()) for _ in range(1000)]
+    yield "all concepts below 1,000 concepts", ["0 DESCENDANTS %s %s" % (concept(), date()) for _ in range(1000)]
+    yield "the dates, 10,000 times", ["0 DATES"] * 10000
+
+
+def tree_questions(rows, chance):
+    """What is asked once the concepts are a tree."""
+    yield "all concepts below the root, 10 times", ["0 DESCENDANTS %d 20261231" % rf2.ROOT] * 10
+    yield "all concepts above 10,000 concepts, in a tree", [
+        "0 ANCESTORS %s 20261231" % chance.choice(rows["C"])[0] for _ in range(10000)]
+
+
+def rows_of(folder, kind):
+    """The columns of each row of a kind, in the order of its file."""
+    with open(next(path for one, path in files_of(folder) if one == kind),
+              encoding="utf-8", newline="") as file:
+        next(file)
+        for line in file:
+            yield line.rstrip("\r\n").split("\t")
+
+
+def make_tree(place):
+    """Writes a release that withdraws each "is a", and gives each concept but the root one parent
+    or two that were made before it: few have many children, and most are some ten steps down."""
+    chance, full = random.Random(11), os.path.join(place, "full")
+    rows = {kind: [] for kind in rf2.KINDS}
+    # The versions of a component stand together, the last one last.
+    for _, versions in itertools.groupby(rows_of(full, "R"), key=lambda columns: columns[0]):
+        columns = list(versions)[-1]
+        if columns[2] == "1" and columns[7] == str(IS_A):
+            rows["R"].append("\t".join([columns[0], TREE_DAY, "0", *columns[3:]]))
+    concepts = [str(rf2.ROOT)]
+    concepts += [name for name, _ in itertools.groupby(columns[0] for columns in rows_of(full, "C"))]
+    made = 500_000_000
+    for number, name in enumerate(concepts[1:], 1):
+        for _ in range(chance.choice([1, 2])):
+            made += 1
+            parent = concepts[int(number * chance.random() ** 1.5)]
+            body = [name, parent, 0, IS_A, rf2.INFERRED, rf2.MODIFIER]
+            rows["R"].append(rf2.line((rf2.sctid(made, "02"), "R", body), TREE_DAY, 1))
+    rf2.write(os.path.join(place, "tree"), "Delta", TREE_DAY, rows)
+
+
 def rows_alone(told):
     """The rows of replies, without the words around them; None where a reply ends otherwise than
     with the number of its rows."""
     rows, count = [], 0
     for line in told.split(b"\n")[:-1]:
-        if line.startswith(b"ROW "):
-            rows.append(line[4:] + b"\n")
+        if line.startswith((b"ROW ", b"ID ", b"DATE ")):
+            rows.append(line.partition(b" ")[2] + b"\n")
             count += 1
         elif line == b"END %d" % count:
             count = 0
@@ -244,6 +379,28 @@ def merged(served, table):
         print("| %d | the longest %s | %.4f | | | | | | |" % (table.rows, name, wall))
 
 
+def ask_both(table, served, shell, asked):
+    """Asks both sides lists of questions, and tells what they cost."""
+    for title, lines in asked:
+        told, (wall, used) = served.timed(lines)
+        answered, theirs = shell.asked([query_of(line) for line in lines])
+        theirs.peak = None
+        table.show(title, Cost(wall, used), theirs, rows_alone(told) == answered)
+
+
+def ask_in_a_tree(table, sctd, shell, asked):
+    """Lets both sides import the release that makes a tree of the concepts, and asks them."""
+    if not os.path.isdir(os.path.join(sctd.place, "tree")):
+        make_tree(sctd.place)
+    words = ["import", "--quiet", "--store", sctd.path, "--releases", sctd.place, "tree"]
+    ours = ran([sctd.program, *words], b"", sctd.place)[1]
+    theirs = shell.take(os.path.join(sctd.place, "tree"), False)
+    table.show("import other parents of each concept", ours, theirs)
+    served = Served(sctd)
+    ask_both(table, served, shell, asked)
+    served.end()
+
+
 def compare(program, folder, count):
     place = os.path.join(folder, str(count))
     if not os.path.isdir(os.path.join(place, "full")):
@@ -269,13 +426,12 @@ def compare(program, folder, count):
     served = Served(sctd)
     table.show("open", Cost(*served.opening, served.held()), None)
     shell.kept = served.held()
-    for title, lines in questions(rows, chance):
-        told, (wall, used) = served.timed(lines)
-        answered, theirs = shell.asked([query_of(line) for line in lines])
-        theirs.peak = None
-        table.show(title, Cost(wall, used), theirs, rows_alone(told) == answered)
+    ask_both(table, served, shell, questions(rows, chance))
+    table.show("the shell's indexes for an audit", None, shell.run(list(AUDIT_INDEXES))[1])
+    ask_both(table, served, shell, audits(rows, chance))
     merged(served, table)
     served.end()
+    ask_in_a_tree(table, sctd, shell, tree_questions(rows, chance))
     print("bytes of the files: sctd %d, SQLite %d" % (os.path.getsize(store), os.path.getsize(shell.path)))
     return table.alike
 

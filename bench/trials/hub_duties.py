@@ -44,7 +44,24 @@ ODD = [
     "STATUS\tx", "STATUS\r\r", "", "\r", " ", "\v", "CHECK r3", "STATUS\u2028IMPORT r3", "ŠTATUS"]
 # Questions that are refused, which the program does itself.
 FAULTY = {"STATUS ": 43, "STATUS  ": 43, "GET  C 1000004 20200131": 43, "GET": 43, "PIN 9": 44,
-          "UNPIN IMPORT r3": 43, "GET C 1000004 20200131\0": 43}
+          "UNPIN IMPORT r3": 43, "GET C 1000004 20200131\0": 43, "AT": 43, "AT 1": 43,
+          "AT 1 IMPORT r3": 43, "AT 1 UNPIN": 43, "AT 1 AT 1 DATES": 43, "AT 3 DATES": 44,
+          "DATES ": 43, "ANCESTORS 1000015 20200131": 43}
+
+
+# An auditor's questions, whose replies are read off the releases.
+MEMBER = ("ROW 0b6a0c2e-5d0f-4c53-9f6e-8d9d2a7b1c01\t20210131\t1\t900000000000207008"
+          "\t900000000000527005\t1000004\t2000001")
+AUDIT = [
+    ("DATES", ["DATE 20200131", "DATE 20210131", "END 2"]),
+    ("ANCESTORS 1000004 20200630", ["ID 138875005", "END 1"]),
+    ("DESCENDANTS 138875005 20200630", ["ID 1000004", "END 1"]),
+    ("DELTA A 20200131 20210131 - 10", [MEMBER, "END 1"]),
+    ("REPLACES 2000001 20210131", [MEMBER, "END 1"]),
+    ("TIMELINE A 1000004", [MEMBER, "END 1"]),
+]
+AT_A_PIN = [("AT 2 " + line, wanted) for line, wanted in AUDIT] + [
+    ("AT 1 DATES", ["DATE 20200131", "END 1"]), ("AT 1 TIMELINE A 1000004", ["END 0"])]
 
 
 def questions_alone(place, store):
@@ -55,7 +72,8 @@ def questions_alone(place, store):
         asked = [(line, NOT_A_QUESTION) for line in CHANGES + ODD]
         asked += [("STATUS", STATUS), ("STATUS\r", STATUS), ("x" * 5_000, ["ERR 40 Long"])]
         asked += [("RECEIPT 1", ["OK 1 6 20200131"]), ("PIN 1", ["OK 1"]), ("UNPIN", ["OK"])]
-        for line, wanted in asked:
+        asked += AT_A_PIN
+        for line, wanted in AUDIT + asked:
             same("%r on the socket for questions" % line[:40], client.ask(line), wanted)
         for line, number in FAULTY.items():
             same("%r" % line, client.ask(line)[0].split(" ")[:2], ["ERR", str(number)])

@@ -6,8 +6,9 @@ refuse_growths.py PROGRAM script
 
 A store is made, and a session of LINES random lines (40 where none are given), as those of soak.py,
 is served again and again on a copy of it; behind them it asks for the terms of each first letter,
-the children and the replacements of each component that has any, what is about some components,
-some histories and each receipt, so that what a refusal made the program forget shows. In the Nth
+the children and the replacements of each component that has any, what is above, below and about
+some components, some histories, what changed, each receipt and the days that each import left, so
+that what a refusal made the program forget shows. In the Nth
 run the Nth call of malloc, calloc or realloc gets no memory, for N = 1, 2, .. until a run makes
 fewer calls. What has to hold of each run: the program refuses to start with `ERR 1 OutOfMemory` (on
 standard error as long as its words aren't read, and then as its reply, with a line that names the
@@ -25,6 +26,7 @@ few lines for LD_PRELOAD, and ends by itself. Standard library alone.
 """
 
 import os
+import re
 import shutil
 import subprocess
 import sys
@@ -36,7 +38,10 @@ import soak  # noqa: E402
 # How long a run may take.
 SECONDS = 60
 REFUSED = ["ERR 1 OutOfMemory"]
-NEVER = ("PIN", "UNPIN", "STATUS", "RECEIPT", "MERGE", "PUBLISH", "ABANDON", "TRIM")
+# The lines that take no memory: they are never refused.
+NEVER = re.compile(
+    "[0-9]+ ((AT [0-9]+ )?RECEIPT|PIN|UNPIN|STATUS|MERGE|PUBLISH|ABANDON|TRIM)( |$)"
+)
 
 LIBRARY = """
 #include <errno.h>
@@ -64,7 +69,7 @@ def replies_in(output):
     reply = []
     for line in output.decode().split("\n")[:-1]:
         reply.append(line)
-        if not line.startswith(("ROW ", "ID ")):
+        if not line.startswith(("ROW ", "ID ", "DATE ")):
             yield reply
             reply = []
 
@@ -105,16 +110,24 @@ class Session:
         shown = {kind: self.versions(kind) for kind in "CDVRA"}
         letters = sorted({columns[7][0].casefold() for columns in shown["D"]})
         parents = sorted({columns[5] for columns in shown["R"]})
+        children = sorted({columns[4] for columns in shown["R"]})
         replaced = sorted({columns[5] for columns in shown["A"]})
+        replacing = sorted({columns[6] for columns in shown["A"]})
         lines = ["10 TERMS %s 1000 %s" % (day, letter) for letter in letters]
         lines += ["10 CHILDREN %s %s" % (parent, day) for parent in parents]
+        lines += ["10 DESCENDANTS %s %s" % (parent, day) for parent in parents[:20]]
+        lines += ["10 ANCESTORS %s %s" % (child, day) for child in children[:20]]
         lines += ["10 REPLACED %s %s" % (component, day) for component in replaced]
+        lines += ["10 REPLACES %s %s" % (component, day) for component in replacing]
         for kind, place in soak.SUBJECTS.items():
             subjects = sorted({columns[place] for columns in shown[kind]})
             lines += ["10 ABOUT %s %s %s" % (kind, subject, day) for subject in subjects[:20]]
+            lines += ["10 TIMELINE %s %s" % (kind, subject) for subject in subjects[:20]]
         for kind in "CDVRA":
             lines += ["10 HISTORY %s %s" % (kind, name) for name in self.made.names(kind)[:20]]
+            lines.append("10 DELTA %s 20191231 %s - 1000" % (kind, day))
         lines += ["10 RECEIPT %d" % number for number in range(1, model.state.imports + 1)]
+        lines += ["10 AT %d DATES" % number for number in range(model.state.imports + 1)]
         for line in lines:
             model.reply(line)
         return lines
@@ -173,7 +186,7 @@ class Runs:
         for line, said in zip(self.lines, replies):
             if said == REFUSED:
                 refused += 1
-                if line.partition(" ")[2].startswith(NEVER):
+                if NEVER.match(line):
                     raise soak.Wrong("%r: refused, as if memory had run out" % line)
             elif said != model.reply(line):
                 raise soak.Wrong("%r: %r" % (line, said[:3]))

@@ -10,14 +10,15 @@ Sessions import random releases, some of them faulty or contradicting, ask at ra
 merge in steps and trim, in batches of lines that are sent at once. From time to time a second `sctd
 import` is tried on the file, and the store is upgraded, in version 3 to no effect. Some upgrades,
 some batches, and some openings, are cut short by `kill -9` at a random moment; then the program
-serves the same file again. A model in this script answers each line too. What has to hold:
+serves the same file again. The model in soak_model.py answers each line too. What has to hold:
 
 - each reply is the model's, byte for byte, as far as replies came;
 - after a kill the store is what the model is after the first so many of the lines that were sent,
   at least those whose replies came: each import is there whole or not at all, in order;
 - the second `sctd` is refused, and the file is as it was;
-- then all that two pins show at two dates is the model's, with the receipts of the first and the
-  last import that they show, and at the end each version of each component, and each receipt.
+- then all that two pins show at two dates is the model's, with their days and the receipts of the
+  first and the last import that they show, and at the end each version of each component, each
+  receipt, the days that each import left, and what is around some concepts.
 
 It ends by itself, prints its figures, and has the status 1 at the first reply that is another one
 and at bytes behind the last reply, and 3 where no import or no publication was cut short: until
@@ -26,7 +27,6 @@ first kill: the moments of the kills are those of the machine, and what comes be
 from what it left. Standard library alone.
 """
 
-import bisect
 import os
 import random
 import select
@@ -37,294 +37,24 @@ import tempfile
 import time
 
 BENCH = os.path.dirname(os.path.dirname(os.path.abspath(__file__)))
-sys.path.append(os.path.join(BENCH, "measurements"))
+sys.path += [os.path.join(BENCH, "measurements"), os.path.join(BENCH, "trials")]
 import make_release as rf2  # noqa: E402
+from soak_model import KINDS, SUBJECTS, TARGET, Model, publications  # noqa: E402
 
 DATES = ["%d%s31" % (year, month) for year in range(2015, 2026) for month in ("01", "07")]
 LAST_DATE = "99991231"
-# The kinds in the order of their files in a release.
-KINDS = "CDVRA"
-# The column that says what a row of a kind is about; a concept's row has none.
-SUBJECTS = {"D": 4, "V": 4, "R": 4, "A": 5}
-MOST_SEGMENTS = 250
+# What is asked of some concepts at the end, and how often.
+AROUND = ("ANCESTORS", "DESCENDANTS", "REPLACED", "REPLACES")
+ASKED_AROUND = 200
 # How long a reply may take, and a program that ends by itself.
 SECONDS = 60
 # Where the versions of the layout stand in the two directories of a store, and version 1.
 VERSIONS_AT = (4111, 12303)
 VERSION_ONE = b"1"
-LINE_LIMIT = 4096
 
 
 class Wrong(Exception):
     """Something was answered or kept that the model doesn't allow."""
-
-
-class Versions:
-    """The rows of one kind: of each component its versions, with the numbers of their imports."""
-
-    def __init__(self):
-        self.of = {}
-        self.ids = []
-
-    def add(self, name, date, number, columns):
-        if name not in self.of:
-            self.of[name] = {}
-            bisect.insort(self.ids, name)
-        self.of[name][date] = (number, columns)
-
-    def at(self, name, date, pin):
-        """The latest version up to a date that a pin shows."""
-        shown = [d for d, v in self.of.get(name, {}).items() if d <= date and v[0] <= pin]
-        return self.of[name][max(shown)][1] if shown else None
-
-    def all_of(self, name, pin):
-        found = sorted(self.of.get(name, {}).items())
-        return [v[1] for _, v in found if v[0] <= pin]
-
-    def dates_of(self, number):
-        """The dates of the rows that an import brought, one for each row."""
-        return [d for dates in self.of.values() for d, v in dates.items() if v[0] == number]
-
-    def keep_first(self, imports):
-        """Forgets what later imports brought."""
-        for name in list(self.of):
-            kept = {d: v for d, v in self.of[name].items() if v[0] <= imports}
-            if kept:
-                self.of[name] = kept
-            else:
-                del self.of[name]
-                self.ids.remove(name)
-
-
-class State:
-    """What a store shows beside its rows; plain values, so that it can be kept for each line."""
-
-    def __init__(self, imports=0, rows=0, segments=(), merge=None):
-        self.imports, self.rows, self.segments, self.merge = imports, rows, segments, merge
-
-    def reopened(self):
-        return State(self.imports, self.rows, self.segments)
-
-    def counts(self):
-        return (self.imports, self.rows, len(self.segments))
-
-    def status(self):
-        left = "-" if self.merge is None else str(self.merge[2])
-        return "OK %d %d %d %s" % (*self.counts(), left)
-
-
-def publications(states):
-    """How many merges were published from the first of these states to the last one."""
-    pairs = zip(states, states[1:])
-    return sum(len(new.segments) < len(old.segments) for old, new in pairs if old.merge is not None)
-
-
-def name_of(kind, text):
-    """An identifier in its order: that of numbers."""
-    return int(text.replace("-", ""), 16) if kind == "A" else int(text)
-
-
-def row(columns):
-    return "ROW " + "\t".join(columns)
-
-
-class Model:
-    """What each line is answered, by the definitions: slow and plain."""
-
-    def __init__(self, releases):
-        self.releases = releases
-        self.kinds = {kind: Versions() for kind in KINDS}
-        self.state = State()
-        self.pins = {}
-
-    def reply(self, line):
-        """The lines of the reply."""
-        if len(line.encode()) > LINE_LIMIT:
-            return ["ERR 40 Long"]
-        session, _, rest = line.partition(" ")
-        command, _, words = rest.partition(" ")
-        if not session.isdigit() or int(session) > 1023:
-            return ["ERR 41 Session"]
-        call = getattr(self, "do_" + command.lower(), None)
-        if call is None or not command.isupper():
-            return ["ERR 42 Command"]
-        return call(int(session), words)
-
-    def pin(self, session):
-        return self.pins.get(session, self.state.imports)
-
-    def rows_and_end(self, found):
-        return [row(columns) for columns in found] + ["END %d" % len(found)]
-
-    def do_get(self, session, words):
-        kind, name, date = words.split(" ")
-        found = self.kinds[kind].at(name_of(kind, name), date, self.pin(session))
-        return self.rows_and_end([found] if found else [])
-
-    def do_history(self, session, words):
-        kind, name = words.split(" ")
-        return self.rows_and_end(self.kinds[kind].all_of(name_of(kind, name), self.pin(session)))
-
-    def do_page(self, session, words):
-        kind, date, after, limit = words.split(" ")
-        table, found = self.kinds[kind], []
-        start = 0 if after == "-" else bisect.bisect_right(table.ids, name_of(kind, after))
-        for name in table.ids[start:]:
-            if len(found) == int(limit):
-                break
-            shown = table.at(name, date, self.pin(session))
-            if shown:
-                found.append(shown)
-        return self.rows_and_end(found)
-
-    def active(self, session, kind, date):
-        """The active rows of a kind at a date, ascending."""
-        table = self.kinds[kind]
-        shown = (table.at(name, date, self.pin(session)) for name in table.ids)
-        return (columns for columns in shown if columns and columns[2] == "1")
-
-    def do_terms(self, session, words):
-        date, limit, prefix = words.split(" ", 2)
-        return self.do_search(session, "%s - %s %s" % (date, limit, prefix))
-
-    def do_search(self, session, words):
-        date, after, limit, prefix = words.split(" ", 3)
-        folded = prefix.casefold()
-        found = [c for c in self.active(session, "D", date) if c[7].casefold().startswith(folded)]
-        if after != "-":
-            found = [c for c in found if int(c[0]) > int(after)]
-        return self.rows_and_end(found[: int(limit)])
-
-    def do_about(self, session, words):
-        kind, name, date = words.split(" ")
-        if kind not in SUBJECTS:
-            return ["ERR 43 Arguments"]
-        place = SUBJECTS[kind]
-        return self.rows_and_end([c for c in self.active(session, kind, date) if c[place] == name])
-
-    def do_receipt(self, session, words):
-        number = int(words)
-        if number == 0:
-            return ["ERR 43 Arguments"]
-        if number > self.pin(session):
-            return ["ERR 44 PinRange"]
-        dates = [date for kind in KINDS for date in self.kinds[kind].dates_of(number)]
-        return ["OK %d %d %s" % (number, len(dates), max(dates, default="-"))]
-
-    def do_children(self, session, words):
-        concept, date = words.split(" ")
-        sources = {
-            int(c[4])
-            for c in self.active(session, "R", date)
-            if c[5] == concept and c[7] == str(rf2.IS_A)
-        }
-        return ["ID %d" % source for source in sorted(sources)] + ["END %d" % len(sources)]
-
-    def do_replaced(self, session, words):
-        name, date = words.split(" ")
-        found = [c for c in self.active(session, "A", date) if c[5] == name]
-        found.sort(key=lambda c: (int(c[4]), int(c[6]), name_of("A", c[0])))
-        return self.rows_and_end(found)
-
-    def do_pin(self, session, words):
-        number = self.state.imports if words == "" else int(words)
-        if number > self.state.imports:
-            return ["ERR 44 PinRange"]
-        self.pins[session] = number
-        return ["OK %d" % number]
-
-    def do_unpin(self, session, _):
-        self.pins.pop(session, None)
-        return ["OK"]
-
-    def do_status(self, _session, _words):
-        return [self.state.status()]
-
-    def new_rows(self, files):
-        """The rows that aren't known, or the place of the first that says otherwise."""
-        new, lines = {}, 0
-        for file, (kind, rows) in enumerate(files, 1):
-            for line, columns in enumerate(rows, 2):
-                lines += 1
-                key = (kind, name_of(kind, columns[0]), columns[1])
-                known = self.kinds[kind].of.get(key[1], {}).get(columns[1])
-                if known is None or known[0] > self.state.imports:
-                    said = new.setdefault(key, columns)
-                else:
-                    said = known[1]
-                if said != columns:
-                    return None, (file, line)
-        return new, lines
-
-    def do_import(self, _session, name):
-        if name not in self.releases:
-            return ["ERR 45 NoFolder"]
-        fault, files = self.releases[name]
-        if fault:
-            return [fault]
-        new, lines = self.new_rows(files)
-        if new is None:
-            return ["ERR 32 Contradiction %d %d" % lines]
-        old = self.state
-        if new and len(old.segments) == MOST_SEGMENTS:
-            return ["ERR 6 TooManySegments"]
-        number = old.imports + 1
-        for (kind, ident, date), columns in new.items():
-            self.kinds[kind].add(ident, date, number, columns)
-        segments = old.segments + ((len(new),) if new else ())
-        self.state = State(number, old.rows + len(new), segments, old.merge)
-        return ["OK %d %d %d" % (number, len(new), lines - len(new))]
-
-    def do_merge(self, _session, _words):
-        old = self.state
-        if old.merge is not None:
-            return ["ERR 10 MergeBusy"]
-        if len(old.segments) < 2:
-            return ["ERR 9 NothingToMerge"]
-        order = sorted(range(len(old.segments)), key=lambda place: (old.segments[place], place))
-        i, j = sorted(order[:2])
-        left = old.segments[i] + old.segments[j]
-        self.state = State(old.imports, old.rows, old.segments, (i, j, left, left))
-        return ["OK %d" % left]
-
-    def do_step(self, _session, words):
-        old = self.state
-        if old.merge is None:
-            return ["ERR 11 NoMerge"]
-        i, j, left, both = old.merge
-        left -= min(left, int(words))
-        self.state = State(old.imports, old.rows, old.segments, (i, j, left, both))
-        return ["OK %d" % left]
-
-    def do_publish(self, _session, _words):
-        old = self.state
-        if old.merge is None:
-            return ["ERR 11 NoMerge"]
-        i, j, left, both = old.merge
-        if left:
-            return ["ERR 12 MergeUnfinished"]
-        segments = list(old.segments)
-        segments[i] = both
-        del segments[j]
-        self.state = State(old.imports, old.rows, tuple(segments))
-        return ["OK"]
-
-    def do_abandon(self, _session, _words):
-        old = self.state
-        if old.merge is None:
-            return ["ERR 11 NoMerge"]
-        self.state = State(old.imports, old.rows, old.segments)
-        return ["OK"]
-
-    def do_trim(self, _session, _words):
-        return ["OK"]
-
-    def go_back(self, state):
-        """As it was at a state, and opened again: no merge, no pins."""
-        self.state = state.reopened()
-        self.pins = {}
-        for table in self.kinds.values():
-            table.keep_first(state.imports)
 
 
 class Releases:
@@ -484,29 +214,56 @@ class Soak:
         return str(rf2.sctid(3000, {"C": "00", "D": "01", "R": "02", "V": "02"}[kind]))
 
     def question(self, session):
+        """A question, now and then of an import that the session isn't pinned to."""
+        at = ""
+        if self.chance.random() < 0.2:
+            at = "AT %d " % self.chance.randint(0, self.model.state.imports + 1)
+        return "%d %s%s" % (session, at, self.asked())
+
+    def asked(self):
         chance = self.chance
         date = chance.choice(DATES + [LAST_DATE])
         kind = chance.choice(KINDS)
-        what = chance.randrange(15)
+        what = chance.randrange(23)
         if what < 4:
-            return "%d GET %s %s %s" % (session, kind, self.component(kind), date)
+            return "GET %s %s %s" % (kind, self.component(kind), date)
         if what < 6:
-            return "%d HISTORY %s %s" % (session, kind, self.component(kind))
-        if what < 8:
-            after = chance.choice(["-", self.component(kind if what == 6 else "D")])
-            limit = chance.choice([1, 7, 50])
-            if what == 6:
-                return "%d PAGE %s %s %s %d" % (session, kind, date, after, limit)
-            return "%d SEARCH %s %s %d %s" % (session, date, after, limit, self.prefix())
-        if what == 8:
-            return "%d TERMS %s %d %s" % (session, date, chance.choice([1, 10]), self.prefix())
-        if what == 9:
-            return "%d CHILDREN %s %s" % (session, self.component("C"), date)
+            return "HISTORY %s %s" % (kind, self.component(kind))
+        if what < 10:
+            return self.page(what, kind, date)
         if what == 10:
-            return "%d REPLACED %s %s" % (session, self.component("C"), date)
+            return "TERMS %s %d %s" % (date, chance.choice([1, 10]), self.prefix())
         if what < 14:
-            return "%d ABOUT %s %s %s" % (session, kind, self.subject(kind), date)
-        return "%d RECEIPT %d" % (session, chance.randint(0, self.model.state.imports + 1))
+            word = chance.choice(["CHILDREN", "ANCESTORS", "DESCENDANTS"])
+            return "%s %s %s" % (word, self.component("C"), date)
+        if what < 16:
+            return self.replacements(what, date)
+        if what < 19:
+            return "ABOUT %s %s %s" % (kind, self.subject(kind), date)
+        if what < 21:
+            return "TIMELINE %s %s" % (kind, self.subject(kind))
+        if what == 21:
+            return "DATES"
+        return "RECEIPT %d" % chance.randint(0, self.model.state.imports + 1)
+
+    def page(self, what, kind, date):
+        """A page of a kind, of what changed in it, or of descriptions."""
+        limit = self.chance.choice([1, 7, 50])
+        after = self.chance.choice(["-", self.component("D" if what == 6 else kind)])
+        if what == 6:
+            return "SEARCH %s %s %d %s" % (date, after, limit, self.prefix())
+        if what == 7:
+            return "PAGE %s %s %s %d" % (kind, date, after, limit)
+        return "DELTA %s %s %s %s %d" % (kind, self.chance.choice(DATES), date, after, limit)
+
+    def replacements(self, what, date):
+        """What stands in the place of a component, or what it stands in the place of."""
+        if what == 14:
+            return "REPLACED %s %s" % (self.component("C"), date)
+        rows = self.releases.lines["A"]
+        if rows and self.chance.random() < 0.7:
+            return "REPLACES %s %s" % (self.chance.choice(rows)[TARGET], date)
+        return "REPLACES %s %s" % (self.component("C"), date)
 
     def prefix(self):
         """The beginning of a term, in capitals."""
@@ -541,6 +298,7 @@ class Soak:
             steps = ["0 STEP 1", "0 STEP 40", "0 PUBLISH"] + ["0 STEP 100000"] * 4
             return chance.choice(steps)
         strange = ["0 STATUS", "0 TRIM", "1023 STATUS", "1024 STATUS", "0 status", "0 IMPORT none"]
+        strange += ["0 AT 0 PIN", "1 AT 0 STATUS", "2 AT 0 AT 0 DATES", "3 AT 1", "4 AT 1 get"]
         return chance.choice(strange + ["", "x" * 5000])
 
     def batch(self):
@@ -628,6 +386,8 @@ class Soak:
             self.check("9 PIN %d" % pin)
             self.check("9 RECEIPT 1")
             self.check("9 RECEIPT %d" % pin)
+            self.check("9 DATES")
+            self.check("9 DESCENDANTS %d %s" % (rf2.ROOT, LAST_DATE))
             for kind in KINDS:
                 self.pages(kind, self.chance.choice(DATES))
                 self.pages(kind, LAST_DATE)
@@ -647,11 +407,22 @@ class Soak:
         return said
 
     def everything(self):
-        """Compares every version of every component, and what each import brought."""
+        """Compares every version of every component, what each import brought, the days that it
+        left, and what is around some concepts."""
         for kind in KINDS:
             self.check_all(["0 HISTORY %s %s" % (kind, name) for name in self.names(kind)])
         imports = self.model.state.imports
         self.check_all(["0 RECEIPT %d" % number for number in range(1, imports + 1)])
+        self.check_all(["0 AT %d DATES" % number for number in range(imports + 1)])
+        self.check_all([self.around() for _ in range(ASKED_AROUND)])
+
+    def around(self):
+        """A question about what is around a concept on any day, as an import left it."""
+        concept, day = self.component("C"), self.chance.choice(DATES + [LAST_DATE])
+        asked = ["%s %s %s" % (word, concept, day) for word in AROUND]
+        asked += ["TIMELINE %s %s" % (kind, concept) for kind in SUBJECTS]
+        at = self.chance.randint(0, self.model.state.imports)
+        return "0 AT %d %s" % (at, self.chance.choice(asked))
 
     def check_all(self, lines):
         """Asks lines, fifty at a time."""

@@ -91,8 +91,8 @@ class Store:
 
 
 def questions(lines):
-    """A line of the protocol for each of some rows of a release."""
-    return "".join("0 HISTORY %s %s\n" % pair for pair in lines)
+    """The lines of the protocol that ask these questions."""
+    return "".join("0 %s\n" % line for line in lines)
 
 
 def chosen(store, chance, bits):
@@ -192,7 +192,7 @@ def main(words):
         make_release.main([folder, str(rows)])
         shown = []
         run(program, ["init", "--layout", "3", "--store", path])
-        lines = [(kind, name) for kind, name in some_rows(os.path.join(folder, "full"), chance)]
+        lines = list(some_questions(os.path.join(folder, "full"), chance))
         for name in ("full", "delta"):
             said, status = run(
                 program, ["import", "--quiet", "--store", path, "--releases", folder, name])
@@ -222,8 +222,9 @@ def main(words):
     return 0
 
 
-def some_rows(folder, chance):
-    """The kinds and names of some components of a release."""
+def some_questions(folder, chance):
+    """What is asked of some components of a release: their versions, and of concepts what is above
+    them and what was ever said of them, for which many rows are read."""
     for kind, name in make_release.NAMES.items():
         where, file = os.path.split(name)
         start = file.split("{}")[0]
@@ -232,7 +233,10 @@ def some_rows(folder, chance):
                 with open(os.path.join(folder, where, found), encoding="utf-8") as rows:
                     ids = [row.split("\t")[0] for row in rows][1:]
                 for one in chance.sample(ids, min(20, len(ids))):
-                    yield kind, one
+                    yield "HISTORY %s %s" % (kind, one)
+                    if kind == "C":
+                        yield "ANCESTORS %s 20991231" % one
+                        yield "TIMELINE D %s" % one
 
 
 if __name__ == "__main__":

@@ -10,7 +10,7 @@ from . import limits
 # The lines of one reply, the last of which is `OK`, `END` or `ERR` with their numbers.
 Reply = tuple[str, ...]
 LAST_LINES = (b"OK", b"END ", b"ERR ")
-ROW_LINES = (b"ROW ", b"ID ")
+ROW_LINES = (b"ROW ", b"ID ", b"DATE ")
 # Nothing else is ever sent: one line without control characters.
 LINE = re.compile("[^\x00-\x1f\x7f-\x9f\u2028\u2029]+\\Z")
 READ_BYTES = 1 << 16
@@ -51,13 +51,12 @@ class HubIdentity(NamedTuple):
 
 
 class Connection:
-    """One session of the hub. `whole` is false while replies are outstanding."""
+    """One connection, which keeps no pin. `whole` is false while replies are outstanding."""
 
     def __init__(
         self, reader: asyncio.StreamReader, writer: asyncio.StreamWriter, identity: HubIdentity
     ) -> None:
         self.reader, self.writer, self.identity = reader, writer, identity
-        self.pin: int | None = None
         self.whole, self.fresh = True, True
         self.received = 0
 

@@ -48,7 +48,8 @@ PAGE_CONCEPTS = 1_000
 WALK_CONCEPTS = 20_000
 FILTER_TERMS = 2_000
 FILTER_CHARACTERS = 200
-TIMELINE_QUESTIONS = 4_000
+# Of more concepts it is asked which lie below another one, and of fewer what lies above them.
+ASKED_UPWARDS = 40
 # `sctd` answers at most so many rows of one SEARCH or PAGE.
 QUESTION_ROWS = 1_000
 

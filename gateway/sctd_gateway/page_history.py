@@ -3,7 +3,7 @@
 from collections.abc import Iterable, Mapping
 from typing import NamedTuple
 
-from .markup import Html, aside, joined, tag, term, time
+from .markup import Html, joined, tag, term, time
 from .snomed import (
     DEFINED,
     FULLY_SPECIFIED_NAME,
@@ -13,10 +13,9 @@ from .snomed import (
     Description,
     Relationship,
 )
-from .store import AnyRow, Timeline, View
+from .store import AnyRow, Versions, View
 
 ARROW = " \u2192 "
-NOT_WHOLE = "A term or a relationship that came and went within one month isn\u2019t listed."
 
 
 class Names:
@@ -44,7 +43,7 @@ async def history(
     timeline = await view.timeline(code)
     names = Names(await view.names(other_codes(timeline), view.latest), refsets)
     events: dict[str, list[Html]] = {day: [tag("em", said)] for day, said in marks.items()}
-    for _, versions in timeline.components:
+    for versions in timeline:
         before: AnyRow | None = None
         for row in versions:
             events.setdefault(row.time, []).extend(changes(before, row, names))
@@ -55,13 +54,12 @@ async def history(
         for day in sorted(events)
         if events[day]
     ]
-    note = [] if timeline.is_whole else [tag("p", aside(NOT_WHOLE))]
-    return joined(tag("ol", *entries, class_="timeline"), *note)
+    return tag("ol", *entries, class_="timeline")
 
 
-def other_codes(timeline: Timeline) -> Iterable[str]:
+def other_codes(timeline: Iterable[Versions]) -> Iterable[str]:
     """The concepts that the rows about the concept name."""
-    for _, versions in timeline.components:
+    for versions in timeline:
         for row in versions:
             if isinstance(row, Relationship):
                 yield from (row.type, row.target)

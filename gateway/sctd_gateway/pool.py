@@ -1,9 +1,10 @@
-"""Pinned sessions of the hub, and a bounded memory of its replies.
+"""Sessions with the hub, and a bounded memory of its replies.
 
-What one request is told comes from one `Session`, which is pinned: all its answers are of the same
-imports. A reply is remembered by its pin and its question, and can't go stale, since under a pin a
-question has one answer for good. All that is remembered is forgotten when another hub takes the
-place of the one that said it: another store may answer from then on.
+What one request is told comes from one `Session`, which has a pin: each of its questions is asked
+`AT` this number of imports, so all its answers are of the same ones. A reply is remembered by its
+pin and its question, and can't go stale, since at a pin a question has one answer for good. All
+that is remembered is forgotten when another hub takes the place of the one that said it: another
+store may answer from then on.
 """
 
 import asyncio
@@ -17,8 +18,9 @@ from typing import NamedTuple
 from . import limits
 from .hub import Connection, HubGone, HubIdentity, Reply
 
-PINNED = re.compile(r"OK ([0-9]{1,10})\Z", re.ASCII)
-RECEIPT = re.compile(r"OK ([0-9]{1,10}) ([0-9]{1,10}) ([0-9]{8}|-)\Z", re.ASCII)
+STATUS = re.compile(r"OK ([0-9]{1,10}) [0-9]{1,10} [0-9]{1,10} (?:[0-9]{1,10}|-)\Z", re.ASCII)
+RECEIPT = re.compile(r"OK [0-9]{1,10} [0-9]{1,10} (?:[0-9]{8}|-)\Z", re.ASCII)
+DATE = re.compile(r"DATE ([0-9]{8})\Z", re.ASCII)
 # Roughly what Python takes for an entry of the memory, for a line, and for a letter.
 ENTRY_BYTES, LINE_BYTES, LETTER_BYTES = 400, 80, 2
 
@@ -29,15 +31,6 @@ class NoSuchPin(Exception):
 
 class Moved(Exception):
     """An import came in between: the request has to be answered anew, from its beginning."""
-
-
-class Receipt(NamedTuple):
-    """What an import brought: the number of its new rows, their latest day or `-`, and the latest
-    day of the store by then, which is empty where there was no row yet."""
-
-    rows: int
-    latest: str
-    store_latest: str
 
 
 class Memory:
@@ -109,7 +102,8 @@ class Pool:
         self.idle: list[Connection] = []
         self.identity: HubIdentity | None = None
         self.memory, self.subtrees = Memory(memory), Subtrees()
-        self.receipts: list[Receipt] = []
+        # The number of imports, as far as it is known.
+        self.present: int | None = None
 
     def is_of_this_hub(self, connection: Connection) -> bool:
         return connection.identity == self.identity
@@ -118,7 +112,7 @@ class Pool:
         """What comes next may be told of another store."""
         self.identity = None
         self.memory.clear()
-        self.subtrees, self.receipts = Subtrees(), []
+        self.subtrees, self.present = Subtrees(), None
         for connection in self.idle:
             connection.close()
         self.idle.clear()
@@ -175,26 +169,21 @@ class Pool:
                 self.give_back(connection)
 
     async def opened(self, connection: Connection, pin: int | None) -> "Session":
-        if not self.receipts or (pin is not None and pin > len(self.receipts)):
-            await self.look(connection)
-        if pin is not None and pin > len(self.receipts):
+        present = self.present
+        if present is None or (pin is not None and pin > present):
+            present = await self.look(connection)
+        if pin is not None and pin > present:
             raise NoSuchPin
-        return Session(self, connection, pin)
+        session = Session(self, connection, pin, present)
+        await session.begin()
+        return session
 
-    async def look(self, connection: Connection) -> None:
-        """Pins the connection to the present imports, and reads the receipts of the new ones."""
-        present = number_of((await connection.ask(["UNPIN", "PIN"]))[1])
-        connection.pin = present
-        known = len(self.receipts)
-        if present <= known:
-            return
-        lines = ["RECEIPT %d" % number for number in range(known + 1, present + 1)]
-        replies = await connection.ask(lines)
-        # Another request may have read them in the meantime.
-        if len(self.receipts) == known and self.is_of_this_hub(connection):
-            for reply in replies:
-                before = self.receipts[-1].store_latest if self.receipts else ""
-                self.receipts.append(receipt_of(reply, before))
+    async def look(self, connection: Connection) -> int:
+        """How many imports there are."""
+        present = imports_of((await connection.ask(["STATUS"]))[0])
+        if self.is_of_this_hub(connection):
+            self.present = present
+        return present
 
     def give_back(self, connection: Connection) -> None:
         if connection.whole and self.is_of_this_hub(connection):
@@ -206,25 +195,39 @@ class Pool:
 class Session:
     """The store as its first `pin` imports left it.
 
-    Where the request named no pin it is that of the last request, until the hub has said together
-    with the first answers that there is no newer import: then the session is `sure`.
+    Where the request named no pin it is the number of imports that was known, until the hub has
+    said together with the first answers that it still is: then the session is `sure`.
     """
 
-    def __init__(self, pool: Pool, connection: Connection, pin: int | None) -> None:
+    def __init__(self, pool: Pool, connection: Connection, pin: int | None, present: int) -> None:
         self.pool, self.connection = pool, connection
-        self.pin = len(pool.receipts) if pin is None else pin
+        self.pin = present if pin is None else pin
         self.sure = pin is not None
-        # The list of another hub is another one, so this one only grows.
-        self.receipts = pool.receipts
+        # The days that the pin shows rows of, ascending, and the receipt of its last import.
+        self.days: Sequence[str] = ()
+        self.receipt = "-"
+
+    async def begin(self) -> None:
+        """Learns what the pin shows. Where that is remembered nothing is asked yet."""
+        lines = ["DATES", *(["RECEIPT %d" % self.pin] if self.pin else [])]
+        known = [reply for reply in self.remembered(lines) if reply is not None]
+        dates, *receipts = known if len(known) == len(lines) else await self.ask(lines)
+        self.days = days_of(dates)
+        if receipts:
+            self.receipt = "RECEIPT %d: %s" % (self.pin, receipt_of(receipts[0]))
 
     async def make_sure(self) -> None:
         if not self.sure and self.connection.whole:
             await self.ask([])
 
+    def remembered(self, lines: Sequence[str]) -> list[Reply | None]:
+        """The reply to each line that is remembered."""
+        remembers = self.pool.is_of_this_hub(self.connection)
+        return [self.pool.memory.get(self.pin, line) if remembers else None for line in lines]
+
     async def ask(self, lines: Sequence[str], keep: bool = True) -> list[Reply]:
         """The reply to each line, those that are remembered without asking."""
-        remembers = self.pool.is_of_this_hub(self.connection)
-        known = [self.pool.memory.get(self.pin, line) if remembers else None for line in lines]
+        known = self.remembered(lines)
         missing = [line for line, reply in zip(lines, known) if reply is None]
         if missing or not self.sure:
             told = await self.told(missing)
@@ -245,18 +248,13 @@ class Session:
             self.pool.subtrees.put((self.pin, day, top), members)
 
     async def told(self, lines: Sequence[str]) -> list[Reply]:
-        """What the hub replies under the pin, which is set in the same round trip."""
-        if not self.sure:
-            turn = ["UNPIN", "PIN"]
-        elif self.connection.pin != self.pin:
-            turn = ["UNPIN", "PIN %d" % self.pin]
-        else:
-            turn = []
-        replies = await self.connection.ask([*turn, *lines])
-        if turn:
-            self.connection.pin = number_of(replies[1])
-            if self.connection.pin != self.pin:
-                raise Moved
+        """What the hub replies at the pin. In the same round trip it says how many imports there
+        are, where that has to be known."""
+        turn = [] if self.sure else ["STATUS"]
+        asked = ["AT %d %s" % (self.pin, line) for line in lines]
+        replies = await self.connection.ask([*turn, *asked])
+        if turn and imports_of(replies[0]) != self.pin:
+            raise Moved
         self.sure = True
         return replies[len(turn) :]
 
@@ -273,18 +271,22 @@ def is_identity(path: str, identity: HubIdentity) -> bool:
         return False
 
 
-def number_of(reply: Reply) -> int:
-    found = PINNED.match(reply[-1])
+def imports_of(reply: Reply) -> int:
+    """The number of imports that a reply to STATUS says."""
+    found = STATUS.match(reply[-1])
     if not found:
-        raise HubGone("the hub says what isn't the number of a pin", True)
+        raise HubGone("the hub says what isn't the store's state", True)
     return int(found[1])
 
 
-def receipt_of(reply: Reply, store_latest: str) -> Receipt:
-    found = RECEIPT.match(reply[-1])
-    if not found:
+def days_of(reply: Reply) -> list[str]:
+    found = [DATE.match(line) for line in reply[:-1]]
+    if not all(found) or not reply[-1].startswith("END "):
+        raise HubGone("the hub says what isn't a day", True)
+    return [day[1] for day in found if day]
+
+
+def receipt_of(reply: Reply) -> str:
+    if not RECEIPT.match(reply[-1]):
         raise HubGone("the hub says what isn't a receipt", True)
-    latest = found[3]
-    return Receipt(
-        int(found[2]), latest, store_latest if latest == "-" else max(latest, store_latest)
-    )
+    return reply[-1]

@@ -1,14 +1,14 @@
-"""What can be asked of the store. Each question is made here, and so is each walk of many
-questions. Only the lines about pins and receipts are made elsewhere, in pool.py."""
+"""What can be asked of the store. Each question is made here. Only the lines about pins, days and
+receipts are made elsewhere, in pool.py."""
 
+import itertools
 from collections.abc import Iterable, Sequence
-from typing import NamedTuple, TypeVar
+from typing import TypeVar
 
 from . import limits
 from .hub import HubGone, Reply, TooCostly
 from .pool import Member, Members, Session
 from .snomed import (
-    IS_A,
     SEARCHED,
     Association,
     Concept,
@@ -23,17 +23,10 @@ from .snomed import (
 Row = TypeVar("Row", Concept, Description, Relationship, Association)
 # A row of any kind, and all versions of one component, oldest first.
 AnyRow = Concept | Description | Relationship | Association
+# The kinds of rows that are about a concept.
+ABOUT = "DRVA"
 Versions = Sequence[AnyRow]
-MONTHS_A_YEAR = 12
 FIRST = "-"
-
-
-class Timeline(NamedTuple):
-    """All versions of the components that are about a concept, by their kinds. It isn't whole where
-    some may lack that were active for less than a month."""
-
-    components: list[tuple[str, Versions]]
-    is_whole: bool
 
 
 def rows(kind: type[Row], reply: Reply) -> list[Row]:
@@ -55,22 +48,19 @@ class View:
         return self.session.pin
 
     @property
+    def days(self) -> Sequence[str]:
+        """The days that there are rows of, ascending."""
+        return self.session.days
+
+    @property
     def latest(self) -> str:
         """The latest day of a row, or nothing where there is no row."""
-        return self.session.receipts[self.pin - 1].store_latest if self.pin else ""
+        return self.days[-1] if self.days else ""
 
     @property
     def receipt(self) -> str:
         """That of the last import that is seen, as a report cites it."""
-        if not self.pin:
-            return "-"
-        last = self.session.receipts[self.pin - 1]
-        return "RECEIPT %d: OK %d %d %s" % (self.pin, self.pin, last.rows, last.latest)
-
-    def release_days(self) -> list[str]:
-        """The latest day of each import, without those that brought no row."""
-        receipts = self.session.receipts[: self.pin]
-        return sorted({receipt.latest for receipt in receipts if receipt.latest != "-"})
+        return self.session.receipt
 
     async def ask(self, lines: Sequence[str], keep: bool = True) -> list[Reply]:
         return await self.session.ask(lines, keep)
@@ -123,16 +113,15 @@ class View:
         replies = await self.ask(["REPLACED %s %s" % (code, day) for code in codes])
         return [rows(Association, reply) for reply in replies]
 
-    async def children(self, codes: Sequence[str], day: str, keep: bool = True) -> list[list[str]]:
-        replies = await self.ask(["CHILDREN %s %s" % (code, day) for code in codes], keep)
-        return [[line.removeprefix("ID ") for line in reply[:-1]] for reply in replies]
+    async def children(self, code: str, day: str) -> list[str]:
+        return ids((await self.ask(["CHILDREN %s %s" % (code, day)]))[0])
 
-    async def parents(self, codes: Sequence[str], day: str) -> list[list[str]]:
-        replies = await self.ask(["ABOUT R %s %s" % (code, day) for code in codes])
-        return [
-            [row.target for row in rows(Relationship, reply) if row.type == IS_A]
-            for reply in replies
-        ]
+    async def ancestors(self, codes: Sequence[str], day: str) -> list[list[str]]:
+        replies = await self.ask(["ANCESTORS %s %s" % (code, day) for code in codes])
+        return [ids(reply) for reply in replies]
+
+    async def descendants(self, code: str, day: str) -> list[str]:
+        return ids((await self.ask(["DESCENDANTS %s %s" % (code, day)], keep=False))[0])
 
     async def versions(self, code: str) -> list[Concept]:
         """All versions of the concept's own row, oldest first."""
@@ -190,85 +179,50 @@ class View:
         return code in await self.those_within([code], top, day)
 
     async def those_within(self, codes: Sequence[str], top: str, day: str) -> set[str]:
-        """Those of the concepts that are the top, or that the top is an ancestor of.
-
-        All go upwards together, one round trip for each level, and none goes above the top.
-        """
+        """Those of the concepts that are the top, or that the top is an ancestor of."""
         known = self.session.remembered_subtree(day, top)
         if known is not None:
             return {member.code for member in known}.intersection(codes)
-        children: dict[str, list[str]] = {}
-        seen, level = {top, *codes}, [code for code in distinct(codes) if code != top]
-        while level and not (len(codes) == 1 and top in children):
-            above: set[str] = set()
-            for code, parents in zip(level, await self.parents(level, day)):
-                above.update(parents)
-                for parent in parents:
-                    children.setdefault(parent, []).append(code)
-            level = sorted(above - seen)
-            seen |= above
-            if len(seen) > limits.WALK_CONCEPTS:
-                raise TooCostly("there are too many ancestors to walk to %s" % top)
-        return reached(children, top).intersection(codes)
+        others = [code for code in distinct(codes) if code != top]
+        if len(others) > limits.ASKED_UPWARDS:
+            inside = set(await self.descendants(top, day))
+        else:
+            above = zip(others, await self.ancestors(others, day))
+            inside = {code for code, ancestors in above if top in ancestors}
+        return (inside | {top}).intersection(codes)
 
     async def subtree(self, top: str, day: str) -> Members:
         """The concept and all below it, by id."""
         known = self.session.remembered_subtree(day, top)
         if known is not None:
             return known
-        seen, level = {top}, [top]
-        while level:
-            below = await self.all_children(level, day)
-            if len(seen | below) > limits.WALK_CONCEPTS:
-                raise TooCostly(
-                    "there are more than %d concepts below %s: ask with a filter"
-                    % (limits.WALK_CONCEPTS, top)
-                )
-            level = sorted(below - seen)
-            seen |= below
-        found = tuple(await self.members(sorted(seen, key=int), day, keep=False))
+        codes = {top, *await self.descendants(top, day)}
+        if len(codes) > limits.WALK_CONCEPTS:
+            raise TooCostly(
+                "there are more than %d concepts below %s: ask with a filter"
+                % (limits.WALK_CONCEPTS, top)
+            )
+        found = tuple(await self.members(sorted(codes, key=int), day, keep=False))
         self.session.remember_subtree(day, top, found)
         return found
 
-    async def all_children(self, codes: Sequence[str], day: str) -> set[str]:
-        """All children of the concepts together, or some where there are more than a walk may
-        meet."""
-        found: set[str] = set()
-        for start in range(0, len(codes), limits.HUB_BATCH):
-            for told in await self.children(
-                codes[start : start + limits.HUB_BATCH], day, keep=False
-            ):
-                found.update(told)
-            if len(found) > limits.WALK_CONCEPTS:
-                break
-        return found
-
-    async def timeline(self, code: str) -> Timeline:
-        """What was ever said of the concept and about it.
-
-        Those components are found that were active at the end of some month, and then all their
-        versions are asked for.
-        """
-        own: tuple[str, Versions] = ("C", await self.versions(code))
-        days = month_ends(own[1][0].time, self.latest) if own[1] else []
-        asked = [(kind, "ABOUT %s %s %s" % (kind, code, day)) for kind in "DRVA" for day in days]
-        if len(asked) > limits.TIMELINE_QUESTIONS:
-            return Timeline([own], False)
-        told = await self.ask([line for _, line in asked], keep=False)
-        found = distinct(
-            "%s %s" % (kind, line.removeprefix("ROW ").split("\t", 1)[0])
-            for (kind, _), reply in zip(asked, told)
-            for line in reply[:-1]
-        )
-        replies = await self.ask(["HISTORY " + component for component in found])
+    async def timeline(self, code: str) -> list[Versions]:
+        """What was ever said of the concept and about it: all versions of each component, those
+        that were said first before others of their kind."""
+        told = await self.ask(["TIMELINE %s %s" % (kind, code) for kind in ABOUT], keep=False)
         about = [
-            (component[0], versions_of(component[0], reply))
-            for component, reply in zip(found, replies)
+            versions
+            for kind, reply in zip(ABOUT, told)
+            for versions in sorted(by_component(rows_about(kind, reply)), key=first_said)
         ]
-        return Timeline([own, *about], False)
+        return [await self.versions(code), *about]
 
 
-def versions_of(kind: str, reply: Reply) -> Versions:
+def ids(reply: Reply) -> list[str]:
+    return [line.removeprefix("ID ") for line in reply[:-1]]
+
+
+def rows_about(kind: str, reply: Reply) -> Sequence[AnyRow]:
     if kind == "D":
         return rows(Description, reply)
     if kind == "A":
@@ -276,18 +230,10 @@ def versions_of(kind: str, reply: Reply) -> Versions:
     return rows(Relationship, reply)
 
 
-def month_ends(first: str, last: str) -> list[str]:
-    """The 31st of each month, as days are compared, from the year of one day to that of the
-    other."""
-    years = range(int(first[:4]), int(last[:4]) + 1)
-    return ["%04d%02d31" % (year, month) for year in years for month in range(1, MONTHS_A_YEAR + 1)]
+def by_component(found: Sequence[AnyRow]) -> list[Versions]:
+    """The rows of each component, which stand together."""
+    return [list(versions) for _, versions in itertools.groupby(found, key=lambda row: row.id)]
 
 
-def reached(children: dict[str, list[str]], top: str) -> set[str]:
-    """The top and all that lies below it."""
-    below, turn = {top}, [top]
-    while turn:
-        new = [code for code in children.get(turn.pop(), []) if code not in below]
-        below.update(new)
-        turn += new
-    return below
+def first_said(versions: Versions) -> str:
+    return min(row.time for row in versions if row.active == "1")

@@ -190,6 +190,9 @@ def wrist(maker: Maker) -> None:
     site = maker.relation(code, FIRST_DAY, maker.codes["site"], maker.codes["body"], "1")
     maker.term(code, "20170731", "Broken wrist", known=broken, active="0")
     maker.term(code, "20170731", "Wrist fracture")
+    # A term that comes and goes within one month.
+    brief = maker.term(code, "20180705", "Breach of wrist")
+    maker.term(code, "20180720", "Breach of wrist", known=brief, active="0")
     maker.term(
         code, "20180731", "Fracture of wrist joint region (disorder)", FULLY_SPECIFIED, known=name
     )

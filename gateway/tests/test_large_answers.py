@@ -82,6 +82,8 @@ class LargeAnswers(unittest.TestCase):
     def test_more_terms_than_a_filter(self) -> None:
         status, said = self.expand("page", filter="of the page", count=1)
         self.assertEqual((status, said["expansion"]["total"]), (200, limits.PAGE_CONCEPTS))
+        status, said = self.expand("walk", filter="of the page", count=1)
+        self.assertEqual((status, said["expansion"]["total"]), (200, 0))
         for name in ("walk", ""):
             status, said = self.expand(name, filter="of the walk")
             self.assertEqual((status, issue(said)), (422, "too-costly"))

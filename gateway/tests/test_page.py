@@ -65,6 +65,8 @@ class Page(unittest.TestCase):
             "was active",
             "was inactive",
             "Synonym withdrawn: <bdi>Broken wrist</bdi>",
+            "Synonym added: <bdi>Breach of wrist</bdi>",
+            "Synonym withdrawn: <bdi>Breach of wrist</bdi>",
             "only then",
             "not then",
         ):

@@ -9,28 +9,25 @@ from sctd_gateway.snomed import is_concept_id, is_day
 from .house import Shared
 
 DAY, CODE, COUNT = "(?P<day>[0-9]{8})", "(?P<code>[1-9][0-9]{5,17})", "[0-9]{1,4}"
-AFTER = "(?:-|[1-9][0-9]{5,17})"
-UUID = "[0-9a-f]{8}(?:-[0-9a-f]{4}){3}-[0-9a-f]{12}"
+AFTER, AT = "(?:-|[1-9][0-9]{5,17})", "AT [0-9]{1,10} "
 LINES = [
     re.compile(line)
     for line in (
-        "UNPIN",
-        "PIN(?: [0-9]{1,10})?",
-        "RECEIPT [0-9]{1,10}",
-        f"GET C {CODE} {DAY}",
-        f"ABOUT [DRVA] {CODE} {DAY}",
-        f"CHILDREN {CODE} {DAY}",
-        f"REPLACED {CODE} {DAY}",
-        f"HISTORY C {CODE}",
-        "HISTORY [DRV] [1-9][0-9]{5,17}",
-        f"HISTORY A {UUID}",
-        f"PAGE C {DAY} {AFTER} {COUNT}",
-        f"SEARCH {DAY} {AFTER} {COUNT} [^\\x00-\\x1f\\x7f-\\x9f]{{1,200}}",
+        "STATUS",
+        f"{AT}DATES",
+        f"{AT}RECEIPT [0-9]{{1,10}}",
+        f"{AT}GET C {CODE} {DAY}",
+        f"{AT}ABOUT [DRV] {CODE} {DAY}",
+        f"{AT}CHILDREN {CODE} {DAY}",
+        f"{AT}ANCESTORS {CODE} {DAY}",
+        f"{AT}DESCENDANTS {CODE} {DAY}",
+        f"{AT}REPLACED {CODE} {DAY}",
+        f"{AT}HISTORY C {CODE}",
+        f"{AT}TIMELINE [DRVA] {CODE}",
+        f"{AT}PAGE C {DAY} {AFTER} {COUNT}",
+        f"{AT}SEARCH {DAY} {AFTER} {COUNT} [^\\x00-\\x1f\\x7f-\\x9f]{{1,200}}",
     )
 ]
-# Days of the timeline are the last of a month as days are compared. The 31st of February is none of
-# the calendar.
-LAST_OF_A_MONTH = "31"
 
 
 class Recorded(unittest.TestCase):
@@ -43,8 +40,7 @@ class Recorded(unittest.TestCase):
             self.assertEqual(len(found), 1, line)
             words = found[0].groupdict()
             self.assertTrue(is_concept_id(words.get("code", "138875005")), line)
-            day = words.get("day", "20000101")
-            self.assertTrue(is_day(day) or day.endswith(LAST_OF_A_MONTH), line)
+            self.assertTrue(is_day(words.get("day", "20000101")), line)
         # Each kind of question was among them, so the tests before these were run.
         for one in LINES:
             self.assertTrue(any(map(one.fullmatch, lines)), one.pattern)

@@ -24,9 +24,10 @@ CASES = (
     (b"ROW 1\nEND 1\nOK 1\n", AT_ONCE),
     (b"OK\nERR 41 Session\n", AT_ONCE),
     (b"OK\nERR 1 OutOfMemory\n", AT_ONCE),
-    (b"OK\nOK 1\nOK 1 x y\n", AT_ONCE),
+    (b"OK 1 6 1 -\nEND 0\nOK 1 x y\n", AT_ONCE),
+    (b"OK 1 6 1 -\nROW 1\nEND 1\nOK 1 6 20200131\n", AT_ONCE),
     (b"ROW " + b"x" * (3 << 20), AT_ONCE),
-    (b"OK\n", SILENT),
+    (b"OK 1 6 1 -\n", SILENT),
 )
 
 

@@ -6,6 +6,10 @@ from typing import Any
 from . import demo_releases as demo
 from .house import SCT, Json, Shared, issue, parts_of, told, version
 
+# The days of the rows of the first two releases.
+FIRST_DAYS = ("20150131", "20170731", "20180705", "20180720", "20180731", "20190131")
+SECOND_DAYS = ("20200131", "20200731", "20210131")
+
 
 class Expand(unittest.TestCase):
     def setUp(self) -> None:
@@ -236,7 +240,7 @@ class Metadata(unittest.TestCase):
         versions = said["codeSystem"][0]["version"]
         self.assertEqual(
             [one["code"] for one in versions],
-            [version(day) for day in ("20190131", "20210131", "20220731")],
+            [version(day) for day in (*FIRST_DAYS, *SECOND_DAYS, "20220731")],
         )
         self.assertEqual(
             [one["code"] for one in versions if one["isDefault"]], [version("20220731")]
@@ -245,7 +249,7 @@ class Metadata(unittest.TestCase):
         said = self.house.gateway.fhir("metadata", base="/pin/2/fhir/", mode="terminology")[1]
         self.assertEqual(
             [one["code"] for one in said["codeSystem"][0]["version"]],
-            [version(day) for day in ("20190131", "20210131")],
+            [version(day) for day in (*FIRST_DAYS, *SECOND_DAYS)],
         )
 
     def test_modes(self) -> None:

@@ -74,7 +74,7 @@ def terminology_capabilities(request: Request) -> Json:
     latest = request.view.latest
     versions = [
         {"code": request.edition.version(day), "isDefault": day == latest, "compositional": False}
-        for day in request.view.release_days()
+        for day in request.view.days
     ]
     system: Json = {"uri": SCT, "subsumption": True}
     if versions:

@@ -24,7 +24,7 @@ async def lookup(request: Request) -> Json:
     facts = await request.facts(coding.code, moment)
     children: list[str] = []
     if wanted & {CHILD, ALL}:
-        children = (await request.view.children([coding.code], moment.day))[0]
+        children = await request.view.children(coding.code, moment.day)
     parts = [
         parameter("name", valueString="SNOMED CT"),
         parameter("version", valueString=moment.version),

@@ -49,7 +49,7 @@ async def translate(request: Request) -> Json:
     url = query.needed("url")
     version, refset = map_of(url)
     if query.flag("reverse"):
-        raise not_supported("the store can't be asked what a code took the place of")
+        raise not_supported("what a code took the place of isn't answered here")
     query.code_system("targetsystem")
     coding = query.coding(CodeNames())
     moment = request.moment(coding.version, query.text("version"), version)
