@@ -1,4 +1,4 @@
-use Rattle.std.proofs.Common.{◌^◌, ◌<◌, ◌++◌, ◌∷◌, [], List, length, refl, sym, ap, subst, ◌∙◌, arith}
+use Rattle.std.proofs.Common.{◌^◌, ◌<◌, ◌++◌, ◌∷◌, [], List, length, refl, sym, subst, arith}
 use Rattle.history_model.specs.declared.stamped.StampedRow.{StampedRow}
 use Rattle.segment.specs.Records.{segment_of}
 use Rattle.segment_index.proofs.Built.{as_many_bytes, built_push, built_same, ends_within, place_taken_away, row_taken_away}
