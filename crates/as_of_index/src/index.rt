@@ -376,6 +376,10 @@ impl Index {
         ensures found { R.is_honest reader.old → Lists self.now (R.lists reader.old)
             → IfOk result (λ rows. rows.items
             ≡ walked kind from time after limit (rows_at pin (listed (R.lists reader.old)))) }
+        // Whatever was read, the keys are those of these rows.
+        ensures keys { Lists self.now (R.lists reader.old)
+            → IfOk result (λ rows. map key_of rows.items ≡ map key_of
+            (walked kind from time after limit (rows_at pin (listed (R.lists reader.old))))) }
         ensures undamaged { R.is_honest reader.old → Lists self.now (R.lists reader.old)
             → IfErr result (λ e. e ≢ readfault.Damaged) }
         ensures work { IfOk result (λ rows.
@@ -467,6 +471,10 @@ impl Index {
         ensures found { R.is_honest reader.old → Lists self.now (R.lists reader.old)
             → IfOk result (λ rows. rows.items
             ≡ delta kind from time after limit (rows_at pin (listed (R.lists reader.old)))) }
+        // Whatever was read, the keys are those of the rows of this Delta.
+        ensures keys { Lists self.now (R.lists reader.old)
+            → IfOk result (λ rows. map key_of rows.items ≡ map key_of
+            (delta kind from time after limit (rows_at pin (listed (R.lists reader.old))))) }
         ensures undamaged { R.is_honest reader.old → Lists self.now (R.lists reader.old)
             → IfErr result (λ e. e ≢ readfault.Damaged) }
         // No more is read than the rows that it answers take, each read once.

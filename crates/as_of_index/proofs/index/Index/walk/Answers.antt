@@ -1,4 +1,4 @@
-use Rattle.std.proofs.Common.{◌≡◌, true, ◌-◌, [], refl, Some, None, length, sym, ap, subst, ◌∙◌, arith, rules}
+use Rattle.std.proofs.Common.{◌≡◌, true, ◌-◌, [], ◌∷◌, ◌++◌, map, refl, Some, None, length, sym, ap, subst, ◌∙◌, arith, rules}
 use Rattle.std.proofs.lemmas.List.{length_push}
 use Rattle.std.specs.List.{sum_by}
 use Rattle.std.proofs.lemmas.List.Sums.{sum_by_push}
@@ -7,9 +7,14 @@ use Rattle.history_model.specs.Queries.{is_above}
 use Rattle.segment.specs.Standing.{StandsAt}
 use Rattle.as_of_index.specs.declared.search.Start.TheVariants.{Components}
 use Rattle.as_of_index.specs.Private.Search.{changed_parts, ArePassed}
+use Rattle.as_of_index.specs.Private.Walk.{walked}
+use Rattle.history_model.specs.History.{rows_at}
+use Rattle.history_model.specs.Lists.{listed}
 use Rattle.as_of_index.proofs.Standing.{are_lists, change_from_pick}
 use Rattle.as_of_index.proofs.Walking.{id_above, versions_ahead, others_ahead}
 use Rattle.as_of_index.proofs.Paging.{walk_more, walk_cost, walk_same, walk_done, walk_full, fewer_left}
+use Rattle.rf2_values.specs.Key.{key_of}
+use Rattle.as_of_index.proofs.SameKeys.{key_there, keys_push, same_count}
 use Rattle.as_of_index.proofs.index.Index.walk.Goals as goal
 
 pub latest_on-requires : goal.latest_on-requires
@@ -64,6 +69,17 @@ loop-lists-preserved-in_ok-push-in-Some g c =
           rw c.in_ok-push-in-Some.ensures.items
           (walk_more a.kind a.from a.time a.pin (g.R.RowReader.lists a.reader.now) c.loop-lists.last c.in-Some.id a.limit c.loop-lists.rows.items _ found.found.row (omega arith)
           (rw (c.as_slice-lists.ensures.value, c.self.view_is, listed_so) at c.in-Some.ensures.next) (w.2 ∙ ap (λ (s : StampedRow). Some s.row) (sym same)) (subst (λ (s : StampedRow). is_above a.from s.row.time ≡ true) (sym same) w.3) (so_far.rows honest listed_so));
+      keys = λ listed_so.
+          let lists = g.R.RowReader.lists a.reader.now in
+          let w = change_from_pick a.kind c.in-Some.id a.from a.time a.pin lists (are_lists lists (rw (c.self.view_is, listed_so) at c.self.invariant.places)) (Some (c.in-Some-latest_on.segment, c.in-Some-latest_on.at)) (rw (c.as_slice-lists.ensures.value, c.self.view_is, listed_so) at c.in-Some-latest_on.ensures) in
+          let row = found.found.row in
+          let k = so_far.keys listed_so in
+          let count = same_count c.loop-lists.rows.items k.0 k.1 in (
+            k.0 ++ w.0.row ∷ [],
+            ap (map key_of) c.in_ok-push-in-Some.ensures.items ∙ keys_push c.loop-lists.rows.items k.0 row w.0.row k.1 (key_there lists c.in-Some-latest_on.segment c.in-Some-latest_on.at w.0 row w.1 found.ensures.keyed),
+            walk_more a.kind a.from a.time a.pin lists c.loop-lists.last c.in-Some.id a.limit k.0 _ w.0.row (omega arith)
+                (rw (c.as_slice-lists.ensures.value, c.self.view_is, listed_so) at c.in-Some.ensures.next) w.2 w.3 k.2,
+          );
     }
 
 pub loop-lists-preserved : goal.loop-lists-preserved
@@ -91,6 +107,13 @@ loop-lists-preserved g c =
       rows = λ honest listed_so.
           walk_same a.kind a.from a.time a.pin (g.R.RowReader.lists a.reader.now) c.loop-lists.last c.in-Some.id (a.limit - length c.loop-lists.rows.items) c.loop-lists.rows.items _
           (rw (c.as_slice-lists.ensures.value, c.self.view_is, listed_so) at c.in-Some.ensures.next) (change_from_pick c.args.kind c.in-Some.id c.args.from c.args.time c.args.pin (g.R.RowReader.lists c.args.reader.now) (are_lists (g.R.RowReader.lists c.args.reader.now) (rw (c.self.view_is, listed_so) at c.self.invariant.places)) None (rw (c.as_slice-lists.ensures.value, c.self.view_is, listed_so) at (rw c.in_default.is at c.latest_on.ensures))) (so_far.rows honest listed_so);
+      keys = λ listed_so.
+          let k = so_far.keys listed_so in (
+            k.0,
+            k.1,
+            walk_same a.kind a.from a.time a.pin (g.R.RowReader.lists a.reader.now) c.loop-lists.last c.in-Some.id (a.limit - length k.0) k.0 _
+                (rw (c.as_slice-lists.ensures.value, c.self.view_is, listed_so) at c.in-Some.ensures.next) (change_from_pick c.args.kind c.in-Some.id c.args.from c.args.time c.args.pin (g.R.RowReader.lists c.args.reader.now) (are_lists (g.R.RowReader.lists c.args.reader.now) (rw (c.self.view_is, listed_so) at c.self.invariant.places)) None (rw (c.as_slice-lists.ensures.value, c.self.view_is, listed_so) at (rw c.in_default.is at c.latest_on.ensures))) k.2,
+          );
     }
 
 pub returns-in-None-clause-found : goal.returns-in-None-clause-found
@@ -130,3 +153,41 @@ returns-in-None-clause-work_always g c = λ listed_so. (let least = c.loop-lists
 
 pub returns-clause-work_always : goal.returns-clause-work_always
 returns-clause-work_always g c = λ listed_so. (let least = c.loop-lists.invariant.work_always listed_so in omega arith)
+
+pub returns-in-None-clause-keys : goal.returns-in-None-clause-keys
+returns-in-None-clause-keys g c = λ listed_so.
+    let a = c.args in
+    let k = c.loop-lists.invariant.keys listed_so in
+    k.1 ∙ ap (map key_of) (walk_done a.kind a.from a.time a.pin (g.R.RowReader.lists a.reader.now) c.loop-lists.last _ k.0 _ (rw (c.as_slice-lists.ensures.value, c.self.view_is, listed_so) at c.in-None.ensures.next) k.2)
+
+pub returns-clause-keys : goal.returns-clause-keys
+returns-clause-keys g c = λ listed_so.
+    let a = c.args in
+    let k = c.loop-lists.invariant.keys listed_so in
+    let count = same_count c.loop-lists.rows.items k.0 k.1 in
+    k.1 ∙ ap (map key_of) (walk_full a.kind a.from a.time a.pin (g.R.RowReader.lists a.reader.now) c.loop-lists.last a.limit k.0 _ (omega arith) k.2)
+
+pub loop-lists-init : goal.loop-lists-init
+loop-lists-init g c =
+    let a = c.args in
+    let f = g.R.RowReader.cost in
+    let shown = rows_at a.pin (listed (g.R.RowReader.lists a.reader.now)) in
+    let none : length c.new-rows.result.items ≡ 0 = ap length c.new-rows.ensures.items in
+    let whole : a.limit - 0 ≡ a.limit = omega arith in
+    let first = ap (λ n. walked a.kind a.from a.time a.after n shown) whole in
+    let left : a.limit - length c.new-rows.result.items ≡ a.limit = ap (λ n. a.limit - n) none ∙ whole in
+    let same = ap (λ n. walked a.kind a.from a.time a.after n shown) left in
+    let sum = ap (sum_by f) same in
+    record {
+      passed = rw (c.as_slice-lists.ensures.value, c.self.view_is) at c.in_ok-cursors.ensures;
+      within = omega arith;
+      honesty = λ h. h;
+      work = omega arith;
+      work_always = λ listed_so. omega (arith, sum);
+      stays = g.met.R.RowReader.stays_still a.reader.now;
+      lists = refl;
+      disk_faults = refl;
+      damages = refl;
+      rows = λ honest listed_so. rw c.new-rows.ensures.items first;
+      keys = λ listed_so. ([], ap (map key_of) c.new-rows.ensures.items, first);
+    }
