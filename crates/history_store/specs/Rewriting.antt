@@ -1,12 +1,14 @@
 -- What writing the only segment of a store anew answers.
-use Rattle.std.specs.Prelude.{◌≡◌, ℕ, ◌+◌, ◌*◌, ◌<◌, List, [], ◌∷◌, sum_by, Bool, true, false}
+use Rattle.std.specs.Prelude.{◌≡◌, ℕ, ◌+◌, ◌*◌, ◌<◌, List, [], ◌∷◌, ◌++◌, map, sum_by, Bool}
+use Rattle.std.specs.Prelude.{true, false}
 use Rattle.std.specs.Prelude.{Option, Some, None, Result, Ok, Err}
 use Rattle.std.specs.Int.{div_ceil}
-use Rattle.blocks.specs.Extents.{block_count}
+use Rattle.blocks.specs.Extents.{block_count, byte_range}
+use Rattle.blocks.specs.Slots.{slots_range}
 use Rattle.directory.specs.declared.entry.Entry.{Entry}
 use Rattle.directory.specs.declared.layout.Layout.{Layout}
 use Rattle.directory.specs.declared.layout.Layout.TheVariants as layouts
-use Rattle.directory.specs.Places.{extent_of}
+use Rattle.directory.specs.Places.{extent_of, extents_of}
 use Rattle.directory.specs.Fit.{fit}
 use Rattle.checksum.specs.declared.form.Form.TheVariants as forms
 use Rattle.history_store.specs.declared.refusal.Refusal.{Refusal}
@@ -75,6 +77,10 @@ IsRewritingOf (Ok true) old new = IsRewritten old.catalog new.catalog × IsDone 
 IsRewritingOf (Ok false) old new = (HasOnlyPlain old.catalog → ⊥) × (old.needs_reopen ≡ false)
     × (new ≡ old)
 IsRewritingOf (Err e) old new = IsNotRewritten e old × IsRefused e old new
+
+-- the bytes of these segments, and those of the slots
+abbrev pub written_ranges : List Entry → List (ℕ × ℕ)
+written_ranges entries = map byte_range (extents_of entries) ++ slots_range ∷ []
 
 -- the most bytes that it reads: those of the rows and two blocks for each, and a gate
 abbrev pub rewrite_cost : List Entry → ℕ

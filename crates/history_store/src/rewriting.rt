@@ -166,6 +166,7 @@ fn write_and_list<D: Disk>(
     requires ready { IsReadyToRewrite (D.is_honest disk.old) (D.moments disk.old).state cache.old
         slot directory.now index.now entry }
     requires next { next.now ≡ only_listing directory.now entry }
+    requires epochs_left { directory.now.epoch + 1 < 2 ^ 64 }
     ensures refused { IfErr result IsUnread }
     ensures undamaged { D.is_honest disk.old → IfErr result (λ e. e ≢ refusals.Damaged) }
     ensures listed { IfOk result (λ s. IsHeld (D.is_honest disk.new) (D.moments disk.new).state
@@ -198,7 +199,7 @@ fn write_and_list<D: Disk>(
 impl<D: Disk> Store<D> {
     ghost use Rattle.history_store.specs.StoreValue.{IsAcknowledged};
     ghost use Rattle.history_store.specs.Rewriting.{IsRewritingOf, rewrite_cost, rewrite_calls};
-    ghost use Rattle.history_store.specs.Written.{listed_ranges};
+    ghost use Rattle.history_store.specs.Rewriting.{written_ranges};
 
     /// Writes the only segment of a store of version 3 anew, if it has no checksums, and answers
     /// whether it did. The rows stay. It takes memory for a thousand rows at a time.
@@ -214,7 +215,7 @@ impl<D: Disk> Store<D> {
             → IsAcknowledged D.moments self.new }
         // After Ok a read gives the same outside the slots and the segment that is listed then.
         ensures elsewhere { D.is_honest self.old.disk → OnOk result
-            (SameOutside (listed_ranges self.new.catalog)
+            (SameOutside (written_ranges self.new.catalog.entries)
             (D.moments self.old.disk).state.now (D.moments self.new.disk).state.now) }
         ensures closed { self.old.needs_reopen ≡ true → self.new ≡ self.old }
         ensures calls { D.is_honest self.old.disk → call_count (D.moments self.new.disk)

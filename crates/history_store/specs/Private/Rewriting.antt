@@ -5,7 +5,7 @@ use Rattle.lru.specs.LruCache.{LruCache}
 use Rattle.blocks.specs.declared.slots.Slot.{Slot}
 use Rattle.history_model.specs.declared.stamped.StampedRow.{StampedRow}
 use Rattle.directory.specs.declared.entry.Entry.{Entry}
-use Rattle.directory.specs.Listings.{DirectoryValue}
+use Rattle.directory.specs.Listings.{DirectoryValue, IsListing}
 use Rattle.segment.specs.declared.place.RowPlace.{RowPlace}
 use Rattle.merge.specs.declared.Taken.{Taken}
 use Rattle.history_store.specs.declared.refusal.Refusal.{Refusal}
@@ -36,6 +36,7 @@ only_listing d entry = record {
 
 -- a directory may list the entry in the place of the only one
 pub record MayListAnew (d : DirectoryValue) (entry : Entry) : Type 0 where
+  pub listing : IsListing d
   pub anew : IsAnew d entry
   pub epochs_left : d.epoch + 1 < 2 ^ 64
 
