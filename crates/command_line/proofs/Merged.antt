@@ -26,7 +26,7 @@ use Rattle.line_server.specs.Pins.{unpinned}
 use Rattle.line_server.specs.Replies.{Server, Replies, IsAnswer, IsRefusal, IsOutOfRange, server}
 use Rattle.store_life.specs.Life.{Call, Imported, Failed, Other, taken, TakesAll}
 use Rattle.line_server.specs.Turns.{Turn, IsTurn, IsOfAsked}
-use Rattle.command_line.specs.Merging.{Merges, IsMergeLine, IsHalt, IsHaltedBy, IsMergedTo, IsMergedAndAsked, TellsMerge, rows_left, segments_of, trim_line}
+use Rattle.command_line.specs.Merging.{Merges, IsMergeLine, IsHalt, IsHaltedBy, IsMergedTo, IsMergedAndAsked, TellsLines, rows_left, segments_of, trim_line}
 use Rattle.command_line.specs.Private.{IsAsked, IsAtRest, IsMerging, HasMerged, IsStopped, IsHalted, HaveMerged, IsOneLess, IsTrimmedTo}
 use Rattle.command_line.specs.Endings.{Report, Tells}
 use Rattle.command_line.specs.Tasks.{status_line}
@@ -372,7 +372,7 @@ module _ {D : Type 0} (view : DeviceView D) where
   -- so many segments stand, and the status was asked for
   pub asked_status : (most : ℕ) (old mid : Server D) (pins : List (Option ℕ)) (after store : StoreValue D) (last : Turn) (left : D) (r : Report)
       → old ≡ server unpinned store → IsMergedTo view most old mid → last.line ≡ status_line → Goes mid last (server pins after)
-      → Tells r last.outcome → left ≡ after.disk → TellsMerge view most left r store
+      → Tells r last.outcome → left ≡ after.disk → TellsLines view most left r store
   asked_status most old mid pins after store last left r from merged is t told so =
       let goes : IsMergedAndAsked view most last (server unpinned store) (server pins after) =
       subst (λ (d : Server D). IsMergedAndAsked view most last d (server pins after)) from (mid, merged, is, t) in
@@ -380,7 +380,7 @@ module _ {D : Type 0} (view : DeviceView D) where
 
   pub told_refusal : (most : ℕ) (old : Server D) (pins : List (Option ℕ)) (after store : StoreValue D) (last : Turn) (left : D) (r : Report)
       → old ≡ server unpinned store → IsHaltedBy view most last old (server pins after)
-      → Tells r last.outcome → left ≡ after.disk → TellsMerge view most left r store
+      → Tells r last.outcome → left ≡ after.disk → TellsLines view most left r store
   told_refusal most old pins after store last left r from halted told so =
       let goes : IsHaltedBy view most last (server unpinned store) (server pins after) =
       subst (λ (d : Server D). IsHaltedBy view most last d (server pins after)) from halted in

@@ -1,5 +1,7 @@
 -- The only segment of a store, written anew.
-use Rattle.std.specs.Prelude.{◌≢◌, ◌⊎◌, Some, None, Option, slice_set, remove}
+use Rattle.std.specs.Prelude.{◌≢◌, ◌⊎◌, Some, None, Option, slice_get, slice_set, remove}
+use Rattle.std.specs.Int.{div_ceil}
+use Rattle.std.proofs.lemmas.Grind.{div_ceil_times}
 use Rattle.std.specs.List.{AllByRecursion, AllZip}
 use Rattle.std.proofs.Common.{◌≡◌, inl, inr, ℕ, zero, suc, ◌+◌, ◌*◌, ◌^◌, ◌<◌, ◌≤◌, Bool, false, List, [], ◌∷◌, ◌++◌, length, map, take, drop, get_or, length-append, refl, sym, ap, subst, ◌∙◌, arith, append-nil}
 use Rattle.std.specs.Prelude.{min}
@@ -10,6 +12,7 @@ use Rattle.std.proofs.lemmas.List.Sums.{sum_by-cons, sum_by-append}
 use Rattle.lru.specs.LruCache.{LruCache}
 use Rattle.disk_model.specs.Disk.{DiskState, Moments, IsImage, LeavesOnly}
 use Rattle.disk_model.proofs.MomentSteps.{weaker}
+use Rattle.blocks.specs.declared.extent.Extent.{Extent}
 use Rattle.blocks.specs.declared.slots.Slot.{Slot}
 use Rattle.blocks.specs.Cache.{is_in, Forgets}
 use Rattle.blocks.specs.Extents.{block_count, start_of}
@@ -30,7 +33,7 @@ use Rattle.checksum.specs.declared.form.Form.{Form}
 use Rattle.segment.specs.declared.place.RowPlace.{RowPlace}
 use Rattle.segment.specs.Records.{record_of, segment_in, segment_of}
 use Rattle.segment.specs.Standing.{row_place, record_len, with_places, places_of}
-use Rattle.segment.proofs.SegmentLaws.{length-segment_in, pieces_join, no_rows_plain}
+use Rattle.segment.proofs.SegmentLaws.{length-segment_in, pieces_join, no_rows, no_rows_plain}
 use Rattle.as_of_index.proofs.Ordered.{IsAscending-take}
 use Rattle.as_of_index.proofs.Hinted.{IsAscending-drop}
 use Rattle.merge.specs.declared.Taken.{Taken}
@@ -188,11 +191,16 @@ both_long [] ys = let none = ap (λ (l : List ℕ). length l) no_rows_plain in o
 both_long (x ∷ xs) ys = omega (arith, both_long xs ys, first_len x (xs ++ ys), first_len x xs)
 
 -- a record stands behind those of the rows before
-at_from : (at : ℕ) (rows : List StampedRow) (k : ℕ) (p : RowPlace) → k < length rows → p ≡ get_or (map (λ x. x.1) (with_places at rows)) k p → p.at ≡ at + length (segment_of (take k rows))
+at_from : (at : ℕ) (rows : List StampedRow) (k : ℕ) (p : RowPlace) → k < length rows → (get_or (map (λ x. x.1) (with_places at rows)) k p).at ≡ at + length (segment_of (take k rows))
 unfolding row_place
-at_from at [] k p lt is = absurd (omega (arith, lt))
-at_from at (s ∷ rows) zero p lt is = omega (arith, ap (λ (x : RowPlace). x.at) is, ap (λ (l : List ℕ). length l) no_rows_plain)
-at_from at (s ∷ rows) (suc k) p lt is = omega (arith, at_from (at + record_len s) rows k p (omega (arith, lt)) is, first_len s (take k rows))
+at_from at [] k p lt = absurd (omega (arith, lt))
+at_from at (s ∷ rows) zero p lt = omega (arith, ap (λ (l : List ℕ). length l) no_rows_plain)
+at_from at (s ∷ rows) (suc k) p lt = omega (arith, at_from (at + record_len s) rows k p (omega (arith, lt)), first_len s (take k rows))
+
+-- as many places as rows
+places_long : (at : ℕ) (rows : List StampedRow) → length (map (λ x. x.1) (with_places at rows)) ≡ length rows
+places_long at [] = refl
+places_long at (s ∷ rows) = ap (λ n. suc n) (places_long (at + record_len s) rows)
 
 module _ (rows : List StampedRow) (up : IsAscending stamped_cmp rows) (k n : ℕ) where
   abbrev part : List Taken
@@ -224,8 +232,8 @@ module _ (rows : List StampedRow) (up : IsAscending stamped_cmp rows) (k n : ℕ
   pub part_joins : (form : Form) → segment_in form (take (k + n) rows) ≡ segment_in form (take k rows) ++ segment_in form wanted
   part_joins form = ap (segment_in form) (take-add k n rows) ∙ pieces_join form (take k rows) wanted
 
-  pub part_at : (p : RowPlace) → k < length rows → p ≡ get_or (places_of rows) k p → p.at ≡ length (segment_of (take k rows))
-  part_at p lt is = omega (arith, at_from 0 rows k p lt is)
+  pub part_at : (p : RowPlace) → k < length rows → (get_or (places_of rows) k p).at ≡ length (segment_of (take k rows))
+  part_at p lt = omega (arith, at_from 0 rows k p lt)
 
 -- ---- what reading them costs
 
@@ -251,6 +259,68 @@ cost_all rows =
     let all = each_stands R 0 rows (λ p s h. record { rows = rows; list_is = refl; there = h }) in
     let taken = as_taken (places_of rows) in
     omega (arith, cost_sum taken, moved_bytes rows [] taken rows all, zip_length R taken rows all)
+
+-- ---- its rows, as the index has them
+
+module _ (d : DirectoryValue) (entry : Entry) (anew : IsAnew d entry) (lists : List (List StampedRow)) (kept : IsKept d lists) (all : List (List RowPlace)) (places : List RowPlace) (are : all ≡ map places_of lists) (found : slice_get all 0 ≡ Some places) (rows : List StampedRow) (is : lists ≡ rows ∷ []) where
+  pub its_segment : IsSegmentOf entry rows
+  its_segment =
+      let old = (subst (λ (l : List (List StampedRow)). AreSegments (anew.old ∷ []) l) is (subst (λ (l : List Entry). AreSegments l lists) anew.only.alone kept.segments)).0 in
+      subst (λ (e : Entry). IsSegmentOf e rows) (sym anew.is) (record { is = old.is; bytes = old.bytes; count = old.count })
+
+  pub its_places : places ≡ places_of rows
+  its_places = let same : Some places ≡ Some (places_of rows) = sym found ∙ ap (λ (l : List (List RowPlace)). slice_get l 0) are ∙ ap (λ (l : List (List StampedRow)). slice_get (map places_of l) 0) is in cc
+
+  pub its_count : length places ≡ entry.rows
+  its_count = ap (λ (l : List RowPlace). length l) its_places ∙ places_long 0 rows ∙ its_segment.count
+
+  pub its_cost : cost_at (as_taken places) ≡ entry.bytes + 8192 * entry.rows
+  its_cost =
+      let cost = ap (λ (l : List RowPlace). cost_at (as_taken l)) its_places ∙ cost_all rows in
+      let one = its_segment.bytes in
+      let two = its_segment.count in
+      omega (arith, cost, one, two)
+
+  module _ (k n : ℕ) (deref : List Taken) (taken : deref ≡ as_taken (take n (drop k places))) where
+    abbrev rows_wanted : List StampedRow
+    rows_wanted = take n (drop k rows)
+
+    is_part : deref ≡ as_taken (take n (drop k (places_of rows)))
+    is_part = taken ∙ ap (λ (l : List RowPlace). as_taken (take n (drop k l))) its_places
+
+    pub its_part_ascends : AreAscending deref
+    its_part_ascends = subst AreAscending (sym is_part) (part_ascends rows its_segment.is.ascending k n)
+
+    pub its_part_stands : AllZip (StandsIn lists 0 0) deref rows_wanted
+    its_part_stands =
+        subst (λ (t : List Taken). AllZip (StandsIn lists 0 0) t rows_wanted) (sym is_part)
+        (subst (λ (l : List (List StampedRow)). AllZip (StandsIn l 0 0) (as_taken (take n (drop k (places_of rows)))) rows_wanted) (sym is) (stands_in rows its_segment.is.ascending k n))
+
+    pub its_part_at : (p : RowPlace) → k < length places → (get_or places k p).at ≡ length (segment_of (take k rows))
+    its_part_at p lt =
+        let same = ap (λ (l : List RowPlace). (get_or l k p).at) its_places in
+        same ∙ part_at rows its_segment.is.ascending k n p (omega (arith, lt, its_count, its_segment.count))
+
+    pub its_part_within : (p : RowPlace) → k < length places → (get_or places k p).at + bytes_at deref ≤ entry.bytes
+    its_part_within p lt =
+        omega (arith, its_part_at p lt, part_within rows its_segment.is.ascending k n, ap bytes_at is_part, its_segment.bytes)
+
+-- before the first row is written
+pub none_begins : (form : Form) (extent : Extent) (now : List ℕ) → BeginsWith extent (segment_in form []) now
+none_begins form extent now =
+    let Q : List ℕ → Type 0 = λ b. take (length b) (drop (start_of extent) now) ≡ b in
+    subst Q (sym (no_rows form)) refl
+
+-- so many parts end behind the last row, and each begins before it
+pub parts_before : (count end part : ℕ) → end ≡ div_ceil count 1000 → part < end → part * 1000 < count
+parts_before count end part is lt =
+    let near : div_ceil count 1000 * 1000 < count + 1000 = (div_ceil_times count 1000 (omega arith)).1 in
+    omega (arith, near, is, lt)
+
+pub parts_behind : (count end part : ℕ) → end ≡ div_ceil count 1000 → end ≤ part → count ≤ part * 1000
+parts_behind count end part is le =
+    let enough : count ≤ div_ceil count 1000 * 1000 = (div_ceil_times count 1000 (omega arith)).0 in
+    omega (arith, enough, is, le)
 
 -- ---- the directory that lists it comes next
 

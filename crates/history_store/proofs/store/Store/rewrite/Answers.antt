@@ -5,7 +5,7 @@ use Rattle.history_store.proofs.Held.{held_stands}
 use Rattle.history_store.proofs.SteppedStore.{held_back}
 use Rattle.history_store.proofs.Rewritten.{no_merge_of_one, has_no_merge, no_device}
 use Rattle.history_store.proofs.store.Store.rewrite.Goals as goal
-use Rattle.history_store.proofs.store.Store.rewrite.Goals.{in-DiskFault, in_default-matches}
+use Rattle.history_store.proofs.store.Store.rewrite.Goals.{in-DiskFault, in_default-matches, then-matches, else-matches}
 
 pub returns-in_default-clause-any_moment : goal.returns-in_default-clause-any_moment
 returns-in_default-clause-any_moment g c =
@@ -55,4 +55,20 @@ invariant_of-self-else-matches g c =
     )
 
 pub returns-after-matches-clause-any_moment : goal.returns-after-matches-clause-any_moment
-returns-after-matches-clause-any_moment g c = rw (← c.self.view_is) (λ honest still. c.in-Err.ensures.any_moment honest)
+returns-after-matches-clause-any_moment g c =
+    elim c.if-matches.branch [
+      | then-matches w ↦ rw (w.self-is, ← c.self.view_is) (λ honest still. c.in-Err.ensures.any_moment honest)
+      | else-matches w ↦ rw (w.self-is, ← c.self.view_is) (λ honest still. c.in-Err.ensures.any_moment honest)
+    ]
+
+pub returns-after-matches-clause-acknowledged : goal.returns-after-matches-clause-acknowledged
+returns-after-matches-clause-acknowledged g c =
+    elim c.if-matches.branch [
+      | then-matches w ↦ rw w.self-is (λ honest still. absurd (cc))
+      | else-matches w ↦
+          let s = c.self.inside in
+          let new = c.write_and_list.new in
+          let other : c.in-Err.refusal ≢ refusals.DiskFault = elim c.match-matches.branch [ in-DiskFault v ↦ absurd (let off = w.if-matches.false in let on = v.matches-is in cc) | in_default-matches v ↦ λ is. v.in_default-matches.not-DiskFault is ] in
+          let held = held_back (g.D.Disk.is_honest new.disk) (g.D.Disk.moments new.disk).state new.cache s.slot s.directory s.index _ s.needs_reopen c.in-Err.ensures.held (no_device c.in-Err.refusal c.in-Err.ensures.refused other ∙ sym c.if-self.false) in
+          rw (w.self-is, ← c.self.view_is) (λ honest still. record { open_still = still; each = held_stands _ _ _ _ _ _ _ held (c.in-Err.ensures.honesty.0 honest) still })
+    ]
