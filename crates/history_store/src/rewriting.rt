@@ -8,6 +8,7 @@ ghost use Rattle.disk_model.specs.Disk.{LeavesOnly};
 ghost use Rattle.blocks.specs.Calls.{call_count};
 ghost use Rattle.blocks.specs.Extents.{byte_range};
 ghost use Rattle.blocks.specs.Outside.{SameOutside};
+ghost use Rattle.blocks.specs.declared.slots.Slot.{Slot};
 ghost use Rattle.blocks.specs.Slots.{slots_range};
 ghost use Rattle.history_model.specs.declared.stamped.StampedRow.{StampedRow};
 ghost use Rattle.directory.specs.declared.entry.Entry.{Entry};
@@ -111,16 +112,18 @@ fn write_rows<D: Disk>(
     alloc: Global,
     disk: &mut D,
     cache: &mut BlockCache,
-    slot: Slot,
     directory: &Directory,
     index: &StoreIndex,
     entry: Entry,
 ) -> Result<(), Refusal>
-    requires { IsReadyToRewrite (D.is_honest disk.old) (D.moments disk.old).state cache.old slot
+    requires { IsReadyToRewrite (D.is_honest disk.old) (D.moments disk.old).state cache.old
         directory.now index.now entry }
     ensures refused { IfErr result IsUnread }
     ensures undamaged { D.is_honest disk.old → IfErr result (λ e. e ≢ refusals.Damaged) }
-    ensures held { IsHeld (D.is_honest disk.new) (D.moments disk.new).state cache.new slot
+    ensures held { (slot : Slot)
+        → IsHeld (D.is_honest disk.old) (D.moments disk.old).state cache.old slot
+        directory.now index.now false
+        → IsHeld (D.is_honest disk.new) (D.moments disk.new).state cache.new slot
         directory.now index.now (is_fault result) }
     // A stop at any moment leaves the history that is listed.
     ensures any_moment { D.is_honest disk.old
@@ -163,8 +166,9 @@ fn write_and_list<D: Disk>(
     next: &Directory,
     entry: Entry,
 ) -> Result<Slot, Refusal>
-    requires ready { IsReadyToRewrite (D.is_honest disk.old) (D.moments disk.old).state cache.old
-        slot directory.now index.now entry }
+    requires held { IsHeld (D.is_honest disk.old) (D.moments disk.old).state cache.old slot
+        directory.now index.now false }
+    requires anew { IsAnew directory.now entry }
     requires next { next.now ≡ only_listing directory.now entry }
     requires epochs_left { directory.now.epoch + 1 < 2 ^ 64 }
     ensures refused { IfErr result IsUnread }
@@ -190,7 +194,7 @@ fn write_and_list<D: Disk>(
         ≤ D.other_calls disk.old + (div_ceil entry.rows 1000 + 7) }
     ensures capacity { cache.new.cap ≡ cache.old.cap }
 {
-    write_rows(alloc, disk, cache, slot, directory, index, entry)?;
+    write_rows(alloc, disk, cache, directory, index, entry)?;
     let listed = sync_and_publish(disk, slot, next)?;
     cache.forget(listed.extent());
     Ok(listed)

@@ -42,7 +42,8 @@ pub record MayListAnew (d : DirectoryValue) (entry : Entry) : Type 0 where
 
 -- a store that is open, and the entry of its only segment, written anew
 pub record IsReadyToRewrite (honest : Type 0) (state : DiskState) (cache : LruCache ℕ (List ℕ))
-    (slot : Slot) (d : DirectoryValue) (lists : List (List StampedRow)) (entry : Entry) : Type 0 where
+    (d : DirectoryValue) (lists : List (List StampedRow)) (entry : Entry) : Type 0 where
+  pub slot : Slot
   pub held : IsHeld honest state cache slot d lists false
   pub anew : IsAnew d entry
 

@@ -1,5 +1,6 @@
 use Rattle.std.proofs.Common.{◌≡◌, ◌+◌, ◌*◌, ◌≤◌, ◌↔◌, List, [], ◌∷◌, take, false}
 use Rattle.disk_model.specs.Disk.{LeavesOnly}
+use Rattle.blocks.specs.declared.slots.Slot.{Slot}
 use Rattle.blocks.specs.Calls.{call_count}
 use Rattle.blocks.specs.Extents.{byte_range}
 use Rattle.blocks.specs.Outside.{SameOutside}
@@ -19,7 +20,7 @@ abbrev pub invariant-loop-part : goal.invariant-loop-part
 invariant-loop-part g l =
     let disk = g.D.Disk in
     record {
-      held : IsHeld (disk.is_honest l.disk) (disk.moments l.disk).state l.cache l.fn.slot l.directory l.index false;
+      held : (slot : Slot) → IsHeld (disk.is_honest l.fn.disk) (disk.moments l.fn.disk).state l.fn.cache slot l.directory l.index false → IsHeld (disk.is_honest l.disk) (disk.moments l.disk).state l.cache slot l.directory l.index false;
       any_moment : disk.is_honest l.fn.disk → LeavesOnly (disk.moments l.fn.disk) (disk.moments l.disk) (RepresentsAs l.directory.layout (history_of l.directory l.index));
       written : disk.is_honest l.fn.disk → (rows : List StampedRow) → l.index ≡ rows ∷ [] → BeginsWith (extent_of l.entry) (segment_in l.entry.form (take (l.part * 1000) rows)) (disk.moments l.disk).state.now;
       elsewhere : disk.is_honest l.fn.disk → SameOutside (byte_range (extent_of l.entry) ∷ []) (disk.moments l.fn.disk).state.now (disk.moments l.disk).state.now;
