@@ -7,7 +7,9 @@ use Rattle.store_life.specs.DeviceView.{DeviceView}
 use Rattle.store_life.specs.Life.{Other, IsCall}
 use Rattle.history_store.specs.declared.refusal.Refusal.{Refusal}
 use Rattle.history_store.specs.declared.refusal.Refusal.TheVariants as store
-use Rattle.history_store.specs.Rewriting.{IsRewritingOf}
+use Rattle.directory.specs.declared.layout.Layout.TheVariants as layouts
+use Rattle.history_store.specs.Catalog.{plain_count}
+use Rattle.history_store.specs.Rewriting.{HasOnlyPlain, IsRewritingOf}
 use Rattle.history_store.specs.StoreValue.{StoreValue}
 use Rattle.line_server.specs.declared.refusal.LineRefusal.{LineRefusal}
 use Rattle.line_server.specs.declared.refusal.LineRefusal.TheVariants as refusals
@@ -60,6 +62,10 @@ pub record IsMergedTo {D : Type 0} (view : DeviceView D) (most : ℕ) (old new :
   pub goes : IsTurn no_releases view before trim new
   pub number : segments_of new ≡ min (segments_of old) most
   pub none_left : HasNoMerge new
+  -- in version 3 none is left without checksums where one is asked for, unless it was the only one
+  -- and had none
+  pub checksums : most ≤ 1 → HasNoMerge old → old.store.catalog.layout ≡ layouts.Three
+      → (HasOnlyPlain old.store.catalog → ⊥) → plain_count new.store.catalog.entries ≡ 0
 
 -- What ends the merging of segments: memory, the device, its bytes or its room, or the count of
 -- publications. Lines that are asked in their order are refused for no other reason.
