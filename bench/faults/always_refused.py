@@ -226,6 +226,8 @@ CALLS = [
          "store_cases", "a new store of version 3 byte for byte"),
     Call("history_store", "Store::upgrade", "upgrading.rt", "pub fn upgrade(", STORE,
          "store_cases", "an upgrade byte for byte"),
+    Call("history_store", "Store::rewrite", "rewriting.rt", "pub fn rewrite(", STORE,
+         "store_cases", "the only segment written anew byte for byte"),
     Call("history_store", "Store::open", "store.rt", "pub fn open(", BACK,
          "store_cases", "a merge ends with the store"),
     Call("history_store", "Store::import", "store.rt", "pub fn import(", STORE,

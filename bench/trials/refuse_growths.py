@@ -115,19 +115,19 @@ class Session:
         replacing = sorted({columns[6] for columns in shown["A"]})
         lines = ["10 TERMS %s 1000 %s" % (day, letter) for letter in letters]
         lines += ["10 CHILDREN %s %s" % (parent, day) for parent in parents]
-        lines += ["10 DESCENDANTS %s %s" % (parent, day) for parent in parents[:20]]
-        lines += ["10 ANCESTORS %s %s" % (child, day) for child in children[:20]]
+        lines += ["10 DESCENDANTS %s %s" % (parent, day) for parent in parents[:5]]
+        lines += ["10 ANCESTORS %s %s" % (child, day) for child in children[:5]]
         lines += ["10 REPLACED %s %s" % (component, day) for component in replaced]
-        lines += ["10 REPLACES %s %s" % (component, day) for component in replacing]
+        lines += ["10 REPLACES %s %s" % (component, day) for component in replacing[:5]]
         for kind, place in soak.SUBJECTS.items():
             subjects = sorted({columns[place] for columns in shown[kind]})
             lines += ["10 ABOUT %s %s %s" % (kind, subject, day) for subject in subjects[:20]]
-            lines += ["10 TIMELINE %s %s" % (kind, subject) for subject in subjects[:20]]
+            lines += ["10 TIMELINE %s %s" % (kind, subject) for subject in subjects[:5]]
         for kind in "CDVRA":
             lines += ["10 HISTORY %s %s" % (kind, name) for name in self.made.names(kind)[:20]]
-            lines.append("10 DELTA %s 20191231 %s - 1000" % (kind, day))
+            lines.append("10 DELTA %s 20191231 %s - 10" % (kind, day))
         lines += ["10 RECEIPT %d" % number for number in range(1, model.state.imports + 1)]
-        lines += ["10 AT %d DATES" % number for number in range(model.state.imports + 1)]
+        lines += ["10 AT %d DATES" % number for number in (0, model.state.imports)]
         for line in lines:
             model.reply(line)
         return lines

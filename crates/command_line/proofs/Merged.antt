@@ -11,7 +11,9 @@ use Rattle.import_check.specs.declared.release.Release.{Release}
 use Rattle.import_check.specs.Release.{files_of}
 use Rattle.history_store.specs.declared.refusal.Refusal.{Refusal}
 use Rattle.history_store.specs.declared.refusal.Refusal.TheVariants as store
-use Rattle.history_store.specs.Catalog.{Catalog, Merge as CatalogMerge}
+use Rattle.directory.specs.declared.layout.Layout.TheVariants as layouts
+use Rattle.history_store.specs.Rewriting.{HasOnlyPlain}
+use Rattle.history_store.specs.Catalog.{Catalog, Merge as CatalogMerge, plain_count}
 use Rattle.history_store.specs.Merging.{IsBegun, IsStepped, IsPublished, GoesOn, IsFinished}
 use Rattle.history_store.specs.MergeAnswers.{IsNotBegun, IsNotStepped, IsNotPublished, IsNotTrimmed}
 use Rattle.history_store.specs.StoreValue.{StoreValue}
@@ -26,8 +28,9 @@ use Rattle.line_server.specs.Pins.{unpinned}
 use Rattle.line_server.specs.Replies.{Server, Replies, IsAnswer, IsRefusal, server}
 use Rattle.store_life.specs.Life.{Call, Imported, Failed, Other, taken, TakesAll}
 use Rattle.line_server.specs.Turns.{Turn, IsTurn, IsOfAsked}
-use Rattle.command_line.specs.Merging.{Merges, IsMergeLine, IsHalt, IsHaltedBy, IsMergedTo, IsMergedAndAsked, TellsMerge, rows_left, segments_of, trim_line}
+use Rattle.command_line.specs.Merging.{Merges, IsMergeLine, IsHalt, IsHaltedBy, IsMergedTo, IsMergedAndAsked, TellsLines, rows_left, segments_of, trim_line}
 use Rattle.command_line.specs.Private.{IsAsked, IsAtRest, IsMerging, HasMerged, IsStopped, IsHalted, HaveMerged, IsOneLess, IsTrimmedTo}
+use Rattle.command_line.proofs.Checked.{GoesChecked, not_only_plain, begun_checked, stepped_checked, published_checked}
 use Rattle.command_line.specs.Endings.{Report, Tells}
 use Rattle.command_line.specs.Tasks.{status_line}
 
@@ -334,6 +337,39 @@ module _ {D : Type 0} (view : DeviceView D) where
       stopped_after most old b new reply (have_both old a b have rows)
       (stopped_first most b new reply last.0 (inr (inr last.1)) (omega (arith, more, same, as_old)) last.3.0 last.3.1 last.2 (λ one. publish_stops b new last.0 last.1 last.3.0 all last.2))
 
+  -- ---- which segments have checksums then
+
+  line_checked : (old new : Server D) (turn : Turn) → IsMergeLine turn.line old → IsOk turn.outcome → Goes old turn new → GoesChecked old.store.catalog → GoesChecked new.store.catalog
+  line_checked old new turn (inl is) ok t so =
+      let a = answered (view.is_honest old.store.disk) t.releases old new turn.line 0 Merge (rw is merge_asks) turn.outcome ok t.goes.replies in
+      begun_checked old.store.catalog new.store.catalog a.1.0 a.1.1.0 so
+  line_checked old new turn (inr (inl (is, some))) ok t so =
+      let a = answered (view.is_honest old.store.disk) t.releases old new turn.line 0 (Step 100000) (rw is step_asks) turn.outcome ok t.goes.replies in
+      stepped_checked 100000 old.store.catalog new.store.catalog a.1.0 a.1.1.0 so
+  line_checked old new turn (inr (inr is)) ok t so =
+      let a = answered (view.is_honest old.store.disk) t.releases old new turn.line 0 Publish (rw is publish_asks) turn.outcome ok t.goes.replies in
+      published_checked old.store.catalog new.store.catalog a.1.0.0 so
+
+  merges_checked : (old new : Server D) (turns : List Turn) → Merges view old turns new → GoesChecked old.store.catalog → GoesChecked new.store.catalog
+  merges_checked old new [] e so = subst (λ (s : Server D). GoesChecked s.store.catalog) (sym e) so
+  merges_checked old new (turn ∷ turns) m so = merges_checked m.0 new turns m.4 (line_checked old m.0 turn m.1 m.2 m.3 so)
+
+  trim_catalog : (old new : Server D) (turn : Turn) → turn.line ≡ trim_line → IsOk turn.outcome → Goes old turn new → new.store.catalog ≡ old.store.catalog
+  trim_catalog old new turn is ok t =
+      let a = answered (view.is_honest old.store.disk) t.releases old new turn.line 0 Trim (rw is trim_asks) turn.outcome ok t.goes.replies in
+      a.1.1.0
+
+  all_checked : (most : ℕ) (old mid new : Server D) → HaveMerged view old mid → new.store.catalog ≡ mid.store.catalog → segments_of mid ≡ min (segments_of old) most
+      → most ≤ 1 → HasNoMerge old → old.store.catalog.layout ≡ layouts.Three → (HasOnlyPlain old.store.catalog → ⊥) → plain_count new.store.catalog.entries ≡ 0
+  all_checked most old mid new have same number one none three not_only =
+      let first : GoesChecked old.store.catalog = record {
+        three = three;
+        some = not_only_plain old.store.catalog.layout old.store.catalog.entries three (λ entry only. not_only (entry, only));
+        merging = λ m goes. absurd (let no : None ≡ Some m = sym none ∙ goes in cc);
+      } in
+      let last = merges_checked old mid have.turns have.merges first in
+      ap (λ (c : Catalog). plain_count c.entries) same ∙ elim last.some [ inl two ↦ absurd (omega (arith, two, number, one)) | inr all ↦ all ]
+
   pub trimmed_to : (most : ℕ) (old mid new : Server D) (result : Result (Unit {0}) ReplyValue) → HaveMerged view old mid
       → segments_of mid ≡ min (segments_of old) most → IsAtRest mid → IsAsked view trim_line result mid new
       → IsTrimmedTo view most result old new
@@ -347,6 +383,7 @@ module _ {D : Type 0} (view : DeviceView D) where
     goes = last.2;
     number = trim_keeps mid new last.0 last.1 last.3 last.2 ∙ few;
     none_left = trimmed_rests mid new last.0 last.1 last.3 last.2 rest;
+    checksums = all_checked most old mid new have (trim_catalog mid new last.0 last.1 last.3 last.2) few;
   }
   trimmed_to most old mid new (Err reply) have few rest last = (
     last.0,
@@ -367,7 +404,7 @@ module _ {D : Type 0} (view : DeviceView D) where
   -- so many segments stand, and the status was asked for
   pub asked_status : (most : ℕ) (old mid : Server D) (pins : List (Option ℕ)) (after store : StoreValue D) (last : Turn) (left : D) (r : Report)
       → old ≡ server unpinned store → IsMergedTo view most old mid → last.line ≡ status_line → Goes mid last (server pins after)
-      → Tells r last.outcome → left ≡ after.disk → TellsMerge view most left r store
+      → Tells r last.outcome → left ≡ after.disk → TellsLines view most left r store
   asked_status most old mid pins after store last left r from merged is t told so =
       let goes : IsMergedAndAsked view most last (server unpinned store) (server pins after) =
       subst (λ (d : Server D). IsMergedAndAsked view most last d (server pins after)) from (mid, merged, is, t) in
@@ -375,7 +412,7 @@ module _ {D : Type 0} (view : DeviceView D) where
 
   pub told_refusal : (most : ℕ) (old : Server D) (pins : List (Option ℕ)) (after store : StoreValue D) (last : Turn) (left : D) (r : Report)
       → old ≡ server unpinned store → IsHaltedBy view most last old (server pins after)
-      → Tells r last.outcome → left ≡ after.disk → TellsMerge view most left r store
+      → Tells r last.outcome → left ≡ after.disk → TellsLines view most left r store
   told_refusal most old pins after store last left r from halted told so =
       let goes : IsHaltedBy view most last (server unpinned store) (server pins after) =
       subst (λ (d : Server D). IsHaltedBy view most last d (server pins after)) from halted in

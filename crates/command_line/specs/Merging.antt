@@ -1,9 +1,15 @@
 -- What merging the segments of a store does.
 use Rattle.std.specs.Prelude.{◌≡◌, ◌⊎◌, ℕ, ◌<◌, ◌≤◌, List, [], ◌∷◌, length, min, codes}
-use Rattle.std.specs.Prelude.{Option, None, Result, Err, IsOk, IsErr, unwrap_or, option_map}
+use Rattle.std.specs.Prelude.{Option, None, Result, Ok, Err, Bool, IsOk, IsErr, unwrap_or}
+use Rattle.std.specs.Prelude.{option_map}
 use Rattle.line_server.specs.Sources.{no_releases}
 use Rattle.store_life.specs.DeviceView.{DeviceView}
+use Rattle.store_life.specs.Life.{Other, IsCall}
+use Rattle.history_store.specs.declared.refusal.Refusal.{Refusal}
 use Rattle.history_store.specs.declared.refusal.Refusal.TheVariants as store
+use Rattle.directory.specs.declared.layout.Layout.TheVariants as layouts
+use Rattle.history_store.specs.Catalog.{plain_count}
+use Rattle.history_store.specs.Rewriting.{HasOnlyPlain, IsRewritingOf}
 use Rattle.history_store.specs.StoreValue.{StoreValue}
 use Rattle.line_server.specs.declared.refusal.LineRefusal.{LineRefusal}
 use Rattle.line_server.specs.declared.refusal.LineRefusal.TheVariants as refusals
@@ -56,6 +62,10 @@ pub record IsMergedTo {D : Type 0} (view : DeviceView D) (most : ℕ) (old new :
   pub goes : IsTurn no_releases view before trim new
   pub number : segments_of new ≡ min (segments_of old) most
   pub none_left : HasNoMerge new
+  -- in version 3 none is left without checksums where one is asked for, unless it was the only one
+  -- and had none
+  pub checksums : most ≤ 1 → HasNoMerge old → old.store.catalog.layout ≡ layouts.Three
+      → (HasOnlyPlain old.store.catalog → ⊥) → plain_count new.store.catalog.entries ≡ 0
 
 -- What ends the merging of segments: memory, the device, its bytes or its room, or the count of
 -- publications. Lines that are asked in their order are refused for no other reason.
@@ -95,7 +105,7 @@ IsMergedAndAsked {D} view most last old new =
     × (last.line ≡ status_line) × IsTurn no_releases view mid last new
 
 -- the last line was that for the status, or one that was refused; its reply was told
-pub record TellsMerge {D : Type 0} (view : DeviceView D) (most : ℕ) (left : D) (report : Report)
+pub record TellsLines {D : Type 0} (view : DeviceView D) (most : ℕ) (left : D) (report : Report)
     (store : StoreValue D) : Type 0 where
   pub last : Turn
   pub pins : List (Option ℕ)
@@ -106,6 +116,24 @@ pub record TellsMerge {D : Type 0} (view : DeviceView D) (most : ℕ) (left : D)
   pub left_so : left ≡ after.disk
   -- what stands in the store stays the same
   pub history : view.is_honest store.disk → after.history ≡ store.history
+
+-- after the only segment was written anew, or had no need of that, lines merge the segments; else
+-- it was told why it wasn't
+abbrev pub GoesOn : {D : Type 0} → DeviceView D → ℕ → D → Report → Result Bool Refusal
+    → StoreValue D → Type 0
+GoesOn view most left report (Ok anew) store = TellsLines view most left report store
+GoesOn view most left report (Err e) store =
+    Tells report (Err (refusals.Store e)) × (left ≡ store.disk)
+
+-- If the store is of version 3, and its only segment has no checksums, that is written anew. Then
+-- the segments are merged.
+pub record TellsMerge {D : Type 0} (view : DeviceView D) (most : ℕ) (left : D) (report : Report)
+    (store : StoreValue D) : Type 0 where
+  pub result : Result Bool Refusal
+  pub mid : StoreValue D
+  pub rewriting : IsRewritingOf result store mid
+  pub call : IsCall view store Other mid
+  pub goes_on : GoesOn view most left report result mid
 
 -- the store was opened from this device, and its segments were merged
 abbrev pub IsMergedOnDisk : {D : Type 0} → DeviceView D → ℕ → D → D → Report → Type 0

@@ -4,13 +4,13 @@ ghost use Rattle.line_server.specs.Pins.{AreWithin, unpinned};
 ghost use Rattle.command_line.specs.Endings.{report};
 ghost use Rattle.store_life.specs.DeviceView.{device_view};
 ghost use Rattle.line_server.specs.Replies.{server};
-ghost use Rattle.command_line.specs.Merging.{IsMergedOnDisk, TellsMerge};
+ghost use Rattle.command_line.specs.Merging.{IsMergedOnDisk, TellsLines, TellsMerge};
 ghost use Rattle.command_line.specs.Private.{IsAsked, IsAtRest, IsMerging, IsOneLess, IsTrimmedTo};
 ghost use Rattle.command_line.specs.Private.{MergesRows};
 
 use crate::endings::{Ending, is_refusal, refuse, tell};
 use crate::inspecting::{NoReleases, STATUS};
-use crate::telling::{Told, tell_segments};
+use crate::telling::{Told, tell_rewritten, tell_segments};
 use disk_model::Disk;
 use history_store::Store;
 use line_server::{Pins, Reply, ServeFault, answer};
@@ -99,7 +99,31 @@ fn merge_to<D: Disk, E: Write>(
     ask(alloc, TRIM, pins, store)
 }
 
-/// Merges the segments of a store that was opened, and tells the last reply.
+/// Asks the lines that merge the segments of a store, and tells the last reply.
+fn merge_lines<D: Disk, O: Write, E: Write>(
+    alloc: Global,
+    path: &str,
+    most: u32,
+    store: &mut Store<D>,
+    output: &mut O,
+    told: &mut Told,
+    faults: &mut E,
+) -> Result<Ending, ServeFault>
+    requires at_rest { IsAtRest (server unpinned store.old) }
+    ensures { TellsLines
+        (device_view D.is_honest D.moments D.failures D.bytes_read) most store.new.disk
+        (report result (O.contents output.old) (O.contents output.new)) store.old }
+{
+    let mut pins = Pins::new();
+    let reply = match merge_to(alloc, path, most, &mut pins, store, faults) {
+        Ok(()) => answer(alloc, STATUS, &mut pins, &mut NoReleases, store),
+        Err(reply) => reply,
+    };
+    tell(output, &reply, told)
+}
+
+/// Merges the segments of a store that was opened, and tells the last reply. Where a store of
+/// version 3 has one segment alone, and that has no checksums, it is written anew first.
 fn merge_all<D: Disk, O: Write, E: Write>(
     alloc: Global,
     path: &str,
@@ -114,12 +138,15 @@ fn merge_all<D: Disk, O: Write, E: Write>(
         (device_view D.is_honest D.moments D.failures D.bytes_read) most store.new.disk
         (report result (O.contents output.old) (O.contents output.new)) store.old }
 {
-    let mut pins = Pins::new();
-    let reply = match merge_to(alloc, path, most, &mut pins, store, faults) {
-        Ok(()) => answer(alloc, STATUS, &mut pins, &mut NoReleases, store),
-        Err(reply) => reply,
-    };
-    tell(output, &reply, told)
+    match store.rewrite() {
+        Ok(anew) => {
+            if anew {
+                tell_rewritten(path, faults);
+            }
+            merge_lines(alloc, path, most, store, output, told, faults)
+        }
+        Err(refusal) => refuse(alloc, output, refusal, told),
+    }
 }
 
 /// Merges the segments of the store of a device, which comes back.

@@ -162,6 +162,11 @@ pub(crate) fn tell_segments<E: Write>(store: &str, segments: u32, faults: &mut E
     let _ = writeln!(faults, "sctd: {store}: segments left: {segments}");
 }
 
+/// Tells that the only segment of a store was written anew.
+pub(crate) fn tell_rewritten<E: Write>(store: &str, faults: &mut E) {
+    let _ = writeln!(faults, "sctd: {store}: the segment was written anew, with checksums");
+}
+
 /// Writes that as a line. What the system said of a failed call is written also where no task was
 /// refused: `serve` goes on after an `ERR 2`.
 fn write_why<E: Write>(told: Told, context: &Context<'_>, faults: &mut E) -> io::Result<()> {

@@ -34,3 +34,4 @@ mod ImportWrites
 mod OtherCalls
 pub mod LatestTimes
 mod BroughtRows
+mod Rewritten

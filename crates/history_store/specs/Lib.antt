@@ -12,6 +12,7 @@ pub mod Written
 pub mod Calls
 pub mod MergeAnswers
 pub mod Upgrading
+pub mod Rewriting
 pub mod Refusals
 pub mod Laws
 pub mod Private

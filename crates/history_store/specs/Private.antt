@@ -7,6 +7,7 @@ pub mod Prepared
 pub mod Answers
 pub mod Taken
 pub mod Stepping
+pub mod Rewriting
 use Rattle.std.specs.Prelude.{◌==◌, ◌≡◌, ℕ, ◌≤◌, max, List, [], length, Option, Some, None}
 use Rattle.std.specs.List.{filter}
 use Rattle.history_model.specs.declared.receipt.ImportReceipt.{ImportReceipt}

@@ -21,6 +21,7 @@ mod publishing;
 mod queries;
 mod reading;
 mod refusal;
+mod rewriting;
 mod starting;
 mod stepping;
 mod store;

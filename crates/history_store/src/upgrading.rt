@@ -12,7 +12,7 @@ use directory::Layout;
 use disk_model::Disk;
 
 /// Whether it is version 3.
-fn is_three(layout: Layout) -> bool
+pub(crate) fn is_three(layout: Layout) -> bool
     ensures three { result ≡ true → layout ≡ layouts.Three }
     ensures older { result ≡ false → layout ≢ layouts.Three }
 {

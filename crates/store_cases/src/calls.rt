@@ -1,7 +1,7 @@
 //! Calls of a store, and what it shows.
 //!
-//! - `begin`, `step ROWS`, `publish`, `abandon`, `upgrade` and `trim` answer what the call does: a
-//!   number, or `done`;
+//! - `begin`, `step ROWS`, `publish`, `abandon`, `upgrade`, `rewrite` and `trim` answer what the call
+//!   does: a number, `done`, or `nothing`;
 //! - `imports`, `rows`, `segments`, `version`, `plain`, `blocks`, `left`, `closed` and `latest`
 //!   answer what the store shows: `version` is that of its layout, `plain` how many segments have no
 //!   checksums, `blocks` how many blocks of the disk it needs, `left` how many rows of a merge are
@@ -61,6 +61,15 @@ pub fn spell_receipt(alloc: Global, answer: Result<Receipt, Refusal>) -> Answer 
     }
 }
 
+/// Whether the only segment was written anew.
+fn spell_rewritten(alloc: Global, result: Result<bool, Refusal>) -> Answer {
+    match result {
+        Ok(true) => Ok(String::from_str(alloc, "done")?),
+        Ok(false) => Ok(String::from_str(alloc, "nothing")?),
+        Err(refusal) => spell_refusal(alloc, refusal),
+    }
+}
+
 /// What an import brought.
 fn spell_brought(alloc: Global, brought: ImportReceipt) -> Answer {
     let new = brought.new;
@@ -110,6 +119,7 @@ pub fn call(alloc: Global, store: &mut Example, word: &str, words: &str) -> Answ
         ("publish", "") => spell_done(alloc, store.merge_publish()),
         ("abandon", "") => spell_done(alloc, store.merge_abandon()),
         ("upgrade", "") => spell_done(alloc, store.upgrade()),
+        ("rewrite", "") => spell_rewritten(alloc, store.rewrite()),
         ("trim", "") => spell_count(alloc, store.trim()),
         (_, "") => show(alloc, store, word),
         _ => Err(NoAnswer::NoQuestion),

@@ -17,7 +17,7 @@ use Rattle.history_store.specs.Answers.{IsRefused, IsImportOf, IsImportOnAnyDisk
 use Rattle.history_store.specs.MergeAnswers.{IsBeginningOf, IsSteppingOf, IsAbandoningOf, IsTrimmingOf}
 use Rattle.store_life.specs.DeviceView.{DeviceView}
 use Rattle.store_life.specs.Life.{Imported, Failed, Other, RepresentsAround, RepresentsNext, IsCall}
-use Rattle.store_life.specs.Calls.{ImportIsACall, QueryIsACall, UnchangedIsACall, MergeBeginIsACall, MergeStepIsACall, MergePublishIsACall, UpgradeIsACall, MergeAbandonIsACall, TrimIsACall}
+use Rattle.store_life.specs.Calls.{ImportIsACall, QueryIsACall, UnchangedIsACall, MergeBeginIsACall, MergeStepIsACall, MergePublishIsACall, UpgradeIsACall, RewriteIsACall, MergeAbandonIsACall, TrimIsACall}
 
 -- ---- calls that leave the history
 
@@ -157,6 +157,9 @@ module _ {D : Type 0} (view : DeviceView D) where
       (λ h a. weaker (view.moments old.disk) (view.moments new.disk) (λ c. RepresentsAs old.catalog.layout old.history c ⊎ RepresentsAs layouts.Three old.history c) (RepresentsHistory old.history)
       (either old.history old.catalog.layout layouts.Three) (any h a.open_still))
       (λ h a open_still. ack h open_still)
+
+  pub rewrite_made : RewriteIsACall D view
+  rewrite_made old new history any ack closed honesty = busy view old new history any ack closed honesty
 
   same_abandoned : (result : Result (Unit {0}) Refusal) (old new : StoreValue D) → IsAbandoningOf result old new → new.history ≡ old.history
   same_abandoned (Ok done) old new a = a.2.history

@@ -98,6 +98,18 @@ UpgradeIsACall D view = (old new : StoreValue D)
     → (view.is_honest old.disk ↔ view.is_honest new.disk)
     → IsCall view old Other new
 
+-- by `Store::rewrite · history, any_moment, acknowledged, closed, honesty`
+abbrev pub RewriteIsACall : (D : Type 0) → DeviceView D → Type 0
+RewriteIsACall D view = (old new : StoreValue D)
+    → new.history ≡ old.history
+    → (view.is_honest old.disk → old.needs_reopen ≡ false
+    → LeavesOnly (view.moments old.disk) (view.moments new.disk)
+    (RepresentsAs old.catalog.layout old.history))
+    → (view.is_honest old.disk → new.needs_reopen ≡ false → IsAcknowledged view.moments new)
+    → (old.needs_reopen ≡ true → new ≡ old)
+    → (view.is_honest old.disk ↔ view.is_honest new.disk)
+    → IsCall view old Other new
+
 -- by `Store::merge_abandon · answer, disk, closed, acknowledged`
 abbrev pub MergeAbandonIsACall : (D : Type 0) → DeviceView D → Type 0
 MergeAbandonIsACall D view = (result : Result (Unit {0}) Refusal) (old new : StoreValue D)

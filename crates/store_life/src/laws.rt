@@ -4,6 +4,7 @@ ghost use Rattle.store_life.specs.DeviceView.{device_view};
 ghost use Rattle.store_life.specs.Calls.{ImportIsACall, QueryIsACall, UnchangedIsACall};
 ghost use Rattle.store_life.specs.Calls.{MergeBeginIsACall, MergeStepIsACall, UpgradeIsACall};
 ghost use Rattle.store_life.specs.Calls.{MergePublishIsACall, MergeAbandonIsACall, TrimIsACall};
+ghost use Rattle.store_life.specs.Calls.{RewriteIsACall};
 ghost use Rattle.store_life.specs.Laws.{EachLifeBegins, EachOpeningIsOfALife};
 ghost use Rattle.store_life.specs.Laws.{ClosedStoreIsOpened, LivesCompose, EachStopIsOfALife};
 ghost use Rattle.store_life.specs.Laws.{EachLifeKeepsItsImports, KeptAreAcknowledged};
@@ -46,6 +47,11 @@ pub fn merge_publish_is_a_call<D: Disk>()
 /// So does what `Store::upgrade` ensures.
 pub fn upgrade_is_a_call<D: Disk>()
     ensures { UpgradeIsACall D (device_view D.is_honest D.moments D.failures D.bytes_read) }
+{}
+
+/// So does what `Store::rewrite` ensures.
+pub fn rewrite_is_a_call<D: Disk>()
+    ensures { RewriteIsACall D (device_view D.is_honest D.moments D.failures D.bytes_read) }
 {}
 
 /// So does what `Store::merge_abandon` ensures.

@@ -1,7 +1,8 @@
 //! What a store is after a stop, after a failed call and after damage: a script, the first
-//! publication of a store from the `sctd` that writes layout 1, and an upgrade to layout 3 with what
-//! follows it, stopped at each moment and with each call on the disk failing in turn; and images of disks that are cut short or changed byte
-//! by byte. It has no code of its own.
+//! publication of a store from the `sctd` that writes layout 1, an upgrade to layout 3 with what
+//! follows it, and a segment that is written anew, stopped at each moment and with each call on the
+//! disk failing in turn; and images of disks that are cut short or changed byte by byte. It has no
+//! code of its own.
 #![tactic(auto)]
 
 #[cfg(test)]
@@ -24,6 +25,8 @@ mod old_opened;
 mod old_stops;
 #[cfg(test)]
 mod openings;
+#[cfg(test)]
+mod rewriting;
 #[cfg(test)]
 mod script;
 #[cfg(test)]

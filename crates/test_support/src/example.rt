@@ -59,6 +59,11 @@ impl Example {
         self.store.upgrade()
     }
 
+    /// Writes the only segment of a store of version 3 anew, if it has no checksums.
+    pub fn rewrite(&mut self) -> Result<bool, Refusal> {
+        self.store.rewrite()
+    }
+
     /// How many segments have no checksums.
     pub fn plain_segments(&self) -> u32 {
         self.store.plain_segments()

@@ -1,21 +1,28 @@
-use Rattle.std.proofs.Common.{ap, ◌∙◌}
+use Rattle.std.proofs.Common.{refl}
 use Rattle.store_life.specs.DeviceView.{device_view}
-use Rattle.line_server.specs.Replies.{server}
-use Rattle.command_line.proofs.Merged.{asked_status, told_refusal}
-use Rattle.command_line.proofs.merging.merge_all.Goals.{in-Ok, in-Err}
+use Rattle.store_life.proofs.Made.{rewrite_made}
 use Rattle.command_line.proofs.merging.merge_all.Goals as goal
 
-pub returns : goal.returns
-returns g c =
-    let from = ap (λ pins. server pins c.args.store.now) c.new-pins.ensures.none in
-    elim c.match-merge_to.branch [
-      | in-Ok w ↦
-          let t = w.answer-reply.ensures.turn in
-          asked_status (device_view g.D.Disk.is_honest g.D.Disk.moments g.D.Disk.failures g.D.Disk.bytes_read) c.args.most _ _ w.answer-reply.new.pins w.answer-reply.new.store c.args.store.now
-          t.0 _ _ from w.in-Ok.ensures.merged t.1 t.2
-          (c.tell.ensures t.0.outcome (w.reply-is ∙ t.3)) (ap (λ s. s.disk) w.store-is)
-      | in-Err w ↦
-          let h = w.in-Err.ensures.merged in
-          told_refusal (device_view g.D.Disk.is_honest g.D.Disk.moments g.D.Disk.failures g.D.Disk.bytes_read) c.args.most _ c.merge_to.new.pins c.merge_to.new.store c.args.store.now h.0 _ _ from h.2
-          (c.tell.ensures h.0.outcome (w.reply-is ∙ h.1)) (ap (λ s. s.disk) w.store-is)
-    ]
+pub returns-in-Ok : goal.returns-in-Ok
+returns-in-Ok g c =
+    let view = device_view g.D.Disk.is_honest g.D.Disk.moments g.D.Disk.failures g.D.Disk.bytes_read in
+    let r = c.rewrite.ensures in
+    record {
+      result = c.rewrite.result;
+      mid = c.rewrite.new.self;
+      rewriting = r.answer;
+      call = rewrite_made view _ _ r.history r.any_moment r.acknowledged r.closed r.honesty;
+      goes_on = rw c.in-Ok.is c.merge_lines.ensures;
+    }
+
+pub returns-in-Err : goal.returns-in-Err
+returns-in-Err g c =
+    let view = device_view g.D.Disk.is_honest g.D.Disk.moments g.D.Disk.failures g.D.Disk.bytes_read in
+    let r = c.rewrite.ensures in
+    record {
+      result = c.rewrite.result;
+      mid = c.rewrite.new.self;
+      rewriting = r.answer;
+      call = rewrite_made view _ _ r.history r.any_moment r.acknowledged r.closed r.honesty;
+      goes_on = rw c.in-Err.is (c.refuse.ensures, refl);
+    }

@@ -17,4 +17,4 @@ encode-requires-clause-from_one g c =
     subst (λ (l : List StampedRow). AllByRecursion (λ s. 1 ≤ s.import) l) (sym c.deref.ensures.value) (from_one c.in-Ok.rows.items (read_are_stamped c.args.taken.now c.in-Ok.rows.items c.in-Ok.ensures.read))
 
 pub returns-clause-length : goal.returns-clause-length
-returns-clause-length g c = ap length (c.in_ok-encode.ensures.bytes_are ∙ ap (segment_in c.args.merge.now.entry.form) c.deref.ensures.value) ∙ length-segment_in c.args.merge.now.entry.form c.in-Ok.rows.items ∙ read_bytes c.args.taken.now c.in-Ok.rows.items c.in-Ok.ensures.read
+returns-clause-length g c = ap length (c.in_ok-encode.ensures.bytes_are ∙ ap (segment_in c.args.form) c.deref.ensures.value) ∙ length-segment_in c.args.form c.in-Ok.rows.items ∙ read_bytes c.args.taken.now c.in-Ok.rows.items c.in-Ok.ensures.read

@@ -1,0 +1,271 @@
+//! The only segment of a store, written anew with checksums.
+
+ghost use Rattle.std.specs.Prelude.{◌≡◌, ◌≢◌, ◌↔◌, ◌+◌, ◌*◌, ◌^◌, ◌<◌, ◌≤◌, ◌∷◌, []};
+ghost use Rattle.std.specs.Prelude.{List, length, take, None, IsNone, IfSome, IfOk, IfErr, OnOk};
+ghost use Rattle.std.specs.Prelude.{false, true};
+ghost use Rattle.std.specs.Int.{div_ceil};
+ghost use Rattle.disk_model.specs.Disk.{LeavesOnly};
+ghost use Rattle.blocks.specs.Calls.{call_count};
+ghost use Rattle.blocks.specs.Extents.{byte_range};
+ghost use Rattle.blocks.specs.Outside.{SameOutside};
+ghost use Rattle.blocks.specs.declared.slots.Slot.{Slot};
+ghost use Rattle.blocks.specs.Slots.{slots_range};
+ghost use Rattle.history_model.specs.declared.stamped.StampedRow.{StampedRow};
+ghost use Rattle.directory.specs.declared.entry.Entry.{Entry};
+ghost use Rattle.directory.specs.Places.{extent_of};
+ghost use Rattle.segment.specs.Records.{segment_in};
+ghost use Rattle.store_image.specs.Kept.{history_of};
+ghost use Rattle.store_image.specs.Images.{RepresentsAs};
+ghost use Rattle.store_image.specs.Ahead.{BeginsWith};
+ghost use Rattle.history_store.specs.Answers.{Counts};
+ghost use Rattle.history_store.specs.StoreValue.{IsHeld};
+ghost use Rattle.history_store.specs.Rewriting.{IsOnlyPlain, place_beside};
+ghost use Rattle.history_store.specs.Private.Stepping.{IsUnread, is_fault};
+ghost use Rattle.history_store.specs.Private.Rewriting.{IsAnew, MayListAnew, IsReadyToRewrite};
+ghost use Rattle.history_store.specs.Private.Rewriting.{as_taken, only_listing, is_device};
+ghost use Rattle.history_store.specs.declared.refusal.Refusal.TheVariants as refusals;
+
+use crate::counting::is_plain;
+use crate::refusal::Refusal;
+use crate::stepping::write_taken;
+use crate::store::Store;
+use crate::upgrading::is_three;
+use as_of_index::RowPlace;
+use blocks::{BlockCache, Slot};
+use directory::{Directory, Entry, first_fit};
+use disk_model::Disk;
+use merge::Taken;
+use segment::Form;
+use segment_index::StoreIndex;
+use std::alloc::{AllocError, Global};
+use store_image::sync_and_publish;
+
+/// How many rows are read and written at a time.
+const ROWS: usize = 1000;
+
+/// The only segment of a store of version 3, where it has no checksums.
+fn only_plain(directory: &Directory) -> Option<Entry>
+    ensures found { IfSome result (IsOnlyPlain directory.now.layout directory.now.entries) }
+    ensures none { IsNone result → (entry : Entry)
+        → IsOnlyPlain directory.now.layout directory.now.entries entry → ⊥ }
+{
+    let entries = directory.entries();
+    if !is_three(directory.layout()) || entries.len() != 1 {
+        return None;
+    }
+    if is_plain(entries[0].form) {
+        Some(entries[0])
+    } else {
+        None
+    }
+}
+
+/// The segment with checksums, at the first place that has room for it beside the one without.
+fn place_anew(directory: &Directory, old: Entry) -> Result<Entry, Refusal>
+    requires { IsOnlyPlain directory.now.layout directory.now.entries old }
+    ensures placed { IfOk result (IsAnew directory.now) }
+    ensures refused { IfErr result (λ e. (e ≡ refusals.Full)
+        × (place_beside old directory.now.entries ≡ None)) }
+{
+    let first = first_fit(old.extent().blocks(), directory.entries(), None)?;
+    Ok(Entry {
+        first,
+        bytes: old.bytes,
+        rows: old.rows,
+        form: Form::Checked,
+    })
+}
+
+/// The next directory, which lists the entry in the place of the only one.
+fn listing_only(
+    alloc: Global,
+    directory: &Directory,
+    entry: Entry,
+) -> Result<Directory, AllocError>
+    requires { MayListAnew directory.now entry }
+    ensures { IfOk result (λ d. d ≡ only_listing directory.now entry) }
+{
+    let mut next = directory.try_clone(alloc)?;
+    next.add(entry);
+    next.replace_two(0, 1, entry);
+    next.advance(directory.imports());
+    Ok(next)
+}
+
+/// The first places, of up to a thousand rows, as those of a first list.
+fn next_taken(alloc: Global, places: &[RowPlace]) -> Result<Vec<Taken>, AllocError>
+    ensures { IfOk result (λ taken. taken.items ≡ as_taken (take 1000 places.now)) }
+{
+    let mut taken = Vec::new(alloc);
+    for k in 0..places.len().min(ROWS) {
+        taken.push(Taken {
+            second: false,
+            place: places[k],
+        })?;
+    }
+    Ok(taken)
+}
+
+/// Writes the records of the only segment anew, in the form of the entry and into its extent. Each
+/// stands at the byte of the extent at which it stands in the segment: it is as long in both forms.
+fn write_rows<D: Disk>(
+    alloc: Global,
+    disk: &mut D,
+    cache: &mut BlockCache,
+    directory: &Directory,
+    index: &StoreIndex,
+    entry: Entry,
+) -> Result<(), Refusal>
+    requires { IsReadyToRewrite (D.is_honest disk.old) (D.moments disk.old).state cache.old
+        directory.now index.now entry }
+    ensures refused { IfErr result IsUnread }
+    ensures undamaged { D.is_honest disk.old → IfErr result (λ e. e ≢ refusals.Damaged) }
+    ensures held { (slot : Slot)
+        → IsHeld (D.is_honest disk.old) (D.moments disk.old).state cache.old slot
+        directory.now index.now false
+        → IsHeld (D.is_honest disk.new) (D.moments disk.new).state cache.new slot
+        directory.now index.now (is_fault result) }
+    // A stop at any moment leaves the history that is listed.
+    ensures any_moment { D.is_honest disk.old
+        → LeavesOnly (D.moments disk.old) (D.moments disk.new)
+        (RepresentsAs directory.now.layout (history_of directory.now index.now)) }
+    ensures written { D.is_honest disk.old → (rows : List StampedRow) → index.now ≡ rows ∷ []
+        → OnOk result (BeginsWith (extent_of entry) (segment_in entry.form rows)
+        (D.moments disk.new).state.now) }
+    ensures elsewhere { D.is_honest disk.old → OnOk result
+        (SameOutside (byte_range (extent_of entry) ∷ [])
+        (D.moments disk.old).state.now (D.moments disk.new).state.now) }
+    ensures calls { D.is_honest disk.old → call_count (D.moments disk.new)
+        ≤ call_count (D.moments disk.old) + div_ceil entry.rows 1000 }
+    ensures honesty { D.is_honest disk.old ↔ D.is_honest disk.new }
+    ensures failures { Counts result (D.failures disk.old) (D.failures disk.new) }
+    ensures bytes_read { D.bytes_read disk.new
+        ≤ D.bytes_read disk.old + (entry.bytes + 8192 * entry.rows) }
+    ensures other_calls { D.other_calls disk.new
+        ≤ D.other_calls disk.old + div_ceil entry.rows 1000 }
+    ensures capacity { cache.new.cap ≡ cache.old.cap }
+{
+    let places = index.places().list(0);
+    for part in 0..places.len().div_ceil(ROWS) {
+        let from = part * ROWS;
+        let taken = next_taken(alloc, &places[from..])?;
+        let at = places[from].at;
+        write_taken(alloc, disk, cache, directory, 0, 0, entry, at, &taken)?;
+    }
+    Ok(())
+}
+
+/// Writes the only segment anew, and publishes the directory that lists it.
+fn write_and_list<D: Disk>(
+    alloc: Global,
+    disk: &mut D,
+    cache: &mut BlockCache,
+    slot: Slot,
+    directory: &Directory,
+    index: &StoreIndex,
+    next: &Directory,
+    entry: Entry,
+) -> Result<Slot, Refusal>
+    requires held { IsHeld (D.is_honest disk.old) (D.moments disk.old).state cache.old slot
+        directory.now index.now false }
+    requires anew { IsAnew directory.now entry }
+    requires next { next.now ≡ only_listing directory.now entry }
+    requires epochs_left { directory.now.epoch + 1 < 2 ^ 64 }
+    ensures refused { IfErr result IsUnread }
+    ensures undamaged { D.is_honest disk.old → IfErr result (λ e. e ≢ refusals.Damaged) }
+    ensures listed { IfOk result (λ s. IsHeld (D.is_honest disk.new) (D.moments disk.new).state
+        cache.new s next.now index.now false) }
+    ensures held { IfErr result (λ e. IsHeld (D.is_honest disk.new) (D.moments disk.new).state
+        cache.new slot directory.now index.now (is_device e)) }
+    // A stop at any moment leaves the history.
+    ensures any_moment { D.is_honest disk.old
+        → LeavesOnly (D.moments disk.old) (D.moments disk.new)
+        (RepresentsAs directory.now.layout (history_of directory.now index.now)) }
+    ensures elsewhere { D.is_honest disk.old → OnOk result
+        (SameOutside (byte_range (extent_of entry) ∷ slots_range ∷ [])
+        (D.moments disk.old).state.now (D.moments disk.new).state.now) }
+    ensures calls { D.is_honest disk.old → call_count (D.moments disk.new)
+        ≤ call_count (D.moments disk.old) + (div_ceil entry.rows 1000 + 7) }
+    ensures honesty { D.is_honest disk.old ↔ D.is_honest disk.new }
+    ensures failures { Counts result (D.failures disk.old) (D.failures disk.new) }
+    ensures bytes_read { D.bytes_read disk.new
+        ≤ D.bytes_read disk.old + (entry.bytes + 8192 * entry.rows + 1) }
+    ensures other_calls { D.other_calls disk.new
+        ≤ D.other_calls disk.old + (div_ceil entry.rows 1000 + 7) }
+    ensures capacity { cache.new.cap ≡ cache.old.cap }
+{
+    write_rows(alloc, disk, cache, directory, index, entry)?;
+    let listed = sync_and_publish(disk, slot, next)?;
+    cache.forget(listed.extent());
+    Ok(listed)
+}
+
+impl<D: Disk> Store<D> {
+    ghost use Rattle.history_store.specs.StoreValue.{IsAcknowledged};
+    ghost use Rattle.history_store.specs.Rewriting.{IsRewritingOf, rewrite_cost, rewrite_calls};
+    ghost use Rattle.history_store.specs.Rewriting.{written_ranges};
+
+    /// Writes the only segment of a store of version 3 anew, if it has no checksums, and answers
+    /// whether it did. The rows stay. It takes memory for a thousand rows at a time.
+    pub fn rewrite(&mut self) -> Result<bool, Refusal>
+        ensures answer { IsRewritingOf result self.old self.new }
+        ensures history { self.new.history ≡ self.old.history }
+        ensures undamaged { D.is_honest self.old.disk → IfErr result (λ e. e ≢ refusals.Damaged) }
+        // A stop at any moment leaves the history.
+        ensures any_moment { D.is_honest self.old.disk → self.old.needs_reopen ≡ false
+            → LeavesOnly (D.moments self.old.disk) (D.moments self.new.disk)
+            (RepresentsAs self.old.catalog.layout self.old.history) }
+        ensures acknowledged { D.is_honest self.old.disk → self.new.needs_reopen ≡ false
+            → IsAcknowledged D.moments self.new }
+        // After Ok a read gives the same outside the slots and the segment that is listed then.
+        ensures elsewhere { D.is_honest self.old.disk → OnOk result
+            (SameOutside (written_ranges self.new.catalog.entries)
+            (D.moments self.old.disk).state.now (D.moments self.new.disk).state.now) }
+        ensures closed { self.old.needs_reopen ≡ true → self.new ≡ self.old }
+        ensures calls { D.is_honest self.old.disk → call_count (D.moments self.new.disk)
+            ≤ call_count (D.moments self.old.disk) + rewrite_calls self.old.catalog.entries }
+        // On every disk, and whatever it answers, it reads no more than this, and makes no other
+        // call than reads and these.
+        ensures bytes_read { D.bytes_read self.new.disk
+            ≤ D.bytes_read self.old.disk + rewrite_cost self.old.catalog.entries }
+        ensures other_calls { D.other_calls self.new.disk
+            ≤ D.other_calls self.old.disk + rewrite_calls self.old.catalog.entries }
+        ensures honesty { D.is_honest self.old.disk ↔ D.is_honest self.new.disk }
+        ensures capacity { self.new.cache.cap ≡ self.old.cache.cap }
+        ensures failures { Counts result (D.failures self.old.disk) (D.failures self.new.disk) }
+    {
+        if self.needs_reopen {
+            return Err(Refusal::ReopenNeeded);
+        }
+        let Some(old) = only_plain(&self.directory) else {
+            return Ok(false);
+        };
+        if self.directory.epoch() == u64::MAX {
+            return Err(Refusal::CountSpent);
+        }
+        let entry = place_anew(&self.directory, old)?;
+        let next = listing_only(self.alloc, &self.directory, entry)?;
+        match write_and_list(
+            self.alloc,
+            &mut self.disk,
+            &mut self.cache,
+            self.slot,
+            &self.directory,
+            &self.index,
+            &next,
+            entry,
+        ) {
+            Ok(slot) => {
+                self.slot = slot;
+                self.directory = next;
+                Ok(true)
+            }
+            Err(refusal) => {
+                if matches!(refusal, Refusal::DiskFault) {
+                    self.needs_reopen = true;
+                }
+                Err(refusal)
+            }
+        }
+    }
+}
