@@ -164,7 +164,10 @@ pub(crate) fn tell_segments<E: Write>(store: &str, segments: u32, faults: &mut E
 
 /// Tells that the only segment of a store was written anew.
 pub(crate) fn tell_rewritten<E: Write>(store: &str, faults: &mut E) {
-    let _ = writeln!(faults, "sctd: {store}: the segment was written anew, with checksums");
+    let _ = writeln!(
+        faults,
+        "sctd: {store}: the segment was written anew, with checksums"
+    );
 }
 
 /// Writes that as a line. What the system said of a failed call is written also where no task was

@@ -77,11 +77,7 @@ fn place_anew(directory: &Directory, old: Entry) -> Result<Entry, Refusal>
 }
 
 /// The next directory, which lists the entry in the place of the only one.
-fn listing_only(
-    alloc: Global,
-    directory: &Directory,
-    entry: Entry,
-) -> Result<Directory, AllocError>
+fn listing_only(alloc: Global, directory: &Directory, entry: Entry) -> Result<Directory, AllocError>
     requires { MayListAnew directory.now entry }
     ensures { IfOk result (λ d. d ≡ only_listing directory.now entry) }
 {

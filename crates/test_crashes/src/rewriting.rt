@@ -48,10 +48,12 @@ fn is_kept(alloc: Global, image: &[u8], rows: &[u8]) -> Result<bool, Refusal> {
     }
     let is_plain = store.plain_segments() == 1;
     let is_rewritten = store.rewrite()?;
-    Ok(is_rewritten == is_plain
-        && store.plain_segments() == 0
-        && store.segments() == 1
-        && rows_of(&mut store)?.as_slice() == rows)
+    Ok(
+        is_rewritten == is_plain
+            && store.plain_segments() == 0
+            && store.segments() == 1
+            && rows_of(&mut store)?.as_slice() == rows,
+    )
 }
 
 /// Whether each stop after so many calls is kept.
@@ -74,7 +76,10 @@ fn each_stop_of_a_rewriting(rt: HostRuntime) -> Result<(), Fail> {
     assert_eq!(rt; store.plain_segments(), 0);
     let disk = store.close();
     for calls in 0..=REWRITING {
-        assert!(rt; are_kept(alloc, &disk, calls, rows.as_slice())?, "after {calls} calls");
+        assert!(rt;
+            are_kept(alloc, &disk, calls, rows.as_slice())?,
+            "after {calls} calls"
+        );
     }
     assert_eq!(rt; disk.changes(), OPENING + REWRITING);
     Ok(())
@@ -116,6 +121,9 @@ fn each_changing_call_of_a_rewriting_fails(rt: HostRuntime) -> Result<(), Fail> 
         let outcome = run_with(alloc, calls, rows.as_slice())?;
         assert_eq!(rt; outcome, Outcome::Failed, "call {calls}");
     }
-    assert_eq!(rt; run_with(alloc, REWRITING, rows.as_slice())?, Outcome::Whole);
+    assert_eq!(rt;
+        run_with(alloc, REWRITING, rows.as_slice())?,
+        Outcome::Whole
+    );
     Ok(())
 }

@@ -1,4 +1,5 @@
 use Rattle.std.proofs.Common.{[], ◌∷◌, subst}
+use Rattle.std.proofs.lemmas.Result.{err_from_is_err_and}
 use Rattle.disk_model.proofs.MomentSteps.{joined}
 use Rattle.blocks.specs.Cache.{is_in, Forgets}
 use Rattle.blocks.specs.Extents.{byte_range}
@@ -13,6 +14,11 @@ use Rattle.history_store.proofs.rewriting.write_and_list.Goals as goal
 
 pub write_rows-requires : goal.write_rows-requires
 write_rows-requires g c = record { slot = c.args.slot; held = c.requires.held; anew = c.requires.anew }
+
+pub returns-in_err-write_rows-clause-held : goal.returns-in_err-write_rows-clause-held
+returns-in_err-write_rows-clause-held g c =
+    let p = err_from_is_err_and c.from_residual.result c.from_residual.ensures.1 in
+    rw (p.1, p.2) (c.in_err-write_rows.ensures.held c.args.slot c.requires.held)
 
 pub returns-in_err-listed-clause-any_moment : goal.returns-in_err-listed-clause-any_moment
 returns-in_err-listed-clause-any_moment g c up =

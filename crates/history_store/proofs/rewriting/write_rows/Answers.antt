@@ -35,6 +35,11 @@ loop-part-init g c = record {
   capacity = refl;
 }
 
+pub returns-in_err-taken-clause-held : goal.returns-in_err-taken-clause-held
+returns-in_err-taken-clause-held g c slot was =
+    let p = err_from_is_err_and c.from_residual.result c.from_residual.ensures.1 in
+    rw (p.1, p.2) (c.loop-part.invariant.held slot was)
+
 pub returns-in_err-taken-clause-calls : goal.returns-in_err-taken-clause-calls
 returns-in_err-taken-clause-calls g c up =
     let d = c.args.directory.now in
