@@ -16,8 +16,8 @@ use Rattle.as_of_index.specs.Merging.{moved}
 use Rattle.as_of_index.proofs.Unions.{merged_postings}
 use Rattle.as_of_index.proofs.Turns.{none_merged, all_merged}
 use Rattle.links.specs.declared.postings.Link.{Link}
-use Rattle.links.specs.Edges.{link, link_of_body, reference_of_body, subject_at, posted_link, posted_reference, posted_subject}
-use Rattle.links.specs.MergedEdges.{link_kind, reference_kind, subject_kind, AnyMergeBegins, PostingsAreFew, MergedArePosted}
+use Rattle.links.specs.Edges.{link, link_of_body, reference_of_body, target_of_body, subject_at, posted_link, posted_reference, posted_target, posted_subject}
+use Rattle.links.specs.MergedEdges.{link_kind, reference_kind, target_kind, subject_kind, AnyMergeBegins, PostingsAreFew, MergedArePosted}
 
 -- ---- a row has one posting of a kind at most
 
@@ -34,6 +34,13 @@ reference_body_few (body.Description d) i = omega arith
 reference_body_few (body.Relationship r) i = omega arith
 reference_body_few (body.Association a) i = omega arith
 reference_body_few (body.Concrete c) i = omega arith
+
+target_body_few : (b : Body) (i : ℕ) → length (target_of_body b i) ≤ 1
+target_body_few (body.Concept c) i = omega arith
+target_body_few (body.Description d) i = omega arith
+target_body_few (body.Relationship r) i = omega arith
+target_body_few (body.Association a) i = omega arith
+target_body_few (body.Concrete c) i = omega arith
 
 subject_at_few : (o : Option ℕ) (kind : Kind) (i : ℕ) → length (subject_at o kind i) ≤ 1
 subject_at_few None kind i = omega arith
@@ -61,6 +68,7 @@ pub postings_are_few : PostingsAreFew
 postings_are_few rows e are = record {
   links = permuted_few posted_link (λ row i. few_if row.active (link_of_body row.body i) (link_body_few row.body i)) rows e.links are.links;
   references = permuted_few posted_reference (λ row i. few_if row.active (reference_of_body row.body i) (reference_body_few row.body i)) rows e.references are.references;
+  targets = permuted_few posted_target (λ row i. few_if row.active (target_of_body row.body i) (target_body_few row.body i)) rows e.targets are.targets;
   subjects = permuted_few posted_subject (λ row i. few_if row.active (subject_at (subject_of row) (kind_of row) i) (subject_at_few (subject_of row) (kind_of row) i)) rows e.subjects are.subjects;
 }
 
@@ -81,6 +89,13 @@ reference_body_moved f (body.Relationship r) i = refl
 reference_body_moved f (body.Association a) i = refl
 reference_body_moved f (body.Concrete c) i = refl
 
+target_body_moved : (f : ℕ → ℕ) (b : Body) (i : ℕ) → map (moved target_kind f) (target_of_body b i) ≡ target_of_body b (f i)
+target_body_moved f (body.Concept c) i = refl
+target_body_moved f (body.Description d) i = refl
+target_body_moved f (body.Relationship r) i = refl
+target_body_moved f (body.Association a) i = refl
+target_body_moved f (body.Concrete c) i = refl
+
 subject_at_moved : (f : ℕ → ℕ) (o : Option ℕ) (kind : Kind) (i : ℕ) → map (moved subject_kind f) (subject_at o kind i) ≡ subject_at o kind (f i)
 subject_at_moved f None kind i = refl
 subject_at_moved f (Some id) kind i = refl
@@ -95,6 +110,9 @@ link_moved f row i = moved_if (moved link_kind f) row.active (link_of_body row.b
 reference_moved : (f : ℕ → ℕ) (row : RowValue) (i : ℕ) → map (moved reference_kind f) (posted_reference row i) ≡ posted_reference row (f i)
 reference_moved f row i = moved_if (moved reference_kind f) row.active (reference_of_body row.body i) (reference_of_body row.body (f i)) (reference_body_moved f row.body i)
 
+target_moved : (f : ℕ → ℕ) (row : RowValue) (i : ℕ) → map (moved target_kind f) (posted_target row i) ≡ posted_target row (f i)
+target_moved f row i = moved_if (moved target_kind f) row.active (target_of_body row.body i) (target_of_body row.body (f i)) (target_body_moved f row.body i)
+
 subject_moved : (f : ℕ → ℕ) (row : RowValue) (i : ℕ) → map (moved subject_kind f) (posted_subject row i) ≡ posted_subject row (f i)
 subject_moved f row i = moved_if (moved subject_kind f) row.active (subject_at (subject_of row) (kind_of row) i) (subject_at (subject_of row) (kind_of row) (f i)) (subject_at_moved f (subject_of row) (kind_of row) i)
 
@@ -104,6 +122,7 @@ pub any_merge_begins : AnyMergeBegins
 any_merge_begins lists a b = record {
   links = none_merged link_kind lists a.links b.links;
   references = none_merged reference_kind lists a.references b.references;
+  targets = none_merged target_kind lists a.targets b.targets;
   subjects = none_merged subject_kind lists a.subjects b.subjects;
 }
 
@@ -112,12 +131,15 @@ merged_are_posted a_rows b_rows a b m are of_a of_b merged none =
     let lists : TwoLists = record { first = places_of a_rows; second = places_of b_rows } in
     let links = none.links in
     let references = none.references in
+    let targets = none.targets in
     let subjects = none.subjects in
     record {
       links = merged_postings posted_link (moved link_kind) link_moved a_rows b_rows a.links b.links m.edges.links are of_a.links of_b.links
           (all_merged link_kind lists a.links b.links m.links m.edges.links merged.links (omega (arith, links)));
       references = merged_postings posted_reference (moved reference_kind) reference_moved a_rows b_rows a.references b.references m.edges.references are of_a.references of_b.references
           (all_merged reference_kind lists a.references b.references m.references m.edges.references merged.references (omega (arith, references)));
+      targets = merged_postings posted_target (moved target_kind) target_moved a_rows b_rows a.targets b.targets m.edges.targets are of_a.targets of_b.targets
+          (all_merged target_kind lists a.targets b.targets m.targets m.edges.targets merged.targets (omega (arith, targets)));
       subjects = merged_postings posted_subject (moved subject_kind) subject_moved a_rows b_rows a.subjects b.subjects m.edges.subjects are of_a.subjects of_b.subjects
           (all_merged subject_kind lists a.subjects b.subjects m.subjects m.edges.subjects merged.subjects (omega (arith, subjects)));
     }

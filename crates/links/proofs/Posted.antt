@@ -1,4 +1,4 @@
--- Links, references and subjects that were pushed, each with the number of its row, are of rows of their lists, and none is left out.
+-- Links, references, targets and subjects that were pushed, each with the number of its row, are of rows of their lists, and none is left out.
 use Rattle.std.proofs.Common.{◌≡◌, ℕ, zero, suc, ◌+◌, true, false, List, [], ◌∷◌, ◌++◌, length, refl, sym, ap, subst, inl, inr, ◌∙◌, arith}
 use Rattle.std.specs.Prelude.{◌==◌, Option, Some, None, slice_set, remove, if◌then◌else◌}
 use Rattle.std.proofs.lemmas.Bool.Decides.{nat_tests}
@@ -10,7 +10,7 @@ use Rattle.history_model.specs.declared.stamped.StampedRow.{StampedRow}
 use Rattle.history_model.specs.InOrder.{Has}
 use Rattle.history_model.specs.History.{rows_at}
 use Rattle.history_model.specs.Lists.{listed}
-use Rattle.history_model.specs.Queries.{subject_of, is_a, is_child_of, says_is_a, source_of, is_replacement_of, refers_to, refset_of, target_of, snapshot}
+use Rattle.history_model.specs.Queries.{subject_of, is_a, is_child_of, says_is_a, source_of, is_replacement_of, refers_to, is_replaced_by, has_target, refset_of, target_of, referenced_of, snapshot}
 use Rattle.history_model.proofs.Filtered.{both}
 use Rattle.as_of_index.specs.Places.{item_at}
 use Rattle.as_of_index.specs.Postings.{posted_all, AllPosted}
@@ -18,9 +18,10 @@ use Rattle.as_of_index.specs.Private.Postings.{numbered}
 use Rattle.as_of_index.proofs.Pushing.{stands, posting_there, IsPostedAs, posted_as, posted_push}
 use Rattle.links.specs.declared.postings.Link.{Link}
 use Rattle.links.specs.declared.postings.Reference.{Reference}
+use Rattle.links.specs.declared.postings.Target.{Target}
 use Rattle.links.specs.declared.postings.Subject.{Subject}
-use Rattle.links.specs.Edges.{Edges, link_of_body, reference_of_body, subject_at, posted_link, posted_reference, posted_subject}
-use Rattle.links.specs.Private.{links_in, references_in, subjects_in}
+use Rattle.links.specs.Edges.{Edges, link_of_body, reference_of_body, target_of_body, subject_at, posted_link, posted_reference, posted_target, posted_subject}
+use Rattle.links.specs.Private.{links_in, references_in, targets_in, subjects_in}
 use Rattle.links.specs.Laws.{EachPosted, ArePostingsOf, PushedOneByOne, EdgesMore, EdgesMerged}
 
 -- ---- of postings of both kinds those of one
@@ -36,6 +37,12 @@ references_posted [] [] a = tt
 references_posted [] (e ∷ edges) a = absurd a
 references_posted (rows ∷ lists) [] a = absurd a
 references_posted (rows ∷ lists) (e ∷ edges) a = (a.0.references, references_posted lists edges a.1)
+
+pub targets_posted : (lists : List (List StampedRow)) (edges : List Edges) → EachPosted lists edges → AllPosted posted_target lists (targets_in edges)
+targets_posted [] [] a = tt
+targets_posted [] (e ∷ edges) a = absurd a
+targets_posted (rows ∷ lists) [] a = absurd a
+targets_posted (rows ∷ lists) (e ∷ edges) a = (a.0.targets, targets_posted lists edges a.1)
 
 subjects_posted : (lists : List (List StampedRow)) (edges : List Edges) → EachPosted lists edges → AllPosted posted_subject lists (subjects_in edges)
 subjects_posted [] [] a = tt
@@ -109,6 +116,37 @@ reference_row row i r h =
       | false ↦ λ e k. absurd k
     ] refl h
 
+-- the target is what the row says
+pub record IsTargetOf (t : Target) (row : RowValue) : Type 0 where
+  pub says : is_replaced_by t.target row ≡ true
+  pub refset_is : refset_of row.body ≡ t.refset
+  pub referenced_is : referenced_of row.body ≡ t.referenced
+
+target_body : (row : RowValue) (i : ℕ) (b : Body) (t : Target) → row.active ≡ true → row.body ≡ b → Has (target_of_body b i) t → IsTargetOf t row × (t.row ≡ i)
+target_body row i (body.Concept c) t a e h = absurd h
+target_body row i (body.Description d) t a e h = absurd h
+target_body row i (body.Relationship x) t a e h = absurd h
+target_body row i (body.Association x) t a e h = elim h [
+  | inl s ↦ (
+      let to : (x.target == t.target) ≡ true = (let d = ap (λ (y : Target). y.target) s in grind (arith, nat_tests, d)) in (
+        record {
+          says = rw (a, e, to) refl;
+          refset_is = ap refset_of e ∙ ap (λ (y : Target). y.refset) s;
+          referenced_is = ap referenced_of e ∙ ap (λ (y : Target). y.referenced) s;
+        },
+        sym (ap (λ (y : Target). y.row) s),
+      ))
+  | inr f ↦ absurd f
+]
+target_body row i (body.Concrete x) t a e h = absurd h
+
+target_row : (row : RowValue) (i : ℕ) (t : Target) → Has (posted_target row i) t → IsTargetOf t row × (t.row ≡ i)
+target_row row i t h =
+    elim row.active as (λ b. row.active ≡ b → Has (if b then target_of_body row.body i else []) t → IsTargetOf t row × (t.row ≡ i)) [
+      | true ↦ λ e k. target_body row i row.body t e refl k
+      | false ↦ λ e k. absurd k
+    ] refl h
+
 -- the subject is what the row is about
 pub record IsSubjectOf (x : Subject) (row : RowValue) : Type 0 where
   pub active : row.active ≡ true
@@ -134,6 +172,9 @@ link_stands lists edges a x h = stands posted_link (λ (l : Link). l.row) IsLink
 
 pub reference_stands : (lists : List (List StampedRow)) (edges : List Edges) → EachPosted lists edges → (x : ℕ × Reference) → Has (numbered 0 (references_in edges)) x → (s : StampedRow) × (item_at lists x.0 x.1.row ≡ Some s) × IsReferenceOf x.1 s.row
 reference_stands lists edges a x h = stands posted_reference (λ (r : Reference). r.row) IsReferenceOf reference_row lists (references_in edges) (references_posted lists edges a) x h
+
+pub target_stands : (lists : List (List StampedRow)) (edges : List Edges) → EachPosted lists edges → (x : ℕ × Target) → Has (numbered 0 (targets_in edges)) x → (s : StampedRow) × (item_at lists x.0 x.1.row ≡ Some s) × IsTargetOf x.1 s.row
+target_stands lists edges a x h = stands posted_target (λ (t : Target). t.row) IsTargetOf target_row lists (targets_in edges) (targets_posted lists edges a) x h
 
 -- ---- none is left out
 
@@ -195,6 +236,7 @@ pushed_one_by_one rows row = λ k.
     record {
       links = posted-push posted_link rows row k;
       references = posted-push posted_reference rows row k;
+      targets = posted-push posted_target rows row k;
       subjects = posted-push posted_subject rows row k;
     }
 

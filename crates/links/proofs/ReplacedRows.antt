@@ -1,4 +1,4 @@
--- The rows of the references that are picked from all lists by their target are what it replaces.
+-- The rows of the targets that are taken from all lists are what the component replaces.
 use Rattle.std.proofs.Common.{◌≡◌, ℕ, true, List, [], map, refl, sym, ap, subst, inl, ◌∙◌}
 use Rattle.std.specs.Prelude.{Some, if◌then◌else◌}
 use Rattle.std.specs.Ordering.{nat_cmp, ordering_then}
@@ -28,31 +28,31 @@ use Rattle.as_of_index.proofs.Among.{looked_up}
 use Rattle.as_of_index.proofs.Numbered.{stands_there, place_of_row}
 use Rattle.as_of_index.proofs.Current.{standing_row, one_row, shown, current_where, AllCurrent, rows_for, stand_for, row_for, for_row, ascending_rows_for}
 use Rattle.as_of_index.proofs.Pushing.{numbers_of_row, posting_there}
-use Rattle.links.specs.declared.postings.Reference.{Reference}
-use Rattle.links.specs.Edges.{Edges, reference_of_body, posted_reference}
-use Rattle.links.specs.Private.{references_in, ranked_back, GivesRankedBack, AreReplaced}
+use Rattle.links.specs.declared.postings.Target.{Target}
+use Rattle.links.specs.Edges.{Edges, target_of_body, posted_target}
+use Rattle.links.specs.Private.{targets_in, ranked_back, GivesRankedBack, AreReplaced}
 use Rattle.links.specs.Laws.{EachPosted}
-use Rattle.links.proofs.Posted.{references_posted, reference_stands}
+use Rattle.links.proofs.Posted.{targets_posted, target_stands}
 use Rattle.links.proofs.Ranked.{one_id}
 
--- an active association to a target is posted with this target, and with what the row says
-record IsPostedReference (row : RowValue) (target i : ℕ) (r : Reference) : Type 0 where
-  there : Has (posted_reference row i) r
-  target_is : r.target ≡ target
-  row_is : r.row ≡ i
+-- an active association to a target is posted with this target
+record IsPostedTarget (row : RowValue) (target i : ℕ) (t : Target) : Type 0 where
+  there : Has (posted_target row i) t
+  target_is : t.target ≡ target
+  row_is : t.row ≡ i
 
-reference_body : (target i : ℕ) (b : Body) → has_target target b ≡ true → (r : Reference) × Has (reference_of_body b i) r × (r.target ≡ target) × (r.row ≡ i)
-reference_body target i (body.Concept c) e = absurd (cc)
-reference_body target i (body.Description d) e = absurd (cc)
-reference_body target i (body.Relationship r) e = absurd (cc)
-reference_body target i (body.Association a) e = (record { referenced = a.referenced; refset = a.refset; target = a.target; row = i }, inl refl, same_number a.target target e, refl)
-reference_body target i (body.Concrete c) e = absurd (cc)
+target_body : (target i : ℕ) (b : Body) → has_target target b ≡ true → (t : Target) × Has (target_of_body b i) t × (t.target ≡ target) × (t.row ≡ i)
+target_body target i (body.Concept c) e = absurd (cc)
+target_body target i (body.Description d) e = absurd (cc)
+target_body target i (body.Relationship r) e = absurd (cc)
+target_body target i (body.Association a) e = (record { target = a.target; refset = a.refset; referenced = a.referenced; row = i }, inl refl, same_number a.target target e, refl)
+target_body target i (body.Concrete c) e = absurd (cc)
 
-reference_of : (target : ℕ) (row : RowValue) (i : ℕ) → is_replaced_by target row ≡ true → (r : Reference) × IsPostedReference row target i r
-reference_of target row i e =
+target_of_row : (target : ℕ) (row : RowValue) (i : ℕ) → is_replaced_by target row ≡ true → (t : Target) × IsPostedTarget row target i t
+target_of_row target row i e =
     let w = both row.active (has_target target row.body) e in
-    let r = reference_body target i row.body w.1 in
-    (r.0, record { there = subst (λ b. Has (if b then reference_of_body row.body i else []) r.0) (sym w.0) r.1; target_is = r.2; row_is = r.3 })
+    let t = target_body target i row.body w.1 in
+    (t.0, record { there = subst (λ b. Has (if b then target_of_body row.body i else []) t.0) (sym w.0) t.1; target_is = t.2; row_is = t.3 })
 
 module _ (lists : List (List StampedRow)) (are : ArePlaces (map places_of lists)) (edges : List Edges) (posts : EachPosted lists edges) (d date pin : ℕ) where
   abbrev wanted : List RowValue
@@ -71,26 +71,26 @@ module _ (lists : List (List StampedRow)) (are : ArePlaces (map places_of lists)
     refset_is : refset_of s.row.body ≡ k.refset
     referenced_is : referenced_of s.row.body ≡ k.target
 
-  replaced_at : (x : ℕ × Reference) (k : Chosen) → Has (numbered 0 (references_in edges)) x → x.1.target ≡ d → GivesRankedBack lists date pin x.0 x.1 k → IsReplacedAt k
+  replaced_at : (x : ℕ × Target) (k : Chosen) → Has (numbered 0 (targets_in edges)) x → x.1.target ≡ d → GivesRankedBack lists date pin x.0 x.1 k → IsReplacedAt k
   replaced_at x k h e g =
       let at = g.at in
       let now = g.row_there.1 in
-      let p = reference_stands lists edges posts x h in
+      let p = target_stands lists edges posts x h in
       let stands = stands_there lists x.0 x.1.row p.0 at p.1 g.row_there.0 in
       let same : p.0 ≡ now.0 = one_row lists are x.0 x.0 at at p.0 now.0 stands now.1 refl in
-      let says = both p.0.row.active (refers_to x.1.referenced p.0.row.body) p.2.says in
-      let end = other_end x.1.referenced d p.0.row.body says.1 (p.2.target_is ∙ e) in
+      let says : is_replaced_by d p.0.row ≡ true = subst (λ n. is_replaced_by n p.0.row ≡ true) e p.2.says in
+      let has = both p.0.row.active (has_target d p.0.row.body) says in
       subst (λ (j : Chosen). IsReplacedAt j) g.answer_is (record {
         s = now.0;
         stands = now.1;
         found = now.2;
-        kind_is = ap (λ (q : Key). q.kind) (standing_row lists are x.0 at now.0 now.1).1 ∙ ap (λ (z : StampedRow). kind_of z.row) (sym same) ∙ association_kind d p.0.row.body end.0;
-        replaced = subst (λ (z : StampedRow). is_replaced_by d z.row ≡ true) same (both_true p.0.row.active (has_target d p.0.row.body) says.0 end.0);
+        kind_is = ap (λ (q : Key). q.kind) (standing_row lists are x.0 at now.0 now.1).1 ∙ ap (λ (z : StampedRow). kind_of z.row) (sym same) ∙ association_kind d p.0.row.body has.1;
+        replaced = subst (λ (z : StampedRow). is_replaced_by d z.row ≡ true) same says;
         refset_is = subst (λ (z : StampedRow). refset_of z.row.body ≡ x.1.refset) same p.2.refset_is;
-        referenced_is = subst (λ (z : StampedRow). referenced_of z.row.body ≡ x.1.referenced) same end.1;
+        referenced_is = subst (λ (z : StampedRow). referenced_of z.row.body ≡ x.1.referenced) same p.2.referenced_is;
       })
 
-  module _ (kept : List Chosen) (a : AreReplaced lists date pin d (numbered 0 (references_in edges)) kept) where
+  module _ (kept : List Chosen) (a : AreReplaced lists date pin d (numbered 0 (targets_in edges)) kept) where
     replaced_kept : (k : Chosen) → Has kept k → IsReplacedAt k
     replaced_kept k h = let w = a.1.only k (a.2.only k h) in replaced_at w.0 k w.1 w.2 w.3
 
@@ -130,11 +130,11 @@ module _ (lists : List (List StampedRow)) (are : ArePlaces (map places_of lists)
         let key_is : at.key ≡ key_of row = (standing_row lists are n at s stands).1 ∙ ap key_of known.same in
         let now = current_where lists are date pin n at s row stands w.0 key_is in
         let own : is_replaced_by d s.row ≡ true = ap (is_replaced_by d) known.same ∙ w.1 in
-        let post = reference_of d s.row i own in
+        let post = target_of_row d s.row i own in
         let r = post.0 in
         let row_kind : kind_of row ≡ kinds.Association = association_kind d row.body (both row.active (has_target d row.body) w.1).1 in
         let kind_is : at.key.kind ≡ kinds.Association = ap (λ (q : Key). q.kind) key_is ∙ row_kind in
-        let there = posting_there posted_reference lists (references_in edges) (references_posted lists edges posts) n i s numbers.2 r post.1.there in
+        let there = posting_there posted_target lists (targets_in edges) (targets_posted lists edges posts) n i s numbers.2 r post.1.there in
         let gives : GivesRankedBack lists date pin n r (ranked_back n r at) = record { at = at; row_there = (subst (λ m. item_at (map places_of lists) n m ≡ Some at) (sym post.1.row_is) place.1, now.1); answer_is = refl } in
         let t = a.2.there (ranked_back n r at) (a.1.taken (n, r) (ranked_back n r at) there post.1.target_is gives) in
         let j = t.0 in

@@ -1,5 +1,5 @@
--- What is posted of rows: links of relationships, references of associations, and what any but a
--- concept is about.
+-- What is posted of rows: links of relationships, references and targets of associations, and what
+-- any but a concept is about.
 use Rattle.std.specs.Prelude.{ℕ, ◌+◌, ◌*◌, ◌==◌, List, [], ◌∷◌, ◌++◌, length}
 use Rattle.std.specs.Prelude.{if◌then◌else◌}
 use Rattle.std.specs.Prelude.{Option, Some, None}
@@ -16,30 +16,34 @@ use Rattle.history_model.specs.declared.stamped.StampedRow.{StampedRow}
 use Rattle.as_of_index.specs.Postings.{posted_all}
 use Rattle.links.specs.declared.postings.Link.{Link}
 use Rattle.links.specs.declared.postings.Reference.{Reference}
+use Rattle.links.specs.declared.postings.Target.{Target}
 use Rattle.links.specs.declared.postings.Subject.{Subject}
 
--- links of relationships, references of associations, and subjects of rows
+-- links of relationships, references and targets of associations, and subjects of rows
 pub record Edges : Type 0 where
   pub links : List Link
   pub references : List Reference
+  pub targets : List Target
   pub subjects : List Subject
 
 abbrev pub no_edges : Edges
-no_edges = record { links = []; references = []; subjects = [] }
+no_edges = record { links = []; references = []; targets = []; subjects = [] }
 
--- the links, references and subjects of one, each followed by those of the other
+-- the links, references, targets and subjects of one, each followed by those of the other
 abbrev pub joined_edges : Edges → Edges → Edges
 joined_edges a b =
     record {
       links = a.links ++ b.links;
       references = a.references ++ b.references;
+      targets = a.targets ++ b.targets;
       subjects = a.subjects ++ b.subjects;
     }
 
--- how many links, references and subjects there are
+-- how many links, references, targets and subjects there are
 pub record EdgeCount : Type 0 where
   pub links : ℕ
   pub references : ℕ
+  pub targets : ℕ
   pub subjects : ℕ
 
 abbrev pub count_of : Edges → EdgeCount
@@ -47,13 +51,15 @@ count_of e =
     record {
       links = length e.links;
       references = length e.references;
+      targets = length e.targets;
       subjects = length e.subjects;
     }
 
--- the same links, references and subjects, in whatever order
+-- the same links, references, targets and subjects, in whatever order
 pub record AreSameEdges (a b : Edges) : Type 0 where
   pub links : IsPermutation a.links b.links
   pub references : IsPermutation a.references b.references
+  pub targets : IsPermutation a.targets b.targets
   pub subjects : IsPermutation a.subjects b.subjects
 
 -- the place of a component's rows of a kind in the order of subjects: by the component, and then by
@@ -61,19 +67,24 @@ pub record AreSameEdges (a b : Edges) : Type 0 where
 abbrev pub subject_rank : ℕ → Kind → ℕ
 subject_rank id kind = 5 * id + kind_place kind
 
--- the links ascend by destination, the references by what they refer to, and the subjects by what
--- the rows are about, and then by kind
+-- the links ascend by destination, the references by what they refer to, the targets by themselves,
+-- and the subjects by what the rows are about, and then by kind
 pub record IsSealed (e : Edges) : Type 0 where
   pub by_destination : IsNonDecreasingBy (λ l. l.destination) e.links
   pub by_referenced : IsNonDecreasingBy (λ r. r.referenced) e.references
+  pub by_target : IsNonDecreasingBy (λ t. t.target) e.targets
   pub by_subject : IsNonDecreasingBy (λ x. subject_rank x.subject x.kind) e.subjects
 
--- the link of a relationship that is row i, and the reference of an association that is row i
+-- the link of a relationship that is row i, and the reference and the target of an association that
+-- is row i
 abbrev pub link : Relationship → ℕ → Link
 link r i = record { destination = r.destination; source = r.source; row = i }
 
 abbrev pub reference : Association → ℕ → Reference
 reference a i = record { referenced = a.referenced; refset = a.refset; target = a.target; row = i }
+
+abbrev pub target_at : Association → ℕ → Target
+target_at a i = record { target = a.target; refset = a.refset; referenced = a.referenced; row = i }
 
 -- what the body of row i says: a relationship of the type "is a" is a link
 abbrev pub link_of_body : Body → ℕ → List Link
@@ -91,6 +102,14 @@ reference_of_body (body.Relationship r) i = []
 reference_of_body (body.Association a) i = reference a i ∷ []
 reference_of_body (body.Concrete c) i = []
 
+-- what the body of row i says: an association has a target
+abbrev pub target_of_body : Body → ℕ → List Target
+target_of_body (body.Concept c) i = []
+target_of_body (body.Description d) i = []
+target_of_body (body.Relationship r) i = []
+target_of_body (body.Association a) i = target_at a i ∷ []
+target_of_body (body.Concrete c) i = []
+
 -- what row i is about, if it is about something, with its kind
 abbrev pub subject_at : Option ℕ → Kind → ℕ → List Subject
 subject_at None kind i = []
@@ -103,6 +122,9 @@ posted_link row i = if row.active then link_of_body row.body i else []
 abbrev pub posted_reference : RowValue → ℕ → List Reference
 posted_reference row i = if row.active then reference_of_body row.body i else []
 
+abbrev pub posted_target : RowValue → ℕ → List Target
+posted_target row i = if row.active then target_of_body row.body i else []
+
 abbrev pub posted_subject : RowValue → ℕ → List Subject
 posted_subject row i = if row.active then subject_at (subject_of row) (kind_of row) i else []
 
@@ -111,6 +133,7 @@ edges_of row i =
     record {
       links = posted_link row i;
       references = posted_reference row i;
+      targets = posted_target row i;
       subjects = posted_subject row i;
     }
 
@@ -120,5 +143,6 @@ posted_edges rows =
     record {
       links = posted_all posted_link 0 rows;
       references = posted_all posted_reference 0 rows;
+      targets = posted_all posted_target 0 rows;
       subjects = posted_all posted_subject 0 rows;
     }

@@ -8,12 +8,13 @@ use Rattle.as_of_index.specs.declared.merging.TakenCount.{TakenCount}
 use Rattle.as_of_index.specs.Merging.{PostingKind, IsMerged, count_left}
 use Rattle.links.specs.declared.postings.Link.{Link}
 use Rattle.links.specs.declared.postings.Reference.{Reference}
+use Rattle.links.specs.declared.postings.Target.{Target}
 use Rattle.links.specs.declared.postings.Subject.{Subject}
 use Rattle.links.specs.Edges.{Edges, EdgeCount, no_edges, count_of, subject_rank}
 use Rattle.links.specs.Laws.{ArePostingsOf}
 
--- links by destination, references by what they refer to, and subjects by what the rows are about
--- and then by kind
+-- links by destination, references by what they refer to, targets by themselves, and subjects by
+-- what the rows are about and then by kind
 abbrev pub link_kind : PostingKind Link
 link_kind =
     record {
@@ -31,6 +32,15 @@ reference_kind =
           { referenced = r.referenced; refset = r.refset; target = r.target; row = n };
     }
 
+abbrev pub target_kind : PostingKind Target
+target_kind =
+    record {
+      rank = λ t. t.target;
+      number = λ t. t.row;
+      renumbered = λ n t. record
+          { target = t.target; refset = t.refset; referenced = t.referenced; row = n };
+    }
+
 abbrev pub subject_kind : PostingKind Subject
 subject_kind =
     record {
@@ -39,11 +49,13 @@ subject_kind =
       renumbered = λ n x. record { subject = x.subject; kind = x.kind; row = n };
     }
 
--- what is merged so far, and how many links, references and subjects of each of two segments it has
+-- what is merged so far, and how many links, references, targets and subjects of each of two
+-- segments it has
 pub record MergedEdges : Type 0 where
   pub edges : Edges
   pub links : TakenCount
   pub references : TakenCount
+  pub targets : TakenCount
   pub subjects : TakenCount
 
 abbrev pub none_taken : TakenCount
@@ -52,8 +64,13 @@ none_taken = record { first = 0; second = 0 }
 -- the beginning of a merge
 abbrev pub nothing_merged : MergedEdges
 nothing_merged =
-    record
-    { edges = no_edges; links = none_taken; references = none_taken; subjects = none_taken }
+    record {
+      edges = no_edges;
+      links = none_taken;
+      references = none_taken;
+      targets = none_taken;
+      subjects = none_taken;
+    }
 
 -- of the postings of two segments so many are merged, with the numbers of their rows among the rows
 -- of both segments
@@ -61,6 +78,7 @@ pub record IsMergeOf (lists : TwoLists) (a b : Edges) (m : MergedEdges) : Type 0
   pub links : IsMerged link_kind lists a.links b.links m.links m.edges.links
   pub references :
       IsMerged reference_kind lists a.references b.references m.references m.edges.references
+  pub targets : IsMerged target_kind lists a.targets b.targets m.targets m.edges.targets
   pub subjects : IsMerged subject_kind lists a.subjects b.subjects m.subjects m.edges.subjects
 
 -- how many postings aren't merged yet
@@ -69,6 +87,7 @@ edges_left a b m =
     record {
       links = count_left a.links b.links m.links;
       references = count_left a.references b.references m.references;
+      targets = count_left a.targets b.targets m.targets;
       subjects = count_left a.subjects b.subjects m.subjects;
     }
 
@@ -78,6 +97,7 @@ less_each count n =
     record {
       links = count.links - n;
       references = count.references - n;
+      targets = count.targets - n;
       subjects = count.subjects - n;
     }
 
@@ -85,13 +105,14 @@ less_each count n =
 pub record AtMostEach (n : ℕ) (count : EdgeCount) : Type 0 where
   pub links : count.links ≤ n
   pub references : count.references ≤ n
+  pub targets : count.targets ≤ n
   pub subjects : count.subjects ≤ n
 
 -- where nothing is merged yet, a merge of any postings is so far
 abbrev pub AnyMergeBegins : Type 0
 AnyMergeBegins = (lists : TwoLists) (a b : Edges) → IsMergeOf lists a b nothing_merged
 
--- of rows there are no more links than rows, and no more references, and no more subjects
+-- of rows there are no more links than rows, and no more references, targets and subjects
 abbrev pub PostingsAreFew : Type 0
 PostingsAreFew = (rows : List StampedRow) (e : Edges)
     → ArePostingsOf rows e → AtMostEach (length rows) (count_of e)

@@ -23,14 +23,18 @@ use Rattle.as_of_index.specs.Current.{IsPlaceOfRow, IsCurrentAt}
 use Rattle.links.specs.declared.postings.Subject.{Subject}
 use Rattle.links.specs.declared.postings.Link.{Link}
 use Rattle.links.specs.declared.postings.Reference.{Reference}
+use Rattle.links.specs.declared.postings.Target.{Target}
 use Rattle.links.specs.Edges.{Edges, subject_rank}
 
--- the links, the references and the subjects of each list
+-- the links, the references, the targets and the subjects of each list
 abbrev pub links_in : List Edges → List (List Link)
 links_in lists = map (λ e. e.links) lists
 
 abbrev pub references_in : List Edges → List (List Reference)
 references_in lists = map (λ e. e.references) lists
+
+abbrev pub targets_in : List Edges → List (List Target)
+targets_in lists = map (λ e. e.targets) lists
 
 abbrev pub subjects_in : List Edges → List (List Subject)
 subjects_in lists = map (λ e. e.subjects) lists
@@ -85,24 +89,19 @@ abbrev pub AreRanked : List (List StampedRow) → ℕ → ℕ → ℕ → List (
 AreRanked lists date pin d xs kept =
     (all : List Chosen) × AreRankedTaken lists date pin d xs all × AreOnce ranked_cmp all kept
 
--- what is to be read for a reference of list n, seen from its target: its place, with refset and
--- what it refers to
-abbrev pub ranked_back : ℕ → Reference → RowPlace → Chosen
-ranked_back n r at = record { segment = n; at = at; refset = r.refset; target = r.referenced }
+-- what is to be read for a target of list n: its place, with refset and what the association refers
+-- to, by which the answer is ordered
+abbrev pub ranked_back : ℕ → Target → RowPlace → Chosen
+ranked_back n t at = record { segment = n; at = at; refset = t.refset; target = t.referenced }
 
-abbrev pub GivesRankedBack : List (List StampedRow) → ℕ → ℕ → ℕ → Reference → Chosen → Type 0
-GivesRankedBack = GivesAnswer (λ r. r.row) ranked_back
+abbrev pub GivesRankedBack : List (List StampedRow) → ℕ → ℕ → ℕ → Target → Chosen → Type 0
+GivesRankedBack = GivesAnswer (λ t. t.row) ranked_back
 
--- a reference that is current and has the target gives what is to be read
-abbrev pub GivesReplaced : List (List StampedRow) → ℕ → ℕ → ℕ → ℕ → Reference → Chosen → Type 0
-GivesReplaced lists date pin target n r k =
-    (r.target ≡ target) × GivesRankedBack lists date pin n r k
-
-abbrev pub AreReplacedTaken : List (List StampedRow) → ℕ → ℕ → ℕ → List (ℕ × Reference)
+abbrev pub AreReplacedTaken : List (List StampedRow) → ℕ → ℕ → ℕ → List (ℕ × Target)
     → List Chosen → Type 0
-AreReplacedTaken lists date pin = AreTaken (GivesRankedBack lists date pin) (λ r. r.target)
+AreReplacedTaken lists date pin = AreTaken (GivesRankedBack lists date pin) (λ t. t.target)
 
-abbrev pub AreReplaced : List (List StampedRow) → ℕ → ℕ → ℕ → List (ℕ × Reference) → List Chosen
+abbrev pub AreReplaced : List (List StampedRow) → ℕ → ℕ → ℕ → List (ℕ × Target) → List Chosen
     → Type 0
 AreReplaced lists date pin target xs kept =
     (all : List Chosen) × AreReplacedTaken lists date pin target xs all

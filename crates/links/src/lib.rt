@@ -23,7 +23,7 @@ pub use downwards::descendants;
 pub use ever_about::timeline;
 pub use hierarchy::children;
 pub use merging::Merging;
-pub use postings::{Link, Postings, Reference, Sealed, Subject};
+pub use postings::{Link, Postings, Reference, Sealed, Subject, Target};
 pub use reaching::{Steps, reached};
 pub use references::replacements;
 pub use replaced::replaces;

@@ -2,11 +2,11 @@
 
 ghost use Rattle.std.specs.Prelude.{◌≡◌, [], OnOk, OnErr};
 ghost use Rattle.std.proofs.Common.{refl};
-ghost use Rattle.links.specs.MergedEdges.{link_kind, reference_kind, subject_kind, nothing_merged};
-ghost use Rattle.links.specs.MergedEdges.{none_taken};
+ghost use Rattle.links.specs.MergedEdges.{link_kind, reference_kind, target_kind, subject_kind};
+ghost use Rattle.links.specs.MergedEdges.{none_taken, nothing_merged};
 ghost use Rattle.links.specs.MergedEdges.{IsMergeOf, edges_left, less_each};
 
-use crate::postings::{Link, Reference, Sealed, Subject, compare};
+use crate::postings::{Link, Reference, Sealed, Subject, Target, compare};
 use as_of_index::{MergedList, Numbers, Posting, TakenCount, merge_on, reserve_left};
 use std::alloc::{AllocError, Global};
 use std::cmp::Ordering;
@@ -48,6 +48,24 @@ impl Posting for Reference {
     }
 }
 
+impl Posting for Target {
+    ghost kind = { target_kind };
+
+    ghost same_rank = { λ n x. refl };
+
+    fn row(&self) -> u32 {
+        self.row
+    }
+
+    fn with_row(self, row: u32) -> Self {
+        Target { row, ..self }
+    }
+
+    fn is_below(&self, other: &Self) -> bool {
+        self.target < other.target
+    }
+}
+
 impl Posting for Subject {
     ghost kind = { subject_kind };
 
@@ -75,6 +93,7 @@ impl Posting for Subject {
 pub struct Merging {
     links: MergedList<Link>,
     references: MergedList<Reference>,
+    targets: MergedList<Target>,
     subjects: MergedList<Subject>,
 }
 
@@ -88,16 +107,19 @@ impl Model for Merging {
       edges = record {
         links = a.links.out.items;
         references = a.references.out.items;
+        targets = a.targets.out.items;
         subjects = a.subjects.out.items;
       };
       links = a.links.taken;
       references = a.references.taken;
+      targets = a.targets.taken;
       subjects = a.subjects.taken;
     } };
 
     ghost invariant = { λ a. IsSealed (record {
       links = a.links.out.items;
       references = a.references.out.items;
+      targets = a.targets.out.items;
       subjects = a.subjects.out.items;
     }) };
 }
@@ -124,12 +146,13 @@ impl Merging {
         Merging {
             links: none_of(alloc),
             references: none_of(alloc),
+            targets: none_of(alloc),
             subjects: none_of(alloc),
         }
     }
 
-    /// Merges up to so many links, references and subjects more. The first call takes the memory
-    /// for all of them. An `Err` changes nothing.
+    /// Merges up to so many links, references, targets and subjects more. The first call takes the
+    /// memory for all of them. An `Err` changes nothing.
     pub fn advance(
         &mut self,
         a: &Sealed,
@@ -145,6 +168,7 @@ impl Merging {
     {
         reserve_left(a.links(), b.links(), &mut self.links)?;
         reserve_left(a.references(), b.references(), &mut self.references)?;
+        reserve_left(a.targets(), b.targets(), &mut self.targets)?;
         reserve_left(a.subjects(), b.subjects(), &mut self.subjects)?;
         merge_on(a.links(), b.links(), numbers, &mut self.links, n);
         merge_on(
@@ -154,6 +178,7 @@ impl Merging {
             &mut self.references,
             n,
         );
+        merge_on(a.targets(), b.targets(), numbers, &mut self.targets, n);
         merge_on(a.subjects(), b.subjects(), numbers, &mut self.subjects, n);
         Ok(())
     }
@@ -165,8 +190,9 @@ impl Merging {
         let Merging {
             links,
             references,
+            targets,
             subjects,
         } = self;
-        Sealed::of_parts(links.out, references.out, subjects.out)
+        Sealed::of_parts(links.out, references.out, targets.out, subjects.out)
     }
 }

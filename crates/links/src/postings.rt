@@ -5,8 +5,8 @@ ghost use Rattle.std.specs.Prelude.{◌≡◌, ◌<◌, ◌++◌, length, vec_ca
 ghost use Rattle.std.specs.List.Sorted.{IsNonDecreasingBy, IsPermutation};
 ghost use Rattle.std.specs.Ordering.{nat_cmp};
 ghost use Rattle.links.specs.Edges.{Edges, no_edges, link, reference, posted_link};
-ghost use Rattle.links.specs.Edges.{posted_reference, posted_subject, edges_of, joined_edges};
-ghost use Rattle.links.specs.Edges.{AreSameEdges, IsSealed, subject_rank};
+ghost use Rattle.links.specs.Edges.{posted_reference, posted_target, posted_subject, edges_of};
+ghost use Rattle.links.specs.Edges.{AreSameEdges, IsSealed, joined_edges, subject_rank, target_at};
 
 use history_model::{IS_A, StampedRow, subject_of};
 use rf2_values::{Association, Body, Kind, Relationship};
@@ -39,6 +39,19 @@ pub struct Reference {
     pub row: u32,
 }
 
+/// An active association by the component that it leads to, and the number of its row.
+#[derive(Clone, Copy)]
+pub struct Target {
+    /// The component that it leads to, by its SCTID.
+    pub target: u64,
+    /// The reference set: the SCTID of a concept.
+    pub refset: u64,
+    /// The component that it refers to, by its SCTID.
+    pub referenced: u64,
+    /// The row's number in its segment, from 0 on.
+    pub row: u32,
+}
+
 /// What an active row is about, of which kind it is, and its number. There is one of nearly each
 /// row.
 #[derive(Clone, Copy)]
@@ -51,12 +64,13 @@ pub struct Subject {
     pub row: u32,
 }
 
-/// The links, references and subjects of the rows of one segment, in the order in which they were
-/// pushed.
+/// The links, references, targets and subjects of the rows of one segment, in the order in which
+/// they were pushed.
 #[derive(Drop)]
 pub struct Postings {
     links: Vec<Link>,
     references: Vec<Reference>,
+    targets: Vec<Target>,
     subjects: Vec<Subject>,
 }
 
@@ -68,6 +82,7 @@ impl Model for Postings {
     ghost view = { λ a. record {
       links = a.links.items;
       references = a.references.items;
+      targets = a.targets.items;
       subjects = a.subjects.items;
     } };
 }
@@ -78,6 +93,7 @@ impl Model for Postings {
 pub struct Sealed {
     links: Vec<Link>,
     references: Vec<Reference>,
+    targets: Vec<Target>,
     subjects: Vec<Subject>,
 }
 
@@ -89,12 +105,14 @@ impl Model for Sealed {
     ghost view = { λ a. record {
       links = a.links.items;
       references = a.references.items;
+      targets = a.targets.items;
       subjects = a.subjects.items;
     } };
 
     ghost invariant = { λ a. IsSealed (record {
       links = a.links.items;
       references = a.references.items;
+      targets = a.targets.items;
       subjects = a.subjects.items;
     }) };
 }
@@ -116,6 +134,17 @@ fn reference_of(association: &Association, row: u32) -> Reference
         referenced: association.referenced.value(),
         refset: association.refset.value(),
         target: association.target.value(),
+        row,
+    }
+}
+
+fn target_of(association: &Association, row: u32) -> Target
+    ensures { result ≡ target_at association.now row }
+{
+    Target {
+        target: association.target.value(),
+        refset: association.refset.value(),
+        referenced: association.referenced.value(),
         row,
     }
 }
@@ -142,6 +171,21 @@ fn push_edge(
             Ok(())
         }
         _ => Ok(()),
+    }
+}
+
+/// Adds the row's target, if it is active and has one. It takes no memory.
+fn push_target(targets: &mut Vec<Target>, row: &StampedRow, number: u32)
+    requires { length targets.old.items < vec_capacity targets.old }
+    ensures { targets.new.items ≡ targets.old.items ++ posted_target row.now.row number }
+{
+    match &row.row.body {
+        Body::Association(a) if row.row.active => {
+            let Ok(()) = targets.push(target_of(a, number)) else {
+                unreachable!()
+            };
+        }
+        _ => {}
     }
 }
 
@@ -178,6 +222,13 @@ fn sort_references(references: &mut Vec<Reference>)
     references.sort_unstable_by(|a, b| a.referenced.cmp(&b.referenced));
 }
 
+fn sort_targets(targets: &mut Vec<Target>)
+    ensures permutation { IsPermutation targets.old.items targets.new.items }
+    ensures rising { IsNonDecreasingBy (λ t. t.target) targets.new.items }
+{
+    targets.sort_unstable_by(|a, b| a.target.cmp(&b.target));
+}
+
 /// The order of subjects: by what the rows are about, and then by kind.
 pub(crate) fn compare(a: &Subject, b: &Subject) -> Ordering
     ensures { result ≡ nat_cmp (subject_rank a.now.subject a.now.kind)
@@ -203,23 +254,26 @@ impl Postings {
         Postings {
             links: Vec::new(alloc),
             references: Vec::new(alloc),
+            targets: Vec::new(alloc),
             subjects: Vec::new(alloc),
         }
     }
 
-    /// Adds the link or reference of the row with this number, and what the row is about, if it is
-    /// active and has them. An `Err` changes nothing.
+    /// Adds the link, or the reference and the target, of the row with this number, and what the row
+    /// is about, if it is active and has them. An `Err` changes nothing.
     pub fn push(&mut self, row: &StampedRow, number: u32) -> Result<(), AllocError>
         ensures ok { OnOk result (self.new ≡ joined_edges self.old (edges_of row.now.row number)) }
         ensures err { OnErr result (self.new ≡ self.old) }
     {
         self.subjects.reserve(1)?;
+        self.targets.reserve(1)?;
         push_edge(&mut self.links, &mut self.references, row, number)?;
+        push_target(&mut self.targets, row, number);
         push_subject(&mut self.subjects, row, number);
         Ok(())
     }
 
-    /// The links, references and subjects, each in order. It takes no memory.
+    /// The links, references, targets and subjects, each in order. It takes no memory.
     pub fn seal(self) -> Sealed
         ensures same { AreSameEdges self result }
         ensures rising { IsSealed result }
@@ -227,14 +281,17 @@ impl Postings {
         let Postings {
             mut links,
             mut references,
+            mut targets,
             mut subjects,
         } = self;
         sort_links(&mut links);
         sort_references(&mut references);
+        sort_targets(&mut targets);
         sort_subjects(&mut subjects);
         Sealed {
             links,
             references,
+            targets,
             subjects,
         }
     }
@@ -244,17 +301,24 @@ impl Sealed {
     pub(crate) fn of_parts(
         links: Vec<Link>,
         references: Vec<Reference>,
+        targets: Vec<Target>,
         subjects: Vec<Subject>,
     ) -> Sealed
         requires links { IsNonDecreasingBy (λ l. l.destination) links.items }
         requires references { IsNonDecreasingBy (λ r. r.referenced) references.items }
+        requires targets { IsNonDecreasingBy (λ t. t.target) targets.items }
         requires subjects { IsNonDecreasingBy (λ x. subject_rank x.subject x.kind) subjects.items }
-        ensures { result ≡ record
-            { links = links.items; references = references.items; subjects = subjects.items } }
+        ensures { result ≡ record {
+          links = links.items;
+          references = references.items;
+          targets = targets.items;
+          subjects = subjects.items;
+        } }
     {
         Sealed {
             links,
             references,
+            targets,
             subjects,
         }
     }
@@ -271,6 +335,13 @@ impl Sealed {
         ensures rising { IsNonDecreasingBy (λ r. r.referenced) self.now.references }
     {
         self.references.as_slice()
+    }
+
+    pub(crate) fn targets(&self) -> &[Target]
+        ensures targets { result.now ≡ self.now.targets }
+        ensures rising { IsNonDecreasingBy (λ t. t.target) self.now.targets }
+    {
+        self.targets.as_slice()
     }
 
     pub(crate) fn subjects(&self) -> &[Subject]

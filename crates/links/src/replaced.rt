@@ -1,79 +1,68 @@
 //! What a component stands in the place of, as the posted associations say.
 
-ghost use Rattle.std.specs.Prelude.{◌≡◌, ◌≢◌, ◌↔◌, ◌+◌, ◌≤◌, List, Some, map, IfOk, IfErr, OnOk};
+ghost use Rattle.std.specs.Prelude.{◌≡◌, ◌≢◌, ◌↔◌, ◌+◌, ◌≤◌, List, map, IfOk, IfErr, OnOk};
 ghost use Rattle.std.specs.List.{sum_by};
+ghost use Rattle.std.specs.List.Sorted.{IsNonDecreasingBy};
 ghost use Rattle.rf2_values.specs.Key.{key_of};
 ghost use Rattle.history_model.specs.declared.stamped.StampedRow.{StampedRow};
+ghost use Rattle.history_model.specs.InOrder.{Has};
 ghost use Rattle.history_model.specs.History.{rows_at};
 ghost use Rattle.history_model.specs.Lists.{listed};
 ghost use Rattle.history_model.specs.Queries.{replaces};
-ghost use Rattle.segment.specs.declared.place.RowPlace.{RowPlace};
 ghost use Rattle.as_of_index.specs.Places.{Lists};
-ghost use Rattle.as_of_index.specs.Current.{IsPlaceOfRow, IsCurrentAt};
 ghost use Rattle.as_of_index.specs.Private.Postings.{numbered};
 ghost use Rattle.fault_counts.specs.Counting.{Counts, CountsDiskFault, CountsDamage};
 ghost use Rattle.fault_counts.specs.declared.fault.ReadFault.TheVariants as readfault;
 ghost use Rattle.links.specs.Laws.{EachPosted};
-ghost use Rattle.links.specs.Private.{references_in, ranked_back, GivesReplaced, Takes, AreReplaced};
+ghost use Rattle.links.specs.Private.{targets_in, ranked_back, GivesRankedBack, Takes, AreReplaced};
 
 use crate::Links;
-use crate::postings::{Reference, Sealed};
+use crate::postings::{Sealed, Target};
 use crate::references::sort_once;
 use as_of_index::{Chosen, Index, ReadFault, RowReader, read_all};
 use rf2_values::{EffectiveTime, Row, Sctid};
 use segment::RowPlace;
 use std::alloc::{AllocError, Global};
 
+/// The targets that are this component.
+fn targets_to(list: &[Target], target: u64) -> &[Target]
+    ensures { IsNonDecreasingBy (λ t. t.target) list.now →
+        (t : _) → Has result.now t ↔ (Has list.now t × (t.target ≡ target)) }
+{
+    let first = list.partition_point(|t| t.target < target);
+    let rest = &list[first..];
+    let count = rest.partition_point(|t| t.target <= target);
+    &rest[..count]
+}
+
 /// What is to be read, by refset, then by what the association refers to, then by member.
-fn chosen(segment: usize, r: &Reference, at: RowPlace) -> Chosen
-    ensures { result ≡ ranked_back segment r.now at }
+fn chosen(segment: usize, t: &Target, at: RowPlace) -> Chosen
+    ensures { result ≡ ranked_back segment t.now at }
 {
     Chosen {
         segment,
         at,
-        refset: r.refset,
-        target: r.referenced,
+        refset: t.refset,
+        target: t.referenced,
     }
 }
 
-/// The place of the reference's row, if the component is its target and it is current.
-fn place_of_replaced(
-    r: &Reference,
-    target: u64,
-    segment: usize,
-    index: &Index,
-    time: EffectiveTime,
-    pin: u32,
-) -> Option<RowPlace>
-    ensures { (lists : List (List StampedRow)) → Lists index.now lists → (at : RowPlace)
-        → (result ≡ Some at)
-        ↔ ((r.now.target ≡ target) × IsPlaceOfRow lists segment r.now.row at
-        × IsCurrentAt lists time pin segment at) }
-{
-    if r.target == target {
-        index.current_at(segment, r.row, time, pin)
-    } else {
-        None
-    }
-}
-
-/// Adds what is to be read for those of the references that are current and have the target.
+/// Adds what is to be read for those of the targets whose rows are current.
 fn add_replaced(
     kept: &mut Vec<Chosen>,
-    references: &[Reference],
-    target: u64,
+    targets: &[Target],
     segment: usize,
     index: &Index,
     time: EffectiveTime,
     pin: u32,
 ) -> Result<(), AllocError>
     ensures { OnOk result ((lists : List (List StampedRow)) → Lists index.now lists
-        → Takes (GivesReplaced lists time pin target segment) references.now kept.old.items
+        → Takes (GivesRankedBack lists time pin segment) targets.now kept.old.items
         kept.new.items) }
 {
-    for r in references {
-        if let Some(at) = place_of_replaced(r, target, segment, index, time, pin) {
-            kept.push(chosen(segment, r, at))?;
+    for t in targets {
+        if let Some(at) = index.current_at(segment, t.row, time, pin) {
+            kept.push(chosen(segment, t, at))?;
         }
     }
     Ok(())
@@ -89,27 +78,20 @@ fn chosen_all(
     pin: u32,
 ) -> Result<Vec<Chosen>, AllocError>
     ensures { IfOk result (λ kept. (lists : List (List StampedRow)) → Lists index.now lists
-        → AreReplaced lists time pin target (numbered 0 (references_in links.now)) kept.items) }
+        → AreReplaced lists time pin target (numbered 0 (targets_in links.now)) kept.items) }
 {
     let mut kept = Vec::new(alloc);
     for (segment, list) in links.iter().enumerate() {
-        add_replaced(
-            &mut kept,
-            list.references(),
-            target,
-            segment,
-            index,
-            time,
-            pin,
-        )?;
+        let those = targets_to(list.targets(), target);
+        add_replaced(&mut kept, those, segment, index, time, pin)?;
     }
     sort_once(&mut kept);
     Ok(kept)
 }
 
 /// The active associations at the date of which the component is the target, by refset, by the
-/// component that they refer to, by member, of the rows that the pin shows. It goes over all posted
-/// associations, 32 bytes each, and makes one bisection a list for each of those with this target.
+/// component that they refer to, by member, of the rows that the pin shows. It makes two bisections
+/// a list, and one a list for each posted association with this target.
 pub fn replaces<R: RowReader>(
     alloc: Global,
     links: &Links,

@@ -1,4 +1,3 @@
-use Rattle.std.proofs.Common.{◌≡◌}
 use Rattle.term_prefix.specs.Merged.{IsMergeOfTerms}
 use Rattle.history_cases.proofs.turns.advance_terms.Given as goal
 

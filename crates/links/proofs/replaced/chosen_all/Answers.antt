@@ -1,16 +1,16 @@
 use Rattle.std.proofs.Common.{subst, take, take_all}
 use Rattle.as_of_index.specs.Private.Postings.{numbered}
-use Rattle.links.specs.declared.postings.Reference.{Reference}
+use Rattle.links.specs.declared.postings.Target.{Target}
 use Rattle.links.specs.Edges.{Edges}
-use Rattle.links.specs.Private.{references_in, GivesRankedBack, AreReplacedTaken}
+use Rattle.links.specs.Private.{targets_in, GivesRankedBack, AreReplacedTaken}
 use Rattle.links.proofs.Numbering.{numbered-more}
-use Rattle.links.proofs.Collected.{none_taken, more_picked}
+use Rattle.links.proofs.Collected.{none_taken, more_taken}
 use Rattle.links.proofs.replaced.chosen_all.Goals as goal
 
 pub loop-segment-init : goal.loop-segment-init
 loop-segment-init c = λ lists listed_so.
     let a = c.args in
-    rw c.new-kept.ensures.items (none_taken (GivesRankedBack lists a.time a.pin) (λ (x : Reference). x.target) a.target)
+    rw c.new-kept.ensures.items (none_taken (GivesRankedBack lists a.time a.pin) (λ (x : Target). x.target) a.target)
 
 pub loop-segment-preserved : goal.loop-segment-preserved
 loop-segment-preserved c = λ lists listed_so.
@@ -18,13 +18,13 @@ loop-segment-preserved c = λ lists listed_so.
     let i = c.loop-segment.segment in
     let list = c.index-links-segment.result in
     let so_far = c.loop-segment.invariant lists listed_so in
-    let those = rw c.references.ensures.references at (c.in_ok-add_replaced.ensures lists listed_so) in
-    rw (numbered-more (λ (e : Edges). e.references) a.links.now i list c.loop-segment-test.true c.index-links-segment.is)
-    (more_picked (GivesRankedBack lists a.time a.pin) (λ (x : Reference). x.target) a.target i (numbered 0 (references_in (take i a.links.now))) list.references c.loop-segment.kept.items c.add_replaced.new.kept.items
-    so_far those)
+    let which = rw c.targets.ensures.targets at (c.targets_to-those.ensures (rw c.targets.ensures.targets c.targets.ensures.rising)) in
+    rw (numbered-more (λ (e : Edges). e.targets) a.links.now i list c.loop-segment-test.true c.index-links-segment.is)
+    (more_taken (GivesRankedBack lists a.time a.pin) (λ (x : Target). x.target) a.target i (numbered 0 (targets_in (take i a.links.now))) list.targets c.targets_to-those.result.now c.loop-segment.kept.items c.add_replaced.new.kept.items
+    so_far which (c.in_ok-add_replaced.ensures lists listed_so))
 
 pub returns : goal.returns
 returns c = λ lists listed_so.
     let a = c.args in
     let all = c.loop-segment.kept.items in
-    (all, subst (λ xs. AreReplacedTaken lists a.time a.pin a.target (numbered 0 (references_in xs)) all) (take_all c.loop-segment.segment a.links.now c.loop-segment-test.false) (c.loop-segment.invariant lists listed_so), c.sort_once.ensures)
+    (all, subst (λ xs. AreReplacedTaken lists a.time a.pin a.target (numbered 0 (targets_in xs)) all) (take_all c.loop-segment.segment a.links.now c.loop-segment-test.false) (c.loop-segment.invariant lists listed_so), c.sort_once.ensures)

@@ -7,8 +7,8 @@ use Rattle.links.proofs.merging.Merging.advance.Goals as goal
 abbrev IsRising : List Subject → Type 0
 IsRising xs = IsNonDecreasingBy (λ x. subject_rank x.subject x.kind) xs
 
-pub merge_on-requires-3-clause-first : goal.merge_on-requires-3-clause-first
-merge_on-requires-3-clause-first c = subst IsRising (sym c.subjects-3.ensures.subjects) c.subjects-3.ensures.rising
+pub merge_on-requires-4-clause-first : goal.merge_on-requires-4-clause-first
+merge_on-requires-4-clause-first c = subst IsRising (sym c.subjects-3.ensures.subjects) c.subjects-3.ensures.rising
 
-pub merge_on-requires-3-clause-second : goal.merge_on-requires-3-clause-second
-merge_on-requires-3-clause-second c = subst IsRising (sym c.subjects-4.ensures.subjects) c.subjects-4.ensures.rising
+pub merge_on-requires-4-clause-second : goal.merge_on-requires-4-clause-second
+merge_on-requires-4-clause-second c = subst IsRising (sym c.subjects-4.ensures.subjects) c.subjects-4.ensures.rising

@@ -1,0 +1,23 @@
+use Rattle.std.proofs.Common.{◌≡◌, ◌-◌, length, take, drop, sym, subst, arith, rules, take_all}
+use Rattle.std.specs.Prelude.{nat_lt, nat_le}
+use Rattle.std.specs.List.Sorted.{IsPartitionedBy}
+use Rattle.std.proofs.lemmas.List.{length-drop}
+use Rattle.std.proofs.lemmas.List.Sorted.{IsPartitionPoint-from_clause, IsPartitionedBy-ltb, IsPartitionedBy-leb, IsNonDecreasingBy-drop}
+use Rattle.links.specs.declared.postings.Target.{Target}
+use Rattle.as_of_index.proofs.Ordered.{splits}
+use Rattle.links.proofs.Numbering.{those_from, those_all}
+use Rattle.links.proofs.replaced.targets_to.Goals as goal
+
+pub returns : goal.returns
+returns c = λ up x.
+    let xs = c.args.list.now in
+    let d = c.args.target in
+    let of = λ (x : Target). x.target in
+    let first = c.partition_point-first.result in
+    let count = c.partition_point-count.result in
+    let whole : take (length xs - first) (drop first xs) ≡ drop first xs = take_all (length xs - first) (drop first xs) (omega (arith, length-drop first xs)) in
+    let low = splits (λ (x : Target). nat_lt x.target d) xs first c.partition_point-first.ensures.bound
+    (IsPartitionPoint-from_clause (λ (x : Target). nat_lt x.target d) xs first c.partition_point-first.ensures.partitioned (IsPartitionedBy-ltb of xs d up) (λ a r f k. search rules)) in
+    let high = rw whole at (splits (λ (x : Target). nat_le x.target d) (take (length xs - first) (drop first xs)) count c.partition_point-count.ensures.bound
+    (IsPartitionPoint-from_clause (λ (x : Target). nat_le x.target d) (take (length xs - first) (drop first xs)) count c.partition_point-count.ensures.partitioned (subst (λ ys. IsPartitionedBy (λ (x : Target). nat_le x.target d) ys) (sym whole) (IsPartitionedBy-leb of (drop first xs) d (IsNonDecreasingBy-drop of first xs up))) (λ a r f k. search rules))) in
+    rw whole (λ h. those_from of xs d first count low high x h, λ h. those_all of xs d first count low high x h.0 h.1)
