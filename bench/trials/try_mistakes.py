@@ -146,15 +146,19 @@ def try_telling(tries):
     near = "xsct2_Concept_full_INT_20200131.txt"
     write(tries.path("releases", "told", "Terminology", near), COLUMNS)
     write(tries.path("releases", "told", "Terminology", "readme.txt"), "")
-    warning = "sctd: warning: passed over %s, " % near
+    write(tries.path("releases", "told", "Refset", "Map", "map.txt"), "")
+    write(tries.path("releases", "told", "notes\nsctd: forged"), "")
+    warning = "sctd: warning: passed over Terminology/%s, " % near
     words = ["import", "--store", "named", "releases/told"]
     for quiet in (False, True):
         status, output, faults = tries.run(words + (["--quiet"] if quiet else []))
         lines = faults.splitlines()
         fine = status == 0 and output.startswith("OK ") and any(line.startswith(warning) for line in lines)
         for line in ("reading " + CONCEPTS, "took %s: Concept, rows: 1" % CONCEPTS,
-                     "passed over readme.txt", "importing"):
+                     "passed over Terminology/readme.txt", "passed over Refset/Map/map.txt",
+                     "passed over notes\\nsctd: forged", "importing"):
             fine = fine and ("sctd: " + line in lines) != quiet
+        fine = fine and not any(line.startswith("sctd: forged") for line in lines)
         tries.check("what an import tells", fine, (status, output, faults))
     content = tries.path("releases", "few", "Refset", "Content")
     write(os.path.join(content, "der2_cRefset_AssociationFull_INT_20200131.txt"),

@@ -18,3 +18,4 @@ IsFaultOf error fault =
 abbrev pub folder_fault : ReadFault → FolderFault
 folder_fault reading.OutOfMemory = faults.OutOfMemory
 folder_fault (reading.Met path obstacle) = faults.NoFolder
+folder_fault (reading.Misnamed folder name) = faults.NoFolder

@@ -1,5 +1,5 @@
 -- Which files of a folder are release files, by their names.
-use Rattle.std.specs.Prelude.{◌≡◌, ◌⊎◌, ◌≤◌, ◌-◌, ℕ, Bool, List, ◌++◌, length, codes, string_bytes}
+use Rattle.std.specs.Prelude.{◌≡◌, ◌⊎◌, ◌≤◌, ◌-◌, ◌≢◌, ℕ, Bool, List, ◌++◌, All, Any, length, codes, string_bytes}
 use Rattle.std.specs.List.Sorted.{IsPermutation, IsSortedBy}
 use Rattle.std.specs.Ordering.{is_lt}
 use Rattle.std.specs.String.{string_cmp}
@@ -23,6 +23,25 @@ pub record IsTaken (kind : Kind) (name : List ℕ) : Type 0 where
   pub holds : Contains name (codes "Delta") ⊎ Contains name (codes "Full")
   pub ends : (length (codes ".txt") ≤ length name)
       × OccursAt name (codes ".txt") (length name - length (codes ".txt"))
+
+-- the folder of a release whose files are read, by its path
+abbrev pub IsReadFolder : List ℕ → Type 0
+IsReadFolder folder = (folder ≡ codes "Terminology/") ⊎ (folder ≡ codes "Refset/Content/")
+
+-- a file that isn't read, by its folder and its name: one of
+-- another folder, or whose name is that of no kind of file
+abbrev pub IsPassedOver : List ℕ → List ℕ → Type 0
+IsPassedOver folder name = IsReadFolder folder → (kind : Kind) → IsTaken kind name → ⊥
+
+-- a file of concepts of a Full release, by its kind and its name
+pub record IsFullOfConcepts (file : ReleaseFile) : Type 0 where
+  pub of_concepts : file.kind ≡ kind.Concept
+  pub full : Contains (string_bytes file.name) (codes "Full")
+
+-- a release has a Full file of concepts and no file of this kind
+pub record Lacks (files : List ReleaseFile) (missing : Kind) : Type 0 where
+  pub concepts : Any IsFullOfConcepts files
+  pub none : All (λ file. file.kind ≢ missing) files
 
 -- a file whose name says that it is one to take, of its
 -- kind, and of no more bytes than a count of 32 bits can say

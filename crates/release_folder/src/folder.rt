@@ -9,8 +9,9 @@ use crate::fault::FolderFault;
 use crate::guards::{
     CONTENT, LARGEST, TERMINOLOGY, check_file, check_folder, check_parts, nothing_in, unlisted,
 };
-use crate::names::kind_to_take;
+use crate::names::{kind_to_take, shown_name};
 use crate::obstacle::{Obstacle, ReadFault};
+use crate::passed_over::tell_passed_over;
 use crate::watcher::{Unwatched, Watcher};
 use import_check::{Release, ReleaseFile};
 use std::alloc::Global;
@@ -41,7 +42,8 @@ pub fn read_folder<R: Files<File = File> + AllocGlobal + Clone + Drop>(
 }
 
 /// The release that `read_folder` reads, or what stood in its way. Nothing is opened that isn't a
-/// folder or a regular file. The watcher is told of each file in the two folders.
+/// folder or a regular file. The watcher is told first which files aren't read, in whichever folder
+/// of the release they stand, and then of each one that is read.
 pub fn read_release<R: Files<File = File> + AllocGlobal + Clone + Drop, W: Watcher>(
     rt: &R,
     alloc: Global,
@@ -56,6 +58,7 @@ pub fn read_release<R: Files<File = File> + AllocGlobal + Clone + Drop, W: Watch
     let root = format!(in alloc; "{dir}/{name}")?;
     check_folder(rt, alloc, &root)?;
     check_parts(rt, alloc, &root)?;
+    tell_passed_over(rt, alloc, &root, watcher)?;
     let terminology = files_of(rt, alloc, &root, TERMINOLOGY, watcher)?;
     let content = files_of(rt, alloc, &root, CONTENT, watcher)?;
     match release_of(terminology, content) {
@@ -127,12 +130,10 @@ fn add_files<R: Files<File = File> + AllocGlobal + Clone + Drop, W: Watcher>(
 {
     for name in names_in(rt, alloc, folder)? {
         if let Some(kind) = kind_to_take(name.as_bytes()) {
-            watcher.reads(&name);
+            watcher.reads(&shown_name(alloc, name.as_bytes())?);
             let path = format!(in alloc; "{folder}/{name}")?;
             let bytes = whole_file(rt, alloc, &path)?;
             files.push(ReleaseFile { name, kind, bytes })?;
-        } else {
-            watcher.passes_over(&name);
         }
     }
     Ok(())
@@ -153,7 +154,7 @@ fn names_in<R: Files<File = File> + AllocGlobal + Clone + Drop>(
     for entry in entries {
         let entry = match entry {
             Ok(entry) => entry,
-            Err(error) => return Err(unlisted(alloc, folder, error)),
+            Err(error) => return Err(unlisted(rt, alloc, folder, error)),
         };
         names.push(String::from_str(alloc, entry.file_name())?)?;
     }

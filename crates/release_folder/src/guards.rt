@@ -5,6 +5,7 @@ ghost use Rattle.std.specs.Prelude.{◌≡◌};
 ghost use Rattle.release_folder.specs.Faults.{folder_fault};
 ghost use Rattle.release_folder.specs.declared.fault.FolderFault.TheVariants.{NoFolder};
 
+use crate::listing::misnamed_in;
 use crate::obstacle::{Obstacle, ReadFault};
 use std::alloc::{AllocError, Global};
 use std::fs::{self, File, Files, Metadata};
@@ -20,7 +21,7 @@ pub(crate) const TERMINOLOGY: &str = "Terminology";
 pub(crate) const CONTENT: &str = "Refset/Content";
 
 /// The folder that holds `Content`.
-const REFSET: &str = "Refset";
+pub(crate) const REFSET: &str = "Refset";
 
 /// What is at a path, if anything is. A link that leads nowhere is refused, and not taken for
 /// nothing.
@@ -88,10 +89,26 @@ pub(crate) fn check_file<R: Files<File = File>>(
 }
 
 /// What the system said while it listed a folder.
-pub(crate) fn unlisted(alloc: Global, folder: &str, error: io::Error) -> ReadFault {
+pub(crate) fn unlisted<R: Files<File = File>>(
+    rt: &R,
+    alloc: Global,
+    folder: &str,
+    error: io::Error,
+) -> ReadFault {
     match error.kind() {
-        ErrorKind::InvalidFilename => ReadFault::met(alloc, folder, Obstacle::NotUtf8),
+        ErrorKind::InvalidFilename => misnamed(rt, alloc, folder),
         _ => ReadFault::said(alloc, folder, error),
+    }
+}
+
+/// Tells which name in a folder isn't UTF-8.
+fn misnamed<R: Files<File = File>>(rt: &R, alloc: Global, folder: &str) -> ReadFault {
+    let Ok(Some(name)) = misnamed_in(rt, alloc, folder) else {
+        return ReadFault::met(alloc, folder, Obstacle::NotUtf8);
+    };
+    match String::from_str(alloc, folder) {
+        Ok(folder) => ReadFault::Misnamed { folder, name },
+        Err(_) => ReadFault::OutOfMemory,
     }
 }
 

@@ -4,13 +4,17 @@
 mod fault;
 mod folder;
 mod guards;
+mod lacking;
+mod listing;
 mod names;
 mod nearly;
 mod obstacle;
+mod passed_over;
 mod watcher;
 
 pub use fault::FolderFault;
 pub use folder::{read_folder, read_release, release_of};
+pub use lacking::lacks;
 pub use names::kind_to_take;
 pub use nearly::is_nearly_to_take;
 pub use obstacle::{Obstacle, ReadFault};

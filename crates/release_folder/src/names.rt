@@ -1,13 +1,18 @@
 //! Which files are taken, by their names.
 
-ghost use Rattle.std.specs.Prelude.{◌≡◌, ◌↔◌, ◌⊎◌, IsTrue, MatchOption, codes};
+ghost use Rattle.std.specs.Prelude.{◌≡◌, ◌↔◌, ◌⊎◌, IsTrue, IfOk, MatchOption, codes};
+ghost use Rattle.std.specs.Prelude.{string_bytes, encode_utf8_all};
+ghost use Rattle.std.specs.List.{AllByRecursion};
 ghost use Rattle.memchr.specs.Find.{OccursAt};
 ghost use Rattle.bstr.specs.Text.{Contains};
 ghost use Rattle.rf2_values.specs.declared.row.Kind.{Kind};
 ghost use Rattle.release_folder.specs.Names.{beginning, IsTaken};
+ghost use Rattle.shown_names.specs.Shown.{shown, IsPrintable};
 
 use bstr::ByteSlice;
 use rf2_values::Kind;
+use shown_names::Shown;
+use std::alloc::{AllocError, Global};
 
 /// What the name of a file of a kind begins with.
 pub(crate) fn beginning_of(kind: Kind) -> &'static [u8]
@@ -52,4 +57,14 @@ pub fn kind_to_take(name: &[u8]) -> Option<Kind>
     } else {
         None
     }
+}
+
+/// What people are shown of a name or a path: a text without control characters.
+pub(crate) fn shown_name(alloc: Global, name: &[u8]) -> Result<String, AllocError>
+    ensures shown { IfOk result (λ text. string_bytes text ≡ encode_utf8_all (shown name.now)) }
+    ensures printable { IfOk result (λ text. AllByRecursion IsPrintable (string_bytes text)) }
+{
+    shown_names::no_control_characters(name);
+    let name = Shown(name);
+    format!(in alloc; "{name}")
 }

@@ -1,6 +1,6 @@
 //! Names that people may take for those of release files.
 
-use crate::names::beginning_of;
+use crate::names::{beginning_of, kind_to_take};
 use rf2_values::Kind;
 
 /// All kinds, each with files of its own.
@@ -28,9 +28,18 @@ fn ends_with(name: &[u8], ending: &[u8]) -> bool {
     }
 }
 
-/// Whether the name would be one to take if case didn't count, and if an `x`, as
-/// packages set before the names of files of a beta release, weren't there.
-pub fn is_nearly_to_take(name: &[u8]) -> bool {
+/// Whether the name at the end of a path isn't one to take, but would be if case didn't count, and
+/// if an `x`, as packages set before the names of files of a beta release, weren't there.
+pub fn is_nearly_to_take(path: &[u8]) -> bool {
+    let name = match path.iter().rposition(|byte| *byte == b'/') {
+        Some(at) => path.get(at.saturating_add(1)..).unwrap_or(path),
+        None => path,
+    };
+    kind_to_take(name).is_none() && is_alike(name)
+}
+
+/// Whether the name is like one to take.
+fn is_alike(name: &[u8]) -> bool {
     let rest = match name {
         [b'x' | b'X', rest @ ..] => rest,
         _ => name,

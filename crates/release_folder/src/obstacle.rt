@@ -4,6 +4,7 @@ ghost use Rattle.std.specs.Prelude.{◌≡◌};
 ghost use Rattle.release_folder.specs.declared.obstacle.ReadFault.TheVariants.{OutOfMemory};
 
 use crate::fault::FolderFault;
+use shown_names::Shown;
 use std::alloc::{AllocError, AllocFailed, Global};
 use std::fmt::{self, Display, Formatter};
 use std::io;
@@ -42,6 +43,8 @@ pub enum ReadFault {
     OutOfMemory,
     /// The path is empty where memory ran out for it.
     Met { path: String, obstacle: Obstacle },
+    /// A name in this folder isn't UTF-8.
+    Misnamed { folder: String, name: Vec<u8> },
 }
 
 impl ReadFault {
@@ -75,7 +78,7 @@ impl ReadFault {
     {
         match self {
             ReadFault::OutOfMemory => FolderFault::OutOfMemory,
-            ReadFault::Met { .. } => FolderFault::NoFolder,
+            ReadFault::Met { .. } | ReadFault::Misnamed { .. } => FolderFault::NoFolder,
         }
     }
 }
@@ -85,7 +88,14 @@ impl Display for ReadFault {
         match self {
             ReadFault::OutOfMemory => f.write_str("out of memory"),
             ReadFault::Met { path, obstacle } if path.is_empty() => write!(f, "{obstacle}"),
-            ReadFault::Met { path, obstacle } => write!(f, "{path}: {obstacle}"),
+            ReadFault::Met { path, obstacle } => {
+                let path = Shown(path.as_bytes());
+                write!(f, "{path}: {obstacle}")
+            }
+            ReadFault::Misnamed { folder, name } => {
+                let (folder, name) = (Shown(folder.as_bytes()), Shown(name));
+                write!(f, "{folder}: the name of a file in it isn't UTF-8: {name}")
+            }
         }
     }
 }

@@ -2,7 +2,8 @@
 
 use import_check::{Release, ReleaseFile};
 use release_folder::{
-    FolderFault, Unwatched, Watcher, is_nearly_to_take, kind_to_take, read_folder, read_release,
+    FolderFault, Unwatched, Watcher, is_nearly_to_take, kind_to_take, lacks, read_folder,
+    read_release,
 };
 use rf2_values::Kind;
 use samples::sample;
@@ -263,7 +264,7 @@ fn names_that_are_nearly_ones_to_take(rt: HostRuntime) {
     for name in [
         "sct2_relationship_full_INT_20200131.txt",
         "xsct2_Concept_Full_INT_20200131.txt",
-        "XSCT2_DESCRIPTION_DELTA-EN_INT_20200131.TXT",
+        "Terminology/XSCT2_DESCRIPTION_DELTA-EN_INT_20200131.TXT",
         "sct2_Relationshipconcretevalues_Full_INT_20200131.txt",
         "der2_crefset_associationFull_INT_20200131.txt",
     ] {
@@ -274,6 +275,9 @@ fn names_that_are_nearly_ones_to_take(rt: HostRuntime) {
         "",
         "x",
         "xxsct2_Concept_Full_INT_20200131.txt",
+        "sct2_Concept_Full_INT_20200131.txt",
+        "old/sct2_Concept_Full_INT_20200131.txt",
+        "sct2_Concept_full_INT_20200131.txt/readme.txt",
         "sct2_Concept_Snapshot_INT_20200131.txt",
         "sct2_Identifier_Full_INT_20200131.txt",
         "sct2_Concept_Full_INT_20200131.csv",
@@ -297,8 +301,8 @@ impl Watcher for Notes {
         }
     }
 
-    fn passes_over(&mut self, name: &str) {
-        if let Ok(line) = format!(in self.alloc; "passes over {name}") {
+    fn passes_over(&mut self, path: &str) {
+        if let Ok(line) = format!(in self.alloc; "passes over {path}") {
             let _ = self.lines.push(line);
         }
     }
@@ -314,24 +318,103 @@ fn are_lines(lines: &[String], wanted: &[&str]) -> bool {
     lines.len() == wanted.len()
 }
 
+/// The name of the file that the watched release has in several folders.
+const TAKEN: &str = "sct2_Concept_Full_INT_20200131.txt";
+
+/// Makes a release whose file to take stands in both folders that are read, and in two others.
+/// Around them are files that aren't to be taken, a folder without files, and a link to a folder.
+fn make_watched(rt: &HostRuntime) -> Result<(), Fail> {
+    for folder in ["Terminology", "Refset/Content", "Refset/Map", "old"] {
+        let folder = format!(in rt.alloc(); "releases/watched/{folder}")?;
+        write_in(rt, &folder, TAKEN, b"id")?;
+    }
+    write_in(rt, "releases/watched", "notes\n.txt", b"")?;
+    write_in(rt, "releases/watched/Terminology", "readme.txt", b"")?;
+    write_in(rt, "releases/watched/Terminology/older", "a.txt", b"")?;
+    fs::create_dir_all(rt, "releases/watched/none")?;
+    Ok(rt.symlink("..", "releases/watched/Refset/round")?)
+}
+
 #[test]
 fn a_watcher_is_told_of_each_file(rt: HostRuntime) -> Result<(), Fail> {
-    let taken = "sct2_Concept_Full_INT_20200131.txt";
-    write_in(&rt, "releases/watched/Terminology", taken, b"id")?;
-    write_in(&rt, "releases/watched/Refset/Content", taken, b"id")?;
-    write_in(&rt, "releases/watched/Terminology", "readme.txt", b"")?;
+    make_watched(&rt)?;
     let mut notes = Notes {
         alloc: rt.alloc(),
         lines: Vec::new(rt.alloc()),
     };
     let read = read_release(&rt, rt.alloc(), "releases", "watched", &mut notes);
     assert!(rt; read.is_ok());
-    notes.lines.sort_unstable();
     let wanted = [
-        "passes over readme.txt",
+        "passes over Refset/Map/sct2_Concept_Full_INT_20200131.txt",
+        "passes over Refset/round",
+        "passes over Terminology/older/a.txt",
+        "passes over Terminology/readme.txt",
+        "passes over notes\\n.txt",
+        "passes over old/sct2_Concept_Full_INT_20200131.txt",
         "reads sct2_Concept_Full_INT_20200131.txt",
         "reads sct2_Concept_Full_INT_20200131.txt",
     ];
     assert!(rt; are_lines(notes.lines.as_slice(), &wanted));
+    Ok(())
+}
+
+#[test]
+fn a_link_in_the_place_of_a_folder_is_followed(rt: HostRuntime) -> Result<(), Fail> {
+    write_in(&rt, "releases/target", TAKEN, b"id")?;
+    write_in(&rt, "releases/target", "readme.txt", b"")?;
+    fs::create_dir_all(&rt, "releases/linked")?;
+    rt.symlink("../target", "releases/linked/Terminology")?;
+    let mut notes = Notes {
+        alloc: rt.alloc(),
+        lines: Vec::new(rt.alloc()),
+    };
+    let read = read_release(&rt, rt.alloc(), "releases", "linked", &mut notes);
+    assert!(rt; read.is_ok());
+    let wanted = [
+        "passes over Terminology/readme.txt",
+        "reads sct2_Concept_Full_INT_20200131.txt",
+    ];
+    assert!(rt; are_lines(notes.lines.as_slice(), &wanted));
+    Ok(())
+}
+
+#[test]
+fn a_name_that_is_in_the_way_is_told_on_one_line(rt: HostRuntime) -> Result<(), Fail> {
+    let name = "in\nthe\u{1b}[31mway\\";
+    let text = "releases/in\\nthe\\u{1b}[31mway\\\\: no such folder";
+    assert!(rt; is_in_the_way(&rt, name, text)?);
+    Ok(())
+}
+
+/// A file of this kind, of no rows.
+fn file_of(alloc: Global, kind: Kind, name: &str) -> Result<ReleaseFile, Fail> {
+    Ok(ReleaseFile {
+        name: String::from_str(alloc, name)?,
+        kind,
+        bytes: Vec::new(alloc),
+    })
+}
+
+#[test]
+fn what_a_full_release_lacks(rt: HostRuntime) -> Result<(), Fail> {
+    let alloc = rt.alloc();
+    let mut files = Vec::new(alloc);
+    assert!(rt; !lacks(&files, Kind::Description));
+    files.push(file_of(alloc, Kind::Concept, "sct2_Concept_Delta_INT_20200131.txt")?)?;
+    files.push(file_of(
+        alloc,
+        Kind::Relationship,
+        "sct2_Relationship_Full_INT_20200131.txt",
+    )?)?;
+    assert!(rt; !lacks(&files, Kind::Description));
+    files.push(file_of(alloc, Kind::Concept, TAKEN)?)?;
+    assert!(rt; lacks(&files, Kind::Description));
+    assert!(rt; !lacks(&files, Kind::Relationship));
+    files.push(file_of(
+        alloc,
+        Kind::Description,
+        "sct2_Description_Full-en_INT_20200131.txt",
+    )?)?;
+    assert!(rt; !lacks(&files, Kind::Description));
     Ok(())
 }

@@ -1,4 +1,4 @@
-//! Identifiers, days, members, keys, and rows made of columns.
+//! Identifiers, days, members, keys, rows made of columns, and names as people are shown them.
 //!
 //! - `sctid TEXT` answers the class of the identifier that the text spells, `sctid_of NUMBER` the
 //!   identifier with a number, `time TEXT` the number of the day, `member TEXT` that of the member,
@@ -6,12 +6,14 @@
 //! - `below KIND ID DAY < KIND ID DAY` answers whether the first key is less, by `compare`, by `<`
 //!   and by `==`, and neither turned round nor of one with itself;
 //! - `bytes_of a key` answers how many bytes it takes in memory;
+//! - `shown TEXT` answers what the name of a file that the text spells is shown as;
 //! - `term TEXT` answers whether there is a row of a description with this term, `concept_of ID
 //!   MODULE STATUS` whether there is one of a concept with these numbers.
 
 use case_files::{Answer, NoAnswer, unquoted};
 use case_values::{day_of, first_word, kind_of, number, sctid_of};
 use rf2_values::{Body, Concept, Description, EffectiveTime, Key, Member, Row, Sctid, Text};
+use shown_names::Shown;
 use std::alloc::Global;
 use std::cmp::Ordering;
 use std::mem::size_of;
@@ -59,6 +61,12 @@ fn member_in(alloc: Global, text: &[u8]) -> Answer {
     }
     let number = member.value();
     Ok(format!(in alloc; "{number:032x}")?)
+}
+
+/// What the name of a file is shown as.
+fn shown(alloc: Global, name: &[u8]) -> Answer {
+    let name = Shown(name);
+    Ok(format!(in alloc; "{name}")?)
 }
 
 /// The key of a kind, a number and a day.
@@ -133,6 +141,7 @@ pub fn answer(alloc: Global, word: &str, rest: &str) -> Answer {
         "sctid_of" => spell_number(alloc, Sctid::of(number(rest)?).map(|id| id.value())),
         "time" => day_in(alloc, unquoted(alloc, rest)?.as_slice()),
         "member" => member_in(alloc, unquoted(alloc, rest)?.as_slice()),
+        "shown" => shown(alloc, unquoted(alloc, rest)?.as_slice()),
         "below" => compare(alloc, rest),
         "bytes_of" if rest == "a key" => spell_number(alloc, Some(size_of::<Key>() as u64)),
         "term" => with_term(alloc, unquoted(alloc, rest)?.as_slice()),

@@ -1,0 +1,134 @@
+//! The files of a release's folder that aren't read, in whichever folder they stand.
+
+ghost use Rattle.std.specs.Prelude.{◌≡◌, ◌↔◌, ◌++◌, IsTrue, IfOk};
+ghost use Rattle.release_folder.specs.Names.{IsReadFolder, IsPassedOver};
+
+use crate::guards::{CONTENT, REFSET, TERMINOLOGY};
+use crate::listing::names_of;
+use crate::names::{kind_to_take, shown_name};
+use crate::watcher::Watcher;
+use std::alloc::{AllocError, Global};
+use std::fs::{self, File, Files};
+
+/// How many folders of a release are looked into at most.
+const MOST_FOLDERS: u32 = 10_000;
+
+/// The folders of a release that are still to be looked into, and the files that were passed over.
+/// Each is named by its path below the release's folder.
+#[derive(Drop)]
+struct Walk {
+    folders: Vec<String>,
+    passed: Vec<Vec<u8>>,
+}
+
+/// Tells the watcher which files below a release's folder aren't read, in the order of their paths.
+/// A folder that can't be listed is told as a file is, with a slash at its end. Links aren't
+/// followed, but for those in the place of the folders that are read.
+pub(crate) fn tell_passed_over<R: Files<File = File>, W: Watcher>(
+    rt: &R,
+    alloc: Global,
+    root: &str,
+    watcher: &mut W,
+) -> Result<(), AllocError> {
+    let mut walk = Walk {
+        folders: Vec::new(alloc),
+        passed: Vec::new(alloc),
+    };
+    walk.folders.push(String::new(alloc))?;
+    for _ in 0..MOST_FOLDERS {
+        let Some(folder) = walk.folders.pop() else {
+            break;
+        };
+        look_into(rt, alloc, root, &folder, &mut walk)?;
+    }
+    tell_all(alloc, walk, watcher)
+}
+
+/// Tells the files that were passed over, and the folders that are still to be looked into.
+fn tell_all<W: Watcher>(alloc: Global, walk: Walk, watcher: &mut W) -> Result<(), AllocError> {
+    let mut passed = walk.passed;
+    for folder in walk.folders {
+        passed.push(folder.into_bytes())?;
+    }
+    passed.sort_unstable();
+    for path in &passed {
+        watcher.passes_over(&shown_name(alloc, path)?);
+    }
+    Ok(())
+}
+
+/// Notes what stands in a folder: the folders in it, and the files that aren't read.
+fn look_into<R: Files<File = File>>(
+    rt: &R,
+    alloc: Global,
+    root: &str,
+    folder: &str,
+    walk: &mut Walk,
+) -> Result<(), AllocError> {
+    let path = format!(in alloc; "{root}/{folder}")?;
+    let Ok(names) = names_of(rt, alloc, &path) else {
+        walk.passed
+            .push(Vec::from_slice(alloc, folder.as_bytes())?)?;
+        return Ok(());
+    };
+    for name in names {
+        if let Some(inner) = folder_named(rt, alloc, root, folder, &name)? {
+            walk.folders.push(inner)?;
+        } else if is_passed_over(folder, &name) {
+            walk.passed.push(path_of(alloc, folder, &name)?)?;
+        }
+    }
+    Ok(())
+}
+
+/// The path of a folder of this name that stands in another one, if it is a folder to look into.
+fn folder_named<R: Files<File = File>>(
+    rt: &R,
+    alloc: Global,
+    root: &str,
+    folder: &str,
+    name: &[u8],
+) -> Result<Option<String>, AllocError> {
+    let Ok(name) = str::from_utf8(name) else {
+        return Ok(None);
+    };
+    let inner = format!(in alloc; "{folder}{name}")?;
+    let path = format!(in alloc; "{root}/{inner}")?;
+    let found = if is_followed(&inner) {
+        fs::metadata(rt, &path)
+    } else {
+        fs::symlink_metadata(rt, &path)
+    };
+    match found {
+        Ok(found) if found.is_dir() => Ok(Some(format!(in alloc; "{inner}/")?)),
+        _ => Ok(None),
+    }
+}
+
+/// Whether a link in this place of a release is followed, as it is where the release is read.
+fn is_followed(path: &str) -> bool {
+    path == TERMINOLOGY || path == REFSET || path == CONTENT
+}
+
+/// Whether the files of this folder of a release are read. Its name ends with a slash.
+fn is_read(folder: &str) -> bool
+    ensures { IsTrue result ↔ IsReadFolder folder.now }
+{
+    folder == "Terminology/" || folder == "Refset/Content/"
+}
+
+/// Whether a file of this name isn't read in this folder of a release.
+fn is_passed_over(folder: &str, name: &[u8]) -> bool
+    ensures { IsTrue result ↔ IsPassedOver folder.now name.now }
+{
+    !(is_read(folder) && kind_to_take(name).is_some())
+}
+
+/// A file's path below the release's folder.
+fn path_of(alloc: Global, folder: &str, name: &[u8]) -> Result<Vec<u8>, AllocError>
+    ensures { IfOk result (λ path. path.items ≡ folder.now ++ name.now) }
+{
+    let mut path = Vec::from_slice(alloc, folder.as_bytes())?;
+    path.extend_from_slice(name)?;
+    Ok(path)
+}
