@@ -12,13 +12,14 @@ ghost use Rattle.line_server.specs.Laws.{PinnedRunsAreUndisturbed, PinnedReceipt
 use crate::source::Source;
 use disk_model::Disk;
 
-/// A query is answered alike where the session looks at the same imports.
+/// A question is answered alike where it is asked of the same
+/// imports, whether a session is pinned to them or AT names them.
 pub fn pinned_is_undisturbed<D: Disk>()
     ensures { PinnedIsUndisturbed D D.is_honest }
 {}
 
-/// A RECEIPT is answered alike where the session looks at
-/// the same imports, and the import brought the same rows.
+/// A RECEIPT is answered alike where it is asked of the same
+/// imports, and the import brought the same rows.
 pub fn pinned_receipt_is_undisturbed<D: Disk>()
     ensures { PinnedReceiptIsUndisturbed D D.is_honest }
 {}

@@ -34,7 +34,7 @@ fn replies_in(alloc: Global, output: &[u8]) -> Result<Vec<Vec<u8>>, AllocError> 
             continue;
         }
         let line = reply.get(start..).unwrap_or_default();
-        if line.starts_with(b"ROW ") || line.starts_with(b"ID ") {
+        if line.starts_with(b"ROW ") || line.starts_with(b"ID ") || line.starts_with(b"DATE ") {
             start = reply.len();
         } else {
             start = 0;
