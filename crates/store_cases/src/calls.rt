@@ -62,8 +62,8 @@ pub fn spell_receipt(alloc: Global, answer: Result<Receipt, Refusal>) -> Answer 
 }
 
 /// Whether the only segment was written anew.
-fn spell_rewritten(alloc: Global, result: Result<bool, Refusal>) -> Answer {
-    match result {
+fn spell_rewritten(alloc: Global, rewritten: Result<bool, Refusal>) -> Answer {
+    match rewritten {
         Ok(true) => Ok(String::from_str(alloc, "done")?),
         Ok(false) => Ok(String::from_str(alloc, "nothing")?),
         Err(refusal) => spell_refusal(alloc, refusal),

@@ -11,14 +11,14 @@ use test_support::{CHOICES, Example, image_after, root_years};
 
 const ROOT: u128 = 138875005;
 
-/// How many rows the segment has: three writes take them.
-const ROWS: u32 = 2_001;
+/// How many rows the segment has: two writes take them.
+const ROWS: u32 = 1_001;
 
 /// How many changing calls an opening makes, and how many the rewriting: these writes, a sync and a
 /// publication.
 const OPENING: u64 = 1;
 
-const REWRITING: u64 = 3 + 1 + 6;
+const REWRITING: u64 = 2 + 1 + 6;
 
 /// The disk of a store of version 3 whose only segment has no checksums.
 fn plain_disk(alloc: Global) -> Result<MemDisk, Refusal> {
