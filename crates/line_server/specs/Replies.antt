@@ -55,10 +55,6 @@ pub record Same {D : Type 0} (old new : Server D) : Type 0 where
 abbrev pub imports_seen : {D : Type 0} → Server D → ℕ → ℕ
 imports_seen server session = pin_of server.pins session server.store.history.imports
 
--- the rows that a session sees
-abbrev pub shown : {D : Type 0} → Server D → ℕ → List RowValue
-shown server session = rows_at (imports_seen server session) server.store.history.rows
-
 -- What a question finds in the rows that are shown. A receipt isn't found in them.
 abbrev pub IsFound : Question → List RowValue → Answer → Type 0
 IsFound (Get kind id date) rows answer = answer ≡ Rows (option_to_list (get kind id date rows))

@@ -24,15 +24,6 @@ pub record IsTaken (kind : Kind) (name : List ℕ) : Type 0 where
   pub ends : (length (codes ".txt") ≤ length name)
       × OccursAt name (codes ".txt") (length name - length (codes ".txt"))
 
--- the folder of a release whose files are read, by its path
-abbrev pub IsReadFolder : List ℕ → Type 0
-IsReadFolder folder = (folder ≡ codes "Terminology/") ⊎ (folder ≡ codes "Refset/Content/")
-
--- a file that isn't read, by its folder and its name: one of
--- another folder, or whose name is that of no kind of file
-abbrev pub IsPassedOver : List ℕ → List ℕ → Type 0
-IsPassedOver folder name = IsReadFolder folder → (kind : Kind) → IsTaken kind name → ⊥
-
 -- a file of concepts of a Full release, by its kind and its name
 pub record IsFullOfConcepts (file : ReleaseFile) : Type 0 where
   pub of_concepts : file.kind ≡ kind.Concept

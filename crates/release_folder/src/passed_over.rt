@@ -1,7 +1,7 @@
 //! The files of a release's folder that aren't read, in whichever folder they stand.
 
 ghost use Rattle.std.specs.Prelude.{◌≡◌, ◌↔◌, ◌++◌, IsTrue, IfOk};
-ghost use Rattle.release_folder.specs.Names.{IsReadFolder, IsPassedOver};
+ghost use Rattle.release_folder.specs.Private.{IsReadFolder, IsPassedOver};
 
 use crate::guards::{CONTENT, REFSET, TERMINOLOGY};
 use crate::listing::names_of;
