@@ -28,7 +28,7 @@ use Rattle.line_server.specs.Pins.{unpinned}
 use Rattle.line_server.specs.Replies.{Server, Replies, IsAnswer, IsRefusal, server}
 use Rattle.store_life.specs.Life.{Call, Imported, Failed, Other, taken, TakesAll}
 use Rattle.line_server.specs.Turns.{Turn, IsTurn, IsOfAsked}
-use Rattle.command_line.specs.Merging.{Merges, IsMergeLine, IsHalt, IsHaltedBy, IsMergedTo, IsMergedAndAsked, TellsLines, rows_left, segments_of, trim_line}
+use Rattle.command_line.specs.Merging.{HasNoMerge, Merges, IsMergeLine, IsHalt, IsHaltedBy, IsMergedTo, IsMergedAndAsked, TellsLines, rows_left, segments_of, trim_line}
 use Rattle.command_line.specs.Private.{IsAsked, IsAtRest, IsMerging, HasMerged, IsStopped, IsHalted, HaveMerged, IsOneLess, IsTrimmedTo}
 use Rattle.command_line.proofs.Checked.{GoesChecked, not_only_plain, begun_checked, stepped_checked, published_checked}
 use Rattle.command_line.specs.Endings.{Report, Tells}

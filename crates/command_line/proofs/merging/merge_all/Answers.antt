@@ -3,8 +3,8 @@ use Rattle.store_life.specs.DeviceView.{device_view}
 use Rattle.store_life.proofs.Made.{rewrite_made}
 use Rattle.command_line.proofs.merging.merge_all.Goals as goal
 
-pub returns-in-Ok : goal.returns-in-Ok
-returns-in-Ok g c =
+pub returns-after-anew : goal.returns-after-anew
+returns-after-anew g c =
     let view = device_view g.D.Disk.is_honest g.D.Disk.moments g.D.Disk.failures g.D.Disk.bytes_read in
     let r = c.rewrite.ensures in
     record {
