@@ -1,5 +1,5 @@
 -- Which segments have checksums while segments are merged.
-use Rattle.std.proofs.Common.{◌≡◌, ◌⊎◌, inl, inr, ℕ, zero, suc, ◌+◌, ◌<◌, ◌≤◌, List, [], ◌∷◌, length, Some, None, slice_set, refl, sym, ap, subst, ◌∙◌, arith}
+use Rattle.std.proofs.Common.{◌≡◌, ◌⊎◌, inl, inr, ℕ, zero, suc, ◌+◌, ◌<◌, ◌≤◌, List, [], ◌∷◌, length, Some, None, slice_set, refl, sym, ap, subst, arith}
 use Rattle.std.specs.Prelude.{remove}
 use Rattle.std.proofs.lemmas.Option.{slice_get_within}
 use Rattle.std.proofs.lemmas.List.{length-set}
@@ -10,7 +10,7 @@ use Rattle.directory.specs.declared.layout.Layout.TheVariants as layouts
 use Rattle.directory.specs.Listings.{form_of, next_layout}
 use Rattle.checksum.specs.declared.form.Form.{Form}
 use Rattle.checksum.specs.declared.form.Form.TheVariants as forms
-use Rattle.history_store.specs.Catalog.{Catalog, Merge, is_plain_form, plain_count}
+use Rattle.history_store.specs.Catalog.{Catalog, Merge, plain_count}
 use Rattle.history_store.specs.Merging.{IsBegun, IsStepped, IsPublished}
 use Rattle.history_store.specs.Rewriting.{IsOnlyPlain}
 

@@ -1,7 +1,7 @@
 -- What lines of a merge leave of a store.
 use Rattle.std.proofs.Common.{◌≡◌, ℕ, ◌+◌, List, [], ◌∷◌, ◌++◌, length, codes, true, false, slice_set, min, Option, Some, None, Result, Ok, Err, IsOk, IsErr, refl, ap, sym, subst, ◌∙◌, arith, inl, inr, ◌<◌, ◌≤◌, ◌-◌}
 use Rattle.store_life.specs.DeviceView.{DeviceView}
-use Rattle.std.specs.Prelude.{◌≢◌, unwrap_or, option_map}
+use Rattle.std.specs.Prelude.{unwrap_or, option_map}
 use Rattle.std.specs.Fmt.{digits}
 use Rattle.std.proofs.lemmas.Bool.{false≢true}
 use Rattle.std.proofs.lemmas.Option.{slice_get_within}
