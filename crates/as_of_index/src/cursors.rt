@@ -1,10 +1,10 @@
 //! One cursor a list: all that stands before it is passed over. A list that shows nothing at a date
-//! and a pin is walked as an empty one, and so is one of which nothing is later than `from`, if that
-//! is given.
+//! and a pin is walked as an empty one, and so is one of which nothing is later than `from`, if
+//! that is given.
 
 ghost use Rattle.std.specs.Prelude.{◌≡◌, IfOk, None};
-ghost use Rattle.as_of_index.specs.Private.Search.{all_places, changed_parts, ArePassed, IsPickFrom};
-ghost use Rattle.as_of_index.specs.Private.Search.{IsNextChanged, later_than};
+ghost use Rattle.as_of_index.specs.Private.Search.{all_places, changed_parts, ArePassed};
+ghost use Rattle.as_of_index.specs.Private.Search.{IsNextChanged, IsPickFrom, later_than};
 ghost use Rattle.as_of_index.specs.declared.search.Start.TheVariants as starts;
 
 use crate::place_list::{PlaceList, is_later, time_of};
@@ -86,7 +86,8 @@ pub(crate) fn latest_on(
     time: EffectiveTime,
     pin: u32,
 ) -> Option<(usize, RowPlace)>
-    requires { ArePassed (starts.Later kind id None) (changed_parts from time pin lists.now) cursors.now }
+    requires { ArePassed (starts.Later kind id None)
+        (changed_parts from time pin lists.now) cursors.now }
     ensures { IsPickFrom kind id from time pin (λ x. x.1) (all_places 0 lists.now) result }
 {
     let mut best = None;

@@ -361,8 +361,8 @@ impl Index {
         Ok(rows)
     }
 
-    /// The first rows of a kind at the date with an id above `after` and later than `from`, if these
-    /// are given, ascending by id, of the rows that the pin shows.
+    /// The first rows of a kind at the date with an id above `after` and later than `from`, if
+    /// these are given, ascending by id, of the rows that the pin shows.
     fn walk<R: RowReader>(
         &self,
         reader: &mut R,
@@ -455,9 +455,9 @@ impl Index {
         self.walk(reader, kind, None, time, after, limit, pin)
     }
 
-    /// What changed from one date to another: the first rows of a kind at the date that are later than
-    /// `from`, with an id above `after`, ascending by id, of the rows that the pin shows. It goes as
-    /// `page` does, and passes over lists none of whose rows are later than `from` too.
+    /// What changed from one date to another: the first rows of a kind at the date that are later
+    /// than `from`, with an id above `after`, ascending by id, of the rows that the pin shows. It
+    /// goes as `page` does, and passes over lists none of whose rows are later than `from` too.
     pub fn delta<R: RowReader>(
         &self,
         reader: &mut R,
@@ -495,8 +495,8 @@ impl Index {
         self.walk(reader, kind, Some(from.value()), time, after, limit, pin)
     }
 
-    /// The distinct effective times of the rows that the pin shows, ascending. It looks at no place,
-    /// and reads no row.
+    /// The distinct effective times of the rows that the pin shows, ascending. It looks at no
+    /// place, and reads no row.
     pub fn dates(&self, pin: u32) -> Result<Vec<EffectiveTime>, AllocError>
         ensures found { IfOk result (λ times. (lists : List (List StampedRow))
             → Lists self.now lists → times.items ≡ dates (rows_at pin (listed lists))) }

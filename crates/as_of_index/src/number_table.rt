@@ -56,7 +56,8 @@ fn push_next(
         (record { first = first_known.old.items; second = second_known.old.items }) }
     ensures known { AreKnown (record { first = first.now; second = second.now })
         (record { first = first_known.new.items; second = second_known.new.items }) }
-    ensures kept { IsKept (record { first = first_known.old.items; second = second_known.old.items })
+    ensures kept { IsKept
+        (record { first = first_known.old.items; second = second_known.old.items })
         (record { first = first_known.new.items; second = second_known.new.items }) }
     ensures few { count_unknown (record { first = first.now; second = second.now })
         (record { first = first_known.old.items; second = second_known.old.items })

@@ -149,8 +149,8 @@ impl PlaceList {
         self.may_show(time, pin) && is_later(from, self.last_time)
     }
 
-    /// The places, in key order, or none where `shown_part` has none, or where all are up to `from`,
-    /// if that is given.
+    /// The places, in key order, or none where `shown_part` has none, or where all are up to
+    /// `from`, if that is given.
     pub(crate) fn changed_part(
         &self,
         from: Option<u32>,

@@ -10,8 +10,8 @@ use segment::RowPlace;
 use std::alloc::{AllocError, Global};
 use std::marker::Model;
 
-/// Places of rows, with their least and greatest time, their least import and their dates, so that a
-/// list of them looks at none again.
+/// Places of rows, with their least and greatest time, their least import and their dates, so that
+/// a list of them looks at none again.
 #[derive(Drop)]
 pub struct PlaceListBuilder {
     places: Vec<RowPlace>,
