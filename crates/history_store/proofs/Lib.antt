@@ -27,6 +27,7 @@ pub mod SteppedMerge
 pub mod SteppedStore
 pub mod StepWrites
 mod TakenByKey
+mod Checked
 mod KeptBlocks
 mod ImportReads
 mod Upgraded
