@@ -28,6 +28,7 @@ pub mod SteppedStore
 pub mod StepWrites
 mod TakenByKey
 mod Checked
+mod ReadyImports
 mod KeptBlocks
 mod ImportReads
 mod Upgraded
