@@ -29,6 +29,7 @@ pub mod StepWrites
 mod TakenByKey
 mod Checked
 mod ReadyImports
+mod Foreseen
 mod KeptBlocks
 mod ImportReads
 mod Upgraded
