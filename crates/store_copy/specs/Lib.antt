@@ -1,0 +1,4 @@
+pub mod Copying
+pub mod Answers
+pub mod Private
+pub use Rattle.store_image.specs.OnDisk
