@@ -17,8 +17,8 @@ use Rattle.directory.specs.Places.{AreApart, AreBeside, end_block, extent_of, ex
 use Rattle.segment.specs.Records.{IsSegment, segment_of, record_of}
 use Rattle.store_image.specs.Kept.{AreSegments, IsKept, IsSegmentOf}
 use Rattle.store_image.proofs.Windowed.{record_least}
-use Rattle.store_copy.specs.Copying.{up_to, before, lists_up_to, entry_at, entries_from, copied_listing}
-use Rattle.store_copy.specs.Private.Writing.{end_from}
+use Rattle.store_copy.specs.Copying.{up_to, before, lists_up_to, entry_at, entries_from, end_from, copied_listing}
+use Rattle.store_copy.specs.Private.Writing.{MayBeSegment}
 use Rattle.store_copy.proofs.UpTo.{up_to_ascends, up_to_all, lists_all, lists_are, listed_up_to, up_to_is_history, lists_kinds, lists_count}
 
 -- ---- segments one behind the other
@@ -68,10 +68,6 @@ entries_forms layout first (rows ∷ lists) =
     (plain_form layout (entry_at (form_of layout) first rows) refl, entries_forms layout (end_block (extent_of (entry_at (form_of layout) first rows))) lists)
 
 -- ---- rows that a segment may have
-
--- some rows, so few that they can be counted
-abbrev pub MayBeSegment : List StampedRow → Type 0
-MayBeSegment rows = (length (segment_of rows) < 2 ^ 32) × (length rows < 2 ^ 32)
 
 some_bytes : (s : StampedRow) (rows : List StampedRow) → 1 ≤ length (segment_of (s ∷ rows))
 unfolding segment_of

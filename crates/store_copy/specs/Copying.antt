@@ -1,5 +1,6 @@
 -- What a copy of a store has: the rows that its first imports brought.
-use Rattle.std.specs.Prelude.{ℕ, Option, Some, None, List, [], ◌∷◌, length, nat_le}
+use Rattle.std.specs.Prelude.{ℕ, ◌+◌, Option, Some, None, List, [], ◌∷◌, length, nat_le}
+use Rattle.std.specs.Int.{div_ceil}
 use Rattle.std.specs.List.{filter}
 use Rattle.history_model.specs.declared.stamped.StampedRow.{StampedRow}
 use Rattle.history_model.specs.History.{History}
@@ -43,6 +44,11 @@ abbrev pub entries_from : Form → ℕ → List (List StampedRow) → List Entry
 entries_from form first [] = []
 entries_from form first (rows ∷ lists) = entry_at form first rows
     ∷ entries_from form (end_block (extent_of (entry_at form first rows))) lists
+
+-- the block behind them
+abbrev pub end_from : ℕ → List (List StampedRow) → ℕ
+end_from first [] = first
+end_from first (rows ∷ lists) = end_from (first + div_ceil (length (segment_of rows)) 4096) lists
 
 -- the directory of a copy with the first n imports of a store in this version, whose segments have
 -- these rows

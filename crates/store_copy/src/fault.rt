@@ -38,8 +38,12 @@ pub(crate) enum SegmentCopyFault {
 }
 
 impl SegmentCopyFault {
+    ghost use Rattle.std.specs.Prelude.{◌≡◌};
+    ghost use Rattle.store_copy.specs.Private.Writing.{in_segment};
+
     /// The fault of the segment with this number, counted from 1.
     pub(crate) fn in_segment(self, number: usize) -> CopyFault
+        ensures { result ≡ in_segment number self }
     {
         match self {
             SegmentCopyFault::Read(ReadFault::OutOfMemory) => CopyFault::OutOfMemory,

@@ -5,11 +5,12 @@
 
 mod copying;
 mod fault;
+pub mod laws;
 mod planning;
 mod reading;
 mod sink;
 mod slots;
 mod writing;
 
-pub use copying::{Copied, copy};
+pub use copying::copy;
 pub use fault::CopyFault;
