@@ -109,8 +109,8 @@ first_imports_are_releases releases n le = first_at releases no_history n n none
 -- ---- what is shown and said of them
 
 not_true : (b : Bool) → (b ≡ true → ⊥) → b ≡ false
-not_true true no = absurd (no refl)
-not_true false _ = refl
+not_true true never = absurd (never refl)
+not_true false never = refl
 
 filter_filter : {X : Type 0} (p q : X → Bool) → ((x : X) → p x ≡ true → q x ≡ true) → (xs : List X) → filter p (filter q xs) ≡ filter p xs
 filter_filter p q so [] = refl
@@ -118,8 +118,8 @@ filter_filter p q so (x ∷ xs) =
     elim (q x) as (λ b. q x ≡ b → filter p (cond b (x ∷ filter q xs) (filter q xs)) ≡ cond (p x) (x ∷ filter p xs) (filter p xs)) [
       | true ↦ λ e. ap (λ l. cond (p x) (x ∷ l) l) (filter_filter p q so xs)
       | false ↦ λ e.
-          let no : p x ≡ false = not_true (p x) (λ yes. let there = so x yes in absurd cc) in
-          filter_filter p q so xs ∙ sym (ap (λ b. cond b (x ∷ filter p xs) (filter p xs)) no)
+          let fails : p x ≡ false = not_true (p x) (λ passes. let there = so x passes in absurd cc) in
+          filter_filter p q so xs ∙ sym (ap (λ b. cond b (x ∷ filter p xs) (filter p xs)) fails)
     ] refl
 
 pub pins_stay : PinsStay

@@ -94,7 +94,7 @@ module _ (form : Form) (n : ℕ) (lists : List (List StampedRow)) (i : ℕ) (row
   pub first_of : ℕ
   first_of = end_from 4 (lists_up_to n (take i lists))
 
-  done_none : length (up_to n rows) ≡ 0 → lists_up_to n (take (i + 1) lists) ≡ lists_up_to n (take i lists)
+  pub done_none : length (up_to n rows) ≡ 0 → lists_up_to n (take (i + 1) lists) ≡ lists_up_to n (take i lists)
   done_none none = lists_done n lists i rows lt is ∙ ap (λ (l : List (List StampedRow)). lists_up_to n (take i lists) ++ l) (before_none (up_to n rows) [] none) ∙ append-nil (lists_up_to n (take i lists))
 
   pub done_some : 1 ≤ length (up_to n rows) → lists_up_to n (take (i + 1) lists) ≡ lists_up_to n (take i lists) ++ up_to n rows ∷ []

@@ -6,3 +6,4 @@ pub mod Steps
 pub mod Done
 pub mod CopyLaws
 pub mod Copied
+pub mod Planned

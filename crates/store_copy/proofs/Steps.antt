@@ -98,10 +98,10 @@ no_pending form extent n rows written bytes file none first nothing = record {
   all = nothing ∙ sym (ap (λ (l : List StampedRow). segment_in form (up_to n l)) none ∙ ap (segment_in form) (up_to_none n) ∙ no_rows form);
 }
 
-pub more_pending : (form : Form) (extent : Extent) (rows : List StampedRow) (written : ℕ) (bytes next file : List ℕ) (s : StampedRow) → ArePending form extent rows written bytes file → next ≡ bytes ++ record_in form s → ArePending form extent (rows ++ s ∷ []) written next file
-more_pending form extent rows written bytes next file s are is = record {
+pub more_pending : (form : Form) (extent : Extent) (rows : List StampedRow) (written same : ℕ) (bytes next file : List ℕ) (s : StampedRow) → ArePending form extent rows written bytes file → same ≡ written → next ≡ bytes ++ record_in form s → ArePending form extent (rows ++ s ∷ []) same next file
+more_pending form extent rows written same bytes next file s are as_before is = record {
   front = are.front;
-  front_is = are.front_is;
+  front_is = are.front_is ∙ sym as_before;
   there = are.there;
   all = ap (λ (l : List ℕ). are.front ++ l) is ∙ sym (append_assoc are.front bytes (record_in form s)) ∙ ap (λ (l : List ℕ). l ++ record_in form s) are.all ∙ sym (segment_push form rows s);
 }

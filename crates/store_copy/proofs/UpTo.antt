@@ -140,6 +140,10 @@ module _ (n : ℕ) where
   lists-append [] rows = refl
   lists-append (o ∷ lists) rows = ap (before (up_to n o)) (lists-append lists rows) ∙ before-append (up_to n o) (lists_up_to n lists) (before (up_to n rows) [])
 
+  pub lists-join : (lists more : List (List StampedRow)) → lists_up_to n (lists ++ more) ≡ lists_up_to n lists ++ lists_up_to n more
+  lists-join [] more = refl
+  lists-join (o ∷ lists) more = ap (before (up_to n o)) (lists-join lists more) ∙ before-append (up_to n o) (lists_up_to n lists) (lists_up_to n more)
+
   pub lists_count : (lists : List (List StampedRow)) → length (lists_up_to n lists) ≤ length lists
   lists_count [] = omega arith
   lists_count (rows ∷ lists) = omega (arith, lists_count lists, before_count (up_to n rows) (lists_up_to n lists))

@@ -2,6 +2,7 @@ use Rattle.std.proofs.Common.{◌≡◌, ◌+◌, List, length, take, sym, ap, �
 use Rattle.std.proofs.lemmas.List.{take_all}
 use Rattle.history_model.specs.declared.stamped.StampedRow.{StampedRow}
 use Rattle.segment.specs.Records.{segment_of}
+use Rattle.store_copy.specs.declared.planning.Size.{Size}
 use Rattle.store_copy.specs.Copying.{up_to}
 use Rattle.store_copy.proofs.Listing.{fewer}
 use Rattle.store_copy.proofs.Records.{places_long}
@@ -39,12 +40,12 @@ loop-place-preserved c =
     let inv = c.loop-place.invariant in
     elim c.if-place-imports.branch [
       | then-place-imports w ↦ record {
-        bytes = let more = kept_bytes n rows i c.place-item.result step w.if-place-imports.true in let is = w.size-is in omega (arith, more, inv.bytes, is.bytes);
-        rows = let more = kept_rows n rows i c.place-item.result step w.if-place-imports.true in let is = w.size-is in omega (arith, more, inv.rows, is.rows);
+        bytes = let more = kept_bytes n rows i c.place-item.result step w.if-place-imports.true in let is = ap (λ (s : Size). s.bytes) w.size-is in omega (arith, more, inv.bytes, is);
+        rows = let more = kept_rows n rows i c.place-item.result step w.if-place-imports.true in let is = ap (λ (s : Size). s.rows) w.size-is in omega (arith, more, inv.rows, is);
       }
       | else-place-imports w ↦ record {
-        bytes = let same = ap (λ (l : List StampedRow). length (segment_of l)) (left_out n rows i c.place-item.result step (omega (arith, w.if-place-imports.false))) in let is = w.size-is in omega (arith, same, inv.bytes, is.bytes);
-        rows = let same = ap length (left_out n rows i c.place-item.result step (omega (arith, w.if-place-imports.false))) in let is = w.size-is in omega (arith, same, inv.rows, is.rows);
+        bytes = let same = ap (λ (l : List StampedRow). length (segment_of l)) (left_out n rows i c.place-item.result step (omega (arith, w.if-place-imports.false))) in let is = ap (λ (s : Size). s.bytes) w.size-is in omega (arith, same, inv.bytes, is);
+        rows = let same = ap length (left_out n rows i c.place-item.result step (omega (arith, w.if-place-imports.false))) in let is = ap (λ (s : Size). s.rows) w.size-is in omega (arith, same, inv.rows, is);
       }
     ]
 
