@@ -29,7 +29,7 @@ returns-in_err-first-clause-refused c =
     let size = c.size_up_to-size.result in
     let full = c.in_err-first.ensures.full in
     let p = err_from_is_err_and c.from_residual-in_err-first.result c.from_residual-in_err-first.ensures.1 in
-    rw p.1 (inr (full.0, too_large c.args.layout c.args.imports c.args.shown.now c.loop-i.i c.index-shown-i.result lt c.index-shown-i.is c.loop-i.copied c.loop-i.first inv.copied inv.first size c.size_up_to-size.ensures.bytes c.size_up_to-size.ensures.rows (omega (arith, c.if-size-gt0.true)) full.1))
+    rw (p.1, p.2) (inr (full.0, too_large c.args.layout c.args.imports c.args.shown.now c.loop-i.i c.index-shown-i.result lt c.index-shown-i.is c.loop-i.copied c.loop-i.first inv.copied inv.first size c.size_up_to-size.ensures.bytes c.size_up_to-size.ensures.rows (omega (arith, c.if-size-gt0.true)) full.1))
 
 pub loop-i-preserved : goal.loop-i-preserved
 loop-i-preserved c =
