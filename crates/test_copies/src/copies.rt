@@ -32,7 +32,11 @@ fn copied(
     let mut target = MemDisk::new(alloc);
     let answer = copy(alloc, source, &mut target, imports);
     assert!(rt; answer.is_ok(), "it is copied");
-    assert_eq!(rt; source.bytes(), before.as_slice(), "the store stays as it was");
+    assert_eq!(rt;
+        source.bytes(),
+        before.as_slice(),
+        "the store stays as it was"
+    );
     Ok(target)
 }
 
@@ -88,8 +92,14 @@ fn a_merged_store(rt: HostRuntime) -> Result<(), Fail> {
     assert_eq!(rt; source.bytes().len(), 28_764);
     let copy = copied(&rt, rt.alloc(), &mut source, None)?;
     assert_eq!(rt; copy.bytes().len(), 20_572);
-    assert_eq!(rt; copy.bytes().get(16_384..17_022), source.bytes().get(24_576..25_214));
-    assert_eq!(rt; copy.bytes().get(20_480..20_572), source.bytes().get(28_672..28_764));
+    assert_eq!(rt;
+        copy.bytes().get(16_384..17_022),
+        source.bytes().get(24_576..25_214)
+    );
+    assert_eq!(rt;
+        copy.bytes().get(20_480..20_572),
+        source.bytes().get(28_672..28_764)
+    );
     assert_eq!(rt; shown(rt.alloc(), copy)?, (3, 2, 2, 2));
     Ok(())
 }
