@@ -46,7 +46,8 @@ pub fn copy<S: Disk, T: Disk>(
 ) -> Result<Directory, CopyFault>
     // After Ok each stop leaves the copy.
     ensures copied { S.is_honest source.old → T.is_honest target.old → IfOk result
-        (λ copy. HasCopy imports (S.moments source.old).state.now copy (T.moments target.new).state) }
+        (λ copy. HasCopy imports (S.moments source.old).state.now copy
+        (T.moments target.new).state) }
     // A stop at any moment leaves what it might have left before, no store, or the whole copy.
     ensures any_moment { S.is_honest source.old → T.is_honest target.old
         → LeavesOnly (T.moments target.old) (T.moments target.new)

@@ -47,7 +47,8 @@ pub(crate) fn size_up_to(imports: u32, places: &[RowPlace], shown: &GhostRows) -
 fn list_next(copied: &mut Directory, first: u32, size: Size) -> Result<u32, CopyFault>
     requires { first + div_ceil size.bytes 4096 ≤ block_limit
         → IsListing (with_entry copied.old (next_entry copied.old.layout first size)) }
-    ensures listed { IfOk result (λ end. (end ≡ first + div_ceil size.bytes 4096) × (end ≤ block_limit)
+    ensures listed { IfOk result (λ end. (end ≡ first + div_ceil size.bytes 4096)
+        × (end ≤ block_limit)
         × (copied.new ≡ with_entry copied.old (next_entry copied.old.layout first size))) }
     ensures full { IfErr result (λ e. (e ≡ faults.NoRoom)
         × (block_limit < first + div_ceil size.bytes 4096)) }

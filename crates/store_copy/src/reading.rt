@@ -36,7 +36,8 @@ fn read_bytes<S: Disk>(
         → length (take len (drop from (S.moments source.old).state.now)) < len) }
     ensures moments { S.is_honest source.old → S.moments source.new ≡ S.moments source.old }
     ensures honesty { S.is_honest source.old ↔ S.is_honest source.new }
-    ensures failures { Counts CountsDiskFault result (S.failures source.old) (S.failures source.new) }
+    ensures failures { Counts CountsDiskFault result
+        (S.failures source.old) (S.failures source.new) }
     ensures bytes_read { S.bytes_read source.new ≤ S.bytes_read source.old + len }
     ensures other_calls { S.other_calls source.new ≡ S.other_calls source.old }
 {
@@ -66,7 +67,8 @@ pub(crate) fn read_row<S: Disk>(
     ensures of_place { IfOk result (λ row. IsOfPlace row at) }
     ensures moments { S.is_honest source.old → S.moments source.new ≡ S.moments source.old }
     ensures honesty { S.is_honest source.old ↔ S.is_honest source.new }
-    ensures failures { Counts CountsDiskFault result (S.failures source.old) (S.failures source.new) }
+    ensures failures { Counts CountsDiskFault result
+        (S.failures source.old) (S.failures source.new) }
     ensures bytes_read { S.bytes_read source.new ≤ S.bytes_read source.old + at.bytes }
     ensures other_calls { S.other_calls source.new ≡ S.other_calls source.old }
 {

@@ -1,7 +1,7 @@
 //! The segments of a copy.
 
-ghost use Rattle.std.specs.Prelude.{◌≡◌, ◌≢◌, ◌↔◌, ◌+◌, ◌*◌, ◌≤◌, ◌++◌, ◌∷◌, [], ℕ, List, length, map};
-ghost use Rattle.std.specs.Prelude.{vec_items, IfErr, OnOk};
+ghost use Rattle.std.specs.Prelude.{◌≡◌, ◌≢◌, ◌↔◌, ◌+◌, ◌*◌, ◌≤◌, ◌++◌, ◌∷◌, [], ℕ, List, length};
+ghost use Rattle.std.specs.Prelude.{map, vec_items, IfErr, OnOk};
 ghost use Rattle.std.specs.List.{AllByRecursion};
 ghost use Rattle.fault_counts.specs.Counting.{Counts, CountsEach, CountsDiskFault};
 ghost use Rattle.fault_counts.specs.declared.fault.ReadFault.TheVariants as readfault;
@@ -151,8 +151,10 @@ fn copy_row<S: Disk, T: Disk>(
     ensures moments { S.is_honest source.old → S.moments source.new ≡ S.moments source.old }
     ensures source_honesty { S.is_honest source.old ↔ S.is_honest source.new }
     ensures target_honesty { T.is_honest target.old ↔ T.is_honest target.new }
-    ensures source_failures { Counts CountsRead result (S.failures source.old) (S.failures source.new) }
-    ensures target_failures { Counts CountsWrite result (T.failures target.old) (T.failures target.new) }
+    ensures source_failures { Counts CountsRead result
+        (S.failures source.old) (S.failures source.new) }
+    ensures target_failures { Counts CountsWrite result
+        (T.failures target.old) (T.failures target.new) }
     ensures other_calls { S.other_calls source.new ≡ S.other_calls source.old }
     ensures bytes_read { T.bytes_read target.new ≡ T.bytes_read target.old }
 {
@@ -200,8 +202,10 @@ fn copy_segment<S: Disk, T: Disk>(
     ensures moments { S.is_honest source.old → S.moments source.new ≡ S.moments source.old }
     ensures source_honesty { S.is_honest source.old ↔ S.is_honest source.new }
     ensures target_honesty { T.is_honest target.old ↔ T.is_honest target.new }
-    ensures source_failures { Counts CountsRead result (S.failures source.old) (S.failures source.new) }
-    ensures target_failures { Counts CountsWrite result (T.failures target.old) (T.failures target.new) }
+    ensures source_failures { Counts CountsRead result
+        (S.failures source.old) (S.failures source.new) }
+    ensures target_failures { Counts CountsWrite result
+        (T.failures target.old) (T.failures target.new) }
     ensures other_calls { S.other_calls source.new ≡ S.other_calls source.old }
     ensures bytes_read { T.bytes_read target.new ≡ T.bytes_read target.old }
 {
@@ -239,7 +243,8 @@ pub(crate) fn copy_segments<S: Disk, T: Disk>(
     ensures held { S.is_honest source.old → T.is_honest target.old
         → AreSegments from.now shown.now
         → HoldsAll (pieces_of from.now shown.now) (S.moments source.old).state.now
-        → OnOk result (HoldsAll (pieces_of copy.now.entries (lists_up_to copy.now.imports shown.now))
+        → OnOk result (HoldsAll
+        (pieces_of copy.now.entries (lists_up_to copy.now.imports shown.now))
         (T.moments target.new).state.now) }
     ensures found { S.is_honest source.old → AreSegments from.now shown.now
         → HoldsAll (pieces_of from.now shown.now) (S.moments source.old).state.now
