@@ -12,7 +12,7 @@ use rf2_rows::{EffectiveTime, Kind, Row, Sctid};
 
 impl<D: Disk> Store<D> {
     ghost use Rattle.history_model.specs.Hierarchy.{AreDescendants};
-    ghost use Rattle.history_model.specs.Queries.{replaces, timeline, delta};
+    ghost use Rattle.history_model.specs.Queries.{replaces, timeline, delta, dates};
     ghost use Rattle.history_store.specs.Auditing.{IsAncestorsQuery};
     ghost use Rattle.history_store.specs.Queries.{IsRowsQuery, IsIndexQuery};
 
@@ -166,5 +166,19 @@ impl<D: Disk> Store<D> {
             .places()
             .delta(&mut reader, kind, from, time, after, limit, pin);
         self.answered(read)
+    }
+
+    /// The days that have rows, ascending: the distinct effective times of what the first `pin`
+    /// imports brought. Nothing is read.
+    pub fn dates(&mut self, pin: u32) -> Result<Vec<EffectiveTime>, Refusal>
+        requires { pin ≤ self.old.history.imports }
+        ensures answer { IsIndexQuery result (λ times rows. times.items ≡ dates rows) pin
+            self.old self.new }
+    {
+        if self.needs_reopen {
+            return Err(Refusal::ReopenNeeded);
+        }
+        let found = self.index.places().dates(pin)?;
+        Ok(found)
     }
 }

@@ -1,8 +1,10 @@
 //! What was ever about a component, as the posted subjects say.
 
-ghost use Rattle.std.specs.Prelude.{◌≡◌, ◌≢◌, ◌+◌, ◌≤◌, List, flat_map, IfOk, IfErr, OnOk};
+ghost use Rattle.std.specs.Prelude.{◌≡◌, ◌≢◌, ◌+◌, ◌≤◌, List, map, flat_map, IfOk, IfErr};
+ghost use Rattle.std.specs.Prelude.{OnOk};
 ghost use Rattle.std.specs.List.{sum_by};
 ghost use Rattle.std.specs.Ordering.{nat_cmp};
+ghost use Rattle.rf2_values.specs.Key.{key_of};
 ghost use Rattle.history_model.specs.declared.stamped.StampedRow.{StampedRow};
 ghost use Rattle.history_model.specs.History.{rows_at};
 ghost use Rattle.history_model.specs.Lists.{listed};
@@ -90,6 +92,9 @@ fn versions_of<R: RowReader>(
     ensures found { R.is_honest reader.old → Lists index.now (R.lists reader.old)
         → IfOk result (λ rows. rows.items ≡ flat_map
         (λ id. versions kind id (rows_at pin (listed (R.lists reader.old)))) ids.now) }
+    ensures keys { Lists index.now (R.lists reader.old)
+        → IfOk result (λ rows. map key_of rows.items ≡ map key_of (flat_map
+        (λ id. versions kind id (rows_at pin (listed (R.lists reader.old)))) ids.now)) }
     ensures undamaged { R.is_honest reader.old → Lists index.now (R.lists reader.old)
         → IfErr result (λ e. e ≢ readfault.Damaged) }
     ensures work { IfOk result (λ rows.
@@ -128,6 +133,10 @@ pub fn timeline<R: RowReader>(
         → EachPosted (R.lists reader.old) links.now
         → IfOk result (λ rows.
         rows.items ≡ timeline kind id (rows_at pin (listed (R.lists reader.old)))) }
+    // Whatever was read, the keys are those of these versions.
+    ensures keys { Lists index.now (R.lists reader.old) → EachPosted (R.lists reader.old) links.now
+        → IfOk result (λ rows. map key_of rows.items
+        ≡ map key_of (timeline kind id (rows_at pin (listed (R.lists reader.old))))) }
     ensures undamaged { R.is_honest reader.old → Lists index.now (R.lists reader.old)
         → IfErr result (λ e. e ≢ readfault.Damaged) }
     // No more is read than the rows that it answers take, each read once.

@@ -1,7 +1,8 @@
 //! What a component stands in the place of, as the posted associations say.
 
-ghost use Rattle.std.specs.Prelude.{◌≡◌, ◌≢◌, ◌↔◌, ◌+◌, ◌≤◌, List, Some, IfOk, IfErr, OnOk};
+ghost use Rattle.std.specs.Prelude.{◌≡◌, ◌≢◌, ◌↔◌, ◌+◌, ◌≤◌, List, Some, map, IfOk, IfErr, OnOk};
 ghost use Rattle.std.specs.List.{sum_by};
+ghost use Rattle.rf2_values.specs.Key.{key_of};
 ghost use Rattle.history_model.specs.declared.stamped.StampedRow.{StampedRow};
 ghost use Rattle.history_model.specs.History.{rows_at};
 ghost use Rattle.history_model.specs.Lists.{listed};
@@ -122,6 +123,10 @@ pub fn replaces<R: RowReader>(
         → EachPosted (R.lists reader.old) links.now
         → IfOk result (λ rows.
         rows.items ≡ replaces component time (rows_at pin (listed (R.lists reader.old)))) }
+    // Whatever was read, the keys are those of these associations.
+    ensures keys { Lists index.now (R.lists reader.old) → EachPosted (R.lists reader.old) links.now
+        → IfOk result (λ rows. map key_of rows.items ≡ map key_of
+        (replaces component time (rows_at pin (listed (R.lists reader.old))))) }
     ensures undamaged { R.is_honest reader.old → Lists index.now (R.lists reader.old)
         → EachPosted (R.lists reader.old) links.now
         → IfErr result (λ e. e ≢ readfault.Damaged) }

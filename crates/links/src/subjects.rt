@@ -144,6 +144,10 @@ pub(crate) fn about_of<R: RowReader>(
         → EachPosted (R.lists reader.old) links.now
         → IfOk result (λ rows.
         rows.items ≡ about kind id time (rows_at pin (listed (R.lists reader.old)))) }
+    // Whatever was read, the keys are those of the rows about the component.
+    ensures keys { Lists index.now (R.lists reader.old) → EachPosted (R.lists reader.old) links.now
+        → IfOk result (λ rows. map key_of rows.items
+        ≡ map key_of (about kind id time (rows_at pin (listed (R.lists reader.old))))) }
     ensures undamaged { R.is_honest reader.old → Lists index.now (R.lists reader.old)
         → EachPosted (R.lists reader.old) links.now
         → IfErr result (λ e. e ≢ readfault.Damaged) }

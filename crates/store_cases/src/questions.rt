@@ -1,6 +1,6 @@
 //! Questions about what the first imports of a store show: `at`, their number, and a question of
-//! `case_values`. The answer is the line of a row, or lines of rows or identifiers that are found;
-//! `none` where there is none.
+//! `case_values`. The answer is the line of a row, or lines of rows, identifiers or days that are
+//! found; `none` where there is none.
 
 use crate::calls::spell_refusal;
 use case_files::Answer;
@@ -64,6 +64,7 @@ fn find(
         Question::Delta(kind, from, date, after, limit) => {
             store.delta(kind, from.value(), date.value(), after, limit, pin)
         }
+        Question::Dates => store.dates(pin),
         Question::Terms(date, limit) => store.terms(prefix, date.value(), limit, pin),
         Question::Search(date, after, limit) => {
             store.search(prefix, date.value(), after, limit, pin)

@@ -46,8 +46,8 @@ QueryIsACall T D view = (result : Result T Refusal) (old new : StoreValue D)
     → IsQuery result view.is_honest view.moments view.failures old new
     → IsCall view old Other new
 
--- by `unchanged` of the answers of `children` and `descendants` (`IsIndexQuery`), and where a call
--- only borrows the store
+-- by `unchanged` of the answers of `children`, `descendants` and `dates` (`IsIndexQuery`), and
+-- where a call only borrows the store
 abbrev pub UnchangedIsACall : (D : Type 0) → DeviceView D → Type 0
 UnchangedIsACall D view = (old new : StoreValue D) → new ≡ old → IsCall view old Other new
 

@@ -12,7 +12,18 @@ use test_support::{CHOICES, Example, holds, root_release};
 /// The component that is asked for.
 const STREET: u128 = 1_000_004;
 
-/// Asks one question of each sort that reads.
+/// Asks one question of each sort that an audit asks.
+fn audit(store: &mut Example, pin: u32) -> Result<(), Refusal> {
+    store.descendants(138_875_005, 20_210_131, pin)?;
+    store.ancestors(1_000_004, 20_210_131, pin)?;
+    store.replaces(2_000_001, 20_210_131, pin)?;
+    store.timeline(Kind::Relationship, 1_000_004, pin)?;
+    store.delta(Kind::Concept, 20_200_131, 20_210_131, None, 10, pin)?;
+    store.dates(pin)?;
+    Ok(())
+}
+
+/// Asks one question of each sort.
 fn ask(store: &mut Example) -> Result<(), Refusal> {
     let pin = store.imports();
     store.line_at(Kind::Concept, STREET, 20_200_131, pin)?;
@@ -23,11 +34,21 @@ fn ask(store: &mut Example) -> Result<(), Refusal> {
     store.about(Kind::Description, 1_000_004, 20_210_131, pin)?;
     store.children(138_875_005, 20_210_131, pin)?;
     store.replacements(1_000_004, 20_210_131, pin)?;
-    Ok(())
+    audit(store, pin)
 }
 
 fn needs_reopen<T: Drop>(answer: Result<T, Refusal>) -> bool {
     matches!(answer, Err(Refusal::ReopenNeeded))
+}
+
+/// Whether the questions of an audit are refused since the store has to be opened again.
+fn is_mute_to_audits(store: &mut Example) -> bool {
+    needs_reopen(store.descendants(138_875_005, 20_210_131, 0))
+        && needs_reopen(store.ancestors(1_000_004, 20_210_131, 0))
+        && needs_reopen(store.replaces(2_000_001, 20_210_131, 0))
+        && needs_reopen(store.timeline(Kind::Relationship, 1_000_004, 0))
+        && needs_reopen(store.delta(Kind::Concept, 20_200_131, 20_210_131, None, 10, 0))
+        && needs_reopen(store.dates(0))
 }
 
 /// Whether the questions are refused since the store has to be opened again.
@@ -40,6 +61,7 @@ fn is_mute(store: &mut Example) -> bool {
         && needs_reopen(store.about(Kind::Description, 1_000_004, 20_210_131, 0))
         && needs_reopen(store.children(138_875_005, 20_210_131, 0))
         && needs_reopen(store.replacements(1_000_004, 20_210_131, 0))
+        && is_mute_to_audits(store)
 }
 
 /// Whether each call is refused since the store has to be opened again.

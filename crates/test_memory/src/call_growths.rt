@@ -22,7 +22,7 @@ const ROOT: u64 = 138_875_005;
 
 /// Calls on a new store, what they answer, and how often each is
 /// refused first, at least. Where that is 0, it is never refused.
-const CALLS: [(Call, Wanted, u32); 25] = [
+const CALLS: [(Call, Wanted, u32); 31] = [
     (
         Call::Row(Kind::Concept, 138_875_005, 20_230_131, 0),
         Wanted::Line(""),
@@ -88,6 +88,43 @@ const CALLS: [(Call, Wanted, u32); 25] = [
                  2000001",
         ]),
         40,
+    ),
+    (
+        Call::Descendants(ROOT, 20_210_131),
+        Wanted::Ids(&[1_000_004]),
+        1,
+    ),
+    (
+        Call::Ancestors(1_000_004, 20_210_131),
+        Wanted::Ids(&[ROOT]),
+        40,
+    ),
+    (
+        Call::Replaces(2_000_001, 20_210_131),
+        Wanted::Lines(&[
+            "0b6a0c2e-5d0f-4c53-9f6e-8d9d2a7b1c01|20210131|1|CORE|900000000000527005|1000004|\
+                 2000001",
+        ]),
+        40,
+    ),
+    (
+        Call::Timeline(Kind::Relationship, 1_000_004),
+        Wanted::Lines(&[
+            "1000027|20200131|1|CORE|1000004|138875005|0|116680003|INF|MOD",
+            "2000029|20200131|1|CORE|1000004|138875005|0|116680003|INF|MOD",
+            "2000029|20210131|0|CORE|1000004|138875005|0|116680003|INF|MOD",
+        ]),
+        40,
+    ),
+    (
+        Call::Delta(Kind::Concept, 20_200_131, 20_210_131),
+        Wanted::Lines(&["1000004|20210131|0|CORE|PRIM"]),
+        40,
+    ),
+    (
+        Call::Dates,
+        Wanted::Lines(&["20200131", "20200731", "20210131"]),
+        1,
     ),
     // The releases once more: nothing of them is new.
     (Call::Import(0), Wanted::Imported(4, 0, 6), 150),

@@ -24,6 +24,13 @@ pub enum Call {
     Terms(&'static str, u32),
     Children(u64, u32),
     Replacements(u64, u32),
+    Descendants(u64, u32),
+    Ancestors(u64, u32),
+    Replaces(u64, u32),
+    Timeline(Kind, u64),
+    /// What changed of a kind from one date to another.
+    Delta(Kind, u32, u32),
+    Dates,
 }
 
 /// What a call answers.
@@ -82,6 +89,21 @@ fn change(call: Call, store: &mut Example) -> Result<u64, Refusal> {
     }
 }
 
+/// Makes a call that asks a question of an audit, and any other that imports nothing.
+fn audit(call: Call, store: &mut Example, pin: u32) -> Result<Answer, Refusal> {
+    match call {
+        Call::Descendants(id, date) => Ok(Answer::Ids(store.descendants(id, date, pin)?)),
+        Call::Ancestors(id, date) => Ok(Answer::Ids(store.ancestors(id, date, pin)?)),
+        Call::Replaces(id, date) => Ok(Answer::Lines(store.replaces(id, date, pin)?)),
+        Call::Timeline(kind, id) => Ok(Answer::Lines(store.timeline(kind, id, pin)?)),
+        Call::Delta(kind, from, date) => {
+            Ok(Answer::Lines(store.delta(kind, from, date, None, 10, pin)?))
+        }
+        Call::Dates => Ok(Answer::Lines(store.dates(pin)?)),
+        _ => Ok(Answer::Number(change(call, store)?)),
+    }
+}
+
 /// Makes a call that imports nothing.
 fn ask(call: Call, store: &mut Example) -> Result<Answer, Refusal> {
     let pin = store.imports();
@@ -95,7 +117,7 @@ fn ask(call: Call, store: &mut Example) -> Result<Answer, Refusal> {
         Call::Terms(prefix, date) => Ok(Answer::Lines(store.terms(prefix, date, 10, pin)?)),
         Call::Children(id, date) => Ok(Answer::Ids(store.children(id, date, pin)?)),
         Call::Replacements(id, date) => Ok(Answer::Lines(store.replacements(id, date, pin)?)),
-        _ => Ok(Answer::Number(change(call, store)?)),
+        _ => audit(call, store, pin),
     }
 }
 

@@ -7,7 +7,8 @@ use std::process::Abort;
 use std::test::Fail;
 use test_support::Example;
 
-/// Adds the rows of a kind at a date, and those that are about a concept.
+/// Adds the rows of a kind at a date, those that changed since the first one, and those that are
+/// about a concept.
 fn put_kind_at(
     all: &mut Vec<u8>,
     store: &mut Example,
@@ -16,6 +17,7 @@ fn put_kind_at(
     pin: u32,
 ) -> Result<(), Refusal> {
     all.extend_from_slice(&store.page(kind, date, None, 10, pin)?)?;
+    all.extend_from_slice(&store.delta(kind, 20_200_131, date, None, 10, pin)?)?;
     all.extend_from_slice(&store.about(kind, 1_000_004, date, pin)?)?;
     Ok(())
 }
@@ -30,6 +32,7 @@ fn put_kinds(all: &mut Vec<u8>, store: &mut Example, pin: u32) -> Result<(), Ref
         for date in [20_200_131, 20_200_831, 20_210_131] {
             put_kind_at(all, store, kind, date, pin)?;
         }
+        all.extend_from_slice(&store.timeline(kind, 1_000_004, pin)?)?;
     }
     Ok(())
 }
@@ -39,6 +42,22 @@ fn put_concepts(all: &mut Vec<u8>, store: &mut Example, pin: u32) -> Result<(), 
     for id in [138_875_005, 1_000_004, 2_000_001] {
         all.extend_from_slice(&store.line_at(Kind::Concept, id, 20_200_831, pin)?)?;
         all.extend_from_slice(&store.history(Kind::Concept, id, pin)?)?;
+    }
+    Ok(())
+}
+
+/// Adds the concepts below one and above another one at a date.
+fn put_hierarchy_at(
+    all: &mut Vec<u8>,
+    store: &mut Example,
+    date: u32,
+    pin: u32,
+) -> Result<(), Refusal> {
+    for below in store.descendants(138_875_005, date, pin)? {
+        all.extend_from_slice(&below.to_be_bytes())?;
+    }
+    for above in store.ancestors(1_000_004, date, pin)? {
+        all.extend_from_slice(&above.to_be_bytes())?;
     }
     Ok(())
 }
@@ -53,6 +72,7 @@ fn put_found_at(
     all.extend_from_slice(&store.terms("STRASS", date, 10, pin)?)?;
     all.extend_from_slice(&store.search("we", date, Some(1_000_014), 10, pin)?)?;
     all.extend_from_slice(&store.replacements(1_000_004, date, pin)?)?;
+    all.extend_from_slice(&store.replaces(2_000_001, date, pin)?)?;
     for child in store.children(138_875_005, date, pin)? {
         all.extend_from_slice(&child.to_be_bytes())?;
     }
@@ -79,8 +99,11 @@ fn answers(alloc: Global, store: &mut Example, pin: u32) -> Result<Vec<u8>, Refu
     let mut all = Vec::new(alloc);
     put_kinds(&mut all, store, pin)?;
     put_concepts(&mut all, store, pin)?;
-    put_found_at(&mut all, store, 20_200_131, pin)?;
-    put_found_at(&mut all, store, 20_210_131, pin)?;
+    for date in [20_200_131, 20_210_131] {
+        put_found_at(&mut all, store, date, pin)?;
+        put_hierarchy_at(&mut all, store, date, pin)?;
+    }
+    all.extend_from_slice(&store.dates(pin)?)?;
     put_receipts(&mut all, store, pin)?;
     Ok(all)
 }

@@ -5,7 +5,7 @@ ghost use Rattle.std.specs.Prelude.{◌≤◌};
 
 use crate::example::Example;
 use crate::releases::MISUSED;
-use crate::text::{line_of, lines_of};
+use crate::text::{line_of, lines_of, lines_of_days};
 use disk_model::MemDisk;
 use history_store::{ImportReceipt, Refusal, Store};
 use rf2_rows::{EffectiveTime, Kind, Row, Sctid};
@@ -202,6 +202,14 @@ impl Example {
         let pin = clamp_pin(&self.store, pin);
         let rows = self.store.delta(kind, from, time, after, limit, pin)?;
         Ok(lines_of(self.alloc, &rows)?)
+    }
+
+    /// The days that have rows, each with an LF.
+    pub fn dates(&mut self, pin: u32) -> Result<Vec<u8>, Refusal> {
+        self.check_pin(pin)?;
+        let pin = clamp_pin(&self.store, pin);
+        let days = self.store.dates(pin)?;
+        Ok(lines_of_days(self.alloc, &days)?)
     }
 
     /// What an import brought.

@@ -1,7 +1,7 @@
 //! Rows as text. In the text of a test a bar stands for
 //! a TAB, and a name in capitals for an identifier.
 
-use rf2_rows::{Row, write_row};
+use rf2_rows::{EffectiveTime, Row, write_row};
 use std::alloc::{AllocError, Global};
 
 /// What a name in capitals stands for.
@@ -45,6 +45,17 @@ pub fn line_of(alloc: Global, row: Option<&Row>) -> Result<Vec<u8>, AllocError> 
     let mut text = Vec::new(alloc);
     if let Some(row) = row {
         write_row(alloc, row, &mut text)?;
+    }
+    Ok(text)
+}
+
+/// Days as lines, each with an LF.
+pub fn lines_of_days(alloc: Global, days: &[EffectiveTime]) -> Result<Vec<u8>, AllocError> {
+    let mut text = Vec::new(alloc);
+    for day in days {
+        let day = day.value();
+        let line = format!(in alloc; "{day}\n")?;
+        text.extend_from_slice(line.as_bytes())?;
     }
     Ok(text)
 }

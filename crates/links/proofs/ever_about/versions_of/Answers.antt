@@ -1,8 +1,10 @@
-use Rattle.std.proofs.Common.{◌+◌, ◌++◌, List, ℕ, get_or, sym, ap, subst, ◌∙◌, take, take_all, rules, arith}
+use Rattle.std.proofs.Common.{◌+◌, ◌++◌, List, ℕ, map, get_or, sym, ap, subst, ◌∙◌, take, take_all, rules, arith}
 use Rattle.std.specs.Prelude.{flat_map}
 use Rattle.std.specs.List.{sum_by}
 use Rattle.std.proofs.lemmas.List.Sums.{sum_by-append}
+use Rattle.std.proofs.lemmas.List.{map-append}
 use Rattle.rf2_values.specs.Row.{RowValue}
+use Rattle.rf2_values.specs.Key.{key_of}
 use Rattle.history_model.specs.History.{rows_at}
 use Rattle.history_model.specs.Lists.{listed}
 use Rattle.history_model.specs.Queries.{versions}
@@ -42,6 +44,16 @@ loop-id-preserved g c =
           ∙ ap (λ ls. c.loop-id.rows.items ++ versions a.kind (get_or a.ids.now c.loop-id.id-index 0) (rows_at a.pin (listed ls))) so_far.lists
           ∙ ap (λ xs. xs ++ piece (get_or a.ids.now c.loop-id.id-index 0)) (so_far.rows honest listed_so)
           ∙ sym (pieces_more piece a.ids.now c.loop-id.id-index c.loop-id-test.true);
+      keys = λ listed_so.
+          let id = get_or a.ids.now c.loop-id.id-index 0 in
+          let before = flat_map piece (take c.loop-id.id-index a.ids.now) in
+          ap (map key_of) c.in_ok-append.ensures.items
+          ∙ map-append key_of c.loop-id.rows.items found.versions.items
+          ∙ ap (λ ks. ks ++ map key_of found.versions.items) (so_far.keys listed_so)
+          ∙ ap (λ ks. map key_of before ++ ks) (found.ensures.keys (subst (λ ls. Lists a.index.now ls) (sym so_far.lists) listed_so)
+          ∙ ap (λ ls. map key_of (versions a.kind id (rows_at a.pin (listed ls)))) so_far.lists)
+          ∙ sym (map-append key_of before (piece id))
+          ∙ ap (map key_of) (sym (pieces_more piece a.ids.now c.loop-id.id-index c.loop-id-test.true));
     }
 
 pub returns-in_err-versions-clause-undamaged : goal.returns-in_err-versions-clause-undamaged
@@ -53,6 +65,11 @@ pub returns-clause-found : goal.returns-clause-found
 returns-clause-found g c = λ honest listed_so.
     let a = c.args in
     c.loop-id.invariant.rows honest listed_so ∙ ap (flat_map (λ id. versions a.kind id (rows_at a.pin (listed (g.R.RowReader.lists a.reader.now))))) (take_all c.loop-id.id-index a.ids.now c.loop-id-test.false)
+
+pub returns-clause-keys : goal.returns-clause-keys
+returns-clause-keys g c = λ listed_so.
+    let a = c.args in
+    c.loop-id.invariant.keys listed_so ∙ ap (λ ids. map key_of (flat_map (λ id. versions a.kind id (rows_at a.pin (listed (g.R.RowReader.lists a.reader.now)))) ids)) (take_all c.loop-id.id-index a.ids.now c.loop-id-test.false)
 
 pub returns-in_err-versions-clause-work_always : goal.returns-in_err-versions-clause-work_always
 returns-in_err-versions-clause-work_always g c = λ listed_so.

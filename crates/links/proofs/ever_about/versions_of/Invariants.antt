@@ -1,6 +1,7 @@
-use Rattle.std.proofs.Common.{◌≡◌, ◌+◌, ◌≤◌, take}
+use Rattle.std.proofs.Common.{◌≡◌, ◌+◌, ◌≤◌, map, take}
 use Rattle.std.specs.Prelude.{flat_map}
 use Rattle.std.specs.List.{sum_by}
+use Rattle.rf2_values.specs.Key.{key_of}
 use Rattle.history_model.specs.History.{rows_at}
 use Rattle.history_model.specs.Lists.{listed}
 use Rattle.history_model.specs.Queries.{versions}
@@ -20,4 +21,5 @@ invariant-loop-id g l =
       disk_faults : r.disk_faults l.reader ≡ r.disk_faults l.fn.reader;
       damages : r.damages l.reader ≡ r.damages l.fn.reader;
       rows : r.is_honest l.fn.reader → Lists l.index (r.lists l.fn.reader) → l.rows.items ≡ flat_map (λ id. versions l.kind id (rows_at l.pin (listed (r.lists l.fn.reader)))) (take l.id-index l.ids);
+      keys : Lists l.index (r.lists l.fn.reader) → map key_of l.rows.items ≡ map key_of (flat_map (λ id. versions l.kind id (rows_at l.pin (listed (r.lists l.fn.reader)))) (take l.id-index l.ids));
     }

@@ -1,5 +1,6 @@
 use Rattle.std.specs.List.{sum_by}
-use Rattle.std.proofs.Common.{◌≡◌, ◌+◌, ◌≤◌, sym, subst, IfOk}
+use Rattle.std.proofs.Common.{◌≡◌, ◌+◌, ◌≤◌, sym, subst, IfOk, map}
+use Rattle.rf2_values.specs.Key.{key_of}
 use Rattle.as_of_index.specs.Chosen.{StandAtAll}
 use Rattle.links.proofs.ReplacedRows.{replaces_from_chosen}
 use Rattle.links.proofs.replaced.replaces.Goals as goal
@@ -12,6 +13,15 @@ returns-clause-found g c = λ honest listed_so posts.
     let kept = rw (c.as_slice.ensures, c.value.ensures.value) at (c.in_ok-kept.ensures lists listed_so) in
     let w = replaces_from_chosen lists are a.links.now posts a.component a.time a.pin c.in_ok-kept.kept.items kept in
     subst (λ xs. IfOk c.read_all.result (λ f. f.items ≡ xs)) w.2 (c.read_all.ensures.found honest w.0 (subst (λ ks. StandAtAll lists ks w.0) (sym c.as_slice-2.ensures.value) w.1))
+
+pub returns-clause-keys : goal.returns-clause-keys
+returns-clause-keys g c = λ listed_so posts.
+    let a = c.args in
+    let lists = g.R.RowReader.lists a.reader.now in
+    let are = rw listed_so at c.lists-listed.ensures.places in
+    let kept = rw (c.as_slice.ensures, c.value.ensures.value) at (c.in_ok-kept.ensures lists listed_so) in
+    let w = replaces_from_chosen lists are a.links.now posts a.component a.time a.pin c.in_ok-kept.kept.items kept in
+    subst (λ xs. IfOk c.read_all.result (λ f. map key_of f.items ≡ map key_of xs)) w.2 (c.read_all.ensures.keys w.0 (subst (λ ks. StandAtAll lists ks w.0) (sym c.as_slice-2.ensures.value) w.1))
 
 pub returns-clause-undamaged : goal.returns-clause-undamaged
 returns-clause-undamaged g c = λ honest listed_so posts.

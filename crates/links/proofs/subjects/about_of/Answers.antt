@@ -19,7 +19,7 @@ returns-clause-keys g c = λ listed_so posts.
     let a = c.args in
     let lists = g.R.RowReader.lists a.reader.now in
     let are = rw listed_so at c.lists-listed.ensures.places in
-    let kept = rw (c.as_slice.ensures, c.value.ensures.value) at (c.in_ok-kept.ensures lists listed_so) in
+    let kept = rw c.as_slice.ensures at (c.in_ok-kept.ensures lists listed_so) in
     let w = about_from_chosen lists are a.links.now posts a.kind a.id a.time a.pin c.in_ok-kept.kept.items kept in
     subst (λ xs. IfOk c.read_all.result (λ f. map key_of f.items ≡ map key_of xs)) w.2 (c.read_all.ensures.keys w.0 (subst (λ ks. StandAtAll lists ks w.0) (sym c.as_slice-2.ensures.value) w.1))
 

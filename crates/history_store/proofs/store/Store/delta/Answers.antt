@@ -23,7 +23,7 @@ returns g c = record {
       c.new-reader.result.disk.now c.delta-read.new.reader.disk.now c.new-reader.result.cache.now c.delta-read.new.reader.cache.now c.delta-read.result c.answered.result
       refl c.if-self.false r.disk r.cache r.entries r.shown
       c.places.ensures (λ up. reader_honest g.D.Disk.is_honest g.D.Disk.moments _ _ _ _ _ _ _ _ _ _ c.self.invariant.0 r.disk r.cache r.entries r.shown up c.if-self.false (g.met.D.Disk.now_is_image c.self.inside.disk up))
-      e.found e.undamaged e.work e.work_always
+      e.found e.keys e.undamaged e.work e.work_always
       e.disk_faults e.stays.0 e.stays.5 e.stays.6 a.same a.left a.disk a.cache a.acknowledged);
 }
 

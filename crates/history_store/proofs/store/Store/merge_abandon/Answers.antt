@@ -2,6 +2,7 @@ use Rattle.std.proofs.Common.{sym, ap}
 use Rattle.store_image.specs.Kept.{history_of}
 use Rattle.history_store.specs.Catalog.{catalog_of}
 use Rattle.history_store.specs.MergeInProgress.{merge_of}
+use Rattle.history_store.proofs.Held.{held_stands}
 use Rattle.history_store.proofs.GoingOn.{no_merge}
 use Rattle.history_store.proofs.store.Store.merge_abandon.Goals as goal
 
@@ -11,3 +12,7 @@ invariant_of-self g c = (c.self.invariant.0, no_merge _ _ _ _ _ _ c.take.ensures
 pub returns-clause-answer : goal.returns-clause-answer
 returns-clause-answer g c =
     rw (← c.self.view_is) ((_, ap merge_of (sym c.in-Some.ensures.value)), ap (λ o. catalog_of c.self.inside.directory (merge_of o)) c.take.ensures.after, record { history = ap (λ l. history_of c.self.inside.directory l) c.forget_merge.ensures; was_open = c.if-self.false; open_still = c.if-self.false })
+
+pub returns-clause-acknowledged : goal.returns-clause-acknowledged
+returns-clause-acknowledged g c =
+    rw (← c.self.view_is, c.forget_merge.ensures) (λ honest still. record { open_still = still; each = held_stands _ _ _ _ _ _ _ c.self.invariant.0 honest still })

@@ -24,7 +24,7 @@ returns g c = record {
       c.new-reader.result.disk.now c.timeline-read.new.reader.disk.now c.new-reader.result.cache.now c.timeline-read.new.reader.cache.now c.timeline-read.result c.answered.result
       refl c.if-self.false r.disk r.cache r.entries r.shown
       (c.places.ensures, c.links.ensures) (λ up. reader_honest g.D.Disk.is_honest g.D.Disk.moments _ _ _ _ _ _ _ _ _ _ c.self.invariant.0 r.disk r.cache r.entries r.shown up c.if-self.false (g.met.D.Disk.now_is_image c.self.inside.disk up))
-      (λ lent i. e.found lent i.0 i.1) (λ lent i. e.undamaged lent i.0) e.work (λ i. e.work_always i.0 i.1)
+      (λ lent i. e.found lent i.0 i.1) (λ i. e.keys i.0 i.1) (λ lent i. e.undamaged lent i.0) e.work (λ i. e.work_always i.0 i.1)
       e.disk_faults e.stays.0 e.stays.5 e.stays.6 a.same a.left a.disk a.cache a.acknowledged);
 }
 
