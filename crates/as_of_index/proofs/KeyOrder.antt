@@ -30,7 +30,7 @@ use Rattle.as_of_index.specs.Private.KeyOrder.{IsFirstAfter, IsNextAfter}
 use Rattle.as_of_index.proofs.Standing.{row_of_place, place_of_row, stands_at, says_at}
 use Rattle.as_of_index.proofs.Paging.{filter_same, fewer}
 
-lt_is : (r : Ordering) → is_lt r ≡ true → r ≡ Less
+pub lt_is : (r : Ordering) → is_lt r ≡ true → r ≡ Less
 lt_is Less e = refl
 lt_is Equal e = absurd (cc)
 lt_is Greater e = absurd (cc)
@@ -47,7 +47,7 @@ pub further : (after : Option Key) (k l : Key) → is_key_after after k ≡ true
 further None k l e f = refl
 further (Some a) k l e f = is_lt_of (key_cmp a l) (keys_total.trans a k l (lt_is (key_cmp a k) e) (lt_is (key_cmp k l) f))
 
-not_after_itself : (k : Key) → is_key_after (Some k) k ≡ false
+pub not_after_itself : (k : Key) → is_key_after (Some k) k ≡ false
 not_after_itself k = ap is_lt (tied_itself keys_total k)
 
 -- ---- the next place
