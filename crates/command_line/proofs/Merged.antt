@@ -15,7 +15,7 @@ use Rattle.history_store.specs.Catalog.{Catalog, Merge as CatalogMerge}
 use Rattle.history_store.specs.Merging.{IsBegun, IsStepped, IsPublished, GoesOn, IsFinished}
 use Rattle.history_store.specs.MergeAnswers.{IsNotBegun, IsNotStepped, IsNotPublished, IsNotTrimmed}
 use Rattle.history_store.specs.StoreValue.{StoreValue}
-use Rattle.line_commands.specs.Commands.{Command, Merge, Step, Publish, Trim, Import, Pin, Receipt}
+use Rattle.line_commands.specs.Commands.{Command, Merge, Step, Publish, Trim, Import}
 use Rattle.line_commands.specs.Requests.{Asks}
 use Rattle.line_commands.proofs.Readings.{one_reading, asked_is_read}
 use Rattle.line_server.specs.declared.refusal.LineRefusal.{LineRefusal}
@@ -23,7 +23,7 @@ use Rattle.line_server.specs.declared.refusal.LineRefusal.TheVariants as refusal
 use Rattle.line_server.specs.Sources.{Releases, no_releases}
 use Rattle.line_server.specs.ReplyValue.{Answer, ReplyValue, reply_value}
 use Rattle.line_server.specs.Pins.{unpinned}
-use Rattle.line_server.specs.Replies.{Server, Replies, IsAnswer, IsRefusal, IsOutOfRange, server}
+use Rattle.line_server.specs.Replies.{Server, Replies, IsAnswer, IsRefusal, server}
 use Rattle.store_life.specs.Life.{Call, Imported, Failed, Other, taken, TakesAll}
 use Rattle.line_server.specs.Turns.{Turn, IsTurn, IsOfAsked}
 use Rattle.command_line.specs.Merging.{Merges, IsMergeLine, IsHalt, IsHaltedBy, IsMergedTo, IsMergedAndAsked, TellsMerge, rows_left, segments_of, trim_line}
@@ -109,33 +109,28 @@ not_trimmed store.ReopenNeeded s h open_still = absurd (not_closed s h open_stil
 not_trimmed store.DiskFault s h open_still = tt
 not_trimmed _ s h open_still = absurd h
 
--- a command that names no import isn't out of their range
-in_range : {D : Type 0} (session : ℕ) (command : Command) (old : Server D) → ((number : Option ℕ) → command ≢ Pin number) → ((number : ℕ) → command ≢ Receipt number) → IsOutOfRange session command old → ⊥
-in_range session command old no_pin no_receipt (n, inl r) = no_pin (Some n) r.0
-in_range session command old no_pin no_receipt (n, inr r) = no_receipt n r.0
-
 module _ {D : Type 0} (honest : Type 0) (releases : Releases) (old new : Server D) where
   merge_halts : (refusal : LineRefusal) → IsRefusal honest releases 0 Merge refusal old new → IsAtRest old → 2 ≤ segments_of old → IsHalt (Err refusal)
   merge_halts (refusals.Unread reason) r rest two = absurd r
-  merge_halts refusals.PinRange r rest two = absurd (in_range 0 Merge old (λ n e. cc) (λ n e. cc) r.0)
+  merge_halts refusals.PinRange r rest two = absurd r.0
   merge_halts refusals.NoFolder r rest two = let no : Merge ≡ Import r.0 = r.1 in cc
   merge_halts (refusals.Store e) r rest two = not_begun e old.store r.0.0 rest.0 rest.1 two
 
   step_halts : (n : ℕ) (refusal : LineRefusal) → IsRefusal honest releases 0 (Step n) refusal old new → IsMerging old → IsHalt (Err refusal)
   step_halts n (refusals.Unread reason) r on = absurd r
-  step_halts n refusals.PinRange r on = absurd (in_range 0 (Step n) old (λ m e. cc) (λ m e. cc) r.0)
+  step_halts n refusals.PinRange r on = absurd r.0
   step_halts n refusals.NoFolder r on = let no : Step n ≡ Import r.0 = r.1 in cc
   step_halts n (refusals.Store e) r on = not_stepped e old.store n r.0.0 on.0 on.1
 
   publish_halts : (refusal : LineRefusal) → IsRefusal honest releases 0 Publish refusal old new → HasMerged old → IsHalt (Err refusal)
   publish_halts (refusals.Unread reason) r done = absurd r
-  publish_halts refusals.PinRange r done = absurd (in_range 0 Publish old (λ n e. cc) (λ n e. cc) r.0)
+  publish_halts refusals.PinRange r done = absurd r.0
   publish_halts refusals.NoFolder r done = let no : Publish ≡ Import r.0 = r.1 in cc
   publish_halts (refusals.Store e) r done = not_published e old.store r.0.0 done.0 done.1
 
   trim_halts : (refusal : LineRefusal) → IsRefusal honest releases 0 Trim refusal old new → IsAtRest old → IsHalt (Err refusal)
   trim_halts (refusals.Unread reason) r rest = absurd r
-  trim_halts refusals.PinRange r rest = absurd (in_range 0 Trim old (λ n e. cc) (λ n e. cc) r.0)
+  trim_halts refusals.PinRange r rest = absurd r.0
   trim_halts refusals.NoFolder r rest = let no : Trim ≡ Import r.0 = r.1 in cc
   trim_halts (refusals.Store e) r rest = not_trimmed e old.store r.0.0 rest.0
 

@@ -40,6 +40,15 @@ Questions, of the latest version of each component up to a date:
   0 STATUS                       how many imports, rows and segments there are, and
                                  how many rows are left to a merge
 
+Questions of an audit:
+  0 ANCESTORS 1000004 20210131       all concepts above the concept
+  0 DESCENDANTS 138875005 20210131   all concepts below it
+  0 REPLACES 2000001 20210131        the active associations that lead to the component
+  0 TIMELINE D 1000004               all versions of what was ever about it (D, R, V, A)
+  0 DELTA C 20200131 20210131 - 100  what changed after the one date, up to the other
+  0 DATES                            the dates that have rows
+  0 AT 1 GET C 1000004 20210131      a question, of what the first import brought
+
 Imports and pins:
   0 IMPORT r3                    imports the release in this folder below DIR
   0 RECEIPT 1                    how many rows import 1 brought, up to which date

@@ -67,9 +67,9 @@ module _ {T D : Type 0} (honest : D → Type 0) (moments : D → Moments) (failu
         let indexed_so = subst Indexed (sym shown_is) indexed in
         let all_are : listed shown ≡ old.history.rows = ap listed shown_is ∙ sym rows_are in
         let bound_so : (ids : List ℕ) → Bound shown lent disk ids → bytes_read new.disk ≤ bytes_read old.disk + relationships_cost date (rows_at pin old.history.rows) (concept ∷ ids) = λ ids within.
-            subst (λ rows. bytes_read new.disk ≤ bytes_read old.disk + relationships_cost date (rows_at pin rows) (concept ∷ ids)) all_are
-            (subst (λ d. Bound shown old.disk d ids) (sym same)
-            (subst (λ d. Bound shown d disk ids) lent_is within)) in
+        subst (λ rows. bytes_read new.disk ≤ bytes_read old.disk + relationships_cost date (rows_at pin rows) (concept ∷ ids)) all_are
+        (subst (λ d. Bound shown old.disk d ids) (sym same)
+        (subst (λ d. Bound shown d disk ids) lent_is within)) in
         record {
           found = λ up. answered_so (λ x. Above shown (ids_of x)) (λ x. AreAncestors concept date (rows_at pin old.history.rows) (ids_of x)) read result answers
               (λ x are. subst (λ rows. AreAncestors concept date (rows_at pin rows) (ids_of x)) all_are are) (found (lends up) indexed_so);

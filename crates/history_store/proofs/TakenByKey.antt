@@ -1,10 +1,8 @@
 -- What an import answers on every disk: its new rows are those with new keys.
-use Rattle.std.proofs.Common.{◌≡◌, ℕ, ◌+◌, ◌≤◌, false, List, [], ◌∷◌, ◌++◌, length, refl, sym, ap, subst, inl, inr, ◌∙◌, arith}
+use Rattle.std.proofs.Common.{◌≡◌, ℕ, ◌+◌, ◌≤◌, false, List, length, refl, sym, ap, subst, inl, inr, ◌∙◌, arith}
 use Rattle.rf2_values.specs.Row.{RowValue}
-use Rattle.rf2_values.specs.Key.{key_of}
 use Rattle.history_model.specs.declared.stamped.StampedRow.{StampedRow}
-use Rattle.history_model.specs.InOrder.{Has}
-use Rattle.history_model.specs.History.{History, IsHistory, IsConsistent, Accepts, full, stamped, stamped_cmp, row_cmp, after_release}
+use Rattle.history_model.specs.History.{History, IsHistory, Accepts, full, stamped, row_cmp, after_release}
 use Rattle.history_model.proofs.InOrder.{Has-append_cases}
 use Rattle.history_model.proofs.Filtered.{IsAscending-map}
 use Rattle.history_model.proofs.Snapshots.{IsConsistent-from_ascending}

@@ -1,5 +1,5 @@
 -- What a RECEIPT is answered.
-use Rattle.std.proofs.Common.{◌≡◌, ◌⊎◌, ℕ, ◌≤◌, ◌<◌, Bool, true, false, List, length, Option, Result, Ok, Err, inl, inr, refl, sym, ap, subst, ◌∙◌, arith}
+use Rattle.std.proofs.Common.{◌≡◌, ◌⊎◌, ℕ, ◌≤◌, ◌<◌, true, false, List, length, Option, Result, Ok, Err, inl, inr, refl, sym, ap, subst, ◌∙◌, arith}
 use Rattle.std.proofs.lemmas.Bool.{false≢true}
 use Rattle.history_model.specs.declared.stamped.StampedRow.{StampedRow}
 use Rattle.history_model.specs.History.{History}
@@ -7,50 +7,38 @@ use Rattle.history_model.specs.Brought.{IsLatestDay, ImportReceiptOf}
 use Rattle.history_model.proofs.Brought.{one_receipt_for_an_import}
 use Rattle.history_store.specs.declared.refusal.Refusal.{Refusal}
 use Rattle.history_store.specs.declared.refusal.Refusal.TheVariants as store
-use Rattle.line_commands.specs.Commands.{Command, Receipt}
+use Rattle.line_commands.specs.Questions.{Receipt}
 use Rattle.line_server.specs.declared.refusal.LineRefusal.{LineRefusal}
 use Rattle.line_server.specs.declared.refusal.LineRefusal.TheVariants as refusals
-use Rattle.line_server.specs.Sources.{Releases}
 use Rattle.line_server.specs.ReplyValue.{Answer, Done}
-use Rattle.line_server.specs.Replies.{Server, IsOutcome, imports_seen, receipt_of}
+use Rattle.line_server.specs.Replies.{Server, receipt_of}
 use Rattle.line_server.specs.Laws.{PinnedReceiptIsUndisturbed}
 use Rattle.store_life.specs.Laws.{BroughtAlike}
-use Rattle.line_server.proofs.Pinned.{asked_outcome}
-
-abbrev pub is_receipt : Command → Bool
-is_receipt (Receipt number) = true
-is_receipt _ = false
-
-abbrev number_of : Command → ℕ
-number_of (Receipt number) = number
-number_of _ = 0
+use Rattle.line_server.proofs.AskedOf.{OutcomeAt}
+use Rattle.line_server.proofs.Pinned.{question_out}
 
 -- ---- how it comes out
 
--- a session is told the receipt of an import
+-- the receipt of an import is told of the first `seen`
 abbrev pub IsGiven : {D : Type 0} → ℕ → ℕ → Result Answer LineRefusal → Server D → Type 0
-IsGiven session number outcome s =
-    (brought : ℕ) × (latest : Option ℕ) × (s.store.needs_reopen ≡ false) × (number ≤ imports_seen s session) × ImportReceiptOf s.store.history number brought latest
-    × (outcome ≡ Ok (Done (receipt_of number brought latest)))
+IsGiven seen number outcome s =
+    (brought : ℕ) × (latest : Option ℕ) × (s.store.needs_reopen ≡ false) × (number ≤ seen) × ImportReceiptOf s.store.history number brought latest × (outcome ≡ Ok (Done (receipt_of number brought latest)))
 
 abbrev IsShut : {D : Type 0} → ℕ → ℕ → Result Answer LineRefusal → Server D → Type 0
-IsShut session number outcome s = (s.store.needs_reopen ≡ true) × (number ≤ imports_seen s session) × (outcome ≡ Err (refusals.Store store.ReopenNeeded))
+IsShut seen number outcome s = (s.store.needs_reopen ≡ true) × (number ≤ seen) × (outcome ≡ Err (refusals.Store store.ReopenNeeded))
 
-abbrev IsUnseen : {D : Type 0} → ℕ → ℕ → Result Answer LineRefusal → Server D → Type 0
-IsUnseen session number outcome s = (imports_seen s session < number) × (outcome ≡ Err refusals.PinRange)
+abbrev IsBehind : ℕ → ℕ → Result Answer LineRefusal → Type 0
+IsBehind seen number outcome = (seen < number) × (outcome ≡ Err refusals.PinRange)
 
 abbrev pub ComesOut : {D : Type 0} → ℕ → ℕ → Result Answer LineRefusal → Server D → Type 0
-ComesOut session number outcome s = IsGiven session number outcome s ⊎ (IsShut session number outcome s ⊎ IsUnseen session number outcome s)
+ComesOut seen number outcome s = IsGiven seen number outcome s ⊎ (IsShut seen number outcome s ⊎ IsBehind seen number outcome)
 
-pub receipt_out : {D : Type 0} (honest : Type 0) (releases : Releases) (session number : ℕ) (outcome : Result Answer LineRefusal) (old new : Server D) → IsOutcome honest releases session (Receipt number) outcome old new
-    → (new ≡ old) × ComesOut session number outcome old
-receipt_out honest releases session number (Ok answer) old new h = (h.unchanged, inl (h.brought, h.latest, h.open_still, h.seen, h.receipt, ap Ok h.answer_is))
-receipt_out honest releases session number (Err (refusals.Unread reason)) old new h = absurd h
-receipt_out honest releases session number (Err refusals.PinRange) old new ((n, inl h), same) = absurd (false≢true (sym (ap is_receipt h.0)))
-receipt_out honest releases session number (Err refusals.PinRange) old new ((n, inr h), same) =
-    (same, inr (inr (subst (λ (k : ℕ). imports_seen old session < k) (sym (ap number_of h.0)) h.1, refl)))
-receipt_out honest releases session number (Err refusals.NoFolder) old new h = absurd (false≢true (sym (ap is_receipt h.1)))
-receipt_out honest releases session number (Err (refusals.Store e)) old new h = (h.1.2, inr (inl (h.1.1, h.0, ap (λ (r : Refusal). Err (refusals.Store r)) h.1.0)))
+pub receipt_out : {D : Type 0} (honest : Type 0) (seen number : ℕ) (outcome : Result Answer LineRefusal) (old new : Server D) → OutcomeAt honest seen (Receipt number) outcome old new → (new ≡ old) × ComesOut seen number outcome old
+receipt_out honest seen number (Ok answer) old new h = (h.unchanged, inl (h.brought, h.latest, h.open_still, h.within, h.receipt, ap Ok h.answer_is))
+receipt_out honest seen number (Err (refusals.Unread reason)) old new h = absurd h
+receipt_out honest seen number (Err refusals.PinRange) old new h = (h.1, inr (inr (h.0, refl)))
+receipt_out honest seen number (Err refusals.NoFolder) old new h = absurd h
+receipt_out honest seen number (Err (refusals.Store e)) old new h = (h.1.2, inr (inl (h.1.1, h.0, ap (λ (r : Refusal). Err (refusals.Store r)) h.1.0)))
 
 -- ---- one receipt
 
@@ -67,9 +55,8 @@ told_alike h g number brought count latest day alike here there =
     let one = one_receipt_for_an_import h number brought count latest day here (moved_receipt h g number count brought day latest alike here there) in
     ap (λ (n : ℕ). receipt_of number n latest) one.0 ∙ ap (λ (d : Option ℕ). receipt_of number count d) one.1
 
-module _ {D : Type 0} (session number : ℕ) (x y : Result Answer LineRefusal) (a b : Server D) (seen : imports_seen a session ≡ imports_seen b session) (needs : a.store.needs_reopen ≡ b.store.needs_reopen)
-    (alike : number ≤ imports_seen a session → BroughtAlike number a.store.history b.store.history) where
-  pub one_receipt : ComesOut session number x a → ComesOut session number y b → x ≡ y
+module _ {D : Type 0} (m n number : ℕ) (x y : Result Answer LineRefusal) (a b : Server D) (seen : m ≡ n) (needs : a.store.needs_reopen ≡ b.store.needs_reopen) (alike : number ≤ m → BroughtAlike number a.store.history b.store.history) where
+  pub one_receipt : ComesOut m number x a → ComesOut n number y b → x ≡ y
   one_receipt (inl h) (inl k) = h.5 ∙ ap (λ (words : List (List ℕ)). Ok (Done words)) (told_alike a.store.history b.store.history number h.0 k.0 h.1 k.1 (alike h.3) h.4 k.4) ∙ sym k.5
   one_receipt (inl h) (inr (inl k)) = absurd (false≢true (sym h.2 ∙ needs ∙ k.0))
   one_receipt (inl h) (inr (inr k)) = absurd (let within = h.3 in let above = k.0 in omega (arith, within, above, seen))
@@ -81,7 +68,7 @@ module _ {D : Type 0} (session number : ℕ) (x y : Result Answer LineRefusal) (
   one_receipt (inr (inr h)) (inr (inr k)) = h.1 ∙ sym k.1
 
 pub receipt_undisturbed : (D : Type 0) (honest : D → Type 0) → PinnedReceiptIsUndisturbed D honest
-receipt_undisturbed D honest releases others a b after next line session pin number one two needs asks pa pb alike ra rb =
-    one_receipt session number one two a b (pa ∙ sym pb) needs (λ within. alike)
-    (receipt_out (honest a.store.disk) releases session number one a after (asked_outcome (honest a.store.disk) releases a after line session (Receipt number) one asks ra)).1
-    (receipt_out (honest b.store.disk) others session number two b next (asked_outcome (honest b.store.disk) others b next line session (Receipt number) two asks rb)).1
+receipt_undisturbed D honest releases others a b after next line text session other pin number command also one two needs asks asked at to alike ra rb =
+    one_receipt pin pin number one two a b refl needs (λ within. alike)
+    (receipt_out (honest a.store.disk) pin number one a after (question_out (honest a.store.disk) releases a after line session command (Receipt number) pin one asks at ra)).1
+    (receipt_out (honest b.store.disk) pin number two b next (question_out (honest b.store.disk) others b next text other also (Receipt number) pin two asked to rb)).1

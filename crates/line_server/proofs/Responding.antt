@@ -6,27 +6,30 @@ use Rattle.std.proofs.lemmas.Bool.{false≢true}
 use Rattle.std.proofs.lemmas.List.Elements.{All-set}
 use Rattle.history_model.specs.History.{rows_at}
 use Rattle.history_model.specs.Brought.{ImportReceiptOf}
-use Rattle.history_model.specs.Queries.{children}
 use Rattle.history_store.specs.declared.refusal.Refusal.{Refusal}
 use Rattle.history_store.specs.declared.refusal.Refusal.TheVariants as store
 use Rattle.history_store.specs.StoreValue.{StoreValue}
+use Rattle.history_store.specs.Queries.{is_listed}
+use Rattle.blocks.proofs.Looked.{none_looks_up}
 use Rattle.history_store.specs.Answers.{CountsRefusal}
 use Rattle.line_commands.specs.declared.unread.Unread.{Unread}
-use Rattle.line_commands.specs.Commands.{Command, Children, Receipt as AskReceipt, Pin, Unpin, Status}
+use Rattle.line_commands.specs.Questions.{Question, Children, Descendants, Dates, Receipt as AskReceipt}
+use Rattle.line_commands.specs.Commands.{Command, At, Pin, Unpin, Status}
 use Rattle.line_commands.specs.Requests.{Asks, IsUnread}
 use Rattle.line_commands.proofs.Readings.{asked_is_read}
 use Rattle.line_server.specs.declared.refusal.LineRefusal.{LineRefusal}
 use Rattle.line_server.specs.declared.refusal.LineRefusal.TheVariants as refusals
 use Rattle.line_server.specs.Pins.{AreWithin, pin_of}
 use Rattle.line_server.specs.Sources.{Releases, SourceView, source_view}
-use Rattle.line_server.specs.ReplyValue.{Ids, Done, ReplyValue, reply_value}
-use Rattle.line_server.specs.Replies.{Server, IsAnswer, IsClosed, IsLacking, receipt_of, status_of, server}
+use Rattle.line_server.specs.ReplyValue.{Answer, Done, ReplyValue, reply_value}
+use Rattle.line_server.specs.Replies.{Server, IsFound, IsAnswer, IsAnswerAt, IsRefusalAt, IsClosed, IsLacking, IsOutOfRange, receipt_of, status_of, server}
 use Rattle.store_life.specs.Life.{Other}
-use Rattle.line_server.specs.Turns.{IsAnswered}
+use Rattle.line_server.specs.Turns.{IsAnswered, LeavesAsked}
 use Rattle.line_server.specs.Private.{IsResponse, IsQueried, IsCarriedOut}
 use Rattle.line_server.proofs.Alike.{turn_of}
 use Rattle.store_life.proofs.Made.{unmade}
-use Rattle.line_server.proofs.Queried.{responded}
+use Rattle.line_server.proofs.Finding.{AsksIndex, same_from}
+use Rattle.line_server.proofs.Queried.{responded, queried}
 
 abbrev is_fault : Refusal → Bool
 is_fault store.DiskFault = true
@@ -36,31 +39,53 @@ fault_or_none : (e : Refusal) → (e ≡ store.DiskFault) ⊎ (e ≢ store.DiskF
 fault_or_none store.DiskFault = inl refl
 fault_or_none _ = inr (λ same. false≢true (ap is_fault same))
 
--- ---- identifiers
+-- ---- what the index alone answers
 
-module _ {D : Type 0} (view : DeviceView D) (concept date pin : ℕ) (s : StoreValue D) where
-  pub children_found : (ids : List ℕ) (reply : ReplyValue) → s.needs_reopen ≡ false → ids ≡ children concept date (rows_at pin s.history.rows) → reply ≡ reply_value (Ok (Ids ids))
-      → IsQueried (Ok reply) view (Children concept date) pin s s
-  children_found ids reply still is told has session pins at =
-      let seen = is ∙ ap (λ (k : ℕ). children concept date (rows_at k s.history.rows)) (sym at) in
-      responded view (Ok reply) has session (Children concept date) (Ok (Ids ids)) (server pins s) (server pins s) told
-      (still, record { pins = refl; store = record { history = refl; catalog = refl; needs_reopen = refl } }, ap Ids seen) (unmade view s) refl refl (omega arith)
+-- the store is closed, or memory lacks
+abbrev IsUnlisted : {D : Type 0} → Refusal → StoreValue D → Type 0
+IsUnlisted refusal s = ((refusal ≡ store.ReopenNeeded) × (s.needs_reopen ≡ true)) ⊎ ((refusal ≡ store.OutOfMemory) × (s.needs_reopen ≡ false))
 
-  pub children_unfound : (refusal : Refusal) → ((refusal ≡ store.ReopenNeeded) × (s.needs_reopen ≡ true)) ⊎ ((refusal ≡ store.OutOfMemory) × (s.needs_reopen ≡ false))
-      → IsQueried (Err (refusals.Store refusal)) view (Children concept date) pin s s
-  children_unfound refusal why has session pins at =
-      responded view (Err (refusals.Store refusal)) has session (Children concept date) (Err (refusals.Store refusal)) (server pins s) (server pins s) refl
-      (cause pins why) (unmade view s) (counted refusal why) refl (omega arith) where
-        cause : (pins : List (Option ℕ)) → ((refusal ≡ store.ReopenNeeded) × (s.needs_reopen ≡ true)) ⊎ ((refusal ≡ store.OutOfMemory) × (s.needs_reopen ≡ false)) → IsClosed refusal (server pins s) (server pins s) ⊎ IsLacking refusal (server pins s) (server pins s)
-        cause pins (inl w) = inl (w.0, w.1, refl)
-        cause pins (inr w) = inr (w.0, w.1, record { pins = refl; store = record { history = refl; catalog = refl; needs_reopen = refl } })
+module _ {D : Type 0} (view : DeviceView D) (pin : ℕ) (s : StoreValue D) where
+  index_answer : (question : Question) (answer : Answer) (pins : List (Option ℕ)) → AsksIndex question → s.needs_reopen ≡ false → IsFound question (rows_at pin s.history.rows) answer
+      → IsAnswerAt (view.is_honest s.disk) pin question answer (server pins s) (server pins s)
+  index_answer (Children concept date) answer pins q still f = (still, same_from (server pins s) (server pins s) refl, f)
+  index_answer (Descendants concept date) answer pins q still f = (still, same_from (server pins s) (server pins s) refl, f)
+  index_answer Dates answer pins q still f = (still, same_from (server pins s) (server pins s) refl, f)
+  index_answer question answer pins q still f = absurd q
 
-        counted : (e : Refusal) → ((e ≡ store.ReopenNeeded) × (s.needs_reopen ≡ true)) ⊎ ((e ≡ store.OutOfMemory) × (s.needs_reopen ≡ false)) → CountsRefusal e (view.failures s.disk) (view.failures s.disk)
-        counted e (inl w) = subst (λ (r : Refusal). CountsRefusal r (view.failures s.disk) (view.failures s.disk)) (sym w.0) refl
-        counted e (inr w) = subst (λ (r : Refusal). CountsRefusal r (view.failures s.disk) (view.failures s.disk)) (sym w.0) refl
+  index_refused : (question : Question) (refusal : Refusal) (pins : List (Option ℕ)) → AsksIndex question → IsClosed refusal (server pins s) (server pins s) ⊎ IsLacking refusal (server pins s) (server pins s)
+      → IsRefusalAt (view.is_honest s.disk) pin question refusal (server pins s) (server pins s)
+  index_refused (Children concept date) refusal pins q why = why
+  index_refused (Descendants concept date) refusal pins q why = why
+  index_refused Dates refusal pins q why = why
+  index_refused question refusal pins q why = absurd q
 
-  pub children_untold : s.needs_reopen ≡ false → IsQueried (Err (refusals.Store store.OutOfMemory)) view (Children concept date) pin s s
-  children_untold still = children_unfound store.OutOfMemory (inr (refl, still))
+  index_left : (question : Question) (outcome : Result Answer LineRefusal) → AsksIndex question → LeavesAsked view pin question outcome s s
+  index_left (Children concept date) outcome q = refl
+  index_left (Descendants concept date) outcome q = refl
+  index_left Dates outcome q = refl
+  index_left question outcome q = absurd q
+
+  module _ (question : Question) (asks : AsksIndex question) where
+    pub index_found : (answer : Answer) (reply : ReplyValue) → s.needs_reopen ≡ false → IsFound question (rows_at pin s.history.rows) answer → reply ≡ reply_value (Ok answer) → IsQueried (Ok reply) view question pin s s
+    index_found answer reply still is told =
+        queried view (Ok reply) question pin (Ok answer) s s told
+        (λ pins. index_answer question answer pins asks still is) (unmade view s) refl (index_left question (Ok answer) asks) (omega arith)
+
+    pub index_unfound : (refusal : Refusal) → IsUnlisted refusal s → IsQueried (Err (refusals.Store refusal)) view question pin s s
+    index_unfound refusal why =
+        queried view (Err (refusals.Store refusal)) question pin (Err (refusals.Store refusal)) s s refl
+        (λ pins. index_refused question refusal pins asks (cause pins why)) (unmade view s) (counted refusal why) (index_left question (Err (refusals.Store refusal)) asks) (omega arith) where
+          cause : (pins : List (Option ℕ)) → IsUnlisted refusal s → IsClosed refusal (server pins s) (server pins s) ⊎ IsLacking refusal (server pins s) (server pins s)
+          cause pins (inl w) = inl (w.0, w.1, refl)
+          cause pins (inr w) = inr (w.0, w.1, same_from (server pins s) (server pins s) refl)
+
+          counted : (e : Refusal) → IsUnlisted e s → CountsRefusal e (view.failures s.disk) (view.failures s.disk)
+          counted e (inl w) = subst (λ (r : Refusal). CountsRefusal r (view.failures s.disk) (view.failures s.disk)) (sym w.0) refl
+          counted e (inr w) = subst (λ (r : Refusal). CountsRefusal r (view.failures s.disk) (view.failures s.disk)) (sym w.0) refl
+
+    pub index_untold : s.needs_reopen ≡ false → IsQueried (Err (refusals.Store store.OutOfMemory)) view question pin s s
+    index_untold still = index_unfound store.OutOfMemory (inr (refl, still))
 
 -- ---- STATUS
 
@@ -108,28 +133,47 @@ module _ {D : Type 0} (view : DeviceView D) (session : ℕ) (pins : List (Option
   pub out_of_range : (n : ℕ) × (number ≡ Some n) × (s.history.imports < n) → IsResponse (Err refusals.PinRange) (source_view (Unit {0}) has) view session (Pin number) (server pins s) (server pins s)
   out_of_range h =
       responded view (Err refusals.PinRange) has session (Pin number) (Err refusals.PinRange) (server pins s) (server pins s) refl
-      ((h.0, inl (ap Pin h.1, h.2)), refl) (unmade view s) refl refl (omega arith)
+      (subst (λ (o : Option ℕ). IsOutOfRange session (Pin o) (server pins s)) (sym h.1) h.2, refl) (unmade view s) refl refl (omega arith)
 
 -- ---- RECEIPT
 
 module _ {D : Type 0} (view : DeviceView D) (number pin : ℕ) (s : StoreValue D) where
   pub import_told : (brought : ℕ) (latest : Option ℕ) (reply : ReplyValue) → number ≤ pin → s.needs_reopen ≡ false → ImportReceiptOf s.history number brought latest → reply ≡ reply_value (Ok (Done (receipt_of number brought latest)))
       → IsQueried (Ok reply) view (AskReceipt number) pin s s
-  import_told brought latest reply within still receipt told has session pins at =
-      responded view (Ok reply) has session (AskReceipt number) (Ok (Done (receipt_of number brought latest))) (server pins s) (server pins s) told
-      (record { open_still = still; seen = subst (λ (k : ℕ). number ≤ k) (sym at) within; brought = brought; latest = latest; receipt = receipt; answer_is = refl; unchanged = refl })
+  import_told brought latest reply within still receipt told =
+      queried view (Ok reply) (AskReceipt number) pin (Ok (Done (receipt_of number brought latest))) s s told
+      (λ pins. record { open_still = still; within = within; brought = brought; latest = latest; receipt = receipt; answer_is = refl; unchanged = refl })
       (unmade view s) refl refl (omega arith)
 
   pub import_closed : (refusal : Refusal) → number ≤ pin → (refusal ≡ store.ReopenNeeded) × (s.needs_reopen ≡ true) → IsQueried (Err (refusals.Store refusal)) view (AskReceipt number) pin s s
-  import_closed refusal within why has session pins at =
-      responded view (Err (refusals.Store refusal)) has session (AskReceipt number) (Err (refusals.Store refusal)) (server pins s) (server pins s) refl
-      (subst (λ (k : ℕ). number ≤ k) (sym at) within, (why.0, why.1, refl)) (unmade view s)
+  import_closed refusal within why =
+      queried view (Err (refusals.Store refusal)) (AskReceipt number) pin (Err (refusals.Store refusal)) s s refl
+      (λ pins. (within, (why.0, why.1, refl))) (unmade view s)
       (subst (λ (r : Refusal). CountsRefusal r (view.failures s.disk) (view.failures s.disk)) (sym why.0) refl) refl (omega arith)
 
   pub import_unseen : pin < number → IsQueried (Err refusals.PinRange) view (AskReceipt number) pin s s
-  import_unseen above has session pins at =
-      responded view (Err refusals.PinRange) has session (AskReceipt number) (Err refusals.PinRange) (server pins s) (server pins s) refl
-      ((number, inr (refl, subst (λ (k : ℕ). k < number) (sym at) above)), refl) (unmade view s) refl refl (omega arith)
+  import_unseen above =
+      queried view (Err refusals.PinRange) (AskReceipt number) pin (Err refusals.PinRange) s s refl
+      (λ pins. (above, refl)) (unmade view s) refl refl (omega arith)
+
+-- ---- AT
+
+module _ {D : Type 0} (view : DeviceView D) (number : ℕ) (question : Question) (old new : StoreValue D) where
+  -- as the question is answered that is asked of the first so many imports
+  pub asked_behind : (result : Result ReplyValue LineRefusal) → number ≤ old.history.imports → IsQueried result view question number old new → IsCarriedOut result view (At number question) old new
+  asked_behind result within r has session pins = r has session pins (At number question) (inr (refl, within))
+
+  -- there are fewer imports
+  pub above_all : old.history.imports < number → IsCarriedOut (Err refusals.PinRange) view (At number question) old old
+  above_all above has session pins =
+      responded view (Err refusals.PinRange) has session (At number question) (Err refusals.PinRange) (server pins old) (server pins old) refl
+      (inl above, refl) (unmade view old) refl (unseen_left question) (omega arith) where
+        unseen_left : (question : Question) → LeavesAsked view number question (Err refusals.PinRange) old old
+        unseen_left (Children concept date) = refl
+        unseen_left (Descendants concept date) = refl
+        unseen_left Dates = refl
+        unseen_left (AskReceipt other) = refl
+        unseen_left other = ((λ h. refl, none_looks_up (is_listed old.catalog.entries) old.cache (view.bytes_read old.disk)), tt)
 
 -- ---- pins
 

@@ -60,6 +60,51 @@ const STREETS: &[&str] = &[
     "6000019|20220131|1|CORE|2000001|de|SYN|Weg|ECI",
 ];
 
+/// Relationships of type "is a", two ways up from one concept, three concepts in a ring with one
+/// below it, a relationship that isn't active, and one of another type.
+const HIERARCHY: &[&str] = &[
+    "3000022|20210731|1|CORE|1000004|138875005|0|116680003|INF|MOD",
+    "4000028|20210731|1|CORE|2000001|1000004|0|116680003|INF|MOD",
+    "5000020|20210731|1|CORE|3000005|1000004|0|116680003|INF|MOD",
+    "6000026|20210731|1|CORE|4000000|2000001|0|116680003|INF|MOD",
+    "7000021|20210731|1|CORE|4000000|3000005|0|116680003|INF|MOD",
+    "8000024|20210731|0|CORE|4000000|138875005|0|116680003|INF|MOD",
+    "9000025|20210731|1|CORE|5000008|6000003|0|116680003|INF|MOD",
+    "10000023|20210731|1|CORE|6000003|7000009|0|116680003|INF|MOD",
+    "11000027|20210731|1|CORE|7000009|5000008|0|116680003|INF|MOD",
+    "12000029|20210731|1|CORE|6000003|138875005|0|116680003|INF|MOD",
+    "13000022|20210731|1|CORE|8000007|7000009|0|116680003|INF|MOD",
+    "14000028|20210731|1|CORE|4000000|5000008|0|363698007|INF|MOD",
+];
+
+/// What becomes of them: one of the two ways is cut at both ends, and the ring is opened.
+const HIERARCHY_LATER: &[&str] = &[
+    "5000020|20220131|0|CORE|3000005|1000004|0|116680003|INF|MOD",
+    "6000026|20220131|0|CORE|4000000|2000001|0|116680003|INF|MOD",
+    "8000024|20220131|1|CORE|4000000|138875005|0|116680003|INF|MOD",
+    "11000027|20220131|0|CORE|7000009|5000008|0|116680003|INF|MOD",
+    "15000020|20220131|1|CORE|3000005|8000007|0|116680003|INF|MOD",
+];
+
+/// Members of two association reference sets: one is retired later, and one gets another target.
+const REPLACEMENTS: &[&str] = &[
+    "0b6a0c2e-5d0f-4c53-9f6e-8d9d2a7b1c02|20210731|1|CORE|900000000000527005|4000000|2000001",
+    "0b6a0c2e-5d0f-4c53-9f6e-8d9d2a7b1c02|20220131|0|CORE|900000000000527005|4000000|2000001",
+    "0b6a0c2e-5d0f-4c53-9f6e-8d9d2a7b1c03|20210731|1|CORE|900000000000526001|3000005|2000001",
+    "0b6a0c2e-5d0f-4c53-9f6e-8d9d2a7b1c04|20210731|1|CORE|900000000000527005|1000004|3000005",
+    "0b6a0c2e-5d0f-4c53-9f6e-8d9d2a7b1c04|20220131|1|CORE|900000000000527005|1000004|2000001",
+];
+
+/// The file of a release for questions of an audit, or another one, by the release's name.
+fn audited_of(name: &str) -> Option<File> {
+    match name {
+        "hierarchy" => Some((Kind::Relationship, HIERARCHY)),
+        "hierarchy-later" => Some((Kind::Relationship, HIERARCHY_LATER)),
+        "replacements" => Some((Kind::Association, REPLACEMENTS)),
+        _ => values_of(name),
+    }
+}
+
 /// The file of a release by the release's name.
 fn file_of(name: &str) -> Option<File> {
     let file: File = match name {
@@ -83,7 +128,7 @@ fn file_of(name: &str) -> Option<File> {
                      2000001",
             ],
         ),
-        _ => return values_of(name),
+        _ => return audited_of(name),
     };
     Some(file)
 }

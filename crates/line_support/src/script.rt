@@ -9,8 +9,9 @@ pub type Turn = (&'static str, &'static [&'static str]);
 
 /// Imports of three releases, one of them while a merge goes on; what two
 /// sessions, of which one is pinned, are then told; lines that are refused;
-/// and what is told about a concept, by a search and of an import.
-pub const SCRIPT: [Turn; 31] = [
+/// what is told about a concept, by a search and of an import;
+/// and the questions of an audit.
+pub const SCRIPT: [Turn; 38] = [
     ("0 STATUS", &["OK 0 0 0 -"]),
     ("0 GET C 138875005 20230131", &["END 0"]),
     ("0 IMPORT r1", &["OK 1 6 0"]),
@@ -95,6 +96,39 @@ pub const SCRIPT: [Turn; 31] = [
         ],
     ),
     ("0 RECEIPT 2", &["OK 2 4 20210131"]),
+    (
+        "0 DELTA D 20200131 20210131 - 10",
+        &[
+            "ROW 1000015|20210131|1|CORE|1000004|de|SYN|Weg|ECI",
+            "END 1",
+        ],
+    ),
+    (
+        "0 TIMELINE D 1000004",
+        &[
+            "ROW 1000015|20200131|1|CORE|1000004|de|SYN|Straße|ECI",
+            "ROW 1000015|20210131|1|CORE|1000004|de|SYN|Weg|ECI",
+            "END 2",
+        ],
+    ),
+    ("0 ANCESTORS 1000004 20200131", &["ID 138875005", "END 1"]),
+    (
+        "0 DESCENDANTS 138875005 20210131",
+        &["ID 1000004", "END 1"],
+    ),
+    (
+        "0 REPLACES 2000001 20210131",
+        &[
+            "ROW 0b6a0c2e-5d0f-4c53-9f6e-8d9d2a7b1c01|20210131|1|CORE|900000000000527005|1000004|\
+             2000001",
+            "END 1",
+        ],
+    ),
+    (
+        "0 DATES",
+        &["DATE 20200131", "DATE 20200731", "DATE 20210131", "END 3"],
+    ),
+    ("0 AT 1 DATES", &["DATE 20200131", "END 1"]),
 ];
 
 /// The turns of the program's demonstration, `sctd demo`.

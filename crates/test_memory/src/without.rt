@@ -24,7 +24,7 @@ type Variant = (
 
 /// The replies that aren't those of the script. The third release brings a row that the
 /// first one has as well.
-const VARIANTS: [Variant; 50] = [
+const VARIANTS: [Variant; 65] = [
     // 1 PIN
     (3, &[], &[FIRST], &["OK 0"]),
     // 0 IMPORT r2
@@ -179,6 +179,69 @@ const VARIANTS: [Variant; 50] = [
     (30, &[], &[SECOND, THIRD], &["ERR 44 PinRange"]),
     (30, &[], &[FIRST, THIRD], &["ERR 44 PinRange"]),
     (30, &[], &[FIRST, SECOND], &["ERR 44 PinRange"]),
+    // 0 DELTA D 20200131 20210131 - 10
+    (31, &[], &[SECOND], &["END 0"]),
+    // 0 TIMELINE D 1000004
+    (
+        32,
+        &[FIRST],
+        &[SECOND],
+        &[
+            "ROW 1000015|20200131|1|CORE|1000004|de|SYN|Straße|ECI",
+            "END 1",
+        ],
+    ),
+    (
+        32,
+        &[SECOND],
+        &[FIRST],
+        &[
+            "ROW 1000015|20210131|1|CORE|1000004|de|SYN|Weg|ECI",
+            "END 1",
+        ],
+    ),
+    (32, &[], &[FIRST, SECOND], &["END 0"]),
+    // 0 ANCESTORS 1000004 20200131
+    (33, &[], &[FIRST], &["END 0"]),
+    // 0 DESCENDANTS 138875005 20210131
+    (34, &[], &[FIRST], &["END 0"]),
+    // 0 REPLACES 2000001 20210131
+    (35, &[], &[SECOND], &["END 0"]),
+    // 0 DATES
+    (
+        36,
+        &[FIRST, SECOND],
+        &[THIRD],
+        &["DATE 20200131", "DATE 20210131", "END 2"],
+    ),
+    (
+        36,
+        &[THIRD],
+        &[SECOND],
+        &["DATE 20200131", "DATE 20200731", "END 2"],
+    ),
+    (
+        36,
+        &[FIRST],
+        &[SECOND, THIRD],
+        &["DATE 20200131", "END 1"],
+    ),
+    (
+        36,
+        &[SECOND],
+        &[FIRST, THIRD],
+        &["DATE 20210131", "END 1"],
+    ),
+    (36, &[], &[FIRST, SECOND, THIRD], &["END 0"]),
+    // 0 AT 1 DATES
+    (37, &[SECOND], &[FIRST], &["DATE 20210131", "END 1"]),
+    (
+        37,
+        &[THIRD],
+        &[FIRST, SECOND],
+        &["DATE 20200131", "DATE 20200731", "END 2"],
+    ),
+    (37, &[], &[FIRST, SECOND, THIRD], &["ERR 44 PinRange"]),
 ];
 
 /// Whether the line at a place of the script wasn't refused because memory ran out.

@@ -1,8 +1,8 @@
-use Rattle.std.proofs.Common.{ap, ◌∙◌, refl, List, Ok}
+use Rattle.std.proofs.Common.{ap, ◌∙◌, List, Ok}
 use Rattle.store_life.specs.DeviceView.{device_view}
 use Rattle.std.proofs.lemmas.Result.{err_from_is_err_and}
 use Rattle.rf2_values.specs.Row.{RowValue}
-use Rattle.line_commands.specs.Commands.{About}
+use Rattle.line_commands.specs.Questions.{About}
 use Rattle.line_server.specs.ReplyValue.{Rows, reply_value}
 use Rattle.line_server.proofs.Queried.{rows_found, rows_unfound, rows_untold}
 use Rattle.line_server.proofs.queries.answer_about.Goals as goal
@@ -19,4 +19,4 @@ returns-in_err-reply_rows g c =
 
 pub returns : goal.returns
 returns g c =
-    rows_found (device_view g.D.Disk.is_honest g.D.Disk.moments g.D.Disk.failures g.D.Disk.bytes_read) (About c.args.kind c.args.id c.args.time) c.args.pin c.args.store.now c.about.new.self tt c.in_ok-found.found c.in_ok-reply_rows.field-0 c.in_ok-found.ensures.answer refl (c.in_ok-reply_rows.ensures ∙ ap (λ (xs : List RowValue). reply_value (Ok (Rows xs))) c.deref.ensures.value)
+    rows_found (device_view g.D.Disk.is_honest g.D.Disk.moments g.D.Disk.failures g.D.Disk.bytes_read) (About c.args.kind c.args.id c.args.time) c.args.pin c.args.store.now c.about.new.self tt c.in_ok-found.found c.in_ok-reply_rows.field-0 c.in_ok-found.ensures.answer (λ answer e. e) (c.in_ok-reply_rows.ensures ∙ ap (λ (xs : List RowValue). reply_value (Ok (Rows xs))) c.deref.ensures.value)

@@ -1,0 +1,142 @@
+-- What a question finds.
+use Rattle.std.proofs.Common.{◌≡◌, ◌⊎◌, ℕ, Bool, true, false, List, Result, Ok, Err, refl, sym, ap, subst, ◌∙◌, inl, inr}
+use Rattle.std.proofs.lemmas.Bool.{false≢true}
+use Rattle.rf2_values.specs.Row.{RowValue}
+use Rattle.history_model.specs.History.{rows_at}
+use Rattle.history_model.proofs.Hierarchy.{one_list_of_ancestors, one_list_of_descendants}
+use Rattle.history_store.specs.declared.refusal.Refusal.{Refusal}
+use Rattle.history_store.specs.declared.refusal.Refusal.TheVariants as store
+use Rattle.line_commands.specs.Questions.{Question, Get, History, Children, Ancestors, Descendants, Terms, Search, Replaced, Replaces, About, Timeline, Page, Delta, Dates, Receipt}
+use Rattle.line_server.specs.declared.refusal.LineRefusal.{LineRefusal}
+use Rattle.line_server.specs.declared.refusal.LineRefusal.TheVariants as refusals
+use Rattle.line_server.specs.ReplyValue.{Answer, Ids}
+use Rattle.line_server.specs.Replies.{Server, Same, IsFound, IsAnswerAt, IsRefusalAt, IsUnseen, IsUnfound, IsClosed, IsLacking}
+use Rattle.line_server.specs.Laws.{IsSure}
+use Rattle.line_server.proofs.AskedOf.{OutcomeAt}
+
+abbrev is_fault : Refusal → Bool
+is_fault store.DiskFault = true
+is_fault _ = false
+
+-- ---- what a question asks for
+
+-- an import's receipt, or something that is found in rows
+abbrev pub AsksReceipt : Question → Type 0
+AsksReceipt (Receipt number) = Unit {0}
+AsksReceipt _ = ⊥
+
+abbrev pub AsksFound : Question → Type 0
+AsksFound (Receipt number) = ⊥
+AsksFound _ = Unit {0}
+
+-- what the index alone answers
+abbrev pub AsksIndex : Question → Type 0
+AsksIndex (Children concept date) = Unit {0}
+AsksIndex (Descendants concept date) = Unit {0}
+AsksIndex Dates = Unit {0}
+AsksIndex _ = ⊥
+
+-- what rows are read for
+abbrev pub AsksRead : Question → Type 0
+AsksRead (Children concept date) = ⊥
+AsksRead (Descendants concept date) = ⊥
+AsksRead Dates = ⊥
+AsksRead (Receipt number) = ⊥
+AsksRead _ = Unit {0}
+
+-- what is answered by rows
+abbrev pub AsksRows : Question → Type 0
+AsksRows (Ancestors concept date) = ⊥
+AsksRows question = AsksRead question
+
+-- ---- one answer
+
+-- a question finds one answer
+pub one_found : (question : Question) (rows : List RowValue) (x y : Answer) → IsFound question rows x → IsFound question rows y → x ≡ y
+one_found (Ancestors concept date) rows x y (ids, are, is) (others, also, so) = is ∙ ap Ids (one_list_of_ancestors concept date rows ids others are also) ∙ sym so
+one_found (Descendants concept date) rows x y (ids, are, is) (others, also, so) = is ∙ ap Ids (one_list_of_descendants concept date rows ids others are also) ∙ sym so
+one_found (Receipt number) rows x y h k = absurd h
+one_found (Get kind id date) rows x y h k = h ∙ sym k
+one_found (History kind id) rows x y h k = h ∙ sym k
+one_found (Children concept date) rows x y h k = h ∙ sym k
+one_found (Terms prefix date limit) rows x y h k = h ∙ sym k
+one_found (Search prefix date after limit) rows x y h k = h ∙ sym k
+one_found (Replaced id date) rows x y h k = h ∙ sym k
+one_found (Replaces id date) rows x y h k = h ∙ sym k
+one_found (About kind id date) rows x y h k = h ∙ sym k
+one_found (Timeline kind id) rows x y h k = h ∙ sym k
+one_found (Page kind date after limit) rows x y h k = h ∙ sym k
+one_found (Delta kind from date after limit) rows x y h k = h ∙ sym k
+one_found Dates rows x y h k = h ∙ sym k
+
+-- ---- how a question comes out
+
+-- it is answered by what is found in the rows of the first `seen` imports
+abbrev pub IsGiven : {D : Type 0} → ℕ → Question → Result Answer LineRefusal → Server D → Type 0
+IsGiven seen question outcome s =
+    (answer : Answer) × (s.store.needs_reopen ≡ false) × IsFound question (rows_at seen s.store.history.rows) answer × (outcome ≡ Ok answer)
+
+-- the store has to be opened again
+abbrev pub IsShut : {D : Type 0} → Result Answer LineRefusal → Server D → Type 0
+IsShut outcome s = (s.store.needs_reopen ≡ true) × (outcome ≡ Err (refusals.Store store.ReopenNeeded))
+
+abbrev pub ComesOut : {D : Type 0} → ℕ → Question → Result Answer LineRefusal → Server D → Type 0
+ComesOut seen question outcome s = IsGiven seen question outcome s ⊎ IsShut outcome s
+
+pub same_from : {D : Type 0} (old new : Server D) → new ≡ old → Same old new
+same_from old new e = record {
+  pins = ap (λ d. d.pins) e;
+  store = record { history = ap (λ d. d.store.history) e; catalog = ap (λ d. d.store.catalog) e; needs_reopen = ap (λ d. d.store.needs_reopen) e };
+}
+
+module _ {D : Type 0} (honest : Type 0) (up : honest) (seen : ℕ) (old new : Server D) where
+  answer_found : (question : Question) (answer : Answer) → AsksFound question → IsAnswerAt honest seen question answer old new
+      → (old.store.needs_reopen ≡ false) × Same old new × IsFound question (rows_at seen old.store.history.rows) answer
+  answer_found (Receipt number) answer q a = absurd q
+  answer_found (Children concept date) answer q a = (a.0, a.1, a.2)
+  answer_found (Descendants concept date) answer q a = (a.0, a.1, a.2)
+  answer_found Dates answer q a = (a.0, a.1, a.2)
+  answer_found question answer q a = (a.0, a.1, a.2.2 up)
+
+  -- an open store refuses it only for want of memory or the device
+  unfound : (refusal : Refusal) → IsSure (Err (refusals.Store refusal)) → IsUnfound honest refusal old new → IsShut (Err (refusals.Store refusal)) old × Same old new
+  unfound store.ReopenNeeded sure u = (
+    (u.cause, refl),
+    record { pins = u.pins; store = record { history = u.refused.history; catalog = u.refused.catalog; needs_reopen = u.refused.still (λ e. false≢true (ap is_fault e)) } },
+  )
+  unfound store.Damaged sure u = absurd (u.undamaged up refl)
+  unfound store.OutOfMemory sure u = absurd sure
+  unfound store.DiskFault sure u = absurd sure
+  unfound _ sure u = absurd u.cause
+
+  unlisted : (refusal : Refusal) → IsSure (Err (refusals.Store refusal)) → IsClosed refusal old new ⊎ IsLacking refusal old new → IsShut (Err (refusals.Store refusal)) old × Same old new
+  unlisted refusal sure (inl h) = ((h.1, ap (λ (e : Refusal). Err (refusals.Store e)) h.0), same_from old new h.2)
+  unlisted refusal sure (inr h) = absurd (subst (λ (e : Refusal). IsSure (Err (refusals.Store e))) h.0 sure)
+
+  refused : (question : Question) (refusal : Refusal) → AsksFound question → IsSure (Err (refusals.Store refusal)) → IsRefusalAt honest seen question refusal old new
+      → IsShut (Err (refusals.Store refusal)) old × Same old new
+  refused (Receipt number) refusal q sure r = absurd q
+  refused (Children concept date) refusal q sure r = unlisted refusal sure r
+  refused (Descendants concept date) refusal q sure r = unlisted refusal sure r
+  refused Dates refusal q sure r = unlisted refusal sure r
+  refused question refusal q sure r = unfound refusal sure r
+
+  not_unseen : {A : Type 0} (question : Question) → AsksFound question → IsUnseen seen question → A
+  not_unseen (Receipt number) q h = absurd q
+  not_unseen question q h = absurd h
+
+  pub found_out : (question : Question) (outcome : Result Answer LineRefusal) → AsksFound question → IsSure outcome → OutcomeAt honest seen question outcome old new → ComesOut seen question outcome old × Same old new
+  found_out question (Ok answer) q sure out = let a = answer_found question answer q out in (inl (answer, a.0, a.2, refl), a.1)
+  found_out question (Err (refusals.Unread reason)) q sure out = absurd out
+  found_out question (Err refusals.PinRange) q sure out = not_unseen question q out.0
+  found_out question (Err refusals.NoFolder) q sure out = absurd out
+  found_out question (Err (refusals.Store refusal)) q sure out = let r = refused question refusal q sure out in (inr r.0, r.1)
+
+-- it comes out in one way, where the same rows are shown
+pub one_way : {D : Type 0} (question : Question) (m n : ℕ) (x y : Result Answer LineRefusal) (a b : Server D)
+    → rows_at m a.store.history.rows ≡ rows_at n b.store.history.rows → a.store.needs_reopen ≡ b.store.needs_reopen → ComesOut m question x a → ComesOut n question y b → x ≡ y
+one_way question m n x y a b rows needs (inl h) (inl k) =
+    h.3 ∙ ap Ok (one_found question (rows_at n b.store.history.rows) h.0 k.0 (subst (λ (r : List RowValue). IsFound question r h.0) rows h.2) k.2) ∙ sym k.3
+one_way question m n x y a b rows needs (inl h) (inr k) = absurd (false≢true (sym h.1 ∙ needs ∙ k.0))
+one_way question m n x y a b rows needs (inr h) (inl k) = absurd (false≢true (sym k.1 ∙ sym needs ∙ h.0))
+one_way question m n x y a b rows needs (inr h) (inr k) = h.1 ∙ sym k.1
