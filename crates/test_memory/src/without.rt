@@ -220,18 +220,8 @@ const VARIANTS: [Variant; 65] = [
         &[SECOND],
         &["DATE 20200131", "DATE 20200731", "END 2"],
     ),
-    (
-        36,
-        &[FIRST],
-        &[SECOND, THIRD],
-        &["DATE 20200131", "END 1"],
-    ),
-    (
-        36,
-        &[SECOND],
-        &[FIRST, THIRD],
-        &["DATE 20210131", "END 1"],
-    ),
+    (36, &[FIRST], &[SECOND, THIRD], &["DATE 20200131", "END 1"]),
+    (36, &[SECOND], &[FIRST, THIRD], &["DATE 20210131", "END 1"]),
     (36, &[], &[FIRST, SECOND, THIRD], &["END 0"]),
     // 0 AT 1 DATES
     (37, &[SECOND], &[FIRST], &["DATE 20210131", "END 1"]),

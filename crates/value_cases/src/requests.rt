@@ -15,9 +15,9 @@ fn spell_refusal(alloc: Global, reason: Unread) -> Answer {
 }
 
 /// A session and what it asks.
-fn spell_request(alloc: Global, request: Request<'_>) -> Answer {
-    let (session, command) = (request.session, request.command);
-    match command {
+fn spell_request(alloc: Global, request: &Request<'_>) -> Answer {
+    let session = request.session;
+    match &request.command {
         Command::Ask(question) => Ok(format!(in alloc; "{session} {question:?}")?),
         command => Ok(format!(in alloc; "{session} {command:?}")?),
     }
@@ -28,7 +28,7 @@ pub fn answer(alloc: Global, word: &str, rest: &str) -> Answer {
     let line = unquoted(alloc, rest)?;
     match parse(line.as_slice()) {
         Ok(_) if word == "request_fits" => Ok(String::from_str(alloc, "yes")?),
-        Ok(request) => spell_request(alloc, request),
+        Ok(request) => spell_request(alloc, &request),
         Err(reason) => spell_refusal(alloc, reason),
     }
 }
