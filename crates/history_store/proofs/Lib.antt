@@ -27,6 +27,9 @@ pub mod SteppedMerge
 pub mod SteppedStore
 pub mod StepWrites
 mod TakenByKey
+mod Checked
+mod ReadyImports
+mod Foreseen
 mod KeptBlocks
 mod ImportReads
 mod Upgraded
