@@ -1,4 +1,7 @@
 //! The store of a case, which is new at its first question, and which function answers that.
+//!
+//! `import RELEASE` and `check RELEASE` answer the receipt of what `releases.rt` finds: a check adds
+//! nothing.
 
 use crate::calls::{call, spell_receipt, store_of};
 use crate::devices::{ask_disk, changed, reopens};
