@@ -9,6 +9,7 @@ mod auditing;
 mod beginning;
 mod brought;
 mod counting;
+mod key_order;
 mod known;
 mod latest;
 pub mod laws;

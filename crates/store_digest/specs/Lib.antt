@@ -1,0 +1,2 @@
+pub use Rattle.history_store.specs.Queries
+pub mod Digest
