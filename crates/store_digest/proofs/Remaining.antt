@@ -69,23 +69,34 @@ first_left last rows b rest e =
     let w = Has-filter (is_after last) rows b (subst (λ ys. Has ys b) (sym e) (inl refl)) in
     record { rest = rest; left_is = e; there = w.0; comes_after = w.1 }
 
--- one row was answered, with the key of the first that is left
-pub row_answered : (last : Option Key) (rows : List RowValue) (row : RowValue) → map key_of (row ∷ []) ≡ map key_of (rows_after last 1 rows) → (b : RowValue) × IsFirstLeft last rows b × (key_of row ≡ key_of b) × (rows_after last 1 rows ≡ b ∷ [])
+-- a key was answered, that of the first row that is left
+pub key_answered : (last : Option Key) (rows : List RowValue) (key : Key) → key ∷ [] ≡ map key_of (rows_after last 1 rows) → (b : RowValue) × IsFirstLeft last rows b × (key ≡ key_of b) × (rows_after last 1 rows ≡ b ∷ [])
 unfolding rows_after
-row_answered last rows row e = by (filter (is_after last) rows) refl where
+key_answered last rows key e = by (filter (is_after last) rows) refl where
   key_or : Key → List Key → Key
   key_or k [] = k
   key_or k (x ∷ xs) = x
-  by : (ys : List RowValue) → filter (is_after last) rows ≡ ys → (b : RowValue) × IsFirstLeft last rows b × (key_of row ≡ key_of b) × (rows_after last 1 rows ≡ b ∷ [])
-  by [] f = absurd (let g : key_of row ∷ [] ≡ [] = e ∙ ap (λ ys. map key_of (take 1 ys)) f in cc)
-  by (b ∷ ys) f = (b, first_left last rows b ys f, ap (key_or (key_of row)) (e ∙ ap (λ zs. map key_of (take 1 zs)) f), ap (take 1) f)
+  by : (ys : List RowValue) → filter (is_after last) rows ≡ ys → (b : RowValue) × IsFirstLeft last rows b × (key ≡ key_of b) × (rows_after last 1 rows ≡ b ∷ [])
+  by [] f = absurd (let g : key ∷ [] ≡ [] = e ∙ ap (λ ys. map key_of (take 1 ys)) f in cc)
+  by (b ∷ ys) f = (b, first_left last rows b ys f, ap (key_or key) (e ∙ ap (λ zs. map key_of (take 1 zs)) f), ap (take 1) f)
 
-pub none_answered : (last : Option Key) (rows : List RowValue) → [] ≡ map key_of (rows_after last 1 rows) → filter (is_after last) rows ≡ []
+pub none_answered : (last : Option Key) (rows : List RowValue) → [] ≡ map key_of (rows_after last 1 rows) → (filter (is_after last) rows ≡ []) × (rows_after last 1 rows ≡ [])
 unfolding rows_after
 none_answered last rows e = by (filter (is_after last) rows) refl where
-  by : (ys : List RowValue) → filter (is_after last) rows ≡ ys → filter (is_after last) rows ≡ []
-  by [] f = f
+  by : (ys : List RowValue) → filter (is_after last) rows ≡ ys → (filter (is_after last) rows ≡ []) × (rows_after last 1 rows ≡ [])
+  by [] f = (f, ap (take 1) f)
   by (b ∷ ys) f = absurd (let g : [] ≡ key_of b ∷ [] = e ∙ ap (λ zs. map key_of (take 1 zs)) f in cc)
+
+-- the first row takes no more than all that are left
+pub first_takes_less : (f : RowValue → ℕ) (last : Option Key) (rows : List RowValue) → sum_by f (rows_after last 1 rows) ≤ sum_by f (filter (is_after last) rows)
+unfolding rows_after
+first_takes_less f last rows = by (filter (is_after last) rows) where
+  by : (ys : List RowValue) → sum_by f (take 1 ys) ≤ sum_by f ys
+  by [] = omega arith
+  by (b ∷ ys) =
+      let one = sum_by-cons f b [] in
+      let all = sum_by-cons f b ys in
+      omega arith
 
 module _ (last : Option Key) (rows : List RowValue) (b : RowValue) (first : IsFirstLeft last rows b) where
   pub fewer_left : length (filter (is_after (Some (key_of b))) rows) < length (filter (is_after last) rows)

@@ -3,6 +3,7 @@
 #![tactic(auto)]
 
 mod digesting;
+pub mod laws;
 mod text;
 
 pub use digesting::digest;
