@@ -151,7 +151,7 @@ entries_segments form first (rows ∷ lists) all =
 
 -- ---- the directory
 
-segments_count : (entries : List Entry) (lists : List (List StampedRow)) → AreSegments entries lists → length entries ≡ length lists
+pub segments_count : (entries : List Entry) (lists : List (List StampedRow)) → AreSegments entries lists → length entries ≡ length lists
 segments_count [] [] are = refl
 segments_count [] (rows ∷ lists) are = absurd are
 segments_count (entry ∷ entries) [] are = absurd are

@@ -79,6 +79,7 @@ pub(crate) fn plan(
     requires small { AllByRecursion MayBeSegment shown.now }
     requires few { length shown.now ≤ most_entries layout }
     ensures planned { IfOk result (λ d. d ≡ copied_listing layout imports shown.now) }
+    ensures listing { IfOk result IsListing }
     ensures refused { IfErr result (λ e. (e ≡ faults.OutOfMemory)
         ⊎ ((e ≡ faults.NoRoom) × (block_limit < end_from 4 (lists_up_to imports shown.now)))) }
 {

@@ -1,11 +1,12 @@
 //! The segments of a copy.
 
-ghost use Rattle.std.specs.Prelude.{◌≡◌, ◌≢◌, ◌↔◌, ◌+◌, ◌*◌, ◌≤◌, ◌++◌, ◌∷◌, [], ℕ, List, length};
+ghost use Rattle.std.specs.Prelude.{◌≡◌, ◌≢◌, ◌⊎◌, ◌↔◌, ◌+◌, ◌*◌, ◌≤◌, ◌++◌, ◌∷◌, [], List, length};
 ghost use Rattle.std.specs.Prelude.{map, vec_items, IfErr, OnOk};
 ghost use Rattle.std.specs.List.{AllByRecursion};
 ghost use Rattle.fault_counts.specs.Counting.{Counts, CountsEach, CountsDiskFault};
 ghost use Rattle.fault_counts.specs.declared.fault.ReadFault.TheVariants as readfault;
-ghost use Rattle.disk_model.specs.Disk.{EachImage, LeavesOnly};
+ghost use Rattle.disk_model.specs.Disk.{EachImage, IsImage, LeavesOnly};
+ghost use Rattle.blocks.specs.declared.slots.Slot.TheVariants.{A};
 ghost use Rattle.blocks.specs.Extents.{block_limit, byte_range};
 ghost use Rattle.blocks.specs.Outside.{SameOutside, StemsWithin};
 ghost use Rattle.checksum.specs.declared.form.Form.{Form as FormValue};
@@ -16,7 +17,9 @@ ghost use Rattle.segment.specs.Records.{record_in, segment_in, segment_of};
 ghost use Rattle.segment.specs.Standing.{places_of};
 ghost use Rattle.store_image.specs.Ahead.{BeginsWith};
 ghost use Rattle.store_image.specs.Pieces.{HoldsAll};
-ghost use Rattle.store_image.specs.Kept.{AreSegments, pieces_of};
+ghost use Rattle.store_image.specs.Images.{IsStore};
+ghost use Rattle.store_image.specs.Kept.{AreSegments, IsKept, pieces_of};
+ghost use Rattle.store_image.specs.OnDisk.{HasStore, IsOnDisk};
 ghost use Rattle.store_image.specs.Reading.{IsAt};
 ghost use Rattle.store_copy.specs.Copying.{lists_up_to, up_to};
 ghost use Rattle.store_copy.specs.Answers.{CountsSource, CountsTarget, IsFailure};
@@ -26,6 +29,7 @@ ghost use Rattle.store_copy.specs.Private.Writing.{IsPlan, IsShut, IsThere, MayB
 use crate::fault::{CopyFault, SegmentCopyFault};
 use crate::planning::size_up_to;
 use crate::reading::read_row;
+use crate::slots::{close_slots, open_slot};
 use blocks::{Extent, write_part};
 use directory::{Directory, Entry};
 use disk_model::{Disk, DiskFault};
@@ -226,7 +230,7 @@ fn copy_segment<S: Disk, T: Disk>(
 
 /// Copies the rows of all segments that the first imports brought: those of the segments of `from`
 /// into the segments of the copy, of which there is one for each that has such a row.
-pub(crate) fn copy_segments<S: Disk, T: Disk>(
+fn copy_segments<S: Disk, T: Disk>(
     alloc: Global,
     source: &mut S,
     from: &[Entry],
@@ -281,5 +285,52 @@ pub(crate) fn copy_segments<S: Disk, T: Disk>(
             left = behind;
         }
     }
+    Ok(())
+}
+
+/// Writes a copy on an empty disk: both gates are closed, and the first one is opened when all
+/// segments are there.
+pub(crate) fn write_copy<S: Disk, T: Disk>(
+    alloc: Global,
+    source: &mut S,
+    from: &[Entry],
+    places: &[Vec<RowPlace>],
+    shown: &[GhostRows],
+    target: &mut T,
+    copy: &Directory,
+) -> Result<(), CopyFault>
+    requires places { map vec_items places.now ≡ map places_of shown.now }
+    requires from { AreSegments from.now shown.now }
+    requires small { AllByRecursion MayBeSegment shown.now }
+    requires copy { IsPlan copy.now shown.now }
+    requires kept { IsKept copy.now (lists_up_to copy.now.imports shown.now) }
+    // After Ok each stop leaves the copy.
+    ensures on_disk { S.is_honest source.old → T.is_honest target.old
+        → HoldsAll (pieces_of from.now shown.now) (S.moments source.old).state.now
+        → length (T.moments target.old).state.now ≡ 0
+        → OnOk result (IsOnDisk (T.moments target.new).state A copy.now
+        (lists_up_to copy.now.imports shown.now)) }
+    ensures found { S.is_honest source.old
+        → HoldsAll (pieces_of from.now shown.now) (S.moments source.old).state.now
+        → IfErr result (λ e. IsFailure e) }
+    // A stop at any moment leaves what it might have left before, no store, or the whole copy.
+    ensures any_moment { S.is_honest source.old → T.is_honest target.old
+        → HoldsAll (pieces_of from.now shown.now) (S.moments source.old).state.now
+        → length (T.moments target.old).state.now ≡ 0
+        → LeavesOnly (T.moments target.old) (T.moments target.new)
+        (λ c. IsImage (T.moments target.old).state c ⊎ (IsStore c → ⊥)
+        ⊎ HasStore A copy.now (lists_up_to copy.now.imports shown.now) c) }
+    ensures moments { S.is_honest source.old → S.moments source.new ≡ S.moments source.old }
+    ensures source_honesty { S.is_honest source.old ↔ S.is_honest source.new }
+    ensures target_honesty { T.is_honest target.old ↔ T.is_honest target.new }
+    ensures source_failures { Counts CountsSource result
+        (S.failures source.old) (S.failures source.new) }
+    ensures target_failures { Counts CountsTarget result
+        (T.failures target.old) (T.failures target.new) }
+    ensures bytes_read { T.bytes_read target.new ≡ T.bytes_read target.old }
+{
+    close_slots(target)?;
+    copy_segments(alloc, source, from, places, shown, target, copy)?;
+    open_slot(target, copy)?;
     Ok(())
 }

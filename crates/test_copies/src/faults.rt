@@ -5,7 +5,8 @@ use std::alloc::Global;
 use std::process::Abort;
 use std::test::Fail;
 use store_copy::{CopyFault, copy};
-use test_support::{CHOICES, Example, image_after, merged_disk};
+use store_image::Damage;
+use test_support::{CHOICES, Example, image_after, merged_disk, put};
 
 /// How many imports the disk of these bytes is opened with, if it has a store.
 fn imports_of(alloc: Global, bytes: &[u8]) -> Option<u32> {
@@ -61,6 +62,55 @@ fn each_call_of_the_copy_fails(rt: HostRuntime) -> Result<(), Fail> {
         calls = calls.saturating_add(1);
         assert!(rt; calls < 100, "it ends");
     }
+    Ok(())
+}
+
+// The device gets full: a write is made in part, and nothing is written after it.
+#[test]
+fn each_write_of_the_copy_is_cut_off(rt: HostRuntime) -> Result<(), Fail> {
+    let mut source = merged_disk(rt.alloc())?;
+    let mut calls = 0u64;
+    loop {
+        let mut target = MemDisk::new(rt.alloc());
+        target.set_break(calls, 1);
+        match copy(rt.alloc(), &mut source, &mut target, Some(2)) {
+            Ok(_) => break,
+            Err(fault) => assert_eq!(rt; fault, CopyFault::TargetFailed, "after {calls} calls"),
+        }
+        try_stops(&rt, rt.alloc(), &target)?;
+        calls = calls.saturating_add(1);
+        assert!(rt; calls < 100, "it ends");
+    }
+    Ok(())
+}
+
+#[test]
+fn the_sync_of_the_store_fails(rt: HostRuntime) -> Result<(), Fail> {
+    let mut source = merged_disk(rt.alloc())?;
+    source.set_break(0, 0);
+    let mut target = MemDisk::new(rt.alloc());
+    match copy(rt.alloc(), &mut source, &mut target, None) {
+        Ok(_) => assert!(rt; false, "it is refused"),
+        Err(fault) => assert_eq!(rt; fault, CopyFault::SourceFailed),
+    }
+    assert_eq!(rt; target.changes(), 0);
+    Ok(())
+}
+
+// In version 3 a segment has a checksum, so that each other byte in it is damage.
+#[test]
+fn a_damaged_store(rt: HostRuntime) -> Result<(), Fail> {
+    let mut example = Example::new_in_three(rt.alloc())?;
+    example.import_sample("r1")?;
+    let mut bytes = example.close().bytes().to_vec(rt.alloc())?;
+    put(&mut bytes, 16_400, b"?");
+    let mut source = MemDisk::from_bytes(rt.alloc(), bytes);
+    let mut target = MemDisk::new(rt.alloc());
+    match copy(rt.alloc(), &mut source, &mut target, None) {
+        Ok(_) => assert!(rt; false, "it is refused"),
+        Err(fault) => assert_eq!(rt; fault, CopyFault::Damaged(Damage::Segment(1))),
+    }
+    assert_eq!(rt; target.changes(), 0);
     Ok(())
 }
 

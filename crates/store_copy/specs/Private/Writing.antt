@@ -1,5 +1,5 @@
 -- What a copy has while it is written.
-use Rattle.std.specs.Prelude.{◌≡◌, ℕ, ◌^◌, ◌<◌, ◌≤◌, List, ◌++◌, length, take, drop}
+use Rattle.std.specs.Prelude.{◌≡◌, ℕ, Option, ◌^◌, ◌<◌, ◌≤◌, List, ◌++◌, length, take, drop}
 use Rattle.rf2_values.specs.Key.{key_of}
 use Rattle.blocks.specs.declared.extent.Extent.{Extent}
 use Rattle.blocks.specs.declared.slots.Slot.TheVariants.{A, B}
@@ -7,17 +7,18 @@ use Rattle.blocks.specs.Slots.{IsClosed}
 use Rattle.checksum.specs.declared.form.Form.{Form}
 use Rattle.directory.specs.declared.entry.Entry.{Entry}
 use Rattle.directory.specs.declared.layout.Layout.{Layout}
-use Rattle.directory.specs.Listings.{DirectoryValue, form_of}
+use Rattle.directory.specs.Listings.{DirectoryValue, IsListing, form_of}
 use Rattle.history_model.specs.declared.stamped.StampedRow.{StampedRow}
 use Rattle.segment.specs.declared.place.RowPlace.{RowPlace}
 use Rattle.segment.specs.Records.{IsStamped, record_in, segment_of, segment_in}
 use Rattle.segment.specs.Standing.{record_len}
 use Rattle.store_image.specs.Ahead.{BeginsWith}
+use Rattle.store_image.specs.Kept.{IsKept}
 use Rattle.fault_counts.specs.Counting.{CountsDiskFault, HasRisen}
 use Rattle.fault_counts.specs.declared.fault.ReadFault.{ReadFault}
 use Rattle.fault_counts.specs.declared.fault.ReadFault.TheVariants as reading
 use Rattle.store_image.specs.declared.fault.Damage.TheVariants as damages
-use Rattle.store_copy.specs.Copying.{entries_from, lists_up_to}
+use Rattle.store_copy.specs.Copying.{chosen, copied_listing, entries_from, lists_up_to}
 use Rattle.store_copy.specs.declared.fault.CopyFault.{CopyFault}
 use Rattle.store_copy.specs.declared.fault.CopyFault.TheVariants as faults
 use Rattle.store_copy.specs.declared.fault.SegmentCopyFault.{SegmentCopyFault}
@@ -37,6 +38,14 @@ next_entry layout first size =
 abbrev pub IsPlan : DirectoryValue → List (List StampedRow) → Type 0
 IsPlan copy lists =
     copy.entries ≡ entries_from (form_of copy.layout) 4 (lists_up_to copy.imports lists)
+
+-- the directory and the rows of a store, and the directory of a copy with so many of its imports
+pub record IsPlanned (asked : Option ℕ) (d : DirectoryValue) (lists : List (List StampedRow))
+    (copy : DirectoryValue) : Type 0 where
+  pub kept : IsKept d lists
+  pub within : chosen asked d.imports ≤ d.imports
+  pub copy_is : copy ≡ copied_listing d.layout (chosen asked d.imports) lists
+  pub listing : IsListing copy
 
 -- both gates are there, and closed
 pub record IsShut (file : List ℕ) : Type 0 where
