@@ -18,16 +18,16 @@ returns-in_err-key g c =
 pub rows-smaller : goal.rows-smaller
 rows-smaller g c =
     let d = g.D.Disk in
-    fewer d.is_honest d.moments d.failures d.bytes_read d.other_calls c.args.pin c.args.store.now c.rows.store c.add_next.new.store c.rows.hasher c.add_next.new.hasher c.rows.last c.rows.invariant g.met.D.Disk.now_is_image c.in-Some.key c.in_ok-key.ensures.added
+    fewer d.is_honest d.moments d.failures d.bytes_read d.other_calls c.args.pin c.args.store.now c.rows.store c.add_next.new.store c.rows.hasher c.add_next.new.hasher c.rows.last c.rows.invariant g.met.D.Disk.now_is_image c.in-Some.key (rw c.in-Some.is at c.in_ok-key.ensures.added)
 
 pub rows-preserved : goal.rows-preserved
 rows-preserved g c =
     let d = g.D.Disk in
-    gone_on d.is_honest d.moments d.failures d.bytes_read d.other_calls c.args.pin c.args.store.now c.rows.store c.add_next.new.store c.rows.hasher c.add_next.new.hasher c.rows.last c.rows.invariant g.met.D.Disk.now_is_image c.in-Some.key c.in_ok-key.ensures.added
+    gone_on d.is_honest d.moments d.failures d.bytes_read d.other_calls c.args.pin c.args.store.now c.rows.store c.add_next.new.store c.rows.hasher c.add_next.new.hasher c.rows.last c.rows.invariant g.met.D.Disk.now_is_image c.in-Some.key (rw c.in-Some.is at c.in_ok-key.ensures.added)
 
 pub returns : goal.returns
 returns g c = record {
   answer =
     let d = g.D.Disk in
-    ended d.is_honest d.moments d.failures d.bytes_read d.other_calls c.args.pin c.args.store.now c.rows.store c.add_next.new.store c.rows.hasher c.add_next.new.hasher c.rows.last c.rows.invariant c.in_ok-key.ensures.added c.finalize.result c.finalize.ensures;
+    ended d.is_honest d.moments d.failures d.bytes_read d.other_calls c.args.pin c.args.store.now c.rows.store c.add_next.new.store c.rows.hasher c.add_next.new.hasher c.rows.last c.rows.invariant (rw c.in_default.is at c.in_ok-key.ensures.added) c.finalize.result c.finalize.ensures;
 }
