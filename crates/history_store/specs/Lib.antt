@@ -23,3 +23,4 @@ pub use Rattle.directory.specs.Fit
 pub use Rattle.blocks.specs.Cache
 pub use Rattle.as_of_index.specs.Places
 pub use Rattle.import_check.specs.Known
+pub use Rattle.import_check.specs.Contradictions

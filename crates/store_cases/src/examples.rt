@@ -42,13 +42,6 @@ impl Examples {
         spell_receipt(self.alloc, answer)
     }
 
-    /// Checks a release, which isn't imported.
-    fn check(&mut self, words: &str) -> Answer {
-        let release = self.releases.find(words)?;
-        let answer = self.store()?.check(release);
-        spell_receipt(self.alloc, answer)
-    }
-
     /// Closes the store, and gives its disk.
     fn close(&mut self) -> Result<MemDisk, NoAnswer> {
         self.store()?;
@@ -80,7 +73,6 @@ impl Answers for Examples {
     fn answer(&mut self, word: &str, rest: &str) -> Answer {
         let alloc = self.alloc;
         match word {
-            "check" => self.check(rest),
             "import" => self.import(rest),
             "new" => {
                 self.store = None;
