@@ -1,138 +1,204 @@
 -- Lines in key order, of which those that contradict are listed.
-use Rattle.std.proofs.Common.{◌≡◌, ◌≢◌, ◌⊎◌, ℕ, ◌+◌, ◌-◌, ◌≤◌, ◌<◌, false, List, [], ◌∷◌, ◌++◌, length, take, refl, sym, ap, subst, inl, inr, ◌∙◌, arith, length-append, length-take}
-use Rattle.std.specs.Prelude.{Option, Some, None, MatchOption, IsSomeAnd}
+use Rattle.std.proofs.Common.{◌≡◌, ◌≢◌, ◌⊎◌, ℕ, ◌+◌, ◌-◌, ◌≤◌, ◌<◌, cond, false, true, List, [], ◌∷◌, ◌++◌, length, take, refl, sym, ap, subst, inl, inr, ◌∙◌, arith, length-append, length-take}
+use Rattle.std.specs.Prelude.{Option, Some, None, MatchOption, IsSomeAnd, ◌↔◌}
+use Rattle.std.specs.List.{AllByRecursion, sum_by}
 use Rattle.std.specs.List.Sorted.{IsPermutation}
-use Rattle.std.specs.Ordering.{is_gt}
-use Rattle.std.specs.declared.cmp.Ordering.TheVariants.{Less}
+use Rattle.std.specs.Ordering.{nat_cmp, ordering_then, is_gt, is_eq}
+use Rattle.std.specs.Cmp.{IsTotalOrder, tied_itself}
+use Rattle.std.specs.declared.cmp.Ordering.{Ordering}
+use Rattle.std.specs.declared.cmp.Ordering.TheVariants.{Less, Equal, Greater}
 use Rattle.std.proofs.lemmas.List.{take_all, take-append-le}
-use Rattle.std.proofs.lemmas.List.Sorted.{IsPermutation-sym}
+use Rattle.std.proofs.lemmas.List.Sums.{sum_by-cons}
+use Rattle.std.proofs.lemmas.List.Sorted.{IsPermutation-sym, sum_by-IsPermutation}
 use Rattle.rf2_values.specs.Row.{RowValue}
 use Rattle.rf2_values.specs.Key.{key_of, key_cmp}
-use Rattle.history_model.specs.InOrder.{Has}
-use Rattle.history_model.specs.History.{row_cmp}
-use Rattle.history_model.proofs.InOrder.{Has-append_right}
-use Rattle.history_model.proofs.Keys.{tie_of_same}
+use Rattle.history_model.specs.InOrder.{Has, IsAscending}
+use Rattle.history_model.specs.History.{row_cmp, IsConsistent}
+use Rattle.history_model.proofs.InOrder.{Has-append_left, Has-append_right, Has-append_cases, all_from_has, tie_is_same}
+use Rattle.history_model.proofs.Filtered.{Has-map, Has-map_from}
+use Rattle.history_model.proofs.Keys.{rows_total, tie_of_same}
 use Rattle.import_check.specs.declared.release.PlacedLine.{PlacedLine}
 use Rattle.import_check.specs.declared.contradicting.OtherRow.{OtherRow}
 use Rattle.import_check.specs.declared.contradicting.OtherRow.TheVariants as others
-use Rattle.import_check.specs.declared.contradicting.Counting.{Counting}
 use Rattle.import_check.specs.declared.contradicting.ContradictingLine.{ContradictingLine}
 use Rattle.import_check.specs.declared.contradicting.Contradictions.{Contradictions}
 use Rattle.import_check.specs.Known.{IsUnknown, IsRowAt}
 use Rattle.rf2_values.specs.declared.key.Key.{Key}
-use Rattle.import_check.specs.Contradictions.{IsRising, rank_cmp, IsEarliest, IsCounting, Agrees, Differs, AreDiffering, AreContradictionsOf, IsNotListed}
-use Rattle.import_check.specs.Private.Contradictions.{Turns, IsCompared, AreListedOf}
+use Rattle.import_check.specs.Contradictions.{place_cmp, rank_cmp, row_of, CountsForKey, IsContradiction, AreContradictionsOf, IsNotListed}
+use Rattle.import_check.specs.Private.Contradictions.{CountsAmong, IsFoundFor, IsNext, AreListed, IsNoted, Sifted, AreSifted}
 use Rattle.import_check.specs.Private.Parsed.{IsParsed, IsParseFault}
-use Rattle.import_check.specs.Private.Sweep.{IsCutShort}
+use Rattle.import_check.specs.Private.Sweep.{StandsBy, IsRising, IsEarliest, IsCutShort}
 use Rattle.import_check.specs.declared.release.Release.{Release}
 use Rattle.import_check.specs.declared.fault.ImportFault.{ImportFault}
 use Rattle.import_check.specs.declared.fault.ImportFault.TheVariants as importfault
-use Rattle.import_check.specs.Release.{placed_lines}
+use Rattle.import_check.specs.Release.{placed_lines, rows_of}
 use Rattle.import_check.specs.NewRows.{IsRead}
-use Rattle.import_check.proofs.Sweeping.{rising_before, rank_split, below_further, cases, earliest}
-use Rattle.history_model.proofs.Keys.{rows_total}
-use Rattle.import_check.proofs.Uniting.{Has-permutation}
+use Rattle.import_check.proofs.Sweeping.{rank_split, placed_by, below_further, cases, earliest, ascending-push, stands_by_itself}
+use Rattle.import_check.proofs.Uniting.{Has-permutation, places_total, split_at, ascending_before, ascending_after, not_after, tie_from}
 
--- ---- one line more
+-- ---- orders without ties
 
-differing_one : (known : List RowValue) (lines done : List PlacedLine) (line : PlacedLine) (all : List ContradictingLine) → Agrees known lines line → AreDiffering known lines done all → AreDiffering known lines (done ++ line ∷ []) all
-differing_one known lines [] line all agrees are = inl (agrees, are)
-differing_one known lines (l ∷ done) line all agrees (inl so) = inl (so.0, differing_one known lines done line all agrees so.1)
-differing_one known lines (l ∷ done) line all agrees (inr so) = inr (so.0, so.1, so.2, so.3, differing_one known lines done line so.1 agrees so.4)
+module _ {X : Type 0} (cmp : X → X → Ordering) where
+  -- how many tie with this one
+  abbrev tie : X → X → ℕ
+  tie p x = cond (is_eq (cmp p x)) 1 0
 
-differing_more : (known : List RowValue) (lines done : List PlacedLine) (line : PlacedLine) (found : ContradictingLine) (all : List ContradictingLine) → Differs known lines line found → AreDiffering known lines done all → AreDiffering known lines (done ++ line ∷ []) (all ++ found ∷ [])
-differing_more known lines [] line found all differs are = inr (found, [], ap (λ l. l ++ found ∷ []) are, differs, refl)
-differing_more known lines (l ∷ done) line found all differs (inl so) = inl (so.0, differing_more known lines done line found all differs so.1)
-differing_more known lines (l ∷ done) line found all differs (inr so) = inr (so.0, so.1 ++ found ∷ [], ap (λ l. l ++ found ∷ []) so.2, so.3, differing_more known lines done line found so.1 differs so.4)
+  tie_of : (p x : X) → cmp p x ≡ Equal → tie p x ≡ 1
+  tie_of p x e = ap (λ r. cond (is_eq r) 1 0) e
 
--- ---- the turn to the key of a line
+  tied_there : (p x : X) (xs : List X) → Has xs x → cmp p x ≡ Equal → 1 ≤ sum_by (tie p) xs
+  tied_there p x [] h e = absurd h
+  tied_there p x (y ∷ ys) h e = elim h [
+    | inl same ↦ let one = tie_of p y (subst (λ z. cmp p z ≡ Equal) (sym same) e) in let more = sum_by-cons (tie p) y ys in omega arith
+    | inr t ↦ let rest = tied_there p x ys t e in let more = sum_by-cons (tie p) y ys in omega arith
+  ]
 
-some_at : (P : Counting → Type 0) (o : Option Counting) → IsSomeAnd o P → (c : Counting) × (o ≡ Some c) × P c
-some_at P None h = absurd h
-some_at P (Some c) h = (c, refl, h)
+  none_ties : (o : IsTotalOrder cmp) (p x : X) (xs : List X) → cmp p x ≡ Equal → AllByRecursion (λ y. cmp x y ≡ Less) xs → sum_by (tie p) xs ≡ 0
+  none_ties o p x [] e all = refl
+  none_ties o p x (y ∷ ys) e all =
+      let less : cmp p y ≡ Less = o.congr p x y e ∙ all.0 in
+      let zero : tie p y ≡ 0 = ap (λ r. cond (is_eq r) 1 0) less in
+      let more = sum_by-cons (tie p) y ys in
+      let rest = none_ties o p x ys e all.1 in
+      omega arith
 
-module _ (known : List RowValue) (line : PlacedLine) (old : Option Counting) where
-  pub turns_still : (key : Key) → key ≡ key_of line.row → IsSomeAnd old (λ c. key_of c.row ≡ key) → Turns known line old old
-  turns_still key key_is at =
-      let c = some_at (λ c. key_of c.row ≡ key) old at in
-      (c.0, c.1, c.2 ∙ key_is, inl c.1)
+  one_ties : (o : IsTotalOrder cmp) (p : X) (xs : List X) → IsAscending cmp xs → sum_by (tie p) xs ≤ 1
+  one_ties o p [] up = omega arith
+  one_ties o p (x ∷ xs) up = by (cmp p x) refl where
+    more : sum_by (tie p) (x ∷ xs) ≡ tie p x + sum_by (tie p) xs
+    more = sum_by-cons (tie p) x xs
 
-  module _ (key : Key) (key_is : key ≡ key_of line.row) (other : IsSomeAnd old (λ c. key_of c.row ≡ key) → ⊥) where
-    not_at : IsSomeAnd old (λ c. key_of c.row ≡ key_of line.row) → ⊥
-    not_at at = other (subst (λ k. IsSomeAnd old (λ c. key_of c.row ≡ k)) (sym key_is) at)
+    by : (r : Ordering) → cmp p x ≡ r → sum_by (tie p) (x ∷ xs) ≤ 1
+    by Less e = (let zero : tie p x ≡ 0 = ap (λ r. cond (is_eq r) 1 0) e in let rest = one_ties o p xs up.1 in let m = more in omega arith)
+    by Equal e = (let one = tie_of p x e in let rest = none_ties o p x xs e up.0 in let m = more in omega arith)
+    by Greater e = (let zero : tie p x ≡ 0 = ap (λ r. cond (is_eq r) 1 0) e in let rest = one_ties o p xs up.1 in let m = more in omega arith)
 
-    pub turns_known : (row : RowValue) → IsRowAt known key (Some row) → Turns known line old (Some (record { row = row; other = others.Known }))
-    turns_known row found = (record { row = row; other = others.Known }, refl, found.1 ∙ key_is, inr (not_at, inl (found.0, refl)))
+-- of lines that all have places of their own, those in key order ascend
+by_rank : (xs : List PlacedLine) → ((p : PlacedLine) → sum_by (tie place_cmp p) xs ≤ 1) → IsRising rank_cmp xs → IsAscending rank_cmp xs
+by_rank [] few up = tt
+by_rank (x ∷ xs) few up = (
+  all_from_has (λ y. rank_cmp x y ≡ Less) xs above,
+  by_rank xs (λ p. let all = few p in let more = sum_by-cons (tie place_cmp p) x xs in omega arith) up.1,
+) where
+  above : (y : PlacedLine) → Has xs y → rank_cmp x y ≡ Less
+  above y h = which (row_cmp x.row y.row) (place_cmp x y) refl refl where
+    which : (r p : Ordering) → row_cmp x.row y.row ≡ r → place_cmp x y ≡ p → rank_cmp x y ≡ Less
+    which Less p e f = ap (λ r. ordering_then r (place_cmp x y)) e
+    which Equal Less e f = ap (λ r. ordering_then r (place_cmp x y)) e ∙ f
+    which Equal Equal e f = absurd (
+      let itself = tie_of place_cmp x x (tied_itself places_total x) in
+      let again = tied_there place_cmp x y xs h f in
+      let more = sum_by-cons (tie place_cmp x) x xs in
+      let one = few x in
+      omega arith
+    )
+    which Equal Greater e f = absurd (let no = rising y h in let gt = ap (λ r. is_gt (ordering_then r (place_cmp x y))) e ∙ ap is_gt f in cc)
+    which Greater p e f = absurd (let no = rising y h in let gt = ap (λ r. is_gt (ordering_then r (place_cmp x y))) e in cc)
 
-    pub turns_new : (row : RowValue) → IsRowAt known key None → row ≡ line.row → Turns known line old (Some (record { row = row; other = others.Line line.file line.line }))
-    turns_new row unknown same = (record { row = row; other = others.Line line.file line.line }, refl, ap key_of same, inr (not_at, inr (subst (λ k. IsUnknown known k) key_is unknown, same, refl)))
+    rising : (y : PlacedLine) → Has xs y → is_gt (rank_cmp x y) ≡ false
+    rising y h = Has-all (λ z. is_gt (rank_cmp x z) ≡ false) xs y up.0 h
+
+pub sorted_ascends : (lines sorted : List PlacedLine) → IsAscending place_cmp lines → IsPermutation lines sorted → IsRising rank_cmp sorted → IsAscending rank_cmp sorted
+sorted_ascends lines sorted placed permuted up =
+    by_rank sorted (λ p. let one = one_ties place_cmp places_total p lines placed in let same = sum_by-IsPermutation (tie place_cmp p) lines sorted permuted in omega arith) up
+
+-- what ascends doesn't fall
+pub rising_from_ascending : {X : Type 0} (cmp : X → X → Ordering) (xs : List X) → IsAscending cmp xs → IsRising cmp xs
+rising_from_ascending cmp [] up = tt
+rising_from_ascending {X} cmp (x ∷ xs) up = (each xs up.0, rising_from_ascending cmp xs up.1) where
+  each : (ys : List X) → AllByRecursion (λ y. cmp x y ≡ Less) ys → AllByRecursion (λ y. is_gt (cmp x y) ≡ false) ys
+  each [] all = tt
+  each (y ∷ ys) all = (ap is_gt all.0, each ys all.1)
 
 -- ---- the row that counts for the last key
 
 -- it has the key of a line that was taken, and none of these has a greater one
-pub record IsTop (known : List RowValue) (lines done : List PlacedLine) (c : Counting) : Type 0 where
-  pub counting : IsCounting known lines c.row c.other
-  pub greatest : (line : PlacedLine) → Has done line → is_gt (row_cmp line.row c.row) ≡ false
-  pub at : (line : PlacedLine) × Has done line × (key_of line.row ≡ key_of c.row)
+pub record IsTop (known : List RowValue) (lines done : List PlacedLine) (other : OtherRow) : Type 0 where
+  pub counts : CountsAmong known lines other
+  pub greatest : (line : PlacedLine) → Has done line → is_gt (row_cmp line.row (row_of other)) ≡ false
+  pub at : (line : PlacedLine) × Has done line × (key_of line.row ≡ key_of (row_of other))
 
-abbrev pub HasTop : List RowValue → List PlacedLine → List PlacedLine → Option Counting → Type 0
-HasTop known lines done counting = MatchOption counting (done ≡ []) (IsTop known lines done)
+abbrev pub HasTop : List RowValue → List PlacedLine → List PlacedLine → Option OtherRow → Type 0
+HasTop known lines done last = MatchOption last (done ≡ []) (IsTop known lines done)
 
-module _ (known : List RowValue) (lines done : List PlacedLine) (line : PlacedLine) (rest : List PlacedLine) (lines_are : lines ≡ done ++ line ∷ rest) (rising : IsRising rank_cmp lines) where
-  up : IsRising rank_cmp (done ++ line ∷ rest)
-  up = subst (λ ls. IsRising rank_cmp ls) lines_are rising
+module _ (known : List RowValue) (lines done : List PlacedLine) (line : PlacedLine) (rest : List PlacedLine) (lines_are : lines ≡ done ++ line ∷ rest) (strict : IsAscending rank_cmp lines) where
+  up : IsAscending rank_cmp (done ++ line ∷ rest)
+  up = subst (λ ls. IsAscending rank_cmp ls) lines_are strict
 
-  all_less : (o : Option Counting) → HasTop known lines done o → (IsSomeAnd o (λ c. key_of c.row ≡ key_of line.row) → ⊥) → (l : PlacedLine) → Has done l → row_cmp l.row line.row ≡ Less
+  below : (l : PlacedLine) → Has done l → rank_cmp l line ≡ Less
+  below l h = ascending_before rank_cmp done line rest l up h
+
+  all_less : (last : Option OtherRow) → HasTop known lines done last → (IsSomeAnd last (λ o. key_of (row_of o) ≡ key_of line.row) → ⊥) → (l : PlacedLine) → Has done l → row_cmp l.row line.row ≡ Less
   all_less None none other l h = absurd (subst (λ ls. Has ls l) none h)
-  all_less (Some c) top other l h =
+  all_less (Some o) top other l h =
       let at = top.at in
-      let below : row_cmp c.row line.row ≡ Less = elim (rank_split at.0 line (rising_before rank_cmp done line rest at.0 up at.1)) [
+      let under : row_cmp (row_of o) line.row ≡ Less = elim (rank_split at.0 line (ap is_gt (below at.0 at.1))) [
         | inl less ↦ subst (λ k. key_cmp k (key_of line.row) ≡ Less) at.2 less
         | inr tie ↦ absurd (other (sym at.2 ∙ tie.0))
       ] in
-      below_further rows_total l.row c.row line.row (row_cmp l.row c.row) refl (top.greatest l h) below
+      below_further rows_total l.row (row_of o) line.row (row_cmp l.row (row_of o)) refl (top.greatest l h) under
 
   -- a row with the line's key that counts is at the top once the line is taken
-  top_at : (c : Counting) → key_of c.row ≡ key_of line.row → IsCounting known lines c.row c.other → ((l : PlacedLine) → Has done l → is_gt (row_cmp l.row c.row) ≡ false) → IsTop known lines (done ++ line ∷ []) c
-  top_at c same counting greatest = record {
-    counting = counting;
-    greatest = cases known lines done line rest lines_are (λ l. is_gt (row_cmp l.row c.row) ≡ false) greatest (ap is_gt (tie_of_same line.row c.row (sym same)));
+  top_at : (o : OtherRow) → key_of (row_of o) ≡ key_of line.row → CountsAmong known lines o → ((l : PlacedLine) → Has done l → is_gt (row_cmp l.row (row_of o)) ≡ false) → IsTop known lines (done ++ line ∷ []) o
+  top_at o same counts greatest = record {
+    counts = counts;
+    greatest = cases known lines done line rest lines_are (λ l. is_gt (row_cmp l.row (row_of o)) ≡ false) greatest (ap is_gt (tie_of_same line.row (row_of o) (sym same)));
     at = (line, Has-append_right done (line ∷ []) line (inl refl), sym same);
   }
 
-  pub turned_top : (old : Option Counting) (c : Counting) → HasTop known lines done old → key_of c.row ≡ key_of line.row
-      → ((old ≡ Some c)
-      ⊎ ((IsSomeAnd old (λ last. key_of last.row ≡ key_of line.row) → ⊥)
-      × ((Has known c.row × (c.other ≡ others.Known))
-      ⊎ (IsUnknown known (key_of line.row) × (c.row ≡ line.row) × (c.other ≡ others.Line line.file line.line)))))
-      → IsTop known lines (done ++ line ∷ []) c
-  turned_top old c top same (inl stays) =
-      let was : IsTop known lines done c = subst (λ o. HasTop known lines done o) stays top in
-      top_at c same was.counting was.greatest
-  turned_top old c top same (inr (other, inl is)) =
-      let less = all_less old top other in
-      top_at c same (subst (λ o. IsCounting known lines c.row o) (sym is.1) is.0) (λ l h. ap is_gt (subst (λ k. key_cmp (key_of l.row) k ≡ Less) (sym same) (less l h)))
-  turned_top old c top same (inr (other, inr is)) =
-      let less = all_less old top other in
-      let first = earliest known lines done line rest lines_are rising less in
-      top_at c same
-      (subst (λ o. IsCounting known lines c.row o) (sym is.2) (subst (λ k. IsUnknown known k) (sym same) is.0, line, first, sym is.1, refl, refl))
-      (λ l h. ap is_gt (subst (λ k. key_cmp (key_of l.row) k ≡ Less) (sym same) (less l h)))
+  counts_new : ((l : PlacedLine) → Has done l → row_cmp l.row line.row ≡ Less) → (o : OtherRow) → IsFoundFor known line o → CountsAmong known lines o
+  counts_new less (others.Known row) found = found.0
+  counts_new less (others.Line first) found =
+      let first_is = sym found.1 in
+      let is : IsEarliest lines line = earliest known lines done line rest lines_are (rising_from_ascending rank_cmp lines strict) less in
+      (subst (λ (l : PlacedLine). IsUnknown known (key_of l.row)) first_is found.0, subst (IsEarliest lines) first_is is)
 
-  -- ---- the verdict on the line
+  pub next_top : (last : Option OtherRow) (o : OtherRow) → HasTop known lines done last → IsNext known line last o → IsTop known lines (done ++ line ∷ []) o
+  next_top last o top (same, inl stays) =
+      let was : IsTop known lines done o = subst (λ l. HasTop known lines done l) stays top in
+      top_at o same was.counts was.greatest
+  next_top last o top (same, inr (other, found)) =
+      let less = all_less last top other in
+      top_at o same (counts_new less o found) (λ l h. ap is_gt (subst (λ k. key_cmp (key_of l.row) k ≡ Less) (sym same) (less l h)))
 
-  pub none_differs : (o : Option Counting) (all : List ContradictingLine) → HasTop known lines (done ++ line ∷ []) o → IsCompared o line None → AreDiffering known lines done all → AreDiffering known lines (done ++ line ∷ []) all
-  none_differs None all top verdict are = absurd verdict
-  none_differs (Some c) all top (inl same) are = differing_one known lines done line all (c.other, subst (λ row. IsCounting known lines row c.other) same.0 top.counting) are
-  none_differs (Some c) all top (inr differs) are = (let none = differs.1 in absurd (cc))
+  -- ---- one line more
 
-  pub one_differs : (o : Option Counting) (found : ContradictingLine) (all : List ContradictingLine) → IsSomeAnd o (λ c. key_of c.row ≡ key_of line.row) → HasTop known lines (done ++ line ∷ []) o → IsCompared o line (Some found) → AreDiffering known lines done all → AreDiffering known lines (done ++ line ∷ []) (all ++ found ∷ [])
-  one_differs None found all same top verdict are = absurd verdict
-  one_differs (Some c) found all same top (inl agrees) are = (let some = agrees.1 in absurd (cc))
-  one_differs (Some c) found all same top (inr differs) are =
-      let place : found ≡ record { file = line.file; line = line.line; key = key_of line.row; other = c.other } = let some = differs.1 in cc in
-      differing_more known lines done line found all
-      (subst (Differs known lines line) (sym place) (record { row = c.row; counting = top.counting; same_key = same; differs = differs.0; file_is = refl; line_is = refl; key_is = refl })) are
+  module _ (all : List ContradictingLine) (sifted : Sifted known lines done all) (o : OtherRow) (same : key_of (row_of o) ≡ key_of line.row) (counts : CountsAmong known lines o) where
+    agrees_more : row_of o ≡ line.row → Sifted known lines (done ++ line ∷ []) all
+    agrees_more is = record {
+      ascending = sifted.ascending;
+      from = λ c h. let f = sifted.from c h in (Has-append_left done (line ∷ []) c.line f.0, f.1, f.2, f.3);
+      each = cases known lines done line rest lines_are (λ l. (p : OtherRow) × CountsAmong known lines p × (key_of (row_of p) ≡ key_of l.row) × ((row_of p ≡ l.row) ⊎ Has all (record { line = l; other = p })))
+          sifted.each (o, counts, same, inl is);
+    }
+
+    abbrev one : ContradictingLine
+    one = record { line = line; other = o }
+
+    differs_more : row_of o ≢ line.row → Sifted known lines (done ++ line ∷ []) (all ++ one ∷ [])
+    differs_more not = record {
+      ascending = ascending-push (λ (a b : ContradictingLine). rank_cmp a.line b.line) all one sifted.ascending (λ c h. below c.line (sifted.from c h).0);
+      from = λ c h. elim (Has-append_cases all (one ∷ []) c h) [
+        | inl before ↦ let f = sifted.from c before in (Has-append_left done (line ∷ []) c.line f.0, f.1, f.2, f.3)
+        | inr t ↦ elim t [
+          | inl e ↦ subst (λ (d : ContradictingLine). Has (done ++ line ∷ []) d.line × CountsAmong known lines d.other × (key_of (row_of d.other) ≡ key_of d.line.row) × (row_of d.other ≢ d.line.row)) e
+              (Has-append_right done (line ∷ []) line (inl refl), counts, same, not)
+          | inr n ↦ absurd n
+        ]
+      ];
+      each = cases known lines done line rest lines_are (λ l. (p : OtherRow) × CountsAmong known lines p × (key_of (row_of p) ≡ key_of l.row) × ((row_of p ≡ l.row) ⊎ Has (all ++ one ∷ []) (record { line = l; other = p })))
+          (λ l h. let e = sifted.each l h in (e.0, e.1, e.2, elim e.3 [ inl a ↦ inl a | inr b ↦ inr (Has-append_left all (one ∷ []) (record { line = l; other = e.0 }) b) ]))
+          (o, counts, same, inr (Has-append_right all (one ∷ []) one (inl refl)));
+    }
+
+  pub noted_more : (limit : ℕ) (all : List ContradictingLine) (o : OtherRow) (old new : Contradictions) → IsTop known lines (done ++ line ∷ []) o → key_of (row_of o) ≡ key_of line.row → IsNoted limit o line old new
+      → Sifted known lines done all → AreListed limit all old
+      → (more : List ContradictingLine) × Sifted known lines (done ++ line ∷ []) more × AreListed limit more new
+  noted_more limit all o old new top same (inl is) sifted listed = (all, agrees_more all sifted o same top.counts is.0, subst (AreListed limit all) (sym is.1) listed)
+  noted_more limit all o old new top same (inr not) sifted listed = (all ++ record { line = line; other = o } ∷ [], differs_more all sifted o same top.counts not.0, not.1 all listed)
+
+pub none_sifted : (known : List RowValue) (lines : List PlacedLine) → Sifted known lines [] []
+none_sifted known lines = record { ascending = tt; from = λ c h. absurd h; each = λ l h. absurd h }
 
 -- ---- what is listed
 
@@ -151,52 +217,76 @@ counted_behind limit all items further found full so =
     let longer = length-append all (found ∷ []) in
     (so.0 ∙ sym (take-append-le limit all (found ∷ []) many), omega (arith, so.1, many, longer))
 
--- ---- the same lines in another order
+-- ---- the same lines in the order of their places
 
-module _ (lines sorted : List PlacedLine) (permuted : IsPermutation lines sorted) where
-  earliest_there : (first : PlacedLine) → IsEarliest sorted first → IsEarliest lines first
-  earliest_there first is = record {
-    there = Has-permutation lines sorted permuted first is.there;
-    least = λ line h same. is.least line (Has-permutation sorted lines (IsPermutation-sym lines sorted permuted) line h) same;
-  }
+module _ (known : List RowValue) (lines sorted : List PlacedLine) (consistent : IsConsistent known) (placed : IsAscending place_cmp lines) (permuted : IsPermutation lines sorted) where
+  to : (l : PlacedLine) → Has lines l → Has sorted l
+  to l h = Has-permutation sorted lines (IsPermutation-sym lines sorted permuted) l h
 
-  module _ (known : List RowValue) where
-    counting_there : (row : RowValue) (other : OtherRow) → IsCounting known sorted row other → IsCounting known lines row other
-    counting_there row others.Known is = is
-    counting_there row (others.Line file line) is = (is.0, is.1, earliest_there is.1 is.2, is.3, is.4, is.5)
+  from : (l : PlacedLine) → Has sorted l → Has lines l
+  from l h = Has-permutation lines sorted permuted l h
 
-    differs_there : (line : PlacedLine) (found : ContradictingLine) → Differs known sorted line found → Differs known lines line found
-    differs_there line found is = record {
-      row = is.row;
-      counting = counting_there is.row found.other is.counting;
-      same_key = is.same_key;
-      differs = is.differs;
-      file_is = is.file_is;
-      line_is = is.line_is;
-      key_is = is.key_is;
-    }
+  one_counts : (a b : OtherRow) → CountsAmong known sorted a → CountsAmong known sorted b → key_of (row_of a) ≡ key_of (row_of b) → a ≡ b
+  one_counts (others.Known a) (others.Known b) p q same = ap others.Known (consistent a b p q same)
+  one_counts (others.Known a) (others.Line b) p q same = absurd (q.0 a p same)
+  one_counts (others.Line a) (others.Known b) p q same = absurd (p.0 b q (sym same))
+  one_counts (others.Line a) (others.Line b) p q same =
+      let ties = tie_from a b (p.1.least b q.1.there (sym same)) (q.1.least a p.1.there same) in
+      ap others.Line (tie_is_same places_total lines a b placed (from a p.1.there) (from b q.1.there) ties)
 
-    pub differing_there : (these : List PlacedLine) (all : List ContradictingLine) → AreDiffering known sorted these all → AreDiffering known lines these all
-    differing_there [] all are = are
-    differing_there (line ∷ these) all (inl so) = inl ((so.0.0, counting_there line.row so.0.0 so.0.1), differing_there these all so.1)
-    differing_there (line ∷ these) all (inr so) = inr (so.0, so.1, so.2, differs_there line so.0 so.3, differing_there these so.1 so.4)
+  counts_there : (o : OtherRow) → CountsAmong known sorted o → CountsForKey known lines o
+  counts_there (others.Known row) is = is
+  counts_there (others.Line first) is =
+      let cut = split_at lines first (from first is.1.there) in
+      let up : IsAscending place_cmp (cut.0 ++ first ∷ cut.1) = subst (λ ls. IsAscending place_cmp ls) cut.2 placed in
+      (cut.0, cut.1, cut.2, λ row h same. elim (Has-append_cases known (rows_of cut.0) row h) [
+        | inl old ↦ is.0 row old same
+        | inr new ↦
+            let m = Has-map (λ (l : PlacedLine). l.row) cut.0 row new in
+            let m_there = to m.0 (subst (λ ls. Has ls m.0) (sym cut.2) (Has-append_left cut.0 (first ∷ cut.1) m.0 m.1)) in
+            not_after m.0 first (ascending_before place_cmp cut.0 first cut.1 m.0 up m.1) (is.1.least m.0 m_there (ap key_of m.2 ∙ same))
+      ])
+
+  counts_here : (o : OtherRow) → CountsForKey known lines o → CountsAmong known sorted o
+  counts_here (others.Known row) is = is
+  counts_here (others.Line first) (before, after, lines_are, unknown) =
+      let up : IsAscending place_cmp (before ++ first ∷ after) = subst (λ ls. IsAscending place_cmp ls) lines_are placed in (
+        λ row h. unknown row (Has-append_left known (rows_of before) row h),
+        record {
+          there = to first (subst (λ ls. Has ls first) (sym lines_are) (Has-append_right before (first ∷ after) first (inl refl)));
+          least = λ l h same. elim (Has-append_cases before (first ∷ after) l (subst (λ ls. Has ls l) lines_are (from l h))) [
+            | inl b ↦ absurd (unknown l.row (Has-append_right known (rows_of before) l.row (Has-map_from (λ (m : PlacedLine). m.row) before l b)) same)
+            | inr t ↦ elim t [
+              | inl e ↦ subst (λ (m : PlacedLine). StandsBy first.file first.line m.file m.line) e (stands_by_itself first.file first.line)
+              | inr a ↦ placed_by first.file first.line l.file l.line (nat_cmp first.file l.file) refl (ap is_gt (ascending_after place_cmp before first after l up a))
+            ]
+          ];
+        },
+      )
+
+  pub each_there : (all : List ContradictingLine) → Sifted known sorted sorted all → (c : ContradictingLine) → Has all c ↔ IsContradiction known lines c
+  each_there all sifted c = (
+    λ h. let f = sifted.from c h in record { there = from c.line f.0; counts = counts_there c.other f.1; same_key = f.2; differs = f.3 },
+    λ is.
+        let e = sifted.each c.line (to c.line is.there) in
+        let same : e.0 ≡ c.other = one_counts e.0 c.other e.1 (counts_here c.other is.counts) (e.2 ∙ sym is.same_key) in
+        elim e.3 [
+          | inl agrees ↦ absurd (is.differs (ap row_of (sym same) ∙ agrees))
+          | inr h ↦ subst (λ (o : OtherRow). Has all (record { line = c.line; other = o })) same h
+        ],
+  )
 
 -- the lines of a release, listed
-pub of_lines : (known : List RowValue) (release : Release) (limit : ℕ) (lines sorted : List PlacedLine) (found : Contradictions) → IsParsed release lines → IsPermutation lines sorted → IsRising rank_cmp sorted → AreListedOf known limit sorted found → AreContradictionsOf known release limit found
-of_lines known release limit lines sorted found parsed permuted rising listed =
-    let P : List PlacedLine → Type 0 = λ ls. IsPermutation ls sorted in
-    let moved = subst P parsed.lines_are permuted in
-    record {
-      lists = parsed.lists;
-      spelled = parsed.spelled;
-      in_order = sorted;
-      permuted = moved;
-      rising = rising;
-      all = listed.0;
-      all_are = differing_there (placed_lines parsed.lists) sorted moved known sorted listed.0 listed.1;
-      listed = listed.2.0;
-      further = listed.2.1;
-    }
+pub of_lines : (known : List RowValue) (release : Release) (limit : ℕ) (lines sorted : List PlacedLine) (found : Contradictions) → IsConsistent known → IsParsed release lines → IsAscending place_cmp lines → IsPermutation lines sorted → AreSifted known limit sorted found → AreContradictionsOf known release limit found
+of_lines known release limit lines sorted found consistent parsed placed permuted (all, sifted, listed) = record {
+  lists = parsed.lists;
+  spelled = parsed.spelled;
+  all = all;
+  ascending = sifted.ascending;
+  each = subst (λ ls. (c : ContradictingLine) → Has all c ↔ IsContradiction known ls c) parsed.lines_are (each_there known lines sorted consistent placed permuted all sifted);
+  listed = listed.0;
+  further = listed.1;
+}
 
 pub not_read : (honest : Type 0) (release : Release) (e : ImportFault) → IsParseFault release e → IsNotListed honest release e
 not_read honest release importfault.OutOfMemory why = tt

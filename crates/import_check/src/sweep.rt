@@ -15,10 +15,10 @@ ghost use Rattle.import_check.specs.NewRows.{IsTaken, AreNewByKey};
 ghost use Rattle.import_check.specs.NewRows.{CountsAnyDiskFault, CountsAnyDamage};
 ghost use Rattle.import_check.specs.Release.{rows_of};
 ghost use Rattle.import_check.specs.Private.Sweep.{IsEarlierOf, IsVerdict, standing_of};
-ghost use Rattle.import_check.specs.Contradictions.{StandsBy};
+ghost use Rattle.import_check.specs.Private.Sweep.{StandsBy};
 ghost use Rattle.import_check.specs.Private.Sweep.{IsSwept, TakesLine, IsOutcome};
 ghost use Rattle.import_check.specs.Private.Sweep.{KeepsApart, IsCutShort, IsRefusalOf};
-ghost use Rattle.import_check.specs.Contradictions.{IsRising};
+ghost use Rattle.import_check.specs.Private.Sweep.{IsRising};
 ghost use Rattle.import_check.specs.Private.Sweep.{IsApart, IsGathered, Gathers};
 ghost use Rattle.import_check.specs.Contradictions.{place_cmp, rank_cmp};
 

@@ -1,44 +1,62 @@
 -- What a pass over lines in key order lists of those that contradict.
 -- No clause of a public function cites these words.
-use Rattle.std.specs.Prelude.{◌≡◌, ◌≢◌, ◌⊎◌, ◌-◌, ℕ, List, [], length, take}
-use Rattle.std.specs.Prelude.{Option, Some, None, IsSomeAnd, MatchOption}
+use Rattle.std.specs.Prelude.{◌≡◌, ◌≢◌, ◌⊎◌, ◌-◌, ℕ, List, [], ◌∷◌, ◌++◌, length, take}
+use Rattle.std.specs.Prelude.{Option, Some, IsSomeAnd}
 use Rattle.rf2_values.specs.Row.{RowValue}
 use Rattle.rf2_values.specs.Key.{key_of}
-use Rattle.history_model.specs.InOrder.{Has}
+use Rattle.history_model.specs.InOrder.{Has, IsAscending}
 use Rattle.import_check.specs.declared.release.PlacedLine.{PlacedLine}
+use Rattle.import_check.specs.declared.contradicting.OtherRow.{OtherRow}
 use Rattle.import_check.specs.declared.contradicting.OtherRow.TheVariants as others
-use Rattle.import_check.specs.declared.contradicting.Counting.{Counting}
 use Rattle.import_check.specs.declared.contradicting.ContradictingLine.{ContradictingLine}
 use Rattle.import_check.specs.declared.contradicting.Contradictions.{Contradictions}
 use Rattle.import_check.specs.Known.{IsUnknown}
-use Rattle.import_check.specs.Contradictions.{AreDiffering}
+use Rattle.import_check.specs.Contradictions.{rank_cmp, row_of}
+use Rattle.import_check.specs.Private.Sweep.{IsEarliest}
 
--- this row counts after a turn to the key of the line
-abbrev pub Turns : List RowValue → PlacedLine → Option Counting → Option Counting → Type 0
-Turns known line old new = (c : Counting) × (new ≡ Some c) × (key_of c.row ≡ key_of line.row)
-    × ((old ≡ Some c)
-    ⊎ ((IsSomeAnd old (λ last. key_of last.row ≡ key_of line.row) → ⊥)
-    × ((Has known c.row × (c.other ≡ others.Known))
-    ⊎ (IsUnknown known (key_of line.row) × (c.row ≡ line.row)
-    × (c.other ≡ others.Line line.file line.line)))))
+-- of lines in any order: the row is known, or none with its key is, and it is on the earliest line
+-- with the key
+abbrev pub CountsAmong : List RowValue → List PlacedLine → OtherRow → Type 0
+CountsAmong known lines (others.Known row) = Has known row
+CountsAmong known lines (others.Line first) =
+    IsUnknown known (key_of first.row) × IsEarliest lines first
 
--- the line is found where its row isn't the one that counts
-abbrev pub IsCompared : Option Counting → PlacedLine → Option ContradictingLine → Type 0
-IsCompared None line found = ⊥
-IsCompared (Some c) line found = ((c.row ≡ line.row) × (found ≡ None))
-    ⊎ ((c.row ≢ line.row) × (found ≡ Some (record {
-      file = line.file;
-      line = line.line;
-      key = key_of line.row;
-      other = c.other;
-    })))
+-- the row that counts for the line's key, if no line before it has the key
+abbrev pub IsFoundFor : List RowValue → PlacedLine → OtherRow → Type 0
+IsFoundFor known line (others.Known row) = Has known row × (key_of row ≡ key_of line.row)
+IsFoundFor known line (others.Line first) = IsUnknown known (key_of line.row) × (first ≡ line)
+
+-- the row that counts for the line's key: the last one, or if that has another key the one found
+abbrev pub IsNext : List RowValue → PlacedLine → Option OtherRow → OtherRow → Type 0
+IsNext known line last other = (key_of (row_of other) ≡ key_of line.row)
+    × ((last ≡ Some other)
+    ⊎ ((IsSomeAnd last (λ o. key_of (row_of o) ≡ key_of line.row) → ⊥)
+    × IsFoundFor known line other))
 
 -- the first of all these are listed, and the others counted
 abbrev pub AreListed : ℕ → List ContradictingLine → Contradictions → Type 0
 AreListed limit all found =
-    (found.lines.items ≡ take limit all) × (found.further ≡ length all - limit)
+    (found.listed.items ≡ take limit all) × (found.further ≡ length all - limit)
 
--- of these lines in key order those that differ are listed
-abbrev pub AreListedOf : List RowValue → ℕ → List PlacedLine → Contradictions → Type 0
-AreListedOf known limit lines found = (all : List ContradictingLine)
-    × AreDiffering known lines lines all × AreListed limit all found
+-- one contradiction more if the line has another row
+abbrev pub IsNoted : ℕ → OtherRow → PlacedLine → Contradictions → Contradictions → Type 0
+IsNoted limit other line old new = ((row_of other ≡ line.row) × (new ≡ old))
+    ⊎ ((row_of other ≢ line.row)
+    × ((all : List ContradictingLine) → AreListed limit all old
+    → AreListed limit (all ++ record { line = line; other = other } ∷ []) new))
+
+-- of all lines in key order these are sifted so far: all that contradict
+pub record Sifted (known : List RowValue) (lines done : List PlacedLine)
+    (all : List ContradictingLine) : Type 0 where
+  pub ascending : IsAscending (λ a b. rank_cmp a.line b.line) all
+  pub from : (c : ContradictingLine) → Has all c → Has done c.line
+      × CountsAmong known lines c.other × (key_of (row_of c.other) ≡ key_of c.line.row)
+      × (row_of c.other ≢ c.line.row)
+  pub each : (line : PlacedLine) → Has done line → (other : OtherRow)
+      × CountsAmong known lines other × (key_of (row_of other) ≡ key_of line.row)
+      × ((row_of other ≡ line.row) ⊎ Has all (record { line = line; other = other }))
+
+-- of these lines in key order those that contradict are listed
+abbrev pub AreSifted : List RowValue → ℕ → List PlacedLine → Contradictions → Type 0
+AreSifted known limit lines found = (all : List ContradictingLine)
+    × Sifted known lines lines all × AreListed limit all found

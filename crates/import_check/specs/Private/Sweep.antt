@@ -22,9 +22,25 @@ use Rattle.import_check.specs.declared.fault.ImportFault.{ImportFault}
 use Rattle.import_check.specs.declared.fault.ImportFault.TheVariants as importfault
 use Rattle.fault_counts.specs.declared.fault.ReadFault.TheVariants as readfault
 use Rattle.import_check.specs.Release.{IsFirstContradiction}
-use Rattle.import_check.specs.Contradictions.{StandsBy, IsEarliest, IsRising, rank_cmp}
+use Rattle.import_check.specs.Contradictions.{rank_cmp}
 use Rattle.import_check.specs.Known.{IsUnknown}
 use Rattle.import_check.specs.Release.{rows_of}
+
+-- a line is another one, or comes before it
+abbrev pub StandsBy : ℕ → ℕ → ℕ → ℕ → Type 0
+StandsBy file line other_file other_line =
+    (file < other_file) ⊎ ((file ≡ other_file) × (line ≤ other_line))
+
+-- none is above one that follows it
+abbrev pub IsRising : {X : Type 0} → (X → X → Ordering) → List X → Type 0
+IsRising cmp [] = Unit {0}
+IsRising cmp (x ∷ xs) = AllByRecursion (λ y. is_gt (cmp x y) ≡ false) xs × IsRising cmp xs
+
+-- no line with its key stands before it
+pub record IsEarliest (lines : List PlacedLine) (first : PlacedLine) : Type 0 where
+  pub there : Has lines first
+  pub least : (line : PlacedLine) → Has lines line → key_of line.row ≡ key_of first.row
+      → StandsBy first.file first.line line.file line.line
 
 -- the row of the earliest line with a key that no known row has
 pub record IsNewRow (known : List RowValue) (lines : List PlacedLine) (row : RowValue)

@@ -1,16 +1,17 @@
 use Rattle.std.proofs.Common.{◌≡◌, ◌+◌, ◌≤◌, length, List, ◌++◌}
+use Rattle.history_model.specs.InOrder.{IsAscending}
 use Rattle.import_check.specs.declared.release.PlacedLine.{PlacedLine}
 use Rattle.import_check.specs.declared.contradicting.ContradictingLine.{ContradictingLine}
-use Rattle.import_check.specs.Contradictions.{IsRising, rank_cmp, AreDiffering}
-use Rattle.import_check.specs.Private.Contradictions.{AreListed}
+use Rattle.import_check.specs.Contradictions.{rank_cmp}
+use Rattle.import_check.specs.Private.Contradictions.{AreListed, Sifted}
 use Rattle.import_check.proofs.Differing.{HasTop}
 use Rattle.import_check.proofs.contradicting.compare_all.Given as goal
 
 abbrev pub invariant-loop-line : goal.invariant-loop-line
 invariant-loop-line g l = record {
-  found : g.K.Known.is_honest l.fn.known → IsRising rank_cmp l.fn.lines.items →
-      (done : List PlacedLine) × (l.fn.lines.items ≡ done ++ l.line-iterator) × HasTop (g.K.Known.rows l.fn.known) l.fn.lines.items done l.counting
-      × (all : List ContradictingLine) × AreDiffering (g.K.Known.rows l.fn.known) l.fn.lines.items done all × AreListed l.fn.limit all l.found;
+  sifted : g.K.Known.is_honest l.fn.known → IsAscending rank_cmp l.fn.lines.items →
+      (done : List PlacedLine) × (l.fn.lines.items ≡ done ++ l.line-iterator) × HasTop (g.K.Known.rows l.fn.known) l.fn.lines.items done l.last
+      × (all : List ContradictingLine) × Sifted (g.K.Known.rows l.fn.known) l.fn.lines.items done all × AreListed l.fn.limit all l.found;
   room : l.found.further + length l.line-iterator ≤ length l.fn.lines.items;
   rows : g.K.Known.rows l.known ≡ g.K.Known.rows l.fn.known;
   honesty : g.K.Known.is_honest l.fn.known → g.K.Known.is_honest l.known;

@@ -4,7 +4,8 @@ use Rattle.std.specs.List.{sum_by}
 use Rattle.import_check.specs.Known.{already_known}
 use Rattle.import_check.specs.Release.{rows_of}
 use Rattle.import_check.specs.Private.Sweep.{IsInStep, IsAhead, IsSwept, IsOwn, IsGathered}
-use Rattle.import_check.specs.Contradictions.{IsRising, rank_cmp}
+use Rattle.import_check.specs.Private.Sweep.{IsRising}
+use Rattle.import_check.specs.Contradictions.{rank_cmp}
 use Rattle.import_check.proofs.sweep.take_all.Given as goal
 
 abbrev pub invariant-loop-line : goal.invariant-loop-line
