@@ -1,6 +1,6 @@
 -- Lines in key order, of which those that contradict are listed.
 use Rattle.std.proofs.Common.{◌≡◌, ◌≢◌, ◌⊎◌, ℕ, ◌+◌, ◌-◌, ◌≤◌, ◌<◌, cond, false, true, List, [], ◌∷◌, ◌++◌, length, take, refl, sym, ap, subst, inl, inr, ◌∙◌, arith, length-append, length-take}
-use Rattle.std.specs.Prelude.{Option, Some, None, MatchOption, IsSomeAnd, ◌↔◌}
+use Rattle.std.specs.Prelude.{Option, Some, None, MatchOption, IsSomeAnd, ◌↔◌, Result, Ok, Err, IfOk}
 use Rattle.std.specs.List.{AllByRecursion, sum_by}
 use Rattle.std.specs.List.Sorted.{IsPermutation}
 use Rattle.std.specs.Ordering.{nat_cmp, ordering_then, is_gt, is_eq}
@@ -14,7 +14,7 @@ use Rattle.rf2_values.specs.Row.{RowValue}
 use Rattle.rf2_values.specs.Key.{key_of, key_cmp}
 use Rattle.history_model.specs.InOrder.{Has, IsAscending}
 use Rattle.history_model.specs.History.{row_cmp, IsConsistent}
-use Rattle.history_model.proofs.InOrder.{Has-append_left, Has-append_right, Has-append_cases, all_from_has, tie_is_same}
+use Rattle.history_model.proofs.InOrder.{Has-all, Has-append_left, Has-append_right, Has-append_cases, all_from_has, tie_is_same}
 use Rattle.history_model.proofs.Filtered.{Has-map, Has-map_from}
 use Rattle.history_model.proofs.Keys.{rows_total, tie_of_same}
 use Rattle.import_check.specs.declared.release.PlacedLine.{PlacedLine}
@@ -62,41 +62,33 @@ module _ {X : Type 0} (cmp : X → X → Ordering) where
       let rest = none_ties o p x ys e all.1 in
       omega arith
 
+  few_more : (o : IsTotalOrder cmp) (p x : X) (xs : List X) (r : Ordering) → cmp p x ≡ r → AllByRecursion (λ y. cmp x y ≡ Less) xs → sum_by (tie p) xs ≤ 1 → sum_by (tie p) (x ∷ xs) ≤ 1
+  few_more o p x xs Less e up rest = let zero : tie p x ≡ 0 = ap (λ r. cond (is_eq r) 1 0) e in let more = sum_by-cons (tie p) x xs in omega arith
+  few_more o p x xs Equal e up rest = let one = tie_of p x e in let none = none_ties o p x xs e up in let more = sum_by-cons (tie p) x xs in omega arith
+  few_more o p x xs Greater e up rest = let zero : tie p x ≡ 0 = ap (λ r. cond (is_eq r) 1 0) e in let more = sum_by-cons (tie p) x xs in omega arith
+
   one_ties : (o : IsTotalOrder cmp) (p : X) (xs : List X) → IsAscending cmp xs → sum_by (tie p) xs ≤ 1
   one_ties o p [] up = omega arith
-  one_ties o p (x ∷ xs) up = by (cmp p x) refl where
-    more : sum_by (tie p) (x ∷ xs) ≡ tie p x + sum_by (tie p) xs
-    more = sum_by-cons (tie p) x xs
-
-    by : (r : Ordering) → cmp p x ≡ r → sum_by (tie p) (x ∷ xs) ≤ 1
-    by Less e = (let zero : tie p x ≡ 0 = ap (λ r. cond (is_eq r) 1 0) e in let rest = one_ties o p xs up.1 in let m = more in omega arith)
-    by Equal e = (let one = tie_of p x e in let rest = none_ties o p x xs e up.0 in let m = more in omega arith)
-    by Greater e = (let zero : tie p x ≡ 0 = ap (λ r. cond (is_eq r) 1 0) e in let rest = one_ties o p xs up.1 in let m = more in omega arith)
+  one_ties o p (x ∷ xs) up = few_more o p x xs (cmp p x) refl up.0 (one_ties o p xs up.1)
 
 -- of lines that all have places of their own, those in key order ascend
+below_by_rank : (x y : PlacedLine) (xs : List PlacedLine) → Has xs y → sum_by (tie place_cmp x) (x ∷ xs) ≤ 1 → (r p : Ordering) → row_cmp x.row y.row ≡ r → place_cmp x y ≡ p → is_gt (rank_cmp x y) ≡ false → rank_cmp x y ≡ Less
+below_by_rank x y xs h one Less p e f up = ap (λ r. ordering_then r (place_cmp x y)) e
+below_by_rank x y xs h one Equal Less e f up = ap (λ r. ordering_then r (place_cmp x y)) e ∙ f
+below_by_rank x y xs h one Equal Equal e f up =
+    let itself = tie_of place_cmp x x (tied_itself places_total x) in
+    let again = tied_there place_cmp x y xs h f in
+    let more = sum_by-cons (tie place_cmp x) x xs in
+    absurd (omega arith)
+below_by_rank x y xs h one Equal Greater e f up = absurd (let gt : is_gt (rank_cmp x y) ≡ true = ap (λ r. is_gt (ordering_then r (place_cmp x y))) e ∙ ap is_gt f in cc)
+below_by_rank x y xs h one Greater p e f up = absurd (let gt : is_gt (rank_cmp x y) ≡ true = ap (λ r. is_gt (ordering_then r (place_cmp x y))) e in cc)
+
 by_rank : (xs : List PlacedLine) → ((p : PlacedLine) → sum_by (tie place_cmp p) xs ≤ 1) → IsRising rank_cmp xs → IsAscending rank_cmp xs
 by_rank [] few up = tt
 by_rank (x ∷ xs) few up = (
-  all_from_has (λ y. rank_cmp x y ≡ Less) xs above,
+  all_from_has (λ y. rank_cmp x y ≡ Less) xs (λ y h. below_by_rank x y xs h (few x) (row_cmp x.row y.row) (place_cmp x y) refl refl (Has-all (λ z. is_gt (rank_cmp x z) ≡ false) xs y up.0 h)),
   by_rank xs (λ p. let all = few p in let more = sum_by-cons (tie place_cmp p) x xs in omega arith) up.1,
-) where
-  above : (y : PlacedLine) → Has xs y → rank_cmp x y ≡ Less
-  above y h = which (row_cmp x.row y.row) (place_cmp x y) refl refl where
-    which : (r p : Ordering) → row_cmp x.row y.row ≡ r → place_cmp x y ≡ p → rank_cmp x y ≡ Less
-    which Less p e f = ap (λ r. ordering_then r (place_cmp x y)) e
-    which Equal Less e f = ap (λ r. ordering_then r (place_cmp x y)) e ∙ f
-    which Equal Equal e f = absurd (
-      let itself = tie_of place_cmp x x (tied_itself places_total x) in
-      let again = tied_there place_cmp x y xs h f in
-      let more = sum_by-cons (tie place_cmp x) x xs in
-      let one = few x in
-      omega arith
-    )
-    which Equal Greater e f = absurd (let no = rising y h in let gt = ap (λ r. is_gt (ordering_then r (place_cmp x y))) e ∙ ap is_gt f in cc)
-    which Greater p e f = absurd (let no = rising y h in let gt = ap (λ r. is_gt (ordering_then r (place_cmp x y))) e in cc)
-
-    rising : (y : PlacedLine) → Has xs y → is_gt (rank_cmp x y) ≡ false
-    rising y h = Has-all (λ z. is_gt (rank_cmp x z) ≡ false) xs y up.0 h
+)
 
 pub sorted_ascends : (lines sorted : List PlacedLine) → IsAscending place_cmp lines → IsPermutation lines sorted → IsRising rank_cmp sorted → IsAscending rank_cmp sorted
 sorted_ascends lines sorted placed permuted up =
@@ -200,23 +192,6 @@ module _ (known : List RowValue) (lines done : List PlacedLine) (line : PlacedLi
 pub none_sifted : (known : List RowValue) (lines : List PlacedLine) → Sifted known lines [] []
 none_sifted known lines = record { ascending = tt; from = λ c h. absurd h; each = λ l h. absurd h }
 
--- ---- what is listed
-
-pub listed_first : (limit : ℕ) (all items : List ContradictingLine) (further : ℕ) (found : ContradictingLine) → length items < limit → (items ≡ take limit all) × (further ≡ length all - limit)
-    → (items ++ found ∷ [] ≡ take limit (all ++ found ∷ [])) × (further ≡ length (all ++ found ∷ []) - limit)
-listed_first limit all items further found room so =
-    let few : length all < limit = omega (arith, room, ap length so.0, length-take limit all) in
-    let whole = take_all limit all (omega (arith, few)) in
-    let longer = length-append all (found ∷ []) in
-    (ap (λ l. l ++ found ∷ []) (so.0 ∙ whole) ∙ sym (take_all limit (all ++ found ∷ []) (omega (arith, few, longer))), omega (arith, so.1, few, longer))
-
-pub counted_behind : (limit : ℕ) (all items : List ContradictingLine) (further : ℕ) (found : ContradictingLine) → limit ≤ length items → (items ≡ take limit all) × (further ≡ length all - limit)
-    → (items ≡ take limit (all ++ found ∷ [])) × (further + 1 ≡ length (all ++ found ∷ []) - limit)
-counted_behind limit all items further found full so =
-    let many : limit ≤ length all = omega (arith, full, ap length so.0, length-take limit all) in
-    let longer = length-append all (found ∷ []) in
-    (so.0 ∙ sym (take-append-le limit all (found ∷ []) many), omega (arith, so.1, many, longer))
-
 -- ---- the same lines in the order of their places
 
 module _ (known : List RowValue) (lines sorted : List PlacedLine) (consistent : IsConsistent known) (placed : IsAscending place_cmp lines) (permuted : IsPermutation lines sorted) where
@@ -288,14 +263,7 @@ of_lines known release limit lines sorted found consistent parsed placed permute
   further = listed.1;
 }
 
-pub not_read : (honest : Type 0) (release : Release) (e : ImportFault) → IsParseFault release e → IsNotListed honest release e
-not_read honest release importfault.OutOfMemory why = tt
-not_read honest release (importfault.Known fault) why = absurd why
-not_read honest release (importfault.Row file line fault) why = why
-not_read honest release (importfault.Contradiction file line key) why = absurd why
-
-pub cut_short : (honest : Type 0) (release : Release) (e : ImportFault) → IsRead release → IsCutShort honest e → IsNotListed honest release e
-cut_short honest release importfault.OutOfMemory read why = tt
-cut_short honest release (importfault.Known fault) read why = (read, why)
-cut_short honest release (importfault.Row file line fault) read why = absurd why
-cut_short honest release (importfault.Contradiction file line key) read why = absurd why
+pub listed_of : (known : List RowValue) (release : Release) (limit : ℕ) (lines sorted : List PlacedLine) → IsConsistent known → IsParsed release lines → IsAscending place_cmp lines → IsPermutation lines sorted
+    → (r : Result Contradictions ImportFault) → IfOk r (AreSifted known limit sorted) → IfOk r (AreContradictionsOf known release limit)
+listed_of known release limit lines sorted consistent parsed placed permuted (Ok found) sifted = of_lines known release limit lines sorted found consistent parsed placed permuted sifted
+listed_of known release limit lines sorted consistent parsed placed permuted (Err e) sifted = tt
