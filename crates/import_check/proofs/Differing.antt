@@ -20,6 +20,7 @@ use Rattle.history_model.proofs.Keys.{rows_total, tie_of_same}
 use Rattle.import_check.specs.declared.release.PlacedLine.{PlacedLine}
 use Rattle.import_check.specs.declared.contradicting.OtherRow.{OtherRow}
 use Rattle.import_check.specs.declared.contradicting.OtherRow.TheVariants as others
+use Rattle.import_check.specs.declared.contradicting.Counting.{Counting}
 use Rattle.import_check.specs.declared.contradicting.ContradictingLine.{ContradictingLine}
 use Rattle.import_check.specs.declared.contradicting.Contradictions.{Contradictions}
 use Rattle.import_check.specs.Known.{IsUnknown, IsRowAt}
@@ -105,12 +106,13 @@ rising_from_ascending {X} cmp (x ∷ xs) up = (each xs up.0, rising_from_ascendi
 -- ---- the row that counts for the last key
 
 -- it has the key of a line that was taken, and none of these has a greater one
-pub record IsTop (known : List RowValue) (lines done : List PlacedLine) (other : OtherRow) : Type 0 where
-  pub counts : CountsAmong known lines other
-  pub greatest : (line : PlacedLine) → Has done line → is_gt (row_cmp line.row (row_of other)) ≡ false
-  pub at : (line : PlacedLine) × Has done line × (key_of line.row ≡ key_of (row_of other))
+pub record IsTop (known : List RowValue) (lines done : List PlacedLine) (counting : Counting) : Type 0 where
+  pub same : key_of (row_of counting.other) ≡ counting.key
+  pub counts : CountsAmong known lines counting.other
+  pub greatest : (line : PlacedLine) → Has done line → is_gt (row_cmp line.row (row_of counting.other)) ≡ false
+  pub at : (line : PlacedLine) × Has done line × (key_of line.row ≡ key_of (row_of counting.other))
 
-abbrev pub HasTop : List RowValue → List PlacedLine → List PlacedLine → Option OtherRow → Type 0
+abbrev pub HasTop : List RowValue → List PlacedLine → List PlacedLine → Option Counting → Type 0
 HasTop known lines done last = MatchOption last (done ≡ []) (IsTop known lines done)
 
 module _ (known : List RowValue) (lines done : List PlacedLine) (line : PlacedLine) (rest : List PlacedLine) (lines_are : lines ≡ done ++ line ∷ rest) (strict : IsAscending rank_cmp lines) where
@@ -120,38 +122,40 @@ module _ (known : List RowValue) (lines done : List PlacedLine) (line : PlacedLi
   below : (l : PlacedLine) → Has done l → rank_cmp l line ≡ Less
   below l h = ascending_before rank_cmp done line rest l up h
 
-  all_less : (last : Option OtherRow) → HasTop known lines done last → (IsSomeAnd last (λ o. key_of (row_of o) ≡ key_of line.row) → ⊥) → (l : PlacedLine) → Has done l → row_cmp l.row line.row ≡ Less
+  all_less : (last : Option Counting) → HasTop known lines done last → (IsSomeAnd last (λ c. c.key ≡ key_of line.row) → ⊥) → (l : PlacedLine) → Has done l → row_cmp l.row line.row ≡ Less
   all_less None none other l h = absurd (subst (λ ls. Has ls l) none h)
-  all_less (Some o) top other l h =
+  all_less (Some c) top other l h =
       let at = top.at in
-      let under : row_cmp (row_of o) line.row ≡ Less = elim (rank_split at.0 line (ap is_gt (below at.0 at.1))) [
+      let under : row_cmp (row_of c.other) line.row ≡ Less = elim (rank_split at.0 line (ap is_gt (below at.0 at.1))) [
         | inl less ↦ subst (λ k. key_cmp k (key_of line.row) ≡ Less) at.2 less
-        | inr tie ↦ absurd (other (sym at.2 ∙ tie.0))
+        | inr tie ↦ absurd (other (sym top.same ∙ sym at.2 ∙ tie.0))
       ] in
-      below_further rows_total l.row (row_of o) line.row (row_cmp l.row (row_of o)) refl (top.greatest l h) under
+      below_further rows_total l.row (row_of c.other) line.row (row_cmp l.row (row_of c.other)) refl (top.greatest l h) under
 
   -- a row with the line's key that counts is at the top once the line is taken
-  top_at : (o : OtherRow) → key_of (row_of o) ≡ key_of line.row → CountsAmong known lines o → ((l : PlacedLine) → Has done l → is_gt (row_cmp l.row (row_of o)) ≡ false) → IsTop known lines (done ++ line ∷ []) o
-  top_at o same counts greatest = record {
+  top_at : (c : Counting) → c.key ≡ key_of line.row → key_of (row_of c.other) ≡ c.key → CountsAmong known lines c.other → ((l : PlacedLine) → Has done l → is_gt (row_cmp l.row (row_of c.other)) ≡ false) → IsTop known lines (done ++ line ∷ []) c
+  top_at c key same counts greatest = record {
+    same = same;
     counts = counts;
-    greatest = cases known lines done line rest lines_are (λ l. is_gt (row_cmp l.row (row_of o)) ≡ false) greatest (ap is_gt (tie_of_same line.row (row_of o) (sym same)));
-    at = (line, Has-append_right done (line ∷ []) line (inl refl), sym same);
+    greatest = cases known lines done line rest lines_are (λ l. is_gt (row_cmp l.row (row_of c.other)) ≡ false) greatest (ap is_gt (tie_of_same line.row (row_of c.other) (sym (same ∙ key))));
+    at = (line, Has-append_right done (line ∷ []) line (inl refl), sym (same ∙ key));
   }
 
-  counts_new : ((l : PlacedLine) → Has done l → row_cmp l.row line.row ≡ Less) → (o : OtherRow) → IsFoundFor known line o → CountsAmong known lines o
-  counts_new less (others.Known row) found = found.0
+  counts_new : ((l : PlacedLine) → Has done l → row_cmp l.row line.row ≡ Less) → (o : OtherRow) → IsFoundFor known line o → CountsAmong known lines o × (key_of (row_of o) ≡ key_of line.row)
+  counts_new less (others.Known row) found = found
   counts_new less (others.Line first) found =
       let first_is = sym found.1 in
       let is : IsEarliest lines line = earliest known lines done line rest lines_are (rising_from_ascending rank_cmp lines strict) less in
-      (subst (λ (l : PlacedLine). IsUnknown known (key_of l.row)) first_is found.0, subst (IsEarliest lines) first_is is)
+      ((subst (λ (l : PlacedLine). IsUnknown known (key_of l.row)) first_is found.0, subst (IsEarliest lines) first_is is), ap (λ (l : PlacedLine). key_of l.row) found.1)
 
-  pub next_top : (last : Option OtherRow) (o : OtherRow) → HasTop known lines done last → IsNext known line last o → IsTop known lines (done ++ line ∷ []) o
-  next_top last o top (same, inl stays) =
-      let was : IsTop known lines done o = subst (λ l. HasTop known lines done l) stays top in
-      top_at o same was.counts was.greatest
-  next_top last o top (same, inr (other, found)) =
+  pub next_top : (last : Option Counting) (c : Counting) → HasTop known lines done last → IsNext known line last c → IsTop known lines (done ++ line ∷ []) c
+  next_top last c top (key, inl stays) =
+      let was : IsTop known lines done c = subst (λ l. HasTop known lines done l) stays top in
+      top_at c key was.same was.counts was.greatest
+  next_top last c top (key, inr (other, found)) =
       let less = all_less last top other in
-      top_at o same (counts_new less o found) (λ l h. ap is_gt (subst (λ k. key_cmp (key_of l.row) k ≡ Less) (sym same) (less l h)))
+      let counts = counts_new less c.other found in
+      top_at c key (counts.1 ∙ sym key) counts.0 (λ l h. ap is_gt (subst (λ k. key_cmp (key_of l.row) k ≡ Less) (sym counts.1) (less l h)))
 
   -- ---- one line more
 
@@ -183,11 +187,11 @@ module _ (known : List RowValue) (lines done : List PlacedLine) (line : PlacedLi
           (o, counts, same, inr (Has-append_right all (one ∷ []) one (inl refl)));
     }
 
-  pub noted_more : (limit : ℕ) (all : List ContradictingLine) (o : OtherRow) (old new : Contradictions) → IsTop known lines (done ++ line ∷ []) o → key_of (row_of o) ≡ key_of line.row → IsNoted limit o line old new
+  pub noted_more : (limit : ℕ) (all : List ContradictingLine) (c : Counting) (old new : Contradictions) → IsTop known lines (done ++ line ∷ []) c → c.key ≡ key_of line.row → IsNoted limit c.other line old new
       → Sifted known lines done all → AreListed limit all old
       → (more : List ContradictingLine) × Sifted known lines (done ++ line ∷ []) more × AreListed limit more new
-  noted_more limit all o old new top same (inl is) sifted listed = (all, agrees_more all sifted o same top.counts is.0, subst (AreListed limit all) (sym is.1) listed)
-  noted_more limit all o old new top same (inr not) sifted listed = (all ++ record { line = line; other = o } ∷ [], differs_more all sifted o same top.counts not.0, not.1 all listed)
+  noted_more limit all c old new top key (inl is) sifted listed = (all, agrees_more all sifted c.other (top.same ∙ key) top.counts is.0, subst (AreListed limit all) (sym is.1) listed)
+  noted_more limit all c old new top key (inr not) sifted listed = (all ++ record { line = line; other = c.other } ∷ [], differs_more all sifted c.other (top.same ∙ key) top.counts not.0, not.1 all listed)
 
 pub none_sifted : (known : List RowValue) (lines : List PlacedLine) → Sifted known lines [] []
 none_sifted known lines = record { ascending = tt; from = λ c h. absurd h; each = λ l h. absurd h }
@@ -213,14 +217,18 @@ module _ (known : List RowValue) (lines sorted : List PlacedLine) (consistent : 
   counts_there (others.Known row) is = is
   counts_there (others.Line first) is =
       let cut = split_at lines first (from first is.1.there) in
-      let up : IsAscending place_cmp (cut.0 ++ first ∷ cut.1) = subst (λ ls. IsAscending place_cmp ls) cut.2 placed in
-      (cut.0, cut.1, cut.2, λ row h same. elim (Has-append_cases known (rows_of cut.0) row h) [
-        | inl old ↦ is.0 row old same
-        | inr new ↦
-            let m = Has-map (λ (l : PlacedLine). l.row) cut.0 row new in
-            let m_there = to m.0 (subst (λ ls. Has ls m.0) (sym cut.2) (Has-append_left cut.0 (first ∷ cut.1) m.0 m.1)) in
-            not_after m.0 first (ascending_before place_cmp cut.0 first cut.1 m.0 up m.1) (is.1.least m.0 m_there (ap key_of m.2 ∙ same))
-      ])
+      let up : IsAscending place_cmp (cut.0 ++ first ∷ cut.1) = subst (λ ls. IsAscending place_cmp ls) cut.2 placed in (
+        cut.0,
+        cut.1,
+        cut.2,
+        λ row h same. elim (Has-append_cases known (rows_of cut.0) row h) [
+          | inl old ↦ is.0 row old same
+          | inr new ↦
+              let m = Has-map (λ (l : PlacedLine). l.row) cut.0 row new in
+              let m_there = to m.0 (subst (λ ls. Has ls m.0) (sym cut.2) (Has-append_left cut.0 (first ∷ cut.1) m.0 m.1)) in
+              not_after m.0 first (ascending_before place_cmp cut.0 first cut.1 m.0 up m.1) (is.1.least m.0 m_there (ap key_of m.2 ∙ same))
+        ],
+      )
 
   counts_here : (o : OtherRow) → CountsForKey known lines o → CountsAmong known sorted o
   counts_here (others.Known row) is = is

@@ -1,7 +1,9 @@
 //! All contradictions of a release.
 
-ghost use Rattle.std.specs.Prelude.{◌≡◌, ◌≢◌, ◌↔◌, ◌+◌, ◌≤◌, ◌<◌, ◌^◌, ◌⊎◌, List, IsTrue};
-ghost use Rattle.std.specs.Prelude.{OnOk, IfOk, IfErr};
+ghost use Rattle.std.specs.Prelude.{◌≡◌, ◌≢◌, ◌+◌, ◌≤◌, ◌<◌, ◌^◌, ◌⊎◌, List};
+ghost use Rattle.std.specs.Prelude.{OnOk, IfOk, IfErr, Some, None, IsSomeAnd, MatchOption};
+ghost use Rattle.std.specs.List.{sum_by};
+ghost use Rattle.rf2_values.specs.Row.{RowValue};
 ghost use Rattle.rf2_values.specs.Key.{key_of};
 ghost use Rattle.history_model.specs.InOrder.{IsAscending};
 ghost use Rattle.fault_counts.specs.Counting.{Counts};
@@ -9,8 +11,11 @@ ghost use Rattle.import_check.specs.NewRows.{IsRead};
 ghost use Rattle.import_check.specs.NewRows.{CountsAnyDiskFault, CountsAnyDamage};
 ghost use Rattle.import_check.specs.Contradictions.{place_cmp, rank_cmp, row_of};
 ghost use Rattle.import_check.specs.Contradictions.{AreContradictionsOf, IsNotListed};
-ghost use Rattle.import_check.specs.Private.Sweep.{IsCutShort};
-ghost use Rattle.import_check.specs.Private.Contradictions.{IsFoundFor, IsNext, IsNoted, AreSifted};
+ghost use Rattle.import_check.specs.Known.{already_known};
+ghost use Rattle.import_check.specs.Release.{IsReleaseOf, rows_of};
+ghost use Rattle.import_check.specs.Private.Sweep.{IsCutShort, AsksOnce};
+ghost use Rattle.import_check.specs.Private.Contradictions.{IsFoundFor, IsNext, last_key};
+ghost use Rattle.import_check.specs.Private.Contradictions.{IsNoted, AreSifted};
 
 use crate::fault::ImportFault;
 use crate::known::Known;
@@ -66,21 +71,31 @@ impl OtherRow {
             OtherRow::Line(first) => Ok(OtherRow::Line(first.try_clone(alloc)?)),
         }
     }
+}
 
-    fn has_key(&self, key: Key) -> bool
-        ensures { IsTrue result ↔ (key_of (row_of self.now) ≡ key) }
-    {
-        self.row().key() == key
+/// The row that counts for the key of the last line.
+#[derive(Drop)]
+struct Counting {
+    key: Key,
+    other: OtherRow,
+}
+
+/// The row that counted for the line before, if that had this key.
+fn kept(last: Option<Counting>, key: Key) -> Option<Counting>
+    ensures { MatchOption result (IsSomeAnd last (λ c. c.key ≡ key) → ⊥)
+        (λ c. (last ≡ Some c) × (c.key ≡ key)) }
+{
+    match last {
+        Some(last) => { if last.key == key { Some(last) } else { None } }
+        None => None,
     }
 }
 
 /// The row that counts for a line's key, where no line before it had the key.
-fn find<K: Known>(
-    alloc: Global,
-    line: &PlacedLine,
-    known: &mut K,
-) -> Result<OtherRow, ImportFault>
+fn find<K: Known>(alloc: Global, line: &PlacedLine, known: &mut K) -> Result<OtherRow, ImportFault>
     ensures found { K.is_honest known.old → IfOk result (IsFoundFor (K.rows known.old) line.now) }
+    ensures asks { K.is_sound known.old → AsksOnce K.cost (K.rows known.old) None
+        line.now (K.work known.old) (K.work known.new) }
     ensures cut_short { IfErr result (IsCutShort (K.is_honest known.old)) }
     ensures rows { K.rows known.new ≡ K.rows known.old }
     ensures honesty { K.is_honest known.old → K.is_honest known.new }
@@ -98,14 +113,17 @@ fn find<K: Known>(
     }
 }
 
-/// The row that counts for a line's key: the last one, if that has the key.
+/// The row that counts for a line's key: that for the line before it, if it had the key.
 fn next<K: Known>(
     alloc: Global,
-    last: Option<OtherRow>,
+    last: Option<Counting>,
     line: &PlacedLine,
     known: &mut K,
-) -> Result<OtherRow, ImportFault>
+) -> Result<Counting, ImportFault>
     ensures next { K.is_honest known.old → IfOk result (IsNext (K.rows known.old) line.now last) }
+    ensures key { IfOk result (λ counting. counting.key ≡ key_of line.now.row) }
+    ensures asks_once { K.is_sound known.old → AsksOnce K.cost (K.rows known.old) (last_key last)
+        line.now (K.work known.old) (K.work known.new) }
     ensures cut_short { IfErr result (IsCutShort (K.is_honest known.old)) }
     ensures rows { K.rows known.new ≡ K.rows known.old }
     ensures honesty { K.is_honest known.old → K.is_honest known.new }
@@ -116,16 +134,18 @@ fn next<K: Known>(
     ensures damages { Counts CountsAnyDamage result
         (K.damages known.old) (K.damages known.new) }
 {
-    if let Some(other) = last {
-        if other.has_key(line.row.key()) {
-            return Ok(other);
+    match kept(last, line.row.key()) {
+        Some(last) => Ok(last),
+        None => {
+            let other = find(alloc, line, known)?;
+            let key = line.row.key();
+            Ok(Counting { key, other })
         }
     }
-    find(alloc, line, known)
 }
 
-/// Lists the line if it has another row than this one. As soon as
-/// the limit is reached it is only counted.
+/// Lists the line if it has another row than this one. As soon
+/// as the limit is reached it is only counted.
 fn note(
     alloc: Global,
     found: &mut Contradictions,
@@ -158,6 +178,9 @@ fn compare_all<K: Known>(
 ) -> Result<Contradictions, ImportFault>
     ensures sifted { K.is_honest known.old → IsAscending rank_cmp lines.items
         → IfOk result (AreSifted (K.rows known.old) limit lines.items) }
+    ensures work { K.is_sound known.old → IsAscending rank_cmp lines.items → K.work known.new
+        ≤ K.work known.old
+        + sum_by K.cost (already_known (K.rows known.old) (rows_of lines.items)) }
     ensures cut_short { IfErr result (IsCutShort (K.is_honest known.old)) }
     ensures rows { K.rows known.new ≡ K.rows known.old }
     ensures honesty { K.is_honest known.old → K.is_honest known.new }
@@ -174,9 +197,9 @@ fn compare_all<K: Known>(
     };
     let mut last = None;
     for line in ShrinkingList::new(lines) {
-        let other = next(alloc, last, &line, known)?;
-        note(alloc, &mut found, limit, &other, line)?;
-        last = Some(other);
+        let counting = next(alloc, last, &line, known)?;
+        note(alloc, &mut found, limit, &counting.other, line)?;
+        last = Some(counting);
     }
     Ok(found)
 }
@@ -196,6 +219,12 @@ pub fn find_contradictions<K: Known>(
         → IfOk result (AreContradictionsOf (K.rows known.old) release limit) }
     ensures read { IfOk result (λ found. IsRead release) }
     ensures refused { IfErr result (IsNotListed (K.is_honest known.old) release) }
+    // Whatever it answers, each known row whose key the release has is read once at most, and no
+    // other. Where a file is no release file, nothing is asked.
+    ensures work { K.is_sound known.old → (rows : List RowValue) → IsReleaseOf release rows
+        → K.work known.new
+        ≤ K.work known.old + sum_by K.cost (already_known (K.rows known.old) rows) }
+    ensures work_unread { (IsRead release → ⊥) → K.work known.new ≤ K.work known.old }
     ensures rows { K.rows known.new ≡ K.rows known.old }
     ensures honesty { K.is_honest known.old → K.is_honest known.new }
     ensures soundness { K.is_sound known.old → K.is_sound known.new }

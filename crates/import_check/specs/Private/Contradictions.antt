@@ -2,12 +2,15 @@
 -- No clause of a public function cites these words.
 use Rattle.std.specs.Prelude.{◌≡◌, ◌≢◌, ◌⊎◌, ◌-◌, ℕ, List, [], ◌∷◌, ◌++◌, length, take}
 use Rattle.std.specs.Prelude.{Option, Some, IsSomeAnd}
+use Rattle.std.specs.Option.{option_map}
+use Rattle.rf2_values.specs.declared.key.Key.{Key}
 use Rattle.rf2_values.specs.Row.{RowValue}
 use Rattle.rf2_values.specs.Key.{key_of}
 use Rattle.history_model.specs.InOrder.{Has, IsAscending}
 use Rattle.import_check.specs.declared.release.PlacedLine.{PlacedLine}
 use Rattle.import_check.specs.declared.contradicting.OtherRow.{OtherRow}
 use Rattle.import_check.specs.declared.contradicting.OtherRow.TheVariants as others
+use Rattle.import_check.specs.declared.contradicting.Counting.{Counting}
 use Rattle.import_check.specs.declared.contradicting.ContradictingLine.{ContradictingLine}
 use Rattle.import_check.specs.declared.contradicting.Contradictions.{Contradictions}
 use Rattle.import_check.specs.Known.{IsUnknown}
@@ -26,12 +29,17 @@ abbrev pub IsFoundFor : List RowValue → PlacedLine → OtherRow → Type 0
 IsFoundFor known line (others.Known row) = Has known row × (key_of row ≡ key_of line.row)
 IsFoundFor known line (others.Line first) = IsUnknown known (key_of line.row) × (first ≡ line)
 
--- the row that counts for the line's key: the last one, or if that has another key the one found
-abbrev pub IsNext : List RowValue → PlacedLine → Option OtherRow → OtherRow → Type 0
-IsNext known line last other = (key_of (row_of other) ≡ key_of line.row)
-    × ((last ≡ Some other)
-    ⊎ ((IsSomeAnd last (λ o. key_of (row_of o) ≡ key_of line.row) → ⊥)
-    × IsFoundFor known line other))
+-- the key of the line before
+abbrev pub last_key : Option Counting → Option Key
+last_key last = option_map (λ counting. counting.key) last
+
+-- the row that counts for the line's key: the last one, or if that counts for another key the one
+-- found
+abbrev pub IsNext : List RowValue → PlacedLine → Option Counting → Counting → Type 0
+IsNext known line last counting = (counting.key ≡ key_of line.row)
+    × ((last ≡ Some counting)
+    ⊎ ((IsSomeAnd last (λ c. c.key ≡ key_of line.row) → ⊥)
+    × IsFoundFor known line counting.other))
 
 -- the first of all these are listed, and the others counted
 abbrev pub AreListed : ℕ → List ContradictingLine → Contradictions → Type 0
