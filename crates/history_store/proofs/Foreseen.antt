@@ -24,23 +24,23 @@ use Rattle.history_store.proofs.Checked.{as_import}
 
 -- ---- at one history and one catalog a release has one answer
 
-not_both : (imports epoch : ℕ) → IsNotSpent imports epoch → (imports ≡ last_import) ⊎ (epoch ≡ last_epoch) → ⊥
+pub not_both : (imports epoch : ℕ) → IsNotSpent imports epoch → (imports ≡ last_import) ⊎ (epoch ≡ last_epoch) → ⊥
 not_both imports epoch room (inl spent) = absurd (omega (arith, room.imports_left, spent))
 not_both imports epoch room (inr spent) = absurd (omega (arith, room.epochs_left, spent))
 
-was_read : (release : Release) (rows : List RowValue) → IsReleaseOf release rows → IsRead release
+pub was_read : (release : Release) (rows : List RowValue) → IsReleaseOf release rows → IsRead release
 was_read release rows is = record { lists = is.lists; spelled = is.spelled }
 
 is_placed : (rows : List StampedRow) (catalog next : Catalog) → IsCatalogAfter rows catalog next → 1 ≤ length rows → IsPlaced rows catalog next
 is_placed [] catalog next after some = absurd (omega (arith, some))
 is_placed (s ∷ rows) catalog next after some = after
 
-has_entry : (rows : List StampedRow) (catalog next : Catalog) → IsCatalogAfter rows catalog next → HasNoEntry rows catalog → ⊥
+pub has_entry : (rows : List StampedRow) (catalog next : Catalog) → IsCatalogAfter rows catalog next → HasNoEntry rows catalog → ⊥
 has_entry rows catalog next after lacks =
     let placed = is_placed rows catalog next after lacks.some in
     absurd (omega (arith, placed.few, lacks.all_taken))
 
-has_place : (rows : List StampedRow) (catalog next : Catalog) → IsCatalogAfter rows catalog next → HasNoPlace rows catalog → ⊥
+pub has_place : (rows : List StampedRow) (catalog next : Catalog) → IsCatalogAfter rows catalog next → HasNoPlace rows catalog → ⊥
 has_place rows catalog next after lacks =
     let placed = is_placed rows catalog next after lacks.some in
     elim lacks.none [

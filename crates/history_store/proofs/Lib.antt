@@ -30,6 +30,7 @@ mod TakenByKey
 mod Checked
 mod ReadyImports
 mod Foreseen
+mod ForeseenByKey
 mod KeptBlocks
 mod ImportReads
 mod Upgraded

@@ -18,7 +18,8 @@ use Rattle.history_store.specs.StoreValue.{StoreValue, IsAcknowledged}
 use Rattle.history_store.specs.Prepared.{IsNotSpent}
 use Rattle.history_store.specs.Queries.{ReadsThroughCache}
 use Rattle.history_store.specs.Answers.{Counts, IsTaken, IsTakenByKey, IsRefused, IsStill}
-use Rattle.history_store.specs.Answers.{IsImportRefusal, IsRefusalOnAnyDisk, IsImportOf}
+use Rattle.history_store.specs.Answers.{IsImportRefusal, IsRefusalOnAnyDisk}
+use Rattle.history_store.specs.Answers.{IsImportOf, IsImportOnAnyDisk}
 
 -- The reasons are those of an import. But nothing is written, so that the device fails only while
 -- known rows are read: a disk that is full, or that refuses a write, isn't found out.
@@ -82,3 +83,16 @@ CheckedIsImported D = (old checked new : StoreValue D) (release : Release)
     (answer result : Result Receipt Refusal)
     → IsCheckingOf answer old checked release → IsImportOf result checked new release
     → (result ≡ answer) ⊎ (HasFailed answer ⊎ HasFailed result)
+
+-- memory ran out, the device failed, or a known row was read as damaged, or as one that contradicts
+abbrev pub DependsOnReading : Result Receipt Refusal → Type 0
+DependsOnReading (Err refusals.Damaged) = Unit {0}
+DependsOnReading (Err (refusals.Contradiction file line)) = Unit {0}
+DependsOnReading answer = HasFailed answer
+
+-- the same on every disk, unless one of the two calls was answered by what was read
+abbrev pub CheckedIsImportedOnAnyDisk : Type 0 → Type 0
+CheckedIsImportedOnAnyDisk D = (old checked new : StoreValue D) (release : Release)
+    (answer result : Result Receipt Refusal)
+    → IsCheckingOnAnyDisk answer old checked release → IsImportOnAnyDisk result checked new release
+    → (result ≡ answer) ⊎ (DependsOnReading answer ⊎ DependsOnReading result)
