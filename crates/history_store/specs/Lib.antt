@@ -9,6 +9,7 @@ pub mod Openings
 pub mod Queries
 pub mod Auditing
 pub mod Checking
+pub mod Contradicting
 pub mod Written
 pub mod Calls
 pub mod MergeAnswers
