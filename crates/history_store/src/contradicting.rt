@@ -1,7 +1,6 @@
 //! The contradictions of a release, and which import brought what they contradict.
 
-ghost use Rattle.std.specs.Prelude.{◌≡◌, ◌↔◌, ◌+◌, ◌≤◌, List, IfOk, IfErr, MatchResult, true, false};
-ghost use Rattle.std.specs.List.{sum_by};
+ghost use Rattle.std.specs.Prelude.{◌≡◌, MatchResult, Ok, Err, false};
 
 use crate::known::{import_of, list_contradictions};
 use crate::reading::DiskRows;
@@ -13,52 +12,28 @@ use import_check::{Contradictions, ImportFault, Release};
 use rf2_values::Key;
 
 impl<D: Disk> Store<D> {
-    ghost use Rattle.history_model.specs.History.{full};
-    ghost use Rattle.rf2_values.specs.Row.{RowValue};
-    ghost use Rattle.import_check.specs.Known.{already_known};
-    ghost use Rattle.import_check.specs.Release.{IsReleaseOf};
-    ghost use Rattle.import_check.specs.NewRows.{IsRead};
-    ghost use Rattle.import_check.specs.Contradictions.{AreContradictionsOf};
-    ghost use Rattle.history_store.specs.Reading.{row_cost};
-    ghost use Rattle.history_store.specs.Queries.{ReadsThroughCache};
-    ghost use Rattle.history_store.specs.Answers.{Counts, IsStill, IsRefused};
+    ghost use Rattle.history_store.specs.Answers.{IsStill, IsRefused};
+    ghost use Rattle.history_store.specs.Refusals.{refusal_of};
     ghost use Rattle.history_store.specs.StoreValue.{IsAcknowledged};
-    ghost use Rattle.history_store.specs.Contradicting.{IsBroughtBy, IsUnlisted, IsListing};
+    ghost use Rattle.history_store.specs.Contradicting.{IsBroughtBy, IsListing};
 
-    /// The contradictions of a release, of a store that is open.
-    fn find_contradictions(
+    /// What was read of a release, as the store answers it. Where
+    /// the device failed, the store has to be opened again.
+    fn listed(
         &mut self,
-        release: Release,
-        limit: usize,
+        read: Result<Contradictions, ImportFault>,
     ) -> Result<Contradictions, Refusal>
         requires still { self.old.needs_reopen ≡ false }
-        ensures found { D.is_honest self.old.disk
-            → IfOk result (AreContradictionsOf (full self.old.history) release limit) }
-        ensures is_read { IfOk result (λ found. IsRead release) }
-        ensures refused { IfErr result (λ e. IsUnlisted (D.is_honest self.old.disk) e release) }
+        ensures same { MatchResult read (λ found. result ≡ Ok found)
+            (λ fault. result ≡ Err (refusal_of fault)) }
         ensures left { MatchResult result (λ found. IsStill self.old self.new)
             (λ e. IsRefused e self.old self.new) }
-        ensures looked_up { ReadsThroughCache D.bytes_read self.old self.new }
-        ensures bytes_read { (rows : List RowValue) → IsReleaseOf release rows
-            → D.bytes_read self.new.disk ≤ D.bytes_read self.old.disk
-            + sum_by row_cost (already_known (full self.old.history) rows) }
-        ensures bytes_unread { (IsRead release → ⊥)
-            → D.bytes_read self.new.disk ≤ D.bytes_read self.old.disk }
-        ensures moments { D.is_honest self.old.disk
-            → D.moments self.new.disk ≡ D.moments self.old.disk }
-        ensures honesty { D.is_honest self.old.disk ↔ D.is_honest self.new.disk }
-        ensures failures { Counts result (D.failures self.old.disk) (D.failures self.new.disk) }
-        ensures other_calls { D.other_calls self.new.disk ≡ D.other_calls self.old.disk }
+        ensures disk { self.new.disk ≡ self.old.disk }
+        ensures cache { self.new.cache ≡ self.old.cache }
+        ensures acknowledged { D.is_honest self.old.disk → self.new.needs_reopen ≡ false
+            → IsAcknowledged D.moments self.new }
     {
-        let pin = self.directory.imports();
-        let mut reader = DiskRows::new(
-            &mut self.disk,
-            &mut self.cache,
-            &self.directory,
-            &self.index,
-        );
-        let places = self.index.places();
-        match list_contradictions(self.alloc, release, places, &mut reader, pin, limit) {
+        match read {
             Ok(found) => Ok(found),
             Err(fault) => {
                 if matches!(fault, ImportFault::Known(ReadFault::DiskFault)) {
@@ -83,7 +58,22 @@ impl<D: Disk> Store<D> {
         if self.needs_reopen {
             return Err(Refusal::ReopenNeeded);
         }
-        self.find_contradictions(release, limit)
+        let pin = self.directory.imports();
+        let mut reader = DiskRows::new(
+            &mut self.disk,
+            &mut self.cache,
+            &self.directory,
+            &self.index,
+        );
+        let read = list_contradictions(
+            self.alloc,
+            release,
+            self.index.places(),
+            &mut reader,
+            pin,
+            limit,
+        );
+        self.listed(read)
     }
 
     /// The number of the import that brought the row with this key, if there is one.
