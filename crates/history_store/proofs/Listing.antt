@@ -110,7 +110,7 @@ module _ {D : Type 0} (honest : D → Type 0) (moments : D → Moments) (failure
           found = λ up. ok_so (AreContradictionsOf (full old.history) release limit) read result answers (subst (λ rows. IfOk read (AreContradictionsOf rows release limit)) rows_so (found (lends up) sound.0 sound.1));
           read = ok_so (λ found. IsRead release) read result answers is_read;
           refused = err_so (IsNotListed (IsHonestReader × Lists places shown × Early pin shown) release) (λ e. ((e ≡ refusals.ReopenNeeded) × (old.needs_reopen ≡ true)) ⊎ ((old.needs_reopen ≡ false) × IsUnlisted (honest old.disk) e release)) read result answers
-              (λ fault h. inr (still, fault, refl, unlisted_less (IsHonestReader × Lists places shown × Early pin shown) (honest old.disk) release fault (λ up. (lends up, sound.0, sound.1)) h)) why;
+              (λ fault h. inr (still, (fault, refl, unlisted_less (IsHonestReader × Lists places shown × Early pin shown) (honest old.disk) release fault (λ up. (lends up, sound.0, sound.1)) h))) why;
           left = left_so result old new disk cache left;
           closed = λ closed. absurd (false≢true (sym still ∙ closed));
           moments = λ up. ap moments same ∙ stay.1 up;
