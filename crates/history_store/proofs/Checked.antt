@@ -1,5 +1,5 @@
 -- What the check of a release answers, and what it leaves.
-use Rattle.std.proofs.Common.{◌≡◌, ◌↔◌, inl, ℕ, ◌+◌, ◌≤◌, false, true, List, [], length, Result, Ok, Err, refl, sym, ap, subst, ◌∙◌}
+use Rattle.std.proofs.Common.{◌≡◌, ◌↔◌, inl, ℕ, ◌+◌, ◌≤◌, false, List, length, Result, Ok, refl, sym, ap, subst, ◌∙◌}
 use Rattle.std.specs.List.{sum_by}
 use Rattle.std.proofs.lemmas.Bool.{false≢true}
 use Rattle.disk_model.specs.Disk.{Moments}
@@ -7,7 +7,6 @@ use Rattle.rf2_values.specs.Row.{RowValue}
 use Rattle.history_model.specs.declared.receipt.Receipt.{Receipt}
 use Rattle.history_model.specs.declared.stamped.StampedRow.{StampedRow}
 use Rattle.history_model.specs.History.{History, IsHistory, full, stamped, after_release}
-use Rattle.directory.specs.Listings.{next_layout}
 use Rattle.import_check.specs.declared.release.Release.{Release}
 use Rattle.import_check.specs.declared.found.NewRows.{NewRows}
 use Rattle.import_check.specs.Known.{already_known}
@@ -26,7 +25,7 @@ use Rattle.history_store.specs.Queries.{ReadsThroughCache}
 use Rattle.history_store.specs.Answers.{Counts, CountsRefusal, IsImportRefusal, IsStill}
 use Rattle.history_store.specs.Checking.{IsChecking, IsCheckingOf, IsCheckingOnAnyDisk, IsCheckingRefusal}
 use Rattle.history_store.specs.Private.Prepared.{IsUnprepared}
-use Rattle.history_store.specs.Private.Ready.{IsReady, IsNext}
+use Rattle.history_store.specs.Private.Ready.{IsMadeReady, IsNext}
 use Rattle.history_store.proofs.Imported.{IsAt, taken, none_after, extended_catalog}
 use Rattle.history_store.proofs.TakenByKey.{taken_by_key}
 
@@ -54,7 +53,7 @@ not_device rows catalog e why device = subst (λ x. IsUnprepared x rows catalog)
 
 pub ready_at : {D : Type 0} (honest : Type 0) (u old w mid : StoreValue D) (release : Release) (fresh : NewRows) (next : Next) (number new : ℕ) → u ≡ old → IsNotSpent u.history.imports u.catalog.epoch → w ≡ mid → IsHistory w.history → IsStill old mid
     → BringsByKey (full old.history) release fresh → (honest → IsAcceptedAs (full old.history) release fresh) → number ≡ w.history.imports + 1 → new ≡ length fresh.rows.items → IsNext w fresh next
-    → IsReady honest mid release (record { receipt = record { number = number; new = new; repeated = fresh.repeated }; next = next })
+    → IsMadeReady honest mid release (record { receipt = record { number = number; new = new; repeated = fresh.repeated }; next = next })
 ready_at {D} honest u old w mid release fresh next number new first left second is still brings accepted number_is count next_is =
     let room : IsNotSpent old.history.imports old.catalog.epoch = subst (λ (x : StoreValue D). IsNotSpent x.history.imports x.catalog.epoch) first left in
     let numbers : number ≡ mid.history.imports + 1 = number_is ∙ ap (λ (x : StoreValue D). x.history.imports + 1) second in
@@ -68,7 +67,7 @@ ready_at {D} honest u old w mid release fresh next number new first left second 
       next_is = subst (λ (x : StoreValue D). IsNext x fresh next) second next_is;
     }
 
-module _ {D : Type 0} (honest : Type 0) (s : StoreValue D) (release : Release) (ready : Ready) (is : IsReady honest s release ready) where
+module _ {D : Type 0} (honest : Type 0) (s : StoreValue D) (release : Release) (ready : Ready) (is : IsMadeReady honest s release ready) where
   pub at_ready : s.needs_reopen ≡ false → honest → IsAt s release is.fresh
   at_ready still up = record { still = still; history = is.history; room = is.room; accepted = is.accepted up }
 

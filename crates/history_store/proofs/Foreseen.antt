@@ -1,5 +1,5 @@
 -- What a check answers, an import answers next.
-use Rattle.std.proofs.Common.{◌≡◌, ◌⊎◌, inl, inr, ℕ, ◌+◌, ◌≤◌, false, true, List, [], ◌∷◌, length, Result, Ok, Err, refl, sym, ap, subst, ◌∙◌, arith}
+use Rattle.std.proofs.Common.{◌≡◌, ◌⊎◌, inl, inr, ℕ, ◌≤◌, false, true, List, [], ◌∷◌, length, Result, Ok, Err, refl, sym, ap, subst, ◌∙◌, arith}
 use Rattle.std.proofs.lemmas.Bool.{false≢true}
 use Rattle.rf2_values.specs.Row.{RowValue}
 use Rattle.rf2_rows.specs.declared.fault.LineFault.{LineFault}
@@ -19,7 +19,7 @@ use Rattle.history_store.specs.Catalog.{Catalog, IsCatalogAfter, IsPlaced, HasNo
 use Rattle.history_store.specs.StoreValue.{StoreValue, last_import, last_epoch}
 use Rattle.history_store.specs.Prepared.{IsNotSpent}
 use Rattle.history_store.specs.Answers.{IsTaken, IsNotTaken, WouldBeTaken, IsImportRefusal, IsRefused, IsStill, IsImportOf}
-use Rattle.history_store.specs.Checking.{IsCheckingOf, IsCheckingRefusal, HasFailed, CheckedIsImported}
+use Rattle.history_store.specs.Checking.{HasFailed, CheckedIsImported}
 use Rattle.history_store.proofs.Checked.{as_import}
 
 -- ---- at one history and one catalog a release has one answer

@@ -19,8 +19,8 @@ use Rattle.history_store.specs.declared.refusal.Refusal.TheVariants as refusals
 use Rattle.history_store.specs.Catalog.{Catalog, HasNoEntry, HasNoPlace}
 use Rattle.history_store.specs.StoreValue.{StoreValue, last_import, last_epoch}
 use Rattle.history_store.specs.Prepared.{IsNotSpent}
-use Rattle.history_store.specs.Answers.{IsTakenByKey, LacksByKey, IsRefusalOnAnyDisk, IsRefused, IsStill, IsImportOnAnyDisk}
-use Rattle.history_store.specs.Checking.{IsCheckingOnAnyDisk, DependsOnReading, CheckedIsImportedOnAnyDisk}
+use Rattle.history_store.specs.Answers.{IsTakenByKey, LacksByKey, IsRefusalOnAnyDisk, IsImportOnAnyDisk}
+use Rattle.history_store.specs.Checking.{DependsOnReading, CheckedIsImportedOnAnyDisk}
 use Rattle.history_store.proofs.Foreseen.{not_both, was_read, has_entry, has_place}
 
 -- ---- a release brings one list of rows that are new by their keys

@@ -33,10 +33,9 @@ mod ReadyImports
 mod Foreseen
 mod ForeseenByKey
 mod KeptBlocks
-mod ImportReads
+mod Forgotten
 mod Upgraded
 mod ImportWrites
-mod OtherCalls
 pub mod LatestTimes
 mod BroughtRows
 mod Rewritten

@@ -1,11 +1,10 @@
 -- An import that publishes what was made ready.
-use Rattle.std.proofs.Common.{◌≡◌, ◌⊎◌, ℕ, ◌+◌, ◌≤◌, false, List, [], ◌∷◌, ◌++◌, length, Ok, refl, sym, ap, subst, ◌∙◌}
+use Rattle.std.proofs.Common.{◌≡◌, ◌⊎◌, ◌+◌, false, [], ◌∷◌, length, Ok, refl, sym, ap, subst, ◌∙◌}
 use Rattle.disk_model.specs.Disk.{Moments, IsImage, LeavesOnly}
 use Rattle.blocks.specs.Extents.{byte_range}
 use Rattle.blocks.specs.Outside.{StemsWithin}
 use Rattle.blocks.specs.Slots.{slots_range}
-use Rattle.history_model.specs.History.{History, stamped, after_release}
-use Rattle.history_model.specs.declared.receipt.Receipt.{Receipt}
+use Rattle.history_model.specs.History.{stamped, after_release}
 use Rattle.directory.specs.Listings.{DirectoryValue, next_layout}
 use Rattle.directory.specs.Places.{extent_of}
 use Rattle.store_image.specs.Images.{RepresentsAs}
@@ -13,21 +12,20 @@ use Rattle.import_check.specs.declared.release.Release.{Release}
 use Rattle.history_store.specs.declared.preparing.Prepared.{Prepared}
 use Rattle.history_store.specs.declared.checking.Ready.{Ready}
 use Rattle.history_store.specs.declared.checking.Next.TheVariants as nexts
-use Rattle.history_store.specs.Catalog.{Catalog, IsCatalogAfter, catalog_of}
+use Rattle.history_store.specs.Catalog.{IsCatalogAfter, catalog_of}
 use Rattle.history_store.specs.StoreValue.{StoreValue}
-use Rattle.history_store.specs.Private.StoreValue.{directory_of, with_imports, with_rows}
-use Rattle.history_store.specs.Private.Prepared.{IsPrepared, IsPreparedFor}
-use Rattle.history_store.specs.Private.Ready.{IsReady, IsNext}
+use Rattle.history_store.specs.Private.StoreValue.{with_imports, with_rows}
+use Rattle.history_store.specs.Private.Prepared.{IsPreparedFor}
+use Rattle.history_store.specs.Private.Ready.{IsMadeReady, IsNext}
 use Rattle.history_store.specs.Written.{StemsWithinAll}
-use Rattle.history_store.specs.Answers.{IsTaken, IsTakenByKey, IsStill, IsImportOf, IsImportOnAnyDisk, IsBeforeOrAfter, StemsWithinNew}
-use Rattle.history_store.proofs.Held.{repeated_listing}
+use Rattle.history_store.specs.Answers.{IsStill, IsImportOf, IsImportOnAnyDisk, IsBeforeOrAfter, StemsWithinNew}
 use Rattle.history_store.proofs.Apart.{prepared_for}
-use Rattle.history_store.proofs.Imported.{from_mid, leaves_taken, leaves_extended, relisted, relisted_leaves, without_new, none_after, extended_catalog, taken, extended}
+use Rattle.history_store.proofs.Imported.{from_mid, leaves_taken, leaves_extended, relisted_leaves, without_new, none_after, extended_catalog, taken, extended}
 use Rattle.history_store.proofs.TakenByKey.{taken_by_key, extended_by_key}
 use Rattle.history_store.proofs.ImportWrites.{after_reading, slots_written, segment_written}
 use Rattle.history_store.proofs.Checked.{at_ready, room_ready, brings_ready}
 
-module _ {D : Type 0} (honest : Type 0) (old mid : StoreValue D) (release : Release) (ready : Ready) (is : IsReady honest mid release ready) (still : IsStill old mid) where
+module _ {D : Type 0} (honest : Type 0) (old mid : StoreValue D) (release : Release) (ready : Ready) (is : IsMadeReady honest mid release ready) (still : IsStill old mid) where
   -- no row is new
   module _ (d : DirectoryValue) (e : ready.next ≡ nexts.WithoutSegment d) where
     none_ready : IsNext mid is.fresh (nexts.WithoutSegment d)

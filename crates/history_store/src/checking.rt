@@ -29,13 +29,13 @@ pub(crate) struct Ready {
 impl<D: Disk> Store<D> {
     ghost use Rattle.history_store.specs.Checking.{IsChecking};
     ghost use Rattle.history_store.specs.StoreValue.{IsAcknowledged};
-    ghost use Rattle.history_store.specs.Private.Ready.{IsReady, checked};
+    ghost use Rattle.history_store.specs.Private.Ready.{IsMadeReady, checked};
 
     /// Finds the new rows of a release, and makes in memory all that an import of it publishes.
     pub(crate) fn make_ready(&mut self, release: Release) -> Result<Ready, Refusal>
         ensures checking { IsChecking (checked result) release
             D.is_honest D.moments D.failures D.bytes_read D.other_calls self.old self.new }
-        ensures ready { IfOk result (IsReady (D.is_honest self.old.disk) self.new release) }
+        ensures ready { IfOk result (IsMadeReady (D.is_honest self.old.disk) self.new release) }
         // What the store held before the call, a stop before it would have left.
         ensures stood { D.is_honest self.old.disk → self.old.needs_reopen ≡ false
             → IsAcknowledged D.moments self.old }

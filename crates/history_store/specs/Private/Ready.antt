@@ -28,7 +28,7 @@ IsNext s fresh (nexts.WithSegment prepared) = (1 ≤ length fresh.rows.items)
     prepared
 
 -- a release would be taken, and what an import of it answers and writes is ready
-pub record IsReady {D : Type 0} (honest : Type 0) (s : StoreValue D) (release : Release)
+pub record IsMadeReady {D : Type 0} (honest : Type 0) (s : StoreValue D) (release : Release)
     (ready : Ready) : Type 0 where
   pub history : IsHistory s.history
   pub room : IsNotSpent s.history.imports s.catalog.epoch

@@ -1,4 +1,4 @@
-use Rattle.std.proofs.Common.{◌≡◌, ◌∙◌, length, min, arith}
+use Rattle.std.proofs.Common.{◌∙◌, arith}
 use Rattle.history_store.proofs.Rewritten.{taken_least}
 use Rattle.history_store.proofs.rewriting.next_taken.Goals as goal
 

@@ -1,6 +1,6 @@
 use Rattle.std.specs.Prelude.{Err}
 use Rattle.std.specs.Int.{div_ceil}
-use Rattle.std.proofs.Common.{◌≡◌, ◌+◌, ◌*◌, ◌<◌, ◌≤◌, ◌∙◌, ◌∷◌, [], ℕ, List, length, take, drop, false, refl, sym, ap, subst, arith}
+use Rattle.std.proofs.Common.{◌≡◌, ◌+◌, ◌*◌, ◌∙◌, ◌∷◌, [], ℕ, List, length, take, drop, false, refl, sym, ap, subst, arith}
 use Rattle.std.proofs.lemmas.List.{take_all, take_rest}
 use Rattle.std.proofs.lemmas.Result.{err_from_is_err_and}
 use Rattle.disk_model.proofs.MomentSteps.{joined}
@@ -14,7 +14,7 @@ use Rattle.segment.proofs.SegmentLaws.{length-segment_in}
 use Rattle.store_image.specs.Kept.{history_of}
 use Rattle.store_image.specs.Images.{RepresentsAs}
 use Rattle.store_image.specs.Ahead.{BeginsWith}
-use Rattle.history_store.specs.Private.Stepping.{AreRead, cost_at}
+use Rattle.history_store.specs.Private.Stepping.{cost_at}
 use Rattle.history_store.specs.Private.Rewriting.{as_taken}
 use Rattle.history_store.proofs.Held.{there}
 use Rattle.history_store.proofs.SteppedMerge.{not_called, held_after, unless}

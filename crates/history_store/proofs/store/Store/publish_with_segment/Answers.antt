@@ -8,7 +8,7 @@ use Rattle.history_store.specs.StoreValue.{StoreValue}
 use Rattle.history_store.specs.Private.Prepared.{IsPreparedFor}
 use Rattle.history_store.proofs.GoingOn.{merge_added}
 use Rattle.history_store.proofs.WrittenWhere.{one_added, leaves_but_segment}
-use Rattle.history_store.proofs.ImportReads.{segment_forgotten}
+use Rattle.history_store.proofs.Forgotten.{segment_forgotten}
 use Rattle.history_store.proofs.Held.{held_added, held_stands, leaves_added, is_added, lists_count, with_more}
 use Rattle.history_store.proofs.NewSegment.{below_places}
 use Rattle.history_store.proofs.store.Store.publish_with_segment.Goals as goal

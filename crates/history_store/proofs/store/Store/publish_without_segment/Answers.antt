@@ -7,7 +7,7 @@ use Rattle.history_store.specs.Private.StoreValue.{directory_of}
 use Rattle.history_store.specs.Private.Publishing.{IsRelisting}
 use Rattle.history_store.proofs.GoingOn.{merge_repeated}
 use Rattle.history_store.proofs.WrittenWhere.{none_added, leaves_but_slots}
-use Rattle.history_store.proofs.ImportReads.{slot_forgotten}
+use Rattle.history_store.proofs.Forgotten.{slot_forgotten}
 use Rattle.history_store.proofs.Held.{held_repeated, held_stands, leaves_repeated}
 use Rattle.history_store.proofs.store.Store.publish_without_segment.Goals as goal
 

@@ -1,4 +1,4 @@
-use Rattle.std.proofs.Common.{◌≡◌, ◌≢◌, ◌∙◌, refl, sym}
+use Rattle.std.proofs.Common.{◌≢◌, ◌∙◌, refl, sym}
 use Rattle.disk_model.proofs.MomentSteps.{stayed}
 use Rattle.history_store.specs.declared.refusal.Refusal.TheVariants as refusals
 use Rattle.history_store.proofs.Held.{held_stands}
