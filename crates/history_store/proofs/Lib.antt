@@ -28,6 +28,7 @@ pub mod SteppedStore
 pub mod StepWrites
 mod TakenByKey
 mod Checked
+mod Listing
 mod ReadyImports
 mod Foreseen
 mod ForeseenByKey

@@ -9,6 +9,7 @@ pub mod Openings
 pub mod Queries
 pub mod Auditing
 pub mod Checking
+pub mod Contradicting
 pub mod Written
 pub mod Calls
 pub mod MergeAnswers
@@ -23,3 +24,4 @@ pub use Rattle.directory.specs.Fit
 pub use Rattle.blocks.specs.Cache
 pub use Rattle.as_of_index.specs.Places
 pub use Rattle.import_check.specs.Known
+pub use Rattle.import_check.specs.Contradictions

@@ -9,6 +9,7 @@ mod auditing;
 mod beginning;
 mod brought;
 mod checking;
+mod contradicting;
 mod counting;
 mod key_order;
 mod known;

@@ -12,7 +12,9 @@ use Rattle.history_model.proofs.Keys.{rows_total}
 use Rattle.import_check.specs.declared.release.PlacedLine.{PlacedLine}
 use Rattle.import_check.specs.declared.sweep.Sweep.{Sweep}
 use Rattle.import_check.specs.Known.{IsUnknown}
-use Rattle.import_check.specs.Private.Sweep.{rank_cmp, IsRising, IsApart, IsOwn}
+use Rattle.import_check.specs.Private.Sweep.{IsApart, IsOwn}
+use Rattle.import_check.specs.Private.Sweep.{IsRising}
+use Rattle.import_check.specs.Contradictions.{rank_cmp}
 use Rattle.import_check.proofs.Sweeping.{rank_split, ascending-push}
 
 pub own_none : (known : List RowValue) (rest : List PlacedLine) (s : Sweep) → s.fresh.items ≡ [] → IsOwn known rest s

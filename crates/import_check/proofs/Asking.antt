@@ -17,7 +17,9 @@ use Rattle.history_model.proofs.Keys.{rows_total, same_key, tie_of_same}
 use Rattle.import_check.specs.declared.release.PlacedLine.{PlacedLine}
 use Rattle.import_check.specs.Known.{IsUnknown, has_key, already_known}
 use Rattle.import_check.specs.Release.{rows_of}
-use Rattle.import_check.specs.Private.Sweep.{rank_cmp, IsRising, AsksOnce, IsAhead, standing_row}
+use Rattle.import_check.specs.Private.Sweep.{AsksOnce, IsAhead, standing_row}
+use Rattle.import_check.specs.Private.Sweep.{IsRising}
+use Rattle.import_check.specs.Contradictions.{rank_cmp}
 use Rattle.std.specs.List.Sorted.{IsPermutation}
 use Rattle.import_check.proofs.Uniting.{Has-permutation}
 use Rattle.import_check.proofs.Sweeping.{IsAt, last_pushed, rank_split, rising_before, rising_after}

@@ -2,3 +2,4 @@
 -- No public clause cites them.
 pub mod Parsed
 pub mod Sweep
+pub mod Contradictions

@@ -14,11 +14,13 @@ ghost use Rattle.fault_counts.specs.Counting.{Counts};
 ghost use Rattle.import_check.specs.NewRows.{IsTaken, AreNewByKey};
 ghost use Rattle.import_check.specs.NewRows.{CountsAnyDiskFault, CountsAnyDamage};
 ghost use Rattle.import_check.specs.Release.{rows_of};
-ghost use Rattle.import_check.specs.Private.Sweep.{StandsBy, IsEarlierOf, IsVerdict, standing_of};
+ghost use Rattle.import_check.specs.Private.Sweep.{IsEarlierOf, IsVerdict, standing_of};
+ghost use Rattle.import_check.specs.Private.Sweep.{StandsBy};
 ghost use Rattle.import_check.specs.Private.Sweep.{IsSwept, TakesLine, IsOutcome};
-ghost use Rattle.import_check.specs.Private.Sweep.{KeepsApart, IsCutShort, IsRefusalOf, IsRising};
+ghost use Rattle.import_check.specs.Private.Sweep.{KeepsApart, IsCutShort, IsRefusalOf};
+ghost use Rattle.import_check.specs.Private.Sweep.{IsRising};
 ghost use Rattle.import_check.specs.Private.Sweep.{IsApart, IsGathered, Gathers};
-ghost use Rattle.import_check.specs.Private.Sweep.{place_cmp, rank_cmp};
+ghost use Rattle.import_check.specs.Contradictions.{place_cmp, rank_cmp};
 
 use crate::fault::ImportFault;
 use crate::found::NewRows;

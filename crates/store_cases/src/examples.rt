@@ -4,10 +4,12 @@
 //! nothing.
 
 use crate::calls::{call, spell_receipt, store_of};
+use crate::contradicting::ask_contradictions;
 use crate::devices::{ask_disk, changed, reopens};
 use crate::questions::ask_at;
 use crate::releases::Releases;
 use case_files::{Answer, Answers, NoAnswer};
+use case_values::{first_word, number};
 use disk_model::MemDisk;
 use std::alloc::Global;
 use test_support::Example;
@@ -52,6 +54,13 @@ impl Examples {
         spell_receipt(self.alloc, answer)
     }
 
+    /// The contradictions of a release, of which so many are listed at most.
+    fn contradictions(&mut self, words: &str) -> Answer {
+        let (limit, words) = first_word(words)?;
+        let release = self.releases.find(words)?;
+        ask_contradictions(self.alloc, self.store()?, number(limit)?, release)
+    }
+
     /// Closes the store, and gives its disk.
     fn close(&mut self) -> Result<MemDisk, NoAnswer> {
         self.store()?;
@@ -84,6 +93,7 @@ impl Answers for Examples {
         let alloc = self.alloc;
         match word {
             "check" => self.check(rest),
+            "contradictions" => self.contradictions(rest),
             "import" => self.import(rest),
             "new" => {
                 self.store = None;

@@ -4,6 +4,7 @@
 
 mod calls;
 mod contents;
+mod contradicting;
 mod devices;
 mod examples;
 mod questions;

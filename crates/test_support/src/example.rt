@@ -3,7 +3,8 @@
 use crate::releases::{copy_of, root_release, sample_named};
 use disk_model::MemDisk;
 use history_store::{Layout, Receipt, Refusal, Store};
-use import_check::Release;
+use import_check::{Contradictions, Release};
+use rf2_rows::Key;
 use std::alloc::Global;
 use std::mem::size_of;
 
@@ -110,6 +111,20 @@ impl Example {
     /// Checks a release, and adds nothing.
     pub fn check(&mut self, release: Release) -> Result<Receipt, Refusal> {
         self.store.check(release)
+    }
+
+    /// The contradictions of a release, as many as the limit at most.
+    pub fn contradictions(
+        &mut self,
+        release: Release,
+        limit: usize,
+    ) -> Result<Contradictions, Refusal> {
+        self.store.contradictions(release, limit)
+    }
+
+    /// The number of the import that brought the row with the key.
+    pub fn import_of(&self, key: Key) -> Option<u32> {
+        self.store.import_of(key)
     }
 
     /// Adds the sample release of this name.

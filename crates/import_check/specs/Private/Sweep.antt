@@ -22,6 +22,7 @@ use Rattle.import_check.specs.declared.fault.ImportFault.{ImportFault}
 use Rattle.import_check.specs.declared.fault.ImportFault.TheVariants as importfault
 use Rattle.fault_counts.specs.declared.fault.ReadFault.TheVariants as readfault
 use Rattle.import_check.specs.Release.{IsFirstContradiction}
+use Rattle.import_check.specs.Contradictions.{rank_cmp}
 use Rattle.import_check.specs.Known.{IsUnknown}
 use Rattle.import_check.specs.Release.{rows_of}
 
@@ -29,14 +30,6 @@ use Rattle.import_check.specs.Release.{rows_of}
 abbrev pub StandsBy : ℕ → ℕ → ℕ → ℕ → Type 0
 StandsBy file line other_file other_line =
     (file < other_file) ⊎ ((file ≡ other_file) × (line ≤ other_line))
-
--- the order of lines by their places: by file, then by line
-abbrev pub place_cmp : PlacedLine → PlacedLine → Ordering
-place_cmp a b = ordering_then (nat_cmp a.file b.file) (nat_cmp a.line b.line)
-
--- the order in which lines are gone through: by key, then by place
-abbrev pub rank_cmp : PlacedLine → PlacedLine → Ordering
-rank_cmp a b = ordering_then (row_cmp a.row b.row) (place_cmp a b)
 
 -- none is above one that follows it
 abbrev pub IsRising : {X : Type 0} → (X → X → Ordering) → List X → Type 0

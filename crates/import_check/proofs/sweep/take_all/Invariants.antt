@@ -3,7 +3,9 @@ use Rattle.import_check.specs.declared.release.PlacedLine.{PlacedLine}
 use Rattle.std.specs.List.{sum_by}
 use Rattle.import_check.specs.Known.{already_known}
 use Rattle.import_check.specs.Release.{rows_of}
-use Rattle.import_check.specs.Private.Sweep.{IsInStep, IsAhead, IsSwept, IsOwn, IsGathered, IsRising, rank_cmp}
+use Rattle.import_check.specs.Private.Sweep.{IsInStep, IsAhead, IsSwept, IsOwn, IsGathered}
+use Rattle.import_check.specs.Private.Sweep.{IsRising}
+use Rattle.import_check.specs.Contradictions.{rank_cmp}
 use Rattle.import_check.proofs.sweep.take_all.Given as goal
 
 abbrev pub invariant-loop-line : goal.invariant-loop-line

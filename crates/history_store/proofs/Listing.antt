@@ -1,0 +1,132 @@
+-- What is left of a store after the contradictions of a release were listed.
+use Rattle.std.proofs.Common.{◌≡◌, ◌⊎◌, ◌↔◌, inl, inr, ℕ, ◌+◌, ◌≤◌, List, false, true, Result, Ok, Err, IfOk, IfErr, MatchResult, map, refl, sym, ap, subst, ◌∙◌, arith}
+use Rattle.std.specs.List.{sum_by}
+use Rattle.std.proofs.lemmas.Bool.{false≢true}
+use Rattle.fault_counts.specs.Counting.{Counts as CountsBy}
+use Rattle.fault_counts.specs.declared.fault.ReadFault.TheVariants as readfault
+use Rattle.rf2_values.specs.Row.{RowValue}
+use Rattle.history_model.specs.declared.stamped.StampedRow.{StampedRow}
+use Rattle.history_model.specs.History.{full}
+use Rattle.history_model.specs.Lists.{listed}
+use Rattle.disk_model.specs.Disk.{Moments}
+use Rattle.lru.specs.LruCache.{LruCache}
+use Rattle.blocks.specs.Cache.{AgreesWith, LooksUpSome}
+use Rattle.blocks.proofs.Looked.{none_looks_up}
+use Rattle.directory.specs.declared.entry.Entry.{Entry}
+use Rattle.segment.specs.declared.place.RowPlace.{RowPlace}
+use Rattle.as_of_index.specs.Places.{Lists}
+use Rattle.import_check.specs.declared.release.Release.{Release}
+use Rattle.import_check.specs.declared.fault.ImportFault.{ImportFault}
+use Rattle.import_check.specs.declared.fault.ImportFault.TheVariants as importfault
+use Rattle.import_check.specs.declared.contradicting.Contradictions.{Contradictions}
+use Rattle.import_check.specs.Known.{already_known}
+use Rattle.import_check.specs.Release.{IsReleaseOf}
+use Rattle.import_check.specs.NewRows.{IsRead, CountsAnyDiskFault}
+use Rattle.import_check.specs.Contradictions.{AreContradictionsOf, IsNotListed}
+use Rattle.history_store.specs.declared.refusal.Refusal.{Refusal}
+use Rattle.history_store.specs.declared.refusal.Refusal.TheVariants as refusals
+use Rattle.history_store.specs.Refusals.{refusal_of}
+use Rattle.history_store.specs.Reading.{row_cost}
+use Rattle.history_store.specs.Private.Reading.{AreThere, MomentsStay, rows_of, Early}
+use Rattle.history_store.specs.StoreValue.{StoreValue, IsAcknowledged}
+use Rattle.history_store.specs.Queries.{is_listed}
+use Rattle.history_store.specs.Answers.{Counts, IsRefused, IsStill}
+use Rattle.history_store.specs.Contradicting.{IsListing, IsUnlisted}
+use Rattle.history_store.proofs.Refusing.{unlisted_less}
+
+abbrev pub IsAnswerOf : Result Contradictions ImportFault → Result Contradictions Refusal → Type 0
+IsAnswerOf read result = MatchResult read (λ found. result ≡ Ok found) (λ fault. result ≡ Err (refusal_of fault))
+
+ok_so : (P : Contradictions → Type 0) (read : Result Contradictions ImportFault) (result : Result Contradictions Refusal) → IsAnswerOf read result → IfOk read P → IfOk result P
+ok_so P (Ok x) result is h = subst (λ r. IfOk r P) (sym is) h
+ok_so P (Err fault) result is h = subst (λ r. IfOk r P) (sym is) tt
+
+err_so : (P : ImportFault → Type 0) (Q : Refusal → Type 0) (read : Result Contradictions ImportFault) (result : Result Contradictions Refusal) → IsAnswerOf read result → ((fault : ImportFault) → P fault → Q (refusal_of fault)) → IfErr read P → IfErr result Q
+err_so P Q (Ok x) result is so h = subst (λ r. IfErr r Q) (sym is) tt
+err_so P Q (Err fault) result is so h = subst (λ r. IfErr r Q) (sym is) (so fault h)
+
+counted_so : (read : Result Contradictions ImportFault) (result : Result Contradictions Refusal) (before after : ℕ) → IsAnswerOf read result → CountsBy CountsAnyDiskFault read before after → Counts result before after
+counted_so (Ok x) result before after is counts = subst (λ r. Counts r before after) (sym is) counts
+counted_so (Err importfault.OutOfMemory) result before after is counts = subst (λ r. Counts r before after) (sym is) counts
+counted_so (Err (importfault.Known readfault.OutOfMemory)) result before after is counts = subst (λ r. Counts r before after) (sym is) counts
+counted_so (Err (importfault.Known readfault.DiskFault)) result before after is counts = subst (λ r. Counts r before after) (sym is) counts
+counted_so (Err (importfault.Known readfault.Damaged)) result before after is counts = subst (λ r. Counts r before after) (sym is) counts
+counted_so (Err (importfault.Row file line fault)) result before after is counts = subst (λ r. Counts r before after) (sym is) counts
+counted_so (Err (importfault.Contradiction file line key)) result before after is counts = subst (λ r. Counts r before after) (sym is) counts
+
+-- whatever device and whatever cache the store has, it is left the same
+left_so : {D : Type 0} (result : Result Contradictions Refusal) (old new : StoreValue D) (disk : D) (cache : LruCache ℕ (List ℕ)) → MatchResult result (λ found. IsStill (record old { disk = disk; cache = cache }) new) (λ e. IsRefused e (record old { disk = disk; cache = cache }) new)
+    → MatchResult result (λ found. IsStill old new) (λ e. IsRefused e old new)
+left_so (Ok x) old new disk cache r = record { history = r.history; catalog = r.catalog; open_before = r.open_before; open_still = r.open_still }
+left_so (Err e) old new disk cache r = record { history = r.history; catalog = r.catalog; closed = r.closed; still = r.still }
+
+module _ {D : Type 0} (honest : D → Type 0) (moments : D → Moments) (failures bytes_read other_calls : D → ℕ) (release : Release) (limit : ℕ) where
+  -- a store that has to be opened again lists nothing, and isn't touched
+  pub closed_listing : (s : StoreValue D) → s.needs_reopen ≡ true → IsListing (Err refusals.ReopenNeeded) release limit honest moments failures bytes_read other_calls s s
+  closed_listing s needs = record {
+    found = λ up. tt;
+    read = tt;
+    refused = inl (refl, needs);
+    left = record { history = refl; catalog = refl; closed = λ same. absurd (cc); still = λ other. refl };
+    closed = λ closed. refl;
+    moments = λ up. refl;
+    acknowledged = λ up still. absurd (false≢true (sym still ∙ needs));
+    honesty = (λ up. up, λ up. up);
+    failures = refl;
+    other_calls = refl;
+    looked_up = none_looks_up (is_listed s.catalog.entries) s.cache (bytes_read s.disk);
+    bytes_read = λ rows are. omega arith;
+    bytes_unread = λ unread. omega arith;
+  }
+
+  -- a release was compared by a reader to which the disk, the cache and the segments were lent
+  module _ (pin : ℕ) (places : List (List RowPlace)) (old new : StoreValue D) (lists shown : List (List StampedRow)) (entries : List Entry) (lent disk : D) (lent_cache cache : LruCache ℕ (List ℕ)) (read : Result Contradictions ImportFault) (result : Result Contradictions Refusal) where
+    abbrev IsHonestReader : Type 0
+    IsHonestReader = honest lent × AgreesWith lent_cache (moments lent).state.now × AreThere entries shown (moments lent).state.now
+
+    pub listed_so : old.history.rows ≡ listed lists → old.needs_reopen ≡ false
+        → lent ≡ old.disk → lent_cache ≡ old.cache → entries ≡ old.catalog.entries → shown ≡ lists
+        → Lists places shown × Early pin shown → (honest old.disk → IsHonestReader)
+        → (IsHonestReader → Lists places shown → Early pin shown → IfOk read (AreContradictionsOf (rows_of shown) release limit))
+        → IfOk read (λ found. IsRead release)
+        → IfErr read (IsNotListed (IsHonestReader × Lists places shown × Early pin shown) release)
+        → (Lists places shown → Early pin shown → (rows : List RowValue) → IsReleaseOf release rows → bytes_read disk ≤ bytes_read lent + sum_by row_cost (already_known (rows_of shown) rows))
+        → ((IsRead release → ⊥) → bytes_read disk ≤ bytes_read lent)
+        → CountsBy CountsAnyDiskFault read (failures lent) (failures disk)
+        → MomentsStay (honest lent) (honest disk) (moments lent) (moments disk)
+        → LooksUpSome (is_listed entries) lent_cache cache (bytes_read lent) (bytes_read disk)
+        → other_calls disk ≡ other_calls lent
+        → IsAnswerOf read result
+        → MatchResult result (λ found. IsStill (record old { disk = disk; cache = cache }) new) (λ e. IsRefused e (record old { disk = disk; cache = cache }) new)
+        → new.disk ≡ disk → new.cache ≡ cache → (honest disk → new.needs_reopen ≡ false → IsAcknowledged moments new)
+        → IsListing result release limit honest moments failures bytes_read other_calls old new
+    listed_so rows_are still lent_is lent_cache_is entries_are shown_is sound lends found is_read why work unread counted stays looked_up calls answers left same kept acknowledged =
+        let rows_so : rows_of shown ≡ full old.history = ap rows_of shown_is ∙ sym (ap (map (λ (s : StampedRow). s.row)) rows_are) in
+        let stay = subst (λ x. MomentsStay (honest x) (honest disk) (moments x) (moments disk)) lent_is stays in
+        let counts = subst (λ x. CountsBy CountsAnyDiskFault read (failures x) (failures disk)) lent_is counted in
+        let before = ap bytes_read lent_is in
+        let after = ap bytes_read same in
+        record {
+          found = λ up. ok_so (AreContradictionsOf (full old.history) release limit) read result answers (subst (λ rows. IfOk read (AreContradictionsOf rows release limit)) rows_so (found (lends up) sound.0 sound.1));
+          read = ok_so (λ found. IsRead release) read result answers is_read;
+          refused = err_so (IsNotListed (IsHonestReader × Lists places shown × Early pin shown) release) (λ e. ((e ≡ refusals.ReopenNeeded) × (old.needs_reopen ≡ true)) ⊎ ((old.needs_reopen ≡ false) × IsUnlisted (honest old.disk) e release)) read result answers
+              (λ fault h. inr (still, (fault, refl, unlisted_less (IsHonestReader × Lists places shown × Early pin shown) (honest old.disk) release fault (λ up. (lends up, sound.0, sound.1)) h))) why;
+          left = left_so result old new disk cache left;
+          closed = λ closed. absurd (false≢true (sym still ∙ closed));
+          moments = λ up. ap moments same ∙ stay.1 up;
+          acknowledged = λ up. acknowledged (stay.0.0 up);
+          honesty = subst (λ d. honest old.disk ↔ honest d) (sym same) stay.0;
+          failures = subst (λ d. Counts result (failures old.disk) (failures d)) (sym same) (counted_so read result (failures old.disk) (failures disk) answers counts);
+          other_calls = ap other_calls same ∙ calls ∙ ap other_calls lent_is;
+          looked_up =
+              subst (λ d. LooksUpSome (is_listed old.catalog.entries) old.cache new.cache (bytes_read old.disk) (bytes_read d)) (sym same)
+              (subst (λ c. LooksUpSome (is_listed old.catalog.entries) old.cache c (bytes_read old.disk) (bytes_read disk)) (sym kept)
+              (subst (λ d. LooksUpSome (is_listed old.catalog.entries) old.cache cache (bytes_read d) (bytes_read disk)) lent_is
+              (subst (λ c. LooksUpSome (is_listed old.catalog.entries) c cache (bytes_read lent) (bytes_read disk)) lent_cache_is
+              (subst (λ (e : List Entry). LooksUpSome (is_listed e) lent_cache cache (bytes_read lent) (bytes_read disk)) entries_are looked_up))));
+          bytes_read = λ rows are.
+              let least = work sound.0 sound.1 rows are in
+              let sum = ap (λ known. sum_by row_cost (already_known known rows)) rows_so in
+              omega (arith, least, before, after, sum);
+          bytes_unread = λ none. let least = unread none in omega (arith, least, before, after);
+        }

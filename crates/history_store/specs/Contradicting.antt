@@ -1,0 +1,64 @@
+-- What a store answers of the contradictions of a release.
+use Rattle.std.specs.Prelude.{◌≡◌, ◌⊎◌, ◌↔◌, ℕ, ◌+◌, ◌≤◌, true, false, List, map, MatchResult}
+use Rattle.std.specs.Prelude.{Option, MatchOption, Result, IfOk, IfErr}
+use Rattle.std.specs.List.{sum_by}
+use Rattle.disk_model.specs.Disk.{Moments}
+use Rattle.rf2_values.specs.declared.key.Key.{Key}
+use Rattle.rf2_values.specs.Row.{RowValue}
+use Rattle.rf2_values.specs.Key.{key_of}
+use Rattle.history_model.specs.declared.stamped.StampedRow.{StampedRow}
+use Rattle.history_model.specs.InOrder.{Has}
+use Rattle.history_model.specs.History.{full}
+use Rattle.import_check.specs.declared.release.Release.{Release}
+use Rattle.import_check.specs.declared.fault.ImportFault.{ImportFault}
+use Rattle.import_check.specs.declared.contradicting.Contradictions.{Contradictions}
+use Rattle.import_check.specs.Known.{IsUnknown, already_known}
+use Rattle.import_check.specs.Release.{IsReleaseOf}
+use Rattle.import_check.specs.NewRows.{IsRead}
+use Rattle.import_check.specs.Contradictions.{AreContradictionsOf, IsNotListed}
+use Rattle.history_store.specs.declared.refusal.Refusal.{Refusal}
+use Rattle.history_store.specs.declared.refusal.Refusal.TheVariants as refusals
+use Rattle.history_store.specs.Refusals.{refusal_of}
+use Rattle.history_store.specs.Reading.{row_cost}
+use Rattle.history_store.specs.StoreValue.{StoreValue, IsAcknowledged}
+use Rattle.history_store.specs.Queries.{ReadsThroughCache}
+use Rattle.history_store.specs.Answers.{Counts, IsRefused, IsStill}
+
+-- the number of the import that brought the row with the key; none where no row has the key
+abbrev pub IsBroughtBy : List StampedRow → Key → Option ℕ → Type 0
+IsBroughtBy rows key number = MatchOption number (IsUnknown (map (λ s. s.row) rows) key)
+    (λ n. (s : StampedRow) × Has rows s × (key_of s.row ≡ key) × (s.import ≡ n))
+
+-- the refusal is that of a reason for which contradictions are not listed
+abbrev pub IsUnlisted : (honest : Type 0) → Refusal → Release → Type 0
+IsUnlisted honest e release =
+    (fault : ImportFault) × (e ≡ refusal_of fault) × IsNotListed honest release fault
+
+-- The contradictions of a release were listed, unless the store has to be opened again, or a file
+-- is no release file, or a row can't be read. Whatever is answered, history and catalog stay, and a
+-- failed device alone closes the store. A store that has to be opened again leaves everything as it
+-- is. Only reads are made: each row of the store whose key the release has is read once at most,
+-- through the blocks in memory, and no other; where a file is no release file, nothing is read.
+-- What a stop may leave stays, and as long as no call has failed it represents what the store
+-- holds.
+pub record IsListing {D : Type 0} (result : Result Contradictions Refusal) (release : Release)
+    (limit : ℕ) (is_honest : D → Type 0) (moments_of : D → Moments)
+    (failures_of bytes_read_of other_calls_of : D → ℕ) (old new : StoreValue D) : Type 0 where
+  pub found : is_honest old.disk
+      → IfOk result (AreContradictionsOf (full old.history) release limit)
+  pub read : IfOk result (λ found. IsRead release)
+  pub refused : IfErr result
+      (λ e. ((e ≡ refusals.ReopenNeeded) × (old.needs_reopen ≡ true))
+      ⊎ ((old.needs_reopen ≡ false) × IsUnlisted (is_honest old.disk) e release))
+  pub left : MatchResult result (λ found. IsStill old new) (λ e. IsRefused e old new)
+  pub closed : old.needs_reopen ≡ true → new ≡ old
+  pub moments : is_honest old.disk → moments_of new.disk ≡ moments_of old.disk
+  pub acknowledged : is_honest old.disk → new.needs_reopen ≡ false → IsAcknowledged moments_of new
+  pub honesty : is_honest old.disk ↔ is_honest new.disk
+  pub failures : Counts result (failures_of old.disk) (failures_of new.disk)
+  pub other_calls : other_calls_of new.disk ≡ other_calls_of old.disk
+  pub looked_up : ReadsThroughCache bytes_read_of old new
+  pub bytes_read : (rows : List RowValue) → IsReleaseOf release rows
+      → bytes_read_of new.disk ≤ bytes_read_of old.disk
+      + sum_by row_cost (already_known (full old.history) rows)
+  pub bytes_unread : (IsRead release → ⊥) → bytes_read_of new.disk ≤ bytes_read_of old.disk

@@ -1,0 +1,87 @@
+//! The contradictions of a release, and which import brought what they contradict.
+
+ghost use Rattle.std.specs.Prelude.{◌≡◌, MatchResult, Ok, Err, false};
+
+use crate::known::{import_of, list_contradictions};
+use crate::reading::DiskRows;
+use crate::refusal::Refusal;
+use crate::store::Store;
+use as_of_index::ReadFault;
+use disk_model::Disk;
+use import_check::{Contradictions, ImportFault, Release};
+use rf2_values::Key;
+
+impl<D: Disk> Store<D> {
+    ghost use Rattle.history_store.specs.Answers.{IsStill, IsRefused};
+    ghost use Rattle.history_store.specs.Refusals.{refusal_of};
+    ghost use Rattle.history_store.specs.StoreValue.{IsAcknowledged};
+    ghost use Rattle.history_store.specs.Contradicting.{IsBroughtBy, IsListing};
+
+    /// What was read of a release, as the store answers it. Where
+    /// the device failed, the store has to be opened again.
+    fn listed(
+        &mut self,
+        read: Result<Contradictions, ImportFault>,
+    ) -> Result<Contradictions, Refusal>
+        requires still { self.old.needs_reopen ≡ false }
+        ensures same { MatchResult read (λ found. result ≡ Ok found)
+            (λ fault. result ≡ Err (refusal_of fault)) }
+        ensures left { MatchResult result (λ found. IsStill self.old self.new)
+            (λ e. IsRefused e self.old self.new) }
+        ensures disk { self.new.disk ≡ self.old.disk }
+        ensures cache { self.new.cache ≡ self.old.cache }
+        ensures acknowledged { D.is_honest self.old.disk → self.new.needs_reopen ≡ false
+            → IsAcknowledged D.moments self.new }
+    {
+        match read {
+            Ok(found) => Ok(found),
+            Err(fault) => {
+                if matches!(fault, ImportFault::Known(ReadFault::DiskFault)) {
+                    self.needs_reopen = true;
+                }
+                Err(Refusal::from(fault))
+            }
+        }
+    }
+
+    /// The contradictions of a release, with what the store holds and within itself: the first of
+    /// them in the order of their keys, up to a limit, and how many more there are. Which import
+    /// brought a row that the store holds says `import_of`.
+    pub fn contradictions(
+        &mut self,
+        release: Release,
+        limit: usize,
+    ) -> Result<Contradictions, Refusal>
+        ensures answer { IsListing result release limit
+            D.is_honest D.moments D.failures D.bytes_read D.other_calls self.old self.new }
+    {
+        if self.needs_reopen {
+            return Err(Refusal::ReopenNeeded);
+        }
+        let pin = self.directory.imports();
+        let mut reader = DiskRows::new(
+            &mut self.disk,
+            &mut self.cache,
+            &self.directory,
+            &self.index,
+        );
+        let read = list_contradictions(
+            self.alloc,
+            release,
+            self.index.places(),
+            &mut reader,
+            pin,
+            limit,
+        );
+        self.listed(read)
+    }
+
+    /// The number of the import that brought the row with this key, if there is one.
+    /// It makes one bisection a segment in memory, and reads nothing.
+    pub fn import_of(&self, key: Key) -> Option<u32>
+        ensures { IsBroughtBy self.now.history.rows key result }
+    {
+        let pin = self.directory.imports();
+        import_of(self.index.places(), key, pin)
+    }
+}

@@ -1,0 +1,91 @@
+use Rattle.std.proofs.Common.{◌≡◌, ℕ, ◌+◌, ◌≤◌, List, ◌∷◌, [], ◌++◌, length, sym, ap, subst, ◌∙◌, append_assoc, arith}
+use Rattle.std.specs.Prelude.{Option, Some}
+use Rattle.std.specs.List.{sum_by}
+use Rattle.rf2_values.specs.declared.key.Key.{Key}
+use Rattle.rf2_values.specs.Row.{RowValue}
+use Rattle.import_check.specs.declared.release.PlacedLine.{PlacedLine}
+use Rattle.import_check.specs.Known.{already_known}
+use Rattle.import_check.specs.Release.{rows_of}
+use Rattle.history_model.specs.InOrder.{Has}
+use Rattle.history_model.proofs.InOrder.{Has-append_left}
+use Rattle.import_check.specs.Contradictions.{rank_cmp}
+use Rattle.import_check.specs.Private.Sweep.{IsRising, IsAhead, AsksOnce}
+use Rattle.import_check.specs.Private.Contradictions.{IsNext, last_key}
+use Rattle.import_check.proofs.Asking.{ahead_more, asked_more, more_lines}
+use Rattle.import_check.proofs.Differing.{next_top, noted_more, rising_from_ascending}
+use Rattle.import_check.proofs.contradicting.compare_all.Goals as goal
+
+-- what a line takes when nothing is done after it
+taken : (cost : RowValue → ℕ) (rows : List RowValue) (lines done : List PlacedLine) (line : PlacedLine) (rest : List PlacedLine) (last : Option Key) (start old new : ℕ) → lines ≡ done ++ line ∷ rest
+    → IsAhead done last (line ∷ rest) → AsksOnce cost rows last line old new → old ≤ start + sum_by cost (already_known rows (rows_of done)) → new ≤ start + sum_by cost (already_known rows (rows_of lines))
+taken cost rows lines done line rest last start old new lines_are ahead asks so =
+    let least = asked_more done line rest cost rows last start old new ahead asks so in
+    let all = lines_are ∙ sym (append_assoc done (line ∷ []) rest) in
+    let more = more_lines cost rows (done ++ line ∷ []) lines (λ l h. subst (λ ls. Has ls l) (sym all) (Has-append_left (done ++ line ∷ []) rest l h)) in
+    omega (arith, least, more)
+
+pub loop-line-preserved : goal.loop-line-preserved
+loop-line-preserved g c =
+    let steps = c.in-Some.ensures.steps in
+    let before = c.loop-line.invariant in
+    let next = c.in_ok-counting.ensures in
+    let noted = c.in_ok-note.ensures in
+    record {
+      sifted = λ honest strict.
+          let so = before.sifted honest strict in
+          let rows = g.K.Known.rows c.args.known.now in
+          let lines_are = so.1 ∙ ap (λ left. so.0 ++ left) steps in
+          let is = subst (λ known. IsNext known c.in-Some.line c.loop-line.last c.in_ok-counting.counting) before.rows (next.next (before.honesty honest)) in
+          let top = next_top rows c.args.lines.items so.0 c.in-Some.line c.next.new.self lines_are strict c.loop-line.last c.in_ok-counting.counting so.2 is in
+          let more = noted_more rows c.args.lines.items so.0 c.in-Some.line c.next.new.self lines_are strict c.args.limit so.3 c.in_ok-counting.counting c.loop-line.found c.note.new.found top is.0 noted.noted so.4 so.5 in (
+            so.0 ++ c.in-Some.line ∷ [],
+            lines_are ∙ sym (append_assoc so.0 (c.in-Some.line ∷ []) c.next.new.self),
+            top,
+            more.0,
+            more.1,
+            more.2,
+          );
+      asked = λ sound strict.
+          let so = before.asked sound strict in
+          let rows = g.K.Known.rows c.args.known.now in
+          let lines_are = so.1 ∙ ap (λ left. so.0 ++ left) steps in
+          let rising = subst (λ ls. IsRising rank_cmp ls) lines_are (rising_from_ascending rank_cmp c.args.lines.items strict) in
+          let ahead = subst (λ ls. IsAhead so.0 (last_key c.loop-line.last) ls) steps so.2 in
+          let asks = subst (λ known. AsksOnce g.K.Known.cost known (last_key c.loop-line.last) c.in-Some.line (g.K.Known.work c.loop-line.known) (g.K.Known.work c.next-in-loop-line.new.known)) before.rows (next.asks_once (before.soundness sound)) in (
+            so.0 ++ c.in-Some.line ∷ [],
+            lines_are ∙ sym (append_assoc so.0 (c.in-Some.line ∷ []) c.next.new.self),
+            subst (λ key. IsAhead (so.0 ++ c.in-Some.line ∷ []) (Some key) c.next.new.self) (sym next.key) (ahead_more so.0 c.in-Some.line c.next.new.self rising),
+            asked_more so.0 c.in-Some.line c.next.new.self g.K.Known.cost rows (last_key c.loop-line.last) (g.K.Known.work c.args.known.now) (g.K.Known.work c.loop-line.known) (g.K.Known.work c.next-in-loop-line.new.known) ahead asks so.3,
+          );
+      room = omega (arith, ap length steps, noted.further, before.room);
+      rows = next.rows ∙ before.rows;
+      honesty = λ h. next.honesty (before.honesty h);
+      soundness = λ h. next.soundness (before.soundness h);
+      stays = g.met.K.Known.stays_on c.args.known.now _ _ before.stays next.stays;
+      disk_faults = next.disk_faults ∙ before.disk_faults;
+      damages = next.damages ∙ before.damages;
+    }
+
+pub returns-clause-work : goal.returns-clause-work
+returns-clause-work g c = λ sound strict.
+    let so = c.loop-line.invariant.asked sound strict in
+    let more = more_lines g.K.Known.cost (g.K.Known.rows c.args.known.now) so.0 c.args.lines.items (λ l h. subst (λ ls. Has ls l) (sym so.1) (Has-append_left so.0 _ l h)) in
+    omega (arith, so.3, more)
+
+pub returns-in_err-counting-clause-work : goal.returns-in_err-counting-clause-work
+returns-in_err-counting-clause-work g c = λ sound strict.
+    let before = c.loop-line.invariant in
+    let steps = c.in-Some.ensures.steps in
+    let so = before.asked sound strict in
+    let ahead = subst (λ ls. IsAhead so.0 (last_key c.loop-line.last) ls) steps so.2 in
+    let asks = subst (λ known. AsksOnce g.K.Known.cost known (last_key c.loop-line.last) c.in-Some.line (g.K.Known.work c.loop-line.known) (g.K.Known.work c.next-in-loop-line.new.known)) before.rows (c.in_err-counting.ensures.asks_once (before.soundness sound)) in
+    taken g.K.Known.cost (g.K.Known.rows c.args.known.now) c.args.lines.items so.0 c.in-Some.line c.next.new.self (last_key c.loop-line.last) (g.K.Known.work c.args.known.now) (g.K.Known.work c.loop-line.known) (g.K.Known.work c.next-in-loop-line.new.known) (so.1 ∙ ap (λ left. so.0 ++ left) steps) ahead asks so.3
+
+pub returns-in_err-note-clause-work : goal.returns-in_err-note-clause-work
+returns-in_err-note-clause-work g c = λ sound strict.
+    let before = c.loop-line.invariant in
+    let steps = c.in-Some.ensures.steps in
+    let so = before.asked sound strict in
+    let ahead = subst (λ ls. IsAhead so.0 (last_key c.loop-line.last) ls) steps so.2 in
+    let asks = subst (λ known. AsksOnce g.K.Known.cost known (last_key c.loop-line.last) c.in-Some.line (g.K.Known.work c.loop-line.known) (g.K.Known.work c.next-in-loop-line.new.known)) before.rows (c.in_ok-counting.ensures.asks_once (before.soundness sound)) in
+    taken g.K.Known.cost (g.K.Known.rows c.args.known.now) c.args.lines.items so.0 c.in-Some.line c.next.new.self (last_key c.loop-line.last) (g.K.Known.work c.args.known.now) (g.K.Known.work c.loop-line.known) (g.K.Known.work c.next-in-loop-line.new.known) (so.1 ∙ ap (λ left. so.0 ++ left) steps) ahead asks so.3

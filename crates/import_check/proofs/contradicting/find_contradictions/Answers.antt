@@ -1,0 +1,33 @@
+use Rattle.std.proofs.Common.{◌≡◌, ◌+◌, ◌≤◌, subst, arith}
+use Rattle.std.specs.List.{sum_by}
+use Rattle.import_check.specs.Known.{already_known}
+use Rattle.import_check.specs.Release.{rows_of}
+use Rattle.import_check.specs.Contradictions.{AreContradictionsOf}
+use Rattle.import_check.proofs.Asking.{more_sorted}
+use Rattle.import_check.proofs.Receipts.{one_list}
+use Rattle.import_check.proofs.Refusals.{ascending, of_release, was_read}
+use Rattle.import_check.proofs.Differing.{sorted_ascends, listed_of}
+use Rattle.import_check.proofs.contradicting.find_contradictions.Goals as goal
+
+pub returns-clause-found : goal.returns-clause-found
+returns-clause-found g c = λ honest.
+    let rows = g.K.Known.rows c.args.known.now in
+    let lines = c.in_ok-lines.lines.items in
+    let sorted = c.sort.new.lines.items in
+    let placed = ascending c.args.release lines c.in_ok-lines.ensures.ok in
+    let up = sorted_ascends lines sorted placed c.sort.ensures.permutation c.sort.ensures.rising in
+    listed_of rows c.args.release c.args.limit lines sorted (g.met.K.Known.consistent c.args.known.now honest) c.in_ok-lines.ensures.ok placed c.sort.ensures.permutation c.compare_all.result (c.compare_all.ensures.sifted honest up)
+
+pub returns-clause-work : goal.returns-clause-work
+returns-clause-work g c = λ sound rows are.
+    let known = g.K.Known.rows c.args.known.now in
+    let lines = c.in_ok-lines.lines.items in
+    let sorted = c.sort.new.lines.items in
+    let up = sorted_ascends lines sorted (ascending c.args.release lines c.in_ok-lines.ensures.ok) c.sort.ensures.permutation c.sort.ensures.rising in
+    let asked = c.compare_all.ensures.work sound up in
+    let more = more_sorted g.K.Known.cost known lines sorted c.sort.ensures.permutation in
+    let same = one_list c.args.release (rows_of lines) rows (of_release (g.K.Known.is_honest c.args.known.now) known c.args.release lines c.in_ok-lines.ensures.ok) are in
+    subst (λ rs. g.K.Known.work c.compare_all.new.known ≤ g.K.Known.work c.args.known.now + sum_by g.K.Known.cost (already_known known rs)) same (omega (arith, asked, more))
+
+pub returns-clause-work_unread : goal.returns-clause-work_unread
+returns-clause-work_unread g c = λ unread. absurd (unread (was_read (g.K.Known.is_honest c.args.known.now) (g.K.Known.rows c.args.known.now) c.args.release c.in_ok-lines.lines.items c.in_ok-lines.ensures.ok))

@@ -1,0 +1,71 @@
+-- The contradictions of a release: lines whose key has another row, one that is known or stands
+-- before them.
+use Rattle.std.specs.Prelude.{◌≡◌, ◌≢◌, ◌↔◌, ℕ, ◌-◌, List, ◌∷◌, ◌++◌, length, take, ⊤}
+use Rattle.std.specs.Ordering.{nat_cmp, ordering_then}
+use Rattle.std.specs.declared.cmp.Ordering.{Ordering}
+use Rattle.rf2_values.specs.Row.{RowValue}
+use Rattle.rf2_values.specs.Key.{key_of}
+use Rattle.history_model.specs.InOrder.{Has, IsAscending}
+use Rattle.history_model.specs.History.{row_cmp}
+use Rattle.import_check.specs.declared.release.Release.{Release}
+use Rattle.import_check.specs.declared.release.PlacedLine.{PlacedLine}
+use Rattle.import_check.specs.declared.contradicting.OtherRow.{OtherRow}
+use Rattle.import_check.specs.declared.contradicting.OtherRow.TheVariants as others
+use Rattle.import_check.specs.declared.contradicting.ContradictingLine.{ContradictingLine}
+use Rattle.import_check.specs.declared.contradicting.Contradictions.{Contradictions}
+use Rattle.import_check.specs.declared.fault.ImportFault.{ImportFault}
+use Rattle.import_check.specs.declared.fault.ImportFault.TheVariants as importfault
+use Rattle.fault_counts.specs.declared.fault.ReadFault.TheVariants as readfault
+use Rattle.import_check.specs.Known.{IsUnknown}
+use Rattle.import_check.specs.Release.{SpellFiles, IsFaultOfRelease, placed_lines, rows_of}
+use Rattle.import_check.specs.NewRows.{IsRead}
+
+-- the order of lines by their places: by file, then by line
+abbrev pub place_cmp : PlacedLine → PlacedLine → Ordering
+place_cmp a b = ordering_then (nat_cmp a.file b.file) (nat_cmp a.line b.line)
+
+-- the order of lines by key, then by place
+abbrev pub rank_cmp : PlacedLine → PlacedLine → Ordering
+rank_cmp a b = ordering_then (row_cmp a.row b.row) (place_cmp a b)
+
+abbrev pub row_of : OtherRow → RowValue
+row_of (others.Known row) = row
+row_of (others.Line first) = first.row
+
+-- The row counts for its key: it is known; or it stands on a line, and no row that is known or
+-- stands before that line has its key.
+abbrev pub CountsForKey : List RowValue → List PlacedLine → OtherRow → Type 0
+CountsForKey known lines (others.Known row) = Has known row
+CountsForKey known lines (others.Line first) = (before : List PlacedLine)
+    × (after : List PlacedLine) × (lines ≡ before ++ first ∷ after)
+    × IsUnknown (known ++ rows_of before) (key_of first.row)
+
+-- the line has another row than the one that counts for its key
+pub record IsContradiction (known : List RowValue) (lines : List PlacedLine)
+    (c : ContradictingLine) : Type 0 where
+  pub there : Has lines c.line
+  pub counts : CountsForKey known lines c.other
+  pub same_key : key_of (row_of c.other) ≡ key_of c.line.row
+  pub differs : row_of c.other ≢ c.line.row
+
+-- Each file is a release file. Of all contradictions of their lines, in the order of keys and
+-- places, the first are listed, up to the limit, and the others counted.
+pub record AreContradictionsOf (known : List RowValue) (release : Release) (limit : ℕ)
+    (found : Contradictions) : Type 0 where
+  pub lists : List (List RowValue)
+  pub spelled : SpellFiles release.files.items lists
+  pub all : List ContradictingLine
+  pub ascending : IsAscending (λ a b. rank_cmp a.line b.line) all
+  pub each : (c : ContradictingLine) → Has all c ↔ IsContradiction known (placed_lines lists) c
+  pub listed : found.listed.items ≡ take limit all
+  pub further : found.further ≡ length all - limit
+
+-- why contradictions are not listed: a line has a fault, or a known row can't be had; that memory
+-- ran out says nothing
+abbrev pub IsNotListed : (honest : Type 0) → Release → ImportFault → Type 0
+IsNotListed honest release importfault.OutOfMemory = ⊤
+IsNotListed honest release (importfault.Known fault) =
+    IsRead release × (honest → fault ≢ readfault.Damaged)
+IsNotListed honest release (importfault.Row file line fault) =
+    IsFaultOfRelease release file line fault
+IsNotListed honest release (importfault.Contradiction file line key) = ⊥

@@ -1,0 +1,240 @@
+//! All contradictions of a release.
+
+ghost use Rattle.std.specs.Prelude.{◌≡◌, ◌≢◌, ◌+◌, ◌≤◌, ◌<◌, ◌^◌, ◌⊎◌, List};
+ghost use Rattle.std.specs.Prelude.{OnOk, IfOk, IfErr, Some, None, IsSomeAnd, MatchOption};
+ghost use Rattle.std.specs.List.{sum_by};
+ghost use Rattle.rf2_values.specs.Row.{RowValue};
+ghost use Rattle.rf2_values.specs.Key.{key_of};
+ghost use Rattle.history_model.specs.InOrder.{IsAscending};
+ghost use Rattle.fault_counts.specs.Counting.{Counts};
+ghost use Rattle.import_check.specs.NewRows.{IsRead};
+ghost use Rattle.import_check.specs.NewRows.{CountsAnyDiskFault, CountsAnyDamage};
+ghost use Rattle.import_check.specs.Contradictions.{place_cmp, rank_cmp, row_of};
+ghost use Rattle.import_check.specs.Contradictions.{AreContradictionsOf, IsNotListed};
+ghost use Rattle.import_check.specs.Known.{already_known};
+ghost use Rattle.import_check.specs.Release.{IsReleaseOf, rows_of};
+ghost use Rattle.import_check.specs.Private.Sweep.{IsCutShort, AsksOnce};
+ghost use Rattle.import_check.specs.Private.Contradictions.{IsFoundFor, IsNext, last_key};
+ghost use Rattle.import_check.specs.Private.Contradictions.{IsNoted, AreSifted};
+
+use crate::fault::ImportFault;
+use crate::known::Known;
+use crate::order::sort;
+use crate::parse::parse;
+use crate::release::{PlacedLine, Release};
+use rf2_values::{Key, Row};
+use shrinking_list::ShrinkingList;
+use std::alloc::{AllocError, Global};
+
+/// The row that the lines with its key have to have.
+#[derive(Drop)]
+pub enum OtherRow {
+    /// It is known.
+    Known(Row),
+    /// None with its key is known, and this is the first line that has the key.
+    Line(PlacedLine),
+}
+
+/// A line that has another row than the one that counts for its key.
+#[derive(Drop)]
+pub struct ContradictingLine {
+    pub line: PlacedLine,
+    pub other: OtherRow,
+}
+
+/// The contradictions of a release, as far as they are listed.
+#[derive(Drop)]
+pub struct Contradictions {
+    /// In the order of their keys, and those with one key as they stand in the release.
+    pub listed: Vec<ContradictingLine>,
+    /// How many there are besides.
+    pub further: u64,
+}
+
+impl OtherRow {
+    /// The row itself.
+    pub fn row(&self) -> &Row
+        ensures { result.now ≡ row_of self.now }
+    {
+        match self {
+            OtherRow::Known(row) => row,
+            OtherRow::Line(first) => &first.row,
+        }
+    }
+
+    /// An equal one.
+    fn try_clone(&self, alloc: Global) -> Result<OtherRow, AllocError>
+        ensures { IfOk result (λ other. other ≡ self.now) }
+    {
+        match self {
+            OtherRow::Known(row) => Ok(OtherRow::Known(row.try_clone(alloc)?)),
+            OtherRow::Line(first) => Ok(OtherRow::Line(first.try_clone(alloc)?)),
+        }
+    }
+}
+
+/// The row that counts for the key of the last line.
+#[derive(Drop)]
+struct Counting {
+    key: Key,
+    other: OtherRow,
+}
+
+/// The row that counted for the line before, if that had this key.
+fn kept(last: Option<Counting>, key: Key) -> Option<Counting>
+    ensures { MatchOption result (IsSomeAnd last (λ c. c.key ≡ key) → ⊥)
+        (λ c. (last ≡ Some c) × (c.key ≡ key)) }
+{
+    match last {
+        Some(last) => { if last.key == key { Some(last) } else { None } }
+        None => None,
+    }
+}
+
+/// The row that counts for a line's key, where no line before it had the key.
+fn find<K: Known>(alloc: Global, line: &PlacedLine, known: &mut K) -> Result<OtherRow, ImportFault>
+    ensures found { K.is_honest known.old → IfOk result (IsFoundFor (K.rows known.old) line.now) }
+    ensures asks { K.is_sound known.old → AsksOnce K.cost (K.rows known.old) None
+        line.now (K.work known.old) (K.work known.new) }
+    ensures cut_short { IfErr result (IsCutShort (K.is_honest known.old)) }
+    ensures rows { K.rows known.new ≡ K.rows known.old }
+    ensures honesty { K.is_honest known.old → K.is_honest known.new }
+    ensures soundness { K.is_sound known.old → K.is_sound known.new }
+    ensures stays { K.stays known.old known.new }
+    ensures disk_faults { Counts CountsAnyDiskFault result
+        (K.disk_faults known.old) (K.disk_faults known.new) }
+    ensures damages { Counts CountsAnyDamage result
+        (K.damages known.old) (K.damages known.new) }
+{
+    let key = line.row.key();
+    match known.row(alloc, &key)? {
+        Some(row) => Ok(OtherRow::Known(row)),
+        None => Ok(OtherRow::Line(line.try_clone(alloc)?)),
+    }
+}
+
+/// The row that counts for a line's key: that for the line before it, if it had the key.
+fn next<K: Known>(
+    alloc: Global,
+    last: Option<Counting>,
+    line: &PlacedLine,
+    known: &mut K,
+) -> Result<Counting, ImportFault>
+    ensures next { K.is_honest known.old → IfOk result (IsNext (K.rows known.old) line.now last) }
+    ensures key { IfOk result (λ counting. counting.key ≡ key_of line.now.row) }
+    ensures asks_once { K.is_sound known.old → AsksOnce K.cost (K.rows known.old) (last_key last)
+        line.now (K.work known.old) (K.work known.new) }
+    ensures cut_short { IfErr result (IsCutShort (K.is_honest known.old)) }
+    ensures rows { K.rows known.new ≡ K.rows known.old }
+    ensures honesty { K.is_honest known.old → K.is_honest known.new }
+    ensures soundness { K.is_sound known.old → K.is_sound known.new }
+    ensures stays { K.stays known.old known.new }
+    ensures disk_faults { Counts CountsAnyDiskFault result
+        (K.disk_faults known.old) (K.disk_faults known.new) }
+    ensures damages { Counts CountsAnyDamage result
+        (K.damages known.old) (K.damages known.new) }
+{
+    match kept(last, line.row.key()) {
+        Some(last) => Ok(last),
+        None => {
+            let other = find(alloc, line, known)?;
+            let key = line.row.key();
+            Ok(Counting { key, other })
+        }
+    }
+}
+
+/// Lists the line if it has another row than this one. As soon
+/// as the limit is reached it is only counted.
+fn note(
+    alloc: Global,
+    found: &mut Contradictions,
+    limit: usize,
+    other: &OtherRow,
+    line: PlacedLine,
+) -> Result<(), AllocError>
+    requires { found.old.further + 1 < 2 ^ 64 }
+    ensures noted { OnOk result (IsNoted limit other.now line found.old found.new) }
+    ensures further { OnOk result (found.new.further ≤ found.old.further + 1) }
+{
+    if other.row().is_same(&line.row) {
+        return Ok(());
+    }
+    if found.listed.len() < limit {
+        let other = other.try_clone(alloc)?;
+        found.listed.push(ContradictingLine { line, other })?;
+    } else {
+        found.further += 1;
+    }
+    Ok(())
+}
+
+/// Compares all lines, in key order. The room of those that are compared is given back on the way.
+fn compare_all<K: Known>(
+    alloc: Global,
+    lines: Vec<PlacedLine>,
+    known: &mut K,
+    limit: usize,
+) -> Result<Contradictions, ImportFault>
+    ensures sifted { K.is_honest known.old → IsAscending rank_cmp lines.items
+        → IfOk result (AreSifted (K.rows known.old) limit lines.items) }
+    ensures work { K.is_sound known.old → IsAscending rank_cmp lines.items → K.work known.new
+        ≤ K.work known.old
+        + sum_by K.cost (already_known (K.rows known.old) (rows_of lines.items)) }
+    ensures cut_short { IfErr result (IsCutShort (K.is_honest known.old)) }
+    ensures rows { K.rows known.new ≡ K.rows known.old }
+    ensures honesty { K.is_honest known.old → K.is_honest known.new }
+    ensures soundness { K.is_sound known.old → K.is_sound known.new }
+    ensures stays { K.stays known.old known.new }
+    ensures disk_faults { Counts CountsAnyDiskFault result
+        (K.disk_faults known.old) (K.disk_faults known.new) }
+    ensures damages { Counts CountsAnyDamage result
+        (K.damages known.old) (K.damages known.new) }
+{
+    let mut found = Contradictions {
+        listed: Vec::new(alloc),
+        further: 0,
+    };
+    let mut last = None;
+    for line in ShrinkingList::new(lines) {
+        let counting = next(alloc, last, &line, known)?;
+        note(alloc, &mut found, limit, &counting.other, line)?;
+        last = Some(counting);
+    }
+    Ok(found)
+}
+
+/// The contradictions of a release: the first of them in the
+/// order of their keys, up to a limit, and how many more there are.
+///
+/// All files are read first, as `new_rows` reads them. What is known is asked once for each key,
+/// in ascending order. A release that `new_rows` refuses because of a contradiction has one here.
+pub fn find_contradictions<K: Known>(
+    alloc: Global,
+    release: Release,
+    known: &mut K,
+    limit: usize,
+) -> Result<Contradictions, ImportFault>
+    ensures found { K.is_honest known.old
+        → IfOk result (AreContradictionsOf (K.rows known.old) release limit) }
+    ensures read { IfOk result (λ found. IsRead release) }
+    ensures refused { IfErr result (IsNotListed (K.is_honest known.old) release) }
+    // Whatever it answers, each known row whose key the release has is read once at most, and no
+    // other. Where a file is no release file, nothing is asked.
+    ensures work { K.is_sound known.old → (rows : List RowValue) → IsReleaseOf release rows
+        → K.work known.new
+        ≤ K.work known.old + sum_by K.cost (already_known (K.rows known.old) rows) }
+    ensures work_unread { (IsRead release → ⊥) → K.work known.new ≤ K.work known.old }
+    ensures rows { K.rows known.new ≡ K.rows known.old }
+    ensures honesty { K.is_honest known.old → K.is_honest known.new }
+    ensures soundness { K.is_sound known.old → K.is_sound known.new }
+    ensures stays { K.stays known.old known.new }
+    ensures disk_faults { Counts CountsAnyDiskFault result
+        (K.disk_faults known.old) (K.disk_faults known.new) }
+    ensures damages { Counts CountsAnyDamage result
+        (K.damages known.old) (K.damages known.new) }
+{
+    let mut lines = parse(alloc, release)?;
+    sort(alloc, &mut lines);
+    compare_all(alloc, lines, known, limit)
+}
