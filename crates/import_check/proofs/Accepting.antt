@@ -1,5 +1,5 @@
 -- A release is accepted where it has no contradictions, and else it has one.
-use Rattle.std.proofs.Common.{◌≡◌, ◌⊎◌, ℕ, ◌+◌, Bool, true, false, List, [], ◌∷◌, ◌++◌, length, take, refl, sym, ap, subst, inl, inr, ◌∙◌, ◌-◌, ◌≢◌, append_assoc, append-nil, arith, length-take}
+use Rattle.std.proofs.Common.{◌≡◌, ℕ, ◌+◌, Bool, true, false, List, [], ◌∷◌, ◌++◌, length, take, refl, sym, ap, subst, inl, inr, ◌∙◌, ◌-◌, append_assoc, append-nil, arith, length-take}
 use Rattle.rf2_values.specs.declared.key.Key.{Key}
 use Rattle.rf2_values.specs.Row.{RowValue}
 use Rattle.rf2_values.specs.Key.{key_of}
@@ -8,15 +8,14 @@ use Rattle.history_model.specs.History.{IsConsistent}
 use Rattle.history_model.proofs.InOrder.{Has-append_left, Has-append_right, Has-append_cases}
 use Rattle.history_model.proofs.Filtered.{Has-map, Has-map_from}
 use Rattle.import_check.specs.declared.release.PlacedLine.{PlacedLine}
-use Rattle.import_check.specs.declared.release.Release.{Release}
 use Rattle.import_check.specs.declared.contradicting.OtherRow.{OtherRow}
 use Rattle.import_check.specs.declared.contradicting.OtherRow.TheVariants as others
 use Rattle.import_check.specs.declared.contradicting.ContradictingLine.{ContradictingLine}
 use Rattle.import_check.specs.declared.contradicting.Contradictions.{Contradictions}
 use Rattle.import_check.specs.Known.{IsUnknown, has_key}
-use Rattle.import_check.specs.Release.{IsReleaseOf, IsFirstContradiction, placed_lines, rows_of}
-use Rattle.import_check.specs.Contradictions.{CountsForKey, IsContradiction, AreContradictionsOf, row_of}
-use Rattle.import_check.specs.Laws.{IsAccepted, AcceptedHasNone}
+use Rattle.import_check.specs.Release.{IsFirstContradiction, placed_lines, rows_of}
+use Rattle.import_check.specs.Contradictions.{CountsForKey, IsContradiction, row_of}
+use Rattle.import_check.specs.Laws.{AcceptedHasNone}
 use Rattle.import_check.proofs.Asking.{has_from, no_key}
 use Rattle.import_check.proofs.Deciding.{same_or_other_key, consistent_or_not}
 use Rattle.import_check.proofs.Receipts.{one_list}
