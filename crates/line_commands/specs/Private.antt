@@ -34,7 +34,6 @@ text_of_question asking.Timeline = codes "TIMELINE"
 text_of_question asking.Page = codes "PAGE"
 text_of_question asking.Delta = codes "DELTA"
 text_of_question asking.Dates = codes "DATES"
-text_of_question asking.Digest = codes "DIGEST"
 text_of_question asking.Receipt = codes "RECEIPT"
 
 abbrev pub text_of_word : Word → List ℕ

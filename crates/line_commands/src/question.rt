@@ -87,8 +87,6 @@ pub enum Question<'a> {
     },
     /// The effective times of all rows.
     Dates,
-    /// The digest of all rows.
-    Digest,
     /// How many rows an import brought, and the latest date among them.
     Receipt {
         number: u32,

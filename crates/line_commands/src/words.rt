@@ -25,7 +25,6 @@ pub(crate) enum QuestionWord {
     Page,
     Delta,
     Dates,
-    Digest,
     Receipt,
 }
 
@@ -97,7 +96,6 @@ pub(crate) fn question_word(text: &[u8]) -> Option<QuestionWord>
         b"PAGE" => Some(QuestionWord::Page),
         b"DELTA" => Some(QuestionWord::Delta),
         b"DATES" => Some(QuestionWord::Dates),
-        b"DIGEST" => Some(QuestionWord::Digest),
         b"RECEIPT" => Some(QuestionWord::Receipt),
         _ => None,
     }
