@@ -27,6 +27,10 @@ pub mod SteppedMerge
 pub mod SteppedStore
 pub mod StepWrites
 mod TakenByKey
+mod Checked
+mod ReadyImports
+mod Foreseen
+mod ForeseenByKey
 mod KeptBlocks
 mod ImportReads
 mod Upgraded

@@ -10,7 +10,6 @@ use Rattle.blocks.specs.Outside.{SameOutside, StemsWithin, StemsWithinBoth}
 use Rattle.blocks.specs.Slots.{slot_range, slots_range}
 use Rattle.directory.specs.declared.entry.Entry.{Entry}
 use Rattle.directory.specs.Places.{extent_of, extents_of}
-use Rattle.history_store.specs.Catalog.{Catalog}
 use Rattle.history_store.specs.Written.{StemsWithinAll}
 
 slot_outside : (slot : Slot) (i : ℕ) → IsOutside i slots_range → IsOutside i (slot_range slot)
@@ -90,10 +89,3 @@ pub one_added : (slot : Slot) (entry : Entry) (es fs : List Entry) (old new : Li
 one_added slot entry es fs old new entries same =
     let one = one_behind entry es fs entries in
     subst (λ (xs : List Entry). SameOutside (slots_range ∷ map byte_range (extents_of xs)) old new) (sym one) (in_slots_and slot (byte_range (extent_of entry)) old new same)
-
--- from a store with the same catalog and moments
-pub from_same : (old mid : Moments) (s t : Catalog) (entries : List Entry) (file : List ℕ) → mid ≡ old → t ≡ s
-    → SameOutside (slots_range ∷ map byte_range (extents_of (drop (length t.entries) entries))) mid.state.now file → SameOutside (slots_range ∷ map byte_range (extents_of (drop (length s.entries) entries))) old.state.now file
-from_same old mid s t entries file moments catalog same =
-    let P : Catalog → List ℕ → Type 0 = λ x now. SameOutside (slots_range ∷ map byte_range (extents_of (drop (length x.entries) entries))) now file in
-    subst (λ (m : Moments). P s m.state.now) moments (subst (λ (x : Catalog). P x mid.state.now) catalog same)

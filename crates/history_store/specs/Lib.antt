@@ -8,6 +8,7 @@ pub mod Answers
 pub mod Openings
 pub mod Queries
 pub mod Auditing
+pub mod Checking
 pub mod Written
 pub mod Calls
 pub mod MergeAnswers

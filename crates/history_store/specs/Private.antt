@@ -4,6 +4,7 @@ pub mod Beginning
 pub mod Publishing
 pub mod StoreValue
 pub mod Prepared
+pub mod Ready
 pub mod Answers
 pub mod Taken
 pub mod Stepping

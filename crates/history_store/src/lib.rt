@@ -8,6 +8,7 @@
 mod auditing;
 mod beginning;
 mod brought;
+mod checking;
 mod counting;
 mod known;
 mod latest;

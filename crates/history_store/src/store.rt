@@ -5,12 +5,13 @@ ghost use Rattle.std.specs.List.{sum_by};
 ghost use Rattle.std.specs.Prelude.{IfOk, IfErr, OnOk, OnErr, true, false};
 ghost use Rattle.disk_model.specs.Disk.{IsImage, EachImage, LeavesOnly, raised_by};
 
+use crate::checking::{Next, Ready};
 use crate::counting::{blocks_in_use, plain_count, row_count};
 use crate::known::find_new_rows;
 use crate::latest::latest_time;
 use crate::merge_in_progress::MergeInProgress;
 use crate::posting::Posting;
-use crate::preparing::{Prepared, is_spent, prepare, with_next_import};
+use crate::preparing::Prepared;
 use crate::reading::DiskRows;
 use crate::refusal::Refusal;
 use crate::starting::{Room, Started, room_for, start};
@@ -189,7 +190,7 @@ impl<D: Disk> Store<D> {
     }
 
     /// The rows of a release that aren't known.
-    fn find_new_rows(&mut self, release: Release) -> Result<NewRows, Refusal>
+    pub(crate) fn find_new_rows(&mut self, release: Release) -> Result<NewRows, Refusal>
         requires still { self.old.needs_reopen ≡ false }
         ensures accepted { D.is_honest self.old.disk
             → IfOk result (IsAcceptedAs (full self.old.history) release) }
@@ -386,24 +387,10 @@ impl<D: Disk> Store<D> {
         ensures capacity { self.new.cache.cap ≡ self.old.cache.cap }
         ensures failures { Counts result (D.failures self.old.disk) (D.failures self.new.disk) }
     {
-        if self.needs_reopen {
-            return Err(Refusal::ReopenNeeded);
-        }
-        if is_spent(&self.directory) {
-            return Err(Refusal::CountSpent);
-        }
-        let fresh = self.find_new_rows(release)?;
-        let receipt = Receipt {
-            number: self.directory.imports() + 1,
-            new: fresh.rows.len() as u64,
-            repeated: fresh.repeated,
-        };
-        if fresh.rows.is_empty() {
-            let next = with_next_import(self.alloc, &self.directory)?;
-            self.publish_without_segment(next)?;
-        } else {
-            let prepared = prepare(self.alloc, &self.directory, &self.merge, fresh.rows)?;
-            self.publish_with_segment(prepared)?;
+        let Ready { receipt, next } = self.make_ready(release)?;
+        match next {
+            Next::WithoutSegment(directory) => self.publish_without_segment(directory)?,
+            Next::WithSegment(prepared) => self.publish_with_segment(prepared)?,
         }
         Ok(receipt)
     }

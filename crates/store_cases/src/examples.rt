@@ -1,4 +1,7 @@
 //! The store of a case, which is new at its first question, and which function answers that.
+//!
+//! `import RELEASE` and `check RELEASE` answer the receipt of what `releases.rt` finds: a check adds
+//! nothing.
 
 use crate::calls::{call, spell_receipt, store_of};
 use crate::devices::{ask_disk, changed, reopens};
@@ -42,6 +45,13 @@ impl Examples {
         spell_receipt(self.alloc, answer)
     }
 
+    /// Checks a release, which isn't imported.
+    fn check(&mut self, words: &str) -> Answer {
+        let release = self.releases.find(words)?;
+        let answer = self.store()?.check(release);
+        spell_receipt(self.alloc, answer)
+    }
+
     /// Closes the store, and gives its disk.
     fn close(&mut self) -> Result<MemDisk, NoAnswer> {
         self.store()?;
@@ -73,6 +83,7 @@ impl Answers for Examples {
     fn answer(&mut self, word: &str, rest: &str) -> Answer {
         let alloc = self.alloc;
         match word {
+            "check" => self.check(rest),
             "import" => self.import(rest),
             "new" => {
                 self.store = None;

@@ -1,4 +1,4 @@
-//! The releases that cases import, by their names or by words.
+//! The releases that cases import or check, by their names or by words.
 //!
 //! A part is a release: its lines, each behind the kind of the file that it stands in, as in
 //! `concept 138875005|20200131|1|CORE|PRIM`. A file has the lines of one kind that follow each

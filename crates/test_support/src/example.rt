@@ -107,6 +107,11 @@ impl Example {
         self.store.import(release)
     }
 
+    /// Checks a release, and adds nothing.
+    pub fn check(&mut self, release: Release) -> Result<Receipt, Refusal> {
+        self.store.check(release)
+    }
+
     /// Adds the sample release of this name.
     pub fn import_sample(&mut self, name: &str) -> Result<Receipt, Refusal> {
         let release = sample_named(self.alloc, name)?;

@@ -1,0 +1,136 @@
+-- What the check of a release answers, and what it leaves.
+use Rattle.std.proofs.Common.{◌≡◌, ◌↔◌, inl, ℕ, ◌+◌, ◌≤◌, false, true, List, [], length, Result, Ok, Err, refl, sym, ap, subst, ◌∙◌}
+use Rattle.std.specs.List.{sum_by}
+use Rattle.std.proofs.lemmas.Bool.{false≢true}
+use Rattle.disk_model.specs.Disk.{Moments}
+use Rattle.rf2_values.specs.Row.{RowValue}
+use Rattle.history_model.specs.declared.receipt.Receipt.{Receipt}
+use Rattle.history_model.specs.declared.stamped.StampedRow.{StampedRow}
+use Rattle.history_model.specs.History.{History, IsHistory, full, stamped, after_release}
+use Rattle.directory.specs.Listings.{next_layout}
+use Rattle.import_check.specs.declared.release.Release.{Release}
+use Rattle.import_check.specs.declared.found.NewRows.{NewRows}
+use Rattle.import_check.specs.Known.{already_known}
+use Rattle.import_check.specs.Release.{IsReleaseOf}
+use Rattle.import_check.specs.NewRows.{IsRead, IsAcceptedAs, BringsByKey}
+use Rattle.history_store.specs.declared.refusal.Refusal.{Refusal}
+use Rattle.history_store.specs.declared.refusal.Refusal.TheVariants as refusals
+use Rattle.history_store.specs.declared.checking.Ready.{Ready}
+use Rattle.history_store.specs.declared.checking.Next.{Next}
+use Rattle.history_store.specs.declared.checking.Next.TheVariants as nexts
+use Rattle.history_store.specs.Catalog.{Catalog, IsCatalogAfter, catalog_of}
+use Rattle.history_store.specs.Reading.{row_cost}
+use Rattle.history_store.specs.StoreValue.{StoreValue, IsAcknowledged}
+use Rattle.history_store.specs.Prepared.{IsNotSpent}
+use Rattle.history_store.specs.Queries.{ReadsThroughCache}
+use Rattle.history_store.specs.Answers.{Counts, CountsRefusal, IsImportRefusal, IsStill}
+use Rattle.history_store.specs.Checking.{IsChecking, IsCheckingOf, IsCheckingOnAnyDisk, IsCheckingRefusal}
+use Rattle.history_store.specs.Private.Prepared.{IsUnprepared}
+use Rattle.history_store.specs.Private.Ready.{IsReady, IsNext}
+use Rattle.history_store.proofs.Imported.{IsAt, taken, none_after, extended_catalog}
+use Rattle.history_store.proofs.TakenByKey.{taken_by_key}
+
+-- ---- refusals
+
+-- a refusal of an import is one of a check, but for the device
+pub of_import : {D : Type 0} (s : StoreValue D) (release : Release) (e : Refusal) → (e ≡ refusals.DiskFault → ⊥) → IsImportRefusal e s release → IsCheckingRefusal e s release
+of_import s release refusals.DiskFault other why = absurd (other refl)
+of_import s release _ other why = why
+
+-- a refusal of a check is one of an import
+pub as_import : {D : Type 0} (s : StoreValue D) (release : Release) (e : Refusal) → IsCheckingRefusal e s release → IsImportRefusal e s release
+as_import s release refusals.DiskFault why = (why.0, inl (why.1, why.2))
+as_import s release _ why = why
+
+-- a refusal that isn't the device's leaves the count of its failures
+pub counted_but : (e : Refusal) (old new : ℕ) → (e ≡ refusals.DiskFault → ⊥) → new ≡ old → CountsRefusal e old new
+counted_but refusals.DiskFault old new other same = absurd (other refl)
+counted_but _ old new other same = same
+
+pub not_device : (rows : List StampedRow) (catalog : Catalog) (e : Refusal) → IsUnprepared e rows catalog → e ≡ refusals.DiskFault → ⊥
+not_device rows catalog e why device = subst (λ x. IsUnprepared x rows catalog) device why
+
+-- ---- what is ready
+
+pub ready_at : {D : Type 0} (honest : Type 0) (u old w mid : StoreValue D) (release : Release) (fresh : NewRows) (next : Next) (number new : ℕ) → u ≡ old → IsNotSpent u.history.imports u.catalog.epoch → w ≡ mid → IsHistory w.history → IsStill old mid
+    → BringsByKey (full old.history) release fresh → (honest → IsAcceptedAs (full old.history) release fresh) → number ≡ w.history.imports + 1 → new ≡ length fresh.rows.items → IsNext w fresh next
+    → IsReady honest mid release (record { receipt = record { number = number; new = new; repeated = fresh.repeated }; next = next })
+ready_at {D} honest u old w mid release fresh next number new first left second is still brings accepted number_is count next_is =
+    let room : IsNotSpent old.history.imports old.catalog.epoch = subst (λ (x : StoreValue D). IsNotSpent x.history.imports x.catalog.epoch) first left in
+    let numbers : number ≡ mid.history.imports + 1 = number_is ∙ ap (λ (x : StoreValue D). x.history.imports + 1) second in
+    record {
+      history = subst (λ (x : StoreValue D). IsHistory x.history) second is;
+      room = subst (λ (h : History). IsNotSpent h.imports mid.catalog.epoch) (sym still.history) (subst (λ (c : Catalog). IsNotSpent old.history.imports c.epoch) (sym still.catalog) room);
+      fresh = fresh;
+      brings = subst (λ (h : History). BringsByKey (full h) release fresh) (sym still.history) brings;
+      accepted = λ up. subst (λ (h : History). IsAcceptedAs (full h) release fresh) (sym still.history) (accepted up);
+      receipt_is = λ i. record { number = numbers i; new = count i; repeated = fresh.repeated };
+      next_is = subst (λ (x : StoreValue D). IsNext x fresh next) second next_is;
+    }
+
+module _ {D : Type 0} (honest : Type 0) (s : StoreValue D) (release : Release) (ready : Ready) (is : IsReady honest s release ready) where
+  pub at_ready : s.needs_reopen ≡ false → honest → IsAt s release is.fresh
+  at_ready still up = record { still = still; history = is.history; room = is.room; accepted = is.accepted up }
+
+  -- the catalog after the import
+  pub catalog_ready : (c : Catalog) × IsCatalogAfter (stamped (s.history.imports + 1) is.fresh.rows.items) s.catalog c
+  catalog_ready = each ready.next is.next_is where
+    each : (next : Next) → IsNext s is.fresh next → (c : Catalog) × IsCatalogAfter (stamped (s.history.imports + 1) is.fresh.rows.items) s.catalog c
+    each (nexts.WithoutSegment directory) so = (
+      catalog_of directory s.catalog.merge,
+      none_after is.fresh.rows.items (s.history.imports + 1) s.catalog (catalog_of directory s.catalog.merge) so.0 (ap (λ d. catalog_of d s.catalog.merge) so.1),
+    )
+    each (nexts.WithSegment prepared) so = (catalog_of prepared.directory s.catalog.merge, extended_catalog s s is.fresh prepared refl so.1.placed so.0)
+
+  module _ (old : StoreValue D) (still : IsStill old s) where
+    pub room_ready : IsNotSpent old.history.imports old.catalog.epoch
+    room_ready = subst (λ (h : History). IsNotSpent h.imports old.catalog.epoch) still.history (subst (λ (c : Catalog). IsNotSpent s.history.imports c.epoch) still.catalog is.room)
+
+    pub brings_ready : BringsByKey (full old.history) release is.fresh
+    brings_ready = subst (λ (h : History). BringsByKey (full h) release is.fresh) still.history is.brings
+
+    -- the receipt is that of the import
+    pub foreseen : honest → IsCheckingOf (Ok ready.receipt) old s release
+    foreseen up =
+        let after = after_release s.history is.fresh.rows.items in
+        let next = catalog_ready in
+        subst (λ receipt. IsCheckingOf (Ok receipt) old s release) (sym is.receipt_is)
+        ((after, next.0, taken old s release is.fresh after next.0 (s.history.imports + 1) (length is.fresh.rows.items) still (at_ready still.open_still up) refl next.1 refl refl), still)
+
+    pub foreseen_at_all : IsCheckingOnAnyDisk (Ok ready.receipt) old s release
+    foreseen_at_all =
+        let after = after_release s.history is.fresh.rows.items in
+        let next = catalog_ready in
+        subst (λ receipt. IsCheckingOnAnyDisk (Ok receipt) old s release) (sym is.receipt_is)
+        ((after, next.0, taken_by_key old old s release is.fresh after next.0 (s.history.imports + 1) (length is.fresh.rows.items) refl room_ready still brings_ready refl next.1 refl refl), still)
+
+-- ---- a check that has read the known rows
+
+module _ {D : Type 0} (is_honest : D → Type 0) (moments_of : D → Moments) (failures_of bytes_read_of other_calls_of : D → ℕ) (old mid : StoreValue D) (release : Release) where
+  -- what the reading of known rows leaves
+  pub record HasRead : Type 0 where
+    pub still : IsStill old mid
+    pub moments : is_honest old.disk → moments_of mid.disk ≡ moments_of old.disk
+    pub acknowledged : is_honest mid.disk → mid.needs_reopen ≡ false → IsAcknowledged moments_of mid
+    pub honesty : is_honest old.disk ↔ is_honest mid.disk
+    pub failures : failures_of mid.disk ≡ failures_of old.disk
+    pub other_calls : other_calls_of mid.disk ≡ other_calls_of old.disk
+    pub looked_up : ReadsThroughCache bytes_read_of old mid
+    pub bytes_read : (rows : List RowValue) → IsReleaseOf release rows → bytes_read_of mid.disk ≤ bytes_read_of old.disk + sum_by row_cost (already_known (full old.history) rows)
+    pub bytes_unread : (IsRead release → ⊥) → bytes_read_of mid.disk ≤ bytes_read_of old.disk
+
+  pub checked_after : (result : Result Receipt Refusal) → HasRead → (is_honest old.disk → IsCheckingOf result old mid release) → IsCheckingOnAnyDisk result old mid release → Counts result (failures_of old.disk) (failures_of mid.disk)
+      → IsChecking result release is_honest moments_of failures_of bytes_read_of other_calls_of old mid
+  checked_after result read answer kept failures = record {
+    answer = answer;
+    kept = kept;
+    closed = λ closed. absurd (false≢true (sym read.still.open_before ∙ closed));
+    moments = read.moments;
+    acknowledged = λ up. read.acknowledged (read.honesty.0 up);
+    honesty = read.honesty;
+    failures = failures;
+    other_calls = read.other_calls;
+    looked_up = read.looked_up;
+    bytes_read = read.bytes_read;
+    bytes_unread = read.bytes_unread;
+  }

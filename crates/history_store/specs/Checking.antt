@@ -1,0 +1,98 @@
+-- What the check of a release answers: whether an import of it would be taken, and with which
+-- receipt.
+use Rattle.std.specs.Prelude.{◌≡◌, ◌⊎◌, ◌↔◌, ℕ, ◌+◌, ◌≤◌, true, false, List, Result, Ok, Err}
+use Rattle.std.specs.List.{sum_by}
+use Rattle.disk_model.specs.Disk.{Moments}
+use Rattle.rf2_values.specs.Row.{RowValue}
+use Rattle.history_model.specs.declared.receipt.Receipt.{Receipt}
+use Rattle.history_model.specs.History.{History, full}
+use Rattle.import_check.specs.declared.release.Release.{Release}
+use Rattle.import_check.specs.Known.{already_known}
+use Rattle.import_check.specs.Release.{IsReleaseOf}
+use Rattle.import_check.specs.NewRows.{IsRead}
+use Rattle.history_store.specs.declared.refusal.Refusal.{Refusal}
+use Rattle.history_store.specs.declared.refusal.Refusal.TheVariants as refusals
+use Rattle.history_store.specs.Catalog.{Catalog}
+use Rattle.history_store.specs.Reading.{row_cost}
+use Rattle.history_store.specs.StoreValue.{StoreValue, IsAcknowledged}
+use Rattle.history_store.specs.Prepared.{IsNotSpent}
+use Rattle.history_store.specs.Queries.{ReadsThroughCache}
+use Rattle.history_store.specs.Answers.{Counts, IsTaken, IsTakenByKey, IsRefused, IsStill}
+use Rattle.history_store.specs.Answers.{IsImportRefusal, IsRefusalOnAnyDisk}
+use Rattle.history_store.specs.Answers.{IsImportOf, IsImportOnAnyDisk}
+
+-- The reasons are those of an import. But nothing is written, so that the device fails only while
+-- known rows are read: a disk that is full, or that refuses a write, isn't found out.
+abbrev pub IsCheckingRefusal : {D : Type 0} → Refusal → StoreValue D → Release → Type 0
+IsCheckingRefusal refusals.DiskFault s release =
+    (s.needs_reopen ≡ false) × IsNotSpent s.history.imports s.catalog.epoch × IsRead release
+IsCheckingRefusal e s release = IsImportRefusal e s release
+
+-- The receipt is that of an import which takes the release, and nothing is taken. A failure of the
+-- device alone closes the store.
+abbrev pub IsCheckingOf : {D : Type 0} → Result Receipt Refusal → StoreValue D → StoreValue D
+    → Release → Type 0
+IsCheckingOf (Ok receipt) old new release =
+    ((after : History) × (next : Catalog)
+    × IsTaken old.history after old.catalog next release receipt) × IsStill old new
+IsCheckingOf (Err e) old new release = IsCheckingRefusal e old release × IsRefused e old new
+
+-- the same on every disk
+abbrev pub IsCheckingOnAnyDisk : {D : Type 0} → Result Receipt Refusal → StoreValue D
+    → StoreValue D → Release → Type 0
+IsCheckingOnAnyDisk (Ok receipt) old new release =
+    ((after : History) × (next : Catalog)
+    × IsTakenByKey old.history after old.catalog next release receipt) × IsStill old new
+IsCheckingOnAnyDisk (Err e) old new release =
+    IsRefusalOnAnyDisk e old release × IsRefused e old new
+
+-- A release was checked. Whatever is answered, history and catalog stay, and a failed device alone
+-- closes the store. A store that has to be opened again leaves everything as it is. Only reads are
+-- made: each row of the store whose key the release has is read once at most, through the blocks in
+-- memory, and no other; where a file is no release file, nothing is read. What a stop may leave
+-- stays, and as long as no call has failed it represents what the store holds.
+pub record IsChecking {D : Type 0} (result : Result Receipt Refusal) (release : Release)
+    (is_honest : D → Type 0) (moments_of : D → Moments)
+    (failures_of bytes_read_of other_calls_of : D → ℕ) (old new : StoreValue D) : Type 0 where
+  pub answer : is_honest old.disk → IsCheckingOf result old new release
+  pub kept : IsCheckingOnAnyDisk result old new release
+  pub closed : old.needs_reopen ≡ true → new ≡ old
+  pub moments : is_honest old.disk → moments_of new.disk ≡ moments_of old.disk
+  pub acknowledged : is_honest old.disk → new.needs_reopen ≡ false → IsAcknowledged moments_of new
+  pub honesty : is_honest old.disk ↔ is_honest new.disk
+  pub failures : Counts result (failures_of old.disk) (failures_of new.disk)
+  pub other_calls : other_calls_of new.disk ≡ other_calls_of old.disk
+  pub looked_up : ReadsThroughCache bytes_read_of old new
+  pub bytes_read : (rows : List RowValue) → IsReleaseOf release rows
+      → bytes_read_of new.disk ≤ bytes_read_of old.disk
+      + sum_by row_cost (already_known (full old.history) rows)
+  pub bytes_unread : (IsRead release → ⊥) → bytes_read_of new.disk ≤ bytes_read_of old.disk
+
+-- ---- what a check answers, an import answers next
+
+-- memory ran out, or the device failed
+abbrev pub HasFailed : Result Receipt Refusal → Type 0
+HasFailed (Err refusals.OutOfMemory) = Unit {0}
+HasFailed (Err refusals.DiskFault) = Unit {0}
+HasFailed _ = ⊥
+
+-- An import of the release that was checked last gives the same receipt or the same refusal, unless
+-- memory runs out or the device fails in one of the two calls.
+abbrev pub CheckedIsImported : Type 0 → Type 0
+CheckedIsImported D = (old checked new : StoreValue D) (release : Release)
+    (answer result : Result Receipt Refusal)
+    → IsCheckingOf answer old checked release → IsImportOf result checked new release
+    → (result ≡ answer) ⊎ (HasFailed answer ⊎ HasFailed result)
+
+-- memory ran out, the device failed, or a known row was read as damaged, or as one that contradicts
+abbrev pub DependsOnReading : Result Receipt Refusal → Type 0
+DependsOnReading (Err refusals.Damaged) = Unit {0}
+DependsOnReading (Err (refusals.Contradiction file line)) = Unit {0}
+DependsOnReading answer = HasFailed answer
+
+-- the same on every disk, unless one of the two calls was answered by what was read
+abbrev pub CheckedIsImportedOnAnyDisk : Type 0 → Type 0
+CheckedIsImportedOnAnyDisk D = (old checked new : StoreValue D) (release : Release)
+    (answer result : Result Receipt Refusal)
+    → IsCheckingOnAnyDisk answer old checked release → IsImportOnAnyDisk result checked new release
+    → (result ≡ answer) ⊎ (DependsOnReading answer ⊎ DependsOnReading result)

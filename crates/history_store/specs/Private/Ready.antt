@@ -1,0 +1,48 @@
+-- What is made of a release before the first write. Only private functions cite these words.
+use Rattle.std.specs.Prelude.{◌≡◌, ◌+◌, ◌≤◌, [], length, Result, Ok, Err}
+use Rattle.history_model.specs.declared.receipt.Receipt.{Receipt}
+use Rattle.history_model.specs.History.{IsHistory, full, stamped}
+use Rattle.directory.specs.Listings.{next_layout}
+use Rattle.import_check.specs.declared.release.Release.{Release}
+use Rattle.import_check.specs.declared.found.NewRows.{NewRows}
+use Rattle.import_check.specs.NewRows.{IsAcceptedAs, BringsByKey}
+use Rattle.history_store.specs.declared.refusal.Refusal.{Refusal}
+use Rattle.history_store.specs.declared.checking.Ready.{Ready}
+use Rattle.history_store.specs.declared.checking.Next.{Next}
+use Rattle.history_store.specs.declared.checking.Next.TheVariants as nexts
+use Rattle.history_store.specs.Prepared.{IsNotSpent}
+use Rattle.history_store.specs.StoreValue.{StoreValue}
+use Rattle.history_store.specs.Private.StoreValue.{directory_of}
+use Rattle.history_store.specs.Private.Prepared.{IsPrepared}
+
+-- the next directory: with a segment of the new rows, or without one where there are none
+abbrev pub IsNext : {D : Type 0} → StoreValue D → NewRows → Next → Type 0
+IsNext s fresh (nexts.WithoutSegment directory) = (fresh.rows.items ≡ []) × (directory ≡ record {
+  layout = next_layout s.catalog.layout;
+  epoch = s.catalog.epoch + 1;
+  imports = s.history.imports + 1;
+  entries = s.catalog.entries;
+})
+IsNext s fresh (nexts.WithSegment prepared) = (1 ≤ length fresh.rows.items)
+    × IsPrepared (directory_of s) s.catalog.merge (stamped (s.history.imports + 1) fresh.rows.items)
+    prepared
+
+-- a release would be taken, and what an import of it answers and writes is ready
+pub record IsReady {D : Type 0} (honest : Type 0) (s : StoreValue D) (release : Release)
+    (ready : Ready) : Type 0 where
+  pub history : IsHistory s.history
+  pub room : IsNotSpent s.history.imports s.catalog.epoch
+  pub fresh : NewRows
+  pub brings : BringsByKey (full s.history) release fresh
+  pub accepted : honest → IsAcceptedAs (full s.history) release fresh
+  pub receipt_is : ready.receipt ≡ record {
+    number = s.history.imports + 1;
+    new = length fresh.rows.items;
+    repeated = fresh.repeated;
+  }
+  pub next_is : IsNext s fresh ready.next
+
+-- what a check answers of it
+abbrev pub checked : Result Ready Refusal → Result Receipt Refusal
+checked (Ok ready) = Ok ready.receipt
+checked (Err e) = Err e

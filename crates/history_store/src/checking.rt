@@ -1,0 +1,75 @@
+//! Releases that are tried before they count: all that an import does before its first write.
+
+ghost use Rattle.std.specs.Prelude.{◌≡◌, IfOk, true, false};
+
+use crate::preparing::{Prepared, is_spent, prepare, with_next_import};
+use crate::refusal::Refusal;
+use crate::store::Store;
+use directory::Directory;
+use disk_model::Disk;
+use history_model::Receipt;
+use import_check::Release;
+
+/// The directory that an import publishes next.
+#[derive(Drop)]
+pub(crate) enum Next {
+    /// No row is new: it lists the same segments.
+    WithoutSegment(Directory),
+    /// It lists the segment of the new rows, too.
+    WithSegment(Prepared),
+}
+
+/// What an import answers, and what it is about to publish.
+#[derive(Drop)]
+pub(crate) struct Ready {
+    pub(crate) receipt: Receipt,
+    pub(crate) next: Next,
+}
+
+impl<D: Disk> Store<D> {
+    ghost use Rattle.history_store.specs.Checking.{IsChecking};
+    ghost use Rattle.history_store.specs.StoreValue.{IsAcknowledged};
+    ghost use Rattle.history_store.specs.Private.Ready.{IsReady, checked};
+
+    /// Finds the new rows of a release, and makes in memory all that an import of it publishes.
+    pub(crate) fn make_ready(&mut self, release: Release) -> Result<Ready, Refusal>
+        ensures checking { IsChecking (checked result) release
+            D.is_honest D.moments D.failures D.bytes_read D.other_calls self.old self.new }
+        ensures ready { IfOk result (IsReady (D.is_honest self.old.disk) self.new release) }
+        // What the store held before the call, a stop before it would have left.
+        ensures stood { D.is_honest self.old.disk → self.old.needs_reopen ≡ false
+            → IsAcknowledged D.moments self.old }
+    {
+        if self.needs_reopen {
+            return Err(Refusal::ReopenNeeded);
+        }
+        if is_spent(&self.directory) {
+            return Err(Refusal::CountSpent);
+        }
+        let fresh = self.find_new_rows(release)?;
+        let receipt = Receipt {
+            number: self.directory.imports() + 1,
+            new: fresh.rows.len() as u64,
+            repeated: fresh.repeated,
+        };
+        if fresh.rows.is_empty() {
+            let directory = with_next_import(self.alloc, &self.directory)?;
+            let next = Next::WithoutSegment(directory);
+            return Ok(Ready { receipt, next });
+        }
+        let prepared = prepare(self.alloc, &self.directory, &self.merge, fresh.rows)?;
+        let next = Next::WithSegment(prepared);
+        Ok(Ready { receipt, next })
+    }
+
+    /// Tries a release, and leaves the store as it is: what an import of it would answer. All is
+    /// done that an import does before its first write, so that it takes as much memory. What an
+    /// import finds out only by writing isn't foreseen: that the disk is full, or refuses a write.
+    pub fn check(&mut self, release: Release) -> Result<Receipt, Refusal>
+        ensures answer { IsChecking result release
+            D.is_honest D.moments D.failures D.bytes_read D.other_calls self.old self.new }
+    {
+        let ready = self.make_ready(release)?;
+        Ok(ready.receipt)
+    }
+}
