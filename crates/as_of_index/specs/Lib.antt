@@ -4,6 +4,7 @@ pub use Rattle.history_model.specs.InOrder
 pub use Rattle.history_model.specs.History
 pub use Rattle.history_model.specs.Lists
 pub use Rattle.history_model.specs.Queries
+pub use Rattle.history_model.specs.KeyOrder
 pub use Rattle.segment.specs.Standing
 pub use Rattle.fault_counts.specs.Counting
 pub mod Places

@@ -7,5 +7,6 @@ pub mod Postings
 pub mod Merging
 pub mod Numbers
 pub mod Walk
+pub mod KeyOrder
 pub mod Once
 pub mod Dates

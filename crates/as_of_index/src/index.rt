@@ -41,8 +41,8 @@ pub const MAX_LISTS: usize = 250;
 /// The places of several segments' rows, no key of which is listed twice.
 #[derive(Drop)]
 pub struct Index {
-    lists: Vec<PlaceList>,
-    alloc: Global,
+    pub(crate) lists: Vec<PlaceList>,
+    pub(crate) alloc: Global,
 }
 
 impl Model for Index {

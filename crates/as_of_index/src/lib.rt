@@ -7,6 +7,7 @@ mod cursors;
 mod dates;
 mod hints;
 mod index;
+mod key_order;
 pub mod laws;
 mod merging;
 mod number_table;

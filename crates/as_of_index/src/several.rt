@@ -42,7 +42,7 @@ pub(crate) fn latest(
 }
 
 /// The first place of all lists that isn't passed over, and the number of its list.
-fn next(lists: &[PlaceList], start: &Start) -> Option<(usize, RowPlace)>
+pub(crate) fn next(lists: &[PlaceList], start: &Start) -> Option<(usize, RowPlace)>
     ensures { IsNext start.now (λ x. x.1) (all_places 0 lists.now) result }
 {
     let mut best = None;

@@ -10,6 +10,7 @@ mod beginning;
 mod brought;
 mod checking;
 mod counting;
+mod key_order;
 mod known;
 mod latest;
 pub mod laws;

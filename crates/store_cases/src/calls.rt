@@ -6,10 +6,12 @@
 //!   answer what the store shows: `version` is that of its layout, `plain` how many segments have no
 //!   checksums, `blocks` how many blocks of the disk it needs, `left` how many rows of a merge are
 //!   left, `closed` whether it has to be opened again, and `latest` its latest day;
-//! - `receipt NUMBER` answers what an import brought.
+//! - `receipt NUMBER` answers what an import brought, and `digest PIN` in base 16 the digest of the
+//!   rows that a pin shows.
 //!
 //! A refusal is answered by its number and by what Rust prints of it.
 
+use crate::devices::spell_bytes;
 use case_files::{Answer, NoAnswer};
 use case_values::number;
 use history_store::{ImportReceipt, Receipt, Refusal};
@@ -113,6 +115,10 @@ pub fn call(alloc: Global, store: &mut Example, word: &str, words: &str) -> Answ
         ("step", rows) => spell_count(alloc, store.merge_step(number(rows)?)),
         ("receipt", import) => match store.receipt(number(import)?) {
             Ok(brought) => spell_brought(alloc, brought),
+            Err(refusal) => spell_refusal(alloc, refusal),
+        },
+        ("digest", pin) => match store.digest(number(pin)?) {
+            Ok(digest) => spell_bytes(alloc, &digest),
             Err(refusal) => spell_refusal(alloc, refusal),
         },
         ("begin", "") => spell_count(alloc, store.merge_begin()),

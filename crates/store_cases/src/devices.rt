@@ -30,7 +30,7 @@ pub fn reopens(word: &str) -> bool {
 }
 
 /// Bytes in base 16.
-fn spell_bytes(alloc: Global, bytes: &[u8]) -> Answer {
+pub fn spell_bytes(alloc: Global, bytes: &[u8]) -> Answer {
     let mut text = String::new(alloc);
     for byte in bytes {
         let digits = format!(in alloc; "{byte:02x}")?;

@@ -9,6 +9,7 @@ use crate::text::{line_of, lines_of, lines_of_days};
 use disk_model::MemDisk;
 use history_store::{ImportReceipt, Refusal, Store};
 use rf2_rows::{EffectiveTime, Kind, Row, Sctid};
+use store_digest::digest;
 
 /// The pin, or the number of imports where that is less.
 fn clamp_pin(store: &Store<MemDisk>, pin: u32) -> u32
@@ -210,6 +211,13 @@ impl Example {
         let pin = clamp_pin(&self.store, pin);
         let days = self.store.dates(pin)?;
         Ok(lines_of_days(self.alloc, &days)?)
+    }
+
+    /// The digest of all rows.
+    pub fn digest(&mut self, pin: u32) -> Result<[u8; 32], Refusal> {
+        self.check_pin(pin)?;
+        let pin = clamp_pin(&self.store, pin);
+        digest(self.alloc, &mut self.store, pin)
     }
 
     /// What an import brought.

@@ -1,0 +1,184 @@
+use Rattle.std.proofs.Common.{◌≡◌, ◌+◌, ◌-◌, ◌≤◌, [], ◌∷◌, ◌++◌, List, length, map, refl, sym, ap, subst, ◌∙◌, arith, rules}
+use Rattle.std.specs.List.{sum_by}
+use Rattle.std.proofs.lemmas.List.{length_push}
+use Rattle.std.proofs.lemmas.List.Sums.{sum_by_push}
+use Rattle.rf2_values.specs.Key.{key_of}
+use Rattle.history_model.specs.declared.stamped.StampedRow.{StampedRow}
+use Rattle.history_model.specs.History.{rows_at}
+use Rattle.history_model.specs.KeyOrder.{rows_after}
+use Rattle.history_model.specs.Lists.{listed}
+use Rattle.segment.specs.Standing.{StandsAt}
+use Rattle.as_of_index.proofs.Standing.{are_lists}
+use Rattle.as_of_index.proofs.SameKeys.{key_there, keys_push, same_count}
+use Rattle.as_of_index.proofs.KeyOrder.{row_next, fewer_after, after_more, after_cost, after_hidden, after_done, after_full}
+use Rattle.as_of_index.proofs.index.Index.rows_after.Goals as goal
+use Rattle.as_of_index.proofs.index.Index.rows_after.Goals.{then-is_shown+in_ok-found-in-Some+in_ok-push-in-Some, else-is_shown}
+
+pub loop-self-init : goal.loop-self-init
+loop-self-init g c =
+    let a = c.args in
+    let shown = rows_at a.pin (listed (g.R.RowReader.lists a.reader.now)) in
+    let none : length c.new-rows.result.items ≡ 0 = ap length c.new-rows.ensures.items in
+    let whole : a.limit - 0 ≡ a.limit = omega arith in
+    let first = ap (λ n. rows_after a.after n shown) whole in
+    let left : a.limit - length c.new-rows.result.items ≡ a.limit = ap (λ n. a.limit - n) none ∙ whole in
+    let same = ap (λ n. rows_after a.after n shown) left in
+    let sum = ap (sum_by g.R.RowReader.cost) same in
+    record {
+      within = omega arith;
+      honesty = λ h. h;
+      work = omega arith;
+      work_always = λ listed_so. omega (arith, sum);
+      stays = g.met.R.RowReader.stays_still a.reader.now;
+      lists = refl;
+      disk_faults = refl;
+      damages = refl;
+      rows = λ honest listed_so. rw c.new-rows.ensures.items first;
+      keys = λ listed_so. ([], ap (map key_of) c.new-rows.ensures.items, first);
+    }
+
+pub returns-in_err-found-in-Some-clause-undamaged : goal.returns-in_err-found-in-Some-clause-undamaged
+returns-in_err-found-in-Some-clause-undamaged g c = λ honest listed_so.
+    let a = c.args in
+    let lists = g.R.RowReader.lists a.reader.now in
+    let w = row_next a.pin lists (are_lists lists (rw (c.self.view_is, listed_so) at c.self.invariant.places)) c.loop-self.last (c.in-Some.segment, c.in-Some.at) (rw (c.as_slice.ensures.value, c.self.view_is, listed_so) at c.in-Some.ensures) in
+    let stands = subst (λ ls. StandsAt ls c.in-Some.segment c.in-Some.at w.0) (sym (c.loop-self.invariant.lists)) w.1 in
+    let k = c.in_err-found-in-Some.ensures.undamaged (c.loop-self.invariant.honesty honest) w.0 stands in
+    search rules
+
+pub returns-in_err-found-in-Some-clause-work_always : goal.returns-in_err-found-in-Some-clause-work_always
+returns-in_err-found-in-Some-clause-work_always g c = λ listed_so.
+    let a = c.args in
+    let lists = g.R.RowReader.lists a.reader.now in
+    let are = are_lists lists (rw (c.self.view_is, listed_so) at c.self.invariant.places) in
+    let next = rw (c.as_slice.ensures.value, c.self.view_is, listed_so) at c.in-Some.ensures in
+    let w = row_next a.pin lists are c.loop-self.last (c.in-Some.segment, c.in-Some.at) next in
+    let stands = subst (λ ls. StandsAt ls c.in-Some.segment c.in-Some.at w.0) (sym (c.loop-self.invariant.lists)) w.1 in
+    let least = c.loop-self.invariant.work_always listed_so in
+    let more = c.in_err-found-in-Some.ensures.work_always w.0 stands in
+    let sum = after_cost a.pin lists are g.R.RowReader.cost c.loop-self.last (c.in-Some.segment, c.in-Some.at) w.0 a.limit c.loop-self.rows.items w.0.row (omega arith) next w.2 w.3 w.4 (c.is_shown.ensures.0 c.if-is_shown.true) in
+    omega arith
+
+pub returns-in_err-push-in-Some-clause-work_always : goal.returns-in_err-push-in-Some-clause-work_always
+returns-in_err-push-in-Some-clause-work_always g c = λ listed_so.
+    let a = c.args in
+    let lists = g.R.RowReader.lists a.reader.now in
+    let are = are_lists lists (rw (c.self.view_is, listed_so) at c.self.invariant.places) in
+    let next = rw (c.as_slice.ensures.value, c.self.view_is, listed_so) at c.in-Some.ensures in
+    let w = row_next a.pin lists are c.loop-self.last (c.in-Some.segment, c.in-Some.at) next in
+    let stands = subst (λ ls. StandsAt ls c.in-Some.segment c.in-Some.at w.0) (sym (c.loop-self.invariant.lists)) w.1 in
+    let least = c.loop-self.invariant.work_always listed_so in
+    let more = c.in_ok-found-in-Some.ensures.work_always w.0 stands in
+    let sum = after_cost a.pin lists are g.R.RowReader.cost c.loop-self.last (c.in-Some.segment, c.in-Some.at) w.0 a.limit c.loop-self.rows.items w.0.row (omega arith) next w.2 w.3 w.4 (c.is_shown.ensures.0 c.if-is_shown.true) in
+    omega arith
+
+pub loop-self-smaller : goal.loop-self-smaller
+loop-self-smaller g c =
+    rw c.key_at-key.ensures (fewer_after c.loop-self.last _ (c.in-Some.segment, c.in-Some.at) (rw (c.as_slice.ensures.value, c.self.view_is) at c.in-Some.ensures))
+
+pub loop-self-preserved : goal.loop-self-preserved
+loop-self-preserved g c =
+    let a = c.args in
+    let so_far = c.loop-self.invariant in
+    let lists = g.R.RowReader.lists a.reader.now in
+    elim c.if-is_shown.branch [
+      | then-is_shown+in_ok-found-in-Some+in_ok-push-in-Some w ↦ rw (w.reader-is, w.rows-is, c.key_at-key.ensures) (record {
+        within = (let e = length_push c.loop-self.rows.items w.in_ok-found-in-Some.found.row in rw w.in_ok-push-in-Some.ensures.items (omega arith));
+        honesty = λ h. w.in_ok-found-in-Some.ensures.honesty (so_far.honesty h);
+        work = (let least = so_far.work in let more = w.in_ok-found-in-Some.ensures.work in rw (w.in_ok-push-in-Some.ensures.items, sum_by_push g.R.RowReader.cost c.loop-self.rows.items w.in_ok-found-in-Some.found.row) (omega arith));
+        work_always = λ listed_so.
+            let are = are_lists lists (rw (c.self.view_is, listed_so) at c.self.invariant.places) in
+            let next = rw (c.as_slice.ensures.value, c.self.view_is, listed_so) at c.in-Some.ensures in
+            let r = row_next a.pin lists are c.loop-self.last (c.in-Some.segment, c.in-Some.at) next in
+            let stands = subst (λ ls. StandsAt ls c.in-Some.segment c.in-Some.at r.0) (sym (so_far.lists)) r.1 in
+            let least = so_far.work_always listed_so in
+            let more = w.in_ok-found-in-Some.ensures.work_always r.0 stands in
+            let sum = after_cost a.pin lists are g.R.RowReader.cost c.loop-self.last (c.in-Some.segment, c.in-Some.at) r.0 a.limit c.loop-self.rows.items w.in_ok-found-in-Some.found.row (omega arith) next r.2 r.3 r.4 (c.is_shown.ensures.0 w.if-is_shown.true) in
+            rw w.in_ok-push-in-Some.ensures.items (omega arith);
+        stays = g.met.R.RowReader.stays_on a.reader.now _ _ so_far.stays w.in_ok-found-in-Some.ensures.stays;
+        lists = w.in_ok-found-in-Some.ensures.lists ∙ so_far.lists;
+        disk_faults = w.in_ok-found-in-Some.ensures.disk_faults ∙ so_far.disk_faults;
+        damages = w.in_ok-found-in-Some.ensures.damages ∙ so_far.damages;
+        rows = λ honest listed_so.
+            let are = are_lists lists (rw (c.self.view_is, listed_so) at c.self.invariant.places) in
+            let next = rw (c.as_slice.ensures.value, c.self.view_is, listed_so) at c.in-Some.ensures in
+            let r = row_next a.pin lists are c.loop-self.last (c.in-Some.segment, c.in-Some.at) next in
+            let stands = subst (λ ls. StandsAt ls c.in-Some.segment c.in-Some.at r.0) (sym (so_far.lists)) r.1 in
+            let same = w.in_ok-found-in-Some.ensures.found (so_far.honesty honest) r.0 stands in
+            rw (w.in_ok-push-in-Some.ensures.items, same)
+            (after_more a.pin lists are c.loop-self.last (c.in-Some.segment, c.in-Some.at) r.0 a.limit c.loop-self.rows.items _ (omega arith) next r.2 r.3 r.4 (c.is_shown.ensures.0 w.if-is_shown.true) (so_far.rows honest listed_so));
+        keys = λ listed_so.
+            let are = are_lists lists (rw (c.self.view_is, listed_so) at c.self.invariant.places) in
+            let next = rw (c.as_slice.ensures.value, c.self.view_is, listed_so) at c.in-Some.ensures in
+            let r = row_next a.pin lists are c.loop-self.last (c.in-Some.segment, c.in-Some.at) next in
+            let row = w.in_ok-found-in-Some.found.row in
+            let k = so_far.keys listed_so in
+            let count = same_count c.loop-self.rows.items k.0 k.1 in (
+              k.0 ++ r.0.row ∷ [],
+              ap (map key_of) w.in_ok-push-in-Some.ensures.items ∙ keys_push c.loop-self.rows.items k.0 row r.0.row k.1 (key_there lists c.in-Some.segment c.in-Some.at r.0 row r.1 w.in_ok-found-in-Some.ensures.keyed),
+              after_more a.pin lists are c.loop-self.last (c.in-Some.segment, c.in-Some.at) r.0 a.limit k.0 _ (omega arith) next r.2 r.3 r.4 (c.is_shown.ensures.0 w.if-is_shown.true) k.2,
+            );
+      })
+      | else-is_shown w ↦ rw (w.reader-is, w.rows-is, c.key_at-key.ensures) (record {
+        within = so_far.within;
+        honesty = so_far.honesty;
+        work = so_far.work;
+        work_always = λ listed_so.
+            let are = are_lists lists (rw (c.self.view_is, listed_so) at c.self.invariant.places) in
+            let next = rw (c.as_slice.ensures.value, c.self.view_is, listed_so) at c.in-Some.ensures in
+            let r = row_next a.pin lists are c.loop-self.last (c.in-Some.segment, c.in-Some.at) next in
+            let same = after_hidden a.pin lists are c.loop-self.last (c.in-Some.segment, c.in-Some.at) r.0 (a.limit - length c.loop-self.rows.items) next r.2 r.3 r.4 (λ le. let yes = c.is_shown.ensures.1 le in let no_yes = w.if-is_shown.false in absurd (cc)) in
+            let sum = ap (sum_by g.R.RowReader.cost) same in
+            let least = so_far.work_always listed_so in
+            omega arith;
+        stays = so_far.stays;
+        lists = so_far.lists;
+        disk_faults = so_far.disk_faults;
+        damages = so_far.damages;
+        rows = λ honest listed_so.
+            let are = are_lists lists (rw (c.self.view_is, listed_so) at c.self.invariant.places) in
+            let next = rw (c.as_slice.ensures.value, c.self.view_is, listed_so) at c.in-Some.ensures in
+            let r = row_next a.pin lists are c.loop-self.last (c.in-Some.segment, c.in-Some.at) next in
+            ap (λ ys. c.loop-self.rows.items ++ ys) (sym (after_hidden a.pin lists are c.loop-self.last (c.in-Some.segment, c.in-Some.at) r.0 (a.limit - length c.loop-self.rows.items) next r.2 r.3 r.4 (λ le. let yes = c.is_shown.ensures.1 le in let no_yes = w.if-is_shown.false in absurd (cc))))
+            ∙ so_far.rows honest listed_so;
+        keys = λ listed_so.
+            let are = are_lists lists (rw (c.self.view_is, listed_so) at c.self.invariant.places) in
+            let next = rw (c.as_slice.ensures.value, c.self.view_is, listed_so) at c.in-Some.ensures in
+            let r = row_next a.pin lists are c.loop-self.last (c.in-Some.segment, c.in-Some.at) next in
+            let k = so_far.keys listed_so in
+            (k.0, k.1, ap (λ ys. k.0 ++ ys) (sym (after_hidden a.pin lists are c.loop-self.last (c.in-Some.segment, c.in-Some.at) r.0 (a.limit - length k.0) next r.2 r.3 r.4 (λ le. let yes = c.is_shown.ensures.1 le in let no_yes = w.if-is_shown.false in absurd (cc)))) ∙ k.2);
+      })
+    ]
+
+pub returns-in-None-clause-found : goal.returns-in-None-clause-found
+returns-in-None-clause-found g c = λ honest listed_so.
+    let a = c.args in
+    let lists = g.R.RowReader.lists a.reader.now in
+    after_done a.pin lists (are_lists lists (rw (c.self.view_is, listed_so) at c.self.invariant.places)) c.loop-self.last _ c.loop-self.rows.items _ (rw (c.as_slice.ensures.value, c.self.view_is, listed_so) at c.in-None.ensures) (c.loop-self.invariant.rows honest listed_so)
+
+pub returns-in-None-clause-keys : goal.returns-in-None-clause-keys
+returns-in-None-clause-keys g c = λ listed_so.
+    let a = c.args in
+    let lists = g.R.RowReader.lists a.reader.now in
+    let k = c.loop-self.invariant.keys listed_so in
+    k.1 ∙ ap (map key_of) (after_done a.pin lists (are_lists lists (rw (c.self.view_is, listed_so) at c.self.invariant.places)) c.loop-self.last _ k.0 _ (rw (c.as_slice.ensures.value, c.self.view_is, listed_so) at c.in-None.ensures) k.2)
+
+pub returns-in-None-clause-work_always : goal.returns-in-None-clause-work_always
+returns-in-None-clause-work_always g c = λ listed_so. (let least = c.loop-self.invariant.work_always listed_so in omega arith)
+
+pub returns-clause-found : goal.returns-clause-found
+returns-clause-found g c = λ honest listed_so.
+    let a = c.args in
+    let lists = g.R.RowReader.lists a.reader.now in
+    after_full a.pin lists (are_lists lists (rw (c.self.view_is, listed_so) at c.self.invariant.places)) c.loop-self.last a.limit c.loop-self.rows.items _ (omega arith) (c.loop-self.invariant.rows honest listed_so)
+
+pub returns-clause-keys : goal.returns-clause-keys
+returns-clause-keys g c = λ listed_so.
+    let a = c.args in
+    let lists = g.R.RowReader.lists a.reader.now in
+    let k = c.loop-self.invariant.keys listed_so in
+    let count = same_count c.loop-self.rows.items k.0 k.1 in
+    k.1 ∙ ap (map key_of) (after_full a.pin lists (are_lists lists (rw (c.self.view_is, listed_so) at c.self.invariant.places)) c.loop-self.last a.limit k.0 _ (omega arith) k.2)
+
+pub returns-clause-work_always : goal.returns-clause-work_always
+returns-clause-work_always g c = λ listed_so. (let least = c.loop-self.invariant.work_always listed_so in omega arith)

@@ -1,0 +1,29 @@
+use Rattle.std.proofs.Common.{◌≡◌, ◌++◌, ◌-◌, ◌+◌, ◌≤◌, List, length, map}
+use Rattle.std.specs.List.{filter, sum_by}
+use Rattle.rf2_values.specs.Row.{RowValue}
+use Rattle.rf2_values.specs.Key.{key_of}
+use Rattle.history_model.specs.History.{rows_at}
+use Rattle.history_model.specs.KeyOrder.{is_key_after, rows_after}
+use Rattle.history_model.specs.Lists.{listed}
+use Rattle.as_of_index.specs.Places.{Lists}
+use Rattle.as_of_index.specs.Private.Search.{all_places}
+use Rattle.as_of_index.proofs.index.Index.rows_after.Given as goal
+
+abbrev pub invariant-loop-self : goal.invariant-loop-self
+invariant-loop-self g l =
+    let r = g.R.RowReader in
+    record {
+      within : length l.rows.items ≤ l.limit;
+      honesty : r.is_honest l.fn.reader → r.is_honest l.reader;
+      work : r.work l.reader ≤ r.work l.fn.reader + sum_by r.cost l.rows.items;
+      work_always : Lists l.self (r.lists l.fn.reader) → r.work l.reader + sum_by r.cost (rows_after l.last (l.limit - length l.rows.items) (rows_at l.pin (listed (r.lists l.fn.reader)))) ≤ r.work l.fn.reader + sum_by r.cost (rows_after l.fn.after l.limit (rows_at l.pin (listed (r.lists l.fn.reader))));
+      stays : r.stays l.fn.reader l.reader;
+      lists : r.lists l.reader ≡ r.lists l.fn.reader;
+      disk_faults : r.disk_faults l.reader ≡ r.disk_faults l.fn.reader;
+      damages : r.damages l.reader ≡ r.damages l.fn.reader;
+      rows : r.is_honest l.fn.reader → Lists l.self (r.lists l.fn.reader) → l.rows.items ++ rows_after l.last (l.limit - length l.rows.items) (rows_at l.pin (listed (r.lists l.fn.reader))) ≡ rows_after l.fn.after l.limit (rows_at l.pin (listed (r.lists l.fn.reader)));
+      keys : Lists l.self (r.lists l.fn.reader) → (right : List RowValue) × (map key_of l.rows.items ≡ map key_of right) × (right ++ rows_after l.last (l.limit - length right) (rows_at l.pin (listed (r.lists l.fn.reader))) ≡ rows_after l.fn.after l.limit (rows_at l.pin (listed (r.lists l.fn.reader))));
+    }
+
+abbrev pub decreases-loop-self : goal.decreases-loop-self
+decreases-loop-self g l = length (filter (λ x. is_key_after l.last x.1.key) (all_places 0 l.self))

@@ -1,0 +1,113 @@
+//! All rows, one after the other, in the order of their keys.
+
+ghost use Rattle.std.specs.Prelude.{◌≡◌, ◌≢◌, ◌+◌, ◌≤◌, ◌↔◌, List, map, not, IfOk, IfErr, IsTrue};
+ghost use Rattle.std.specs.List.{sum_by};
+ghost use Rattle.rf2_values.specs.Key.{key_of};
+ghost use Rattle.history_model.specs.declared.stamped.StampedRow.{StampedRow};
+ghost use Rattle.history_model.specs.History.{rows_at};
+ghost use Rattle.history_model.specs.KeyOrder.{is_key_after, rows_after};
+ghost use Rattle.history_model.specs.Lists.{listed};
+ghost use Rattle.segment.specs.declared.place.RowPlace.{RowPlace};
+ghost use Rattle.as_of_index.specs.Places.{Lists};
+ghost use Rattle.as_of_index.specs.Private.Search.{all_places, is_before};
+ghost use Rattle.as_of_index.specs.Private.KeyOrder.{IsNextAfter};
+ghost use Rattle.fault_counts.specs.Counting.{Counts, CountsDiskFault, CountsDamage};
+ghost use Rattle.fault_counts.specs.declared.fault.ReadFault.TheVariants as readfault;
+
+use crate::index::Index;
+use crate::place_list::PlaceList;
+use crate::reader::RowReader;
+use crate::search::Start;
+use crate::several::next;
+use fault_counts::ReadFault;
+use rf2_values::{Key, Kind, Row};
+use segment::RowPlace;
+
+/// Where a search begins that passes over all up to a key, if one is given, and over nothing else.
+fn start_after(after: Option<Key>) -> Start
+    ensures { (p : RowPlace) → is_before result p ≡ not (is_key_after after p.key) }
+{
+    match after {
+        None => Start::Components {
+            kind: Kind::Concept,
+            after: None,
+        },
+        Some(key) => Start::AfterVersion {
+            kind: key.kind,
+            id: key.id,
+            time: key.time,
+        },
+    }
+}
+
+/// The first place of all lists after a key, if one is given, and the number of its list.
+fn next_after(lists: &[PlaceList], after: Option<Key>) -> Option<(usize, RowPlace)>
+    ensures { IsNextAfter after (all_places 0 lists.now) result }
+{
+    next(lists, &start_after(after))
+}
+
+fn key_at(p: &RowPlace) -> Key
+    ensures { result ≡ p.now.key }
+{
+    p.key
+}
+
+fn is_shown(p: &RowPlace, pin: u32) -> bool
+    ensures { IsTrue result ↔ (p.now.import ≤ pin) }
+{
+    p.import <= pin
+}
+
+impl Index {
+    /// The first rows after a key, if one is given, in the order of their keys, of the rows that
+    /// the pin shows. It makes a bisection a list for each row.
+    pub fn rows_after<R: RowReader>(
+        &self,
+        reader: &mut R,
+        after: Option<Key>,
+        limit: u32,
+        pin: u32,
+    ) -> Result<Vec<Row>, ReadFault>
+        ensures found { R.is_honest reader.old → Lists self.now (R.lists reader.old)
+            → IfOk result (λ rows. rows.items
+            ≡ rows_after after limit (rows_at pin (listed (R.lists reader.old)))) }
+        // Whatever was read, the keys are those of these rows.
+        ensures keys { Lists self.now (R.lists reader.old)
+            → IfOk result (λ rows. map key_of rows.items ≡ map key_of
+            (rows_after after limit (rows_at pin (listed (R.lists reader.old))))) }
+        ensures undamaged { R.is_honest reader.old → Lists self.now (R.lists reader.old)
+            → IfErr result (λ e. e ≢ readfault.Damaged) }
+        // No more is read than the rows that it answers take, each read once.
+        ensures work { IfOk result (λ rows.
+            R.work reader.new ≤ R.work reader.old + sum_by R.cost rows.items) }
+        // Whatever it answers and whatever was read, no more is read than these rows take, each
+        // counted once.
+        ensures work_always { Lists self.now (R.lists reader.old)
+            → R.work reader.new ≤ R.work reader.old + sum_by R.cost
+            (rows_after after limit (rows_at pin (listed (R.lists reader.old)))) }
+        ensures lists { R.lists reader.new ≡ R.lists reader.old }
+        ensures honesty { R.is_honest reader.old → R.is_honest reader.new }
+        ensures stays { R.stays reader.old reader.new }
+        ensures disk_faults { Counts CountsDiskFault result
+            (R.disk_faults reader.old) (R.disk_faults reader.new) }
+        ensures damages { Counts CountsDamage result (R.damages reader.old) (R.damages reader.new) }
+    {
+        let mut rows = Vec::new(self.alloc);
+        let mut last = after;
+        while rows.len() < limit as usize {
+            match next_after(self.lists.as_slice(), last) {
+                Some((segment, at)) => {
+                    let key = key_at(&at);
+                    if is_shown(&at, pin) {
+                        let found = reader.row(self.alloc, segment, at)?;
+                        rows.push(found.row)?;
+                    }
+                    last = Some(key);
+                }
+                None => return Ok(rows),
+            }
+        }
+        Ok(rows)
+    }
+}

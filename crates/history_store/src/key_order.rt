@@ -1,0 +1,42 @@
+//! All rows, one after the other, in the order of their keys.
+
+ghost use Rattle.std.specs.Prelude.{◌≤◌};
+
+use crate::reading::DiskRows;
+use crate::refusal::Refusal;
+use crate::store::Store;
+use disk_model::Disk;
+use rf2_rows::{Key, Row};
+
+impl<D: Disk> Store<D> {
+    ghost use Rattle.history_model.specs.KeyOrder.{rows_after};
+    ghost use Rattle.history_store.specs.Queries.{IsRowsQuery};
+
+    /// The first rows after a key, if one is given, in the order of their keys, whatever their
+    /// dates, of the rows that the first `pin` imports brought.
+    pub fn rows_after(
+        &mut self,
+        after: Option<Key>,
+        limit: u32,
+        pin: u32,
+    ) -> Result<Vec<Row>, Refusal>
+        requires { pin ≤ self.old.history.imports }
+        ensures answer { IsRowsQuery result (λ rows. rows.items) (rows_after after limit) pin
+            D.is_honest D.moments D.failures D.bytes_read D.other_calls self.old self.new }
+    {
+        if self.needs_reopen {
+            return Err(Refusal::ReopenNeeded);
+        }
+        let mut reader = DiskRows::new(
+            &mut self.disk,
+            &mut self.cache,
+            &self.directory,
+            &self.index,
+        );
+        let read = self
+            .index
+            .places()
+            .rows_after(&mut reader, after, limit, pin);
+        self.answered(read)
+    }
+}

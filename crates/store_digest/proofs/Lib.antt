@@ -1,0 +1,4 @@
+pub mod Composed
+pub mod Remaining
+pub mod Digested
+pub mod Texts

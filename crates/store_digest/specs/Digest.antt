@@ -1,0 +1,38 @@
+-- The digest of rows, and what a store answers that is asked for that of all its rows.
+use Rattle.std.specs.Prelude.{◌≡◌, ℕ, ◌+◌, ◌≤◌, List, [], ◌∷◌, ◌++◌, codes, Result, IfOk}
+use Rattle.std.specs.List.{flat_map, sum_by}
+use Rattle.sha2.specs.Sha256.{sha256}
+use Rattle.rf2_values.specs.Row.{RowValue, kind_of, canonical}
+use Rattle.history_model.specs.History.{rows_at}
+use Rattle.disk_model.specs.Disk.{Moments}
+use Rattle.line_commands.specs.Questions.{letter}
+use Rattle.history_store.specs.declared.refusal.Refusal.{Refusal}
+use Rattle.history_store.specs.Reading.{row_cost}
+use Rattle.history_store.specs.StoreValue.{StoreValue}
+use Rattle.history_store.specs.Queries.{IsQuery, ReadsThroughCache}
+
+-- a row's line: the letter of its kind, a space, its canonical spelling and LF
+abbrev pub text_line : RowValue → List ℕ
+text_line row = letter (kind_of row) ++ codes " " ++ canonical row ++ 10 ∷ []
+
+-- the lines of all rows
+abbrev pub text_of : List RowValue → List ℕ
+text_of rows = flat_map text_line rows
+
+-- the SHA-256 of this text
+abbrev pub digest_of : List RowValue → List ℕ
+digest_of rows = sha256 (text_of rows)
+
+-- On an honest disk the digest is that of all rows that the pin shows, in the order of their keys.
+-- On every disk no call but reads is made, what is kept is not read again, and no more is read than
+-- these rows take, each counted once.
+pub record IsDigestQuery {D : Type 0} (result : Result (List ℕ) Refusal) (pin : ℕ)
+    (is_honest : D → Type 0) (moments_of : D → Moments)
+    (failures_of bytes_read_of other_calls_of : D → ℕ) (old new : StoreValue D) : Type 0 where
+  pub found : is_honest old.disk
+      → IfOk result (λ digest. digest ≡ digest_of (rows_at pin old.history.rows))
+  pub query : IsQuery result is_honest moments_of failures_of old new
+  pub other_calls : other_calls_of new.disk ≡ other_calls_of old.disk
+  pub looked_up : ReadsThroughCache bytes_read_of old new
+  pub bytes_read : bytes_read_of new.disk
+      ≤ bytes_read_of old.disk + sum_by row_cost (rows_at pin old.history.rows)

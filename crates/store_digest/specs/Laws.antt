@@ -1,0 +1,16 @@
+-- What holds of every digest. Each is proved by the function of its name in `laws`.
+use Rattle.std.specs.Prelude.{◌≡◌, ◌≤◌, ℕ, List}
+use Rattle.std.specs.List.{AllByRecursion}
+use Rattle.rf2_values.specs.Row.{RowValue, IsVersion}
+use Rattle.history_model.specs.History.{History, IsHistory, rows_at, after_release}
+use Rattle.store_digest.specs.Digest.{text_of, digest_of}
+
+-- Rows with one text are the same rows: the digests of others are those of other texts.
+abbrev pub OneTextOneList : Type 0
+OneTextOneList = (rows others : List RowValue) → AllByRecursion IsVersion rows
+    → AllByRecursion IsVersion others → text_of rows ≡ text_of others → rows ≡ others
+
+-- The digest of what a pin shows is unchanged by later imports.
+abbrev pub DigestStays : Type 0
+DigestStays = (h : History) (release : List RowValue) (pin : ℕ) → IsHistory h → pin ≤ h.imports
+    → digest_of (rows_at pin (after_release h release).rows) ≡ digest_of (rows_at pin h.rows)

@@ -1,0 +1,34 @@
+-- What one row adds to a digest. No public clause cites it.
+use Rattle.std.specs.Prelude.{◌≡◌, ℕ, ◌+◌, ◌≤◌, List, ◌++◌, map, Option, Result, IfOk}
+use Rattle.std.specs.Option.{option_to_list}
+use Rattle.std.specs.List.{sum_by}
+use Rattle.sha2.specs.declared.Sha256.{Sha256}
+use Rattle.sha2.specs.Hashers.{Holds256}
+use Rattle.rf2_values.specs.declared.key.Key.{Key}
+use Rattle.rf2_values.specs.Row.{RowValue}
+use Rattle.rf2_values.specs.Key.{key_of}
+use Rattle.history_model.specs.History.{rows_at}
+use Rattle.history_model.specs.KeyOrder.{rows_after}
+use Rattle.disk_model.specs.Disk.{Moments}
+use Rattle.history_store.specs.declared.refusal.Refusal.{Refusal}
+use Rattle.history_store.specs.Reading.{row_cost}
+use Rattle.history_store.specs.StoreValue.{StoreValue}
+use Rattle.history_store.specs.Queries.{IsQuery, ReadsThroughCache}
+use Rattle.store_digest.specs.Digest.{text_of}
+
+-- the next row after a key that a pin shows, or none
+abbrev pub next_row : {D : Type 0} → Option Key → ℕ → StoreValue D → List RowValue
+next_row after pin store = rows_after after 1 (rows_at pin store.history.rows)
+
+-- The next row after a key was added to a hasher, and its key is answered, or there is none.
+pub record IsNextAdded {D : Type 0} (result : Result (Option Key) Refusal) (after : Option Key)
+    (pin : ℕ) (before after_it : Sha256) (is_honest : D → Type 0) (moments_of : D → Moments)
+    (failures_of bytes_read_of other_calls_of : D → ℕ) (old new : StoreValue D) : Type 0 where
+  pub holds : is_honest old.disk → IfOk result (λ key. (m : List ℕ) → Holds256 before m
+      → Holds256 after_it (m ++ text_of (next_row after pin old)))
+  pub key : IfOk result (λ key. option_to_list key ≡ map key_of (next_row after pin old))
+  pub query : IsQuery result is_honest moments_of failures_of old new
+  pub other_calls : other_calls_of new.disk ≡ other_calls_of old.disk
+  pub looked_up : ReadsThroughCache bytes_read_of old new
+  pub bytes_read : bytes_read_of new.disk
+      ≤ bytes_read_of old.disk + sum_by row_cost (next_row after pin old)

@@ -1,0 +1,66 @@
+//! The rows of a store, one after the other, into one digest.
+
+ghost use Rattle.std.specs.Prelude.{◌++◌, ◌≤◌, ℕ, List, OnOk};
+ghost use Rattle.sha2.specs.Hashers.{Holds256};
+ghost use Rattle.store_digest.specs.Digest.{text_line, IsDigestQuery};
+ghost use Rattle.store_digest.specs.Private.{IsNextAdded};
+
+use crate::text::put_line;
+use disk_model::Disk;
+use history_store::{Refusal, Store};
+use rf2_rows::{Key, Row};
+use sha2::{Digest, Sha256};
+use std::alloc::{AllocError, Global};
+
+/// Adds the line of a row to what a hasher holds.
+fn add_row(alloc: Global, row: &Row, hasher: &mut Sha256) -> Result<(), AllocError>
+    ensures { (m : List ℕ) → Holds256 hasher.old m
+        → OnOk result (Holds256 hasher.new (m ++ text_line row.now)) }
+{
+    let mut line = Vec::new(alloc);
+    put_line(alloc, row, &mut line)?;
+    hasher.update(line.as_slice());
+    Ok(())
+}
+
+/// Adds the next row after a key, if one is given, to what a hasher holds, and answers its key. It
+/// answers none where no row is left.
+fn add_next<D: Disk>(
+    alloc: Global,
+    store: &mut Store<D>,
+    after: Option<Key>,
+    pin: u32,
+    hasher: &mut Sha256,
+) -> Result<Option<Key>, Refusal>
+    requires { pin ≤ store.old.history.imports }
+    ensures added { IsNextAdded result after pin hasher.old hasher.new
+        D.is_honest D.moments D.failures D.bytes_read D.other_calls store.old store.new }
+{
+    let rows = store.rows_after(after, 1, pin)?;
+    match rows.first() {
+        Some(row) => {
+            add_row(alloc, row, hasher)?;
+            Ok(Some(row.key()))
+        }
+        None => Ok(None),
+    }
+}
+
+/// The digest of all rows that the first `pin` imports brought: the SHA-256 of their lines, kind by
+/// kind, ascending by identifier, then by time. It has one row in memory at a time.
+pub fn digest<D: Disk>(
+    alloc: Global,
+    store: &mut Store<D>,
+    pin: u32,
+) -> Result<[u8; 32], Refusal>
+    requires { pin ≤ store.old.history.imports }
+    ensures answer { IsDigestQuery result pin
+        D.is_honest D.moments D.failures D.bytes_read D.other_calls store.old store.new }
+{
+    let mut hasher = Sha256::new();
+    let mut last = None;
+    'rows: while let Some(key) = add_next(alloc, store, last, pin, &mut hasher)? {
+        last = Some(key);
+    }
+    Ok(hasher.finalize())
+}

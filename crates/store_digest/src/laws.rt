@@ -1,0 +1,13 @@
+//! Laws of the definitions. The functions do nothing: each has its law for a contract.
+
+ghost use Rattle.store_digest.specs.Laws.{OneTextOneList, DigestStays};
+
+/// Rows with one text are the same rows.
+pub fn one_text_one_list()
+    ensures { OneTextOneList }
+{}
+
+/// The digest of what a pin shows is unchanged by later imports.
+pub fn digest_stays()
+    ensures { DigestStays }
+{}
