@@ -9,6 +9,7 @@ use Rattle.line_server.specs.declared.refusal.LineRefusal.TheVariants as refusal
 use Rattle.line_server.specs.Sources.{Releases}
 use Rattle.line_server.specs.ReplyValue.{Answer}
 use Rattle.line_server.specs.Replies.{Server, IsAnswerAt, IsRefusalAt, IsUnseen, IsOutcome, IsAskedOf, imports_seen}
+use Rattle.line_server.specs.StateValue.{IsHeldBack, HoldsBack}
 use Rattle.line_server.specs.Turns.{LeavesAsked, LeavesDisk}
 
 -- how a question comes out that is asked of the first `seen` imports
@@ -56,6 +57,11 @@ module _ {D : Type 0} (honest : Type 0) (releases : Releases) (session : ℕ) (q
   comes_out_at pin (Err (refusals.Store refusal)) within h = (within, h)
 
   module _ (command : Command) (pin : ℕ) (outcome : Result Answer LineRefusal) where
+    -- it is never held back
+    pub asked_freely : (met : Bool) → IsAskedOf old session command question pin → HoldsBack met command → ⊥
+    asked_freely met (inl (is, at)) h = subst IsHeldBack is h.1
+    asked_freely met (inr (is, within)) h = subst IsHeldBack is h.1
+
     pub outcome_at : IsAskedOf old session command question pin → IsOutcome honest releases session command outcome old new → OutcomeAt honest pin question outcome old new
     outcome_at (inl (is, at)) h =
         subst (λ (k : ℕ). OutcomeAt honest k question outcome old new) at (asked outcome (subst (λ (c : Command). IsOutcome honest releases session c outcome old new) is h))

@@ -20,12 +20,14 @@ use Rattle.line_server.specs.Pins.{pin_of}
 use Rattle.line_server.specs.Sources.{Releases}
 use Rattle.import_check.specs.Release.{files_of}
 use Rattle.line_server.specs.ReplyValue.{Answer, Done}
+use Rattle.line_server.specs.StateValue.{met_after}
 use Rattle.line_server.specs.Replies.{Server, Same, imports_seen, left_of, IsAnswer, IsImported, IsClosed, IsStoreRefusal, IsOutcome, Replies}
 use Rattle.store_life.specs.Laws.{IsSureImport}
-use Rattle.line_server.specs.Laws.{OneReply, IsSure}
+use Rattle.line_server.specs.Laws.{OneReply, AreAlike, IsSure}
 use Rattle.store_life.proofs.AlikeReleases.{import_alike}
 use Rattle.line_server.proofs.AskedOf.{OutcomeAt, is_import, outcome_at}
 use Rattle.line_server.proofs.Finding.{AsksFound, same_from, found_out, one_way}
+use Rattle.line_server.proofs.Pinned.{Settles}
 use Rattle.line_server.proofs.Received.{receipt_out, one_receipt}
 use Rattle.store_life.proofs.OneImports.{one_import}
 use Rattle.line_server.proofs.MergesAlike.{refused, of_store, stepping, publishing, abandoning, catalog_after, Fares, step_fares, no_step_fares, publish_fares, no_publish_fares, abandon_fares, no_abandon_fares, trim_fares, no_trim_fares, one_beginning}
@@ -315,16 +317,34 @@ module _ {D : Type 0} (releases : Releases) (a b after next : Server D) (honest 
   one_outcome session c x y u v h k =
       one_told c session x y a b after next same (told honest up releases session a after c x tt u h) (told also so releases session b next c y tt v k)
 
+module _ {D : Type 0} (releases : Releases) (a b after next : Server D) (honest also : Type 0) (up : honest) (so : also) (same : Same a b) (met : b.met_damage ≡ a.met_damage) where
+  -- at states that are alike a command is held back at both or at none
+  one_settled : (session : ℕ) (c : Command) (x y : Result Answer LineRefusal) → IsSure x → IsSure y → Settles honest releases session c x a after → Settles also releases session c y b next → (x ≡ y) × AreAlike after next
+  one_settled session c x y u v (inl h) (inl k) = (
+    h.refused ∙ sym k.refused,
+    then_same a b after next same (same_from a after h.unchanged) (same_from b next k.unchanged),
+    ap (λ (d : Server D). d.met_damage) k.unchanged ∙ met ∙ sym (ap (λ (d : Server D). d.met_damage) h.unchanged),
+  )
+  one_settled session c x y u v (inl h) (inr k) = absurd (k.free (met ∙ h.held_back.0, h.held_back.1))
+  one_settled session c x y u v (inr h) (inl k) = absurd (h.free (sym met ∙ k.held_back.0, k.held_back.1))
+  one_settled session c x y u v (inr h) (inr k) =
+      let one = one_outcome releases a b after next honest also up so same session c x y u v h.comes_out k.comes_out in
+      (one.0, one.1, k.damage ∙ ap (met_after y) met ∙ ap (λ (o : Result Answer LineRefusal). met_after o a.met_damage) (sym one.0) ∙ sym h.damage)
+
   one_case : (line : List ℕ) (x y : Result Answer LineRefusal) → IsSure x → IsSure y
-      → Replies honest releases line x a after → Replies also releases line y b next → (x ≡ y) × Same after next
+      → Replies honest releases line x a after → Replies also releases line y b next → (x ≡ y) × AreAlike after next
   one_case line x y u v (inl h) (inl k) =
       let read = one_reading line k.0 h.0 k.1 h.1 k.2 h.2 in
-      let other = subst (λ (d : Command). IsOutcome also releases h.0 d y b next) read.1 (subst (λ (s : ℕ). IsOutcome also releases s k.1 y b next) read.0 k.3) in
-      one_outcome h.0 h.1 x y u v h.3 other
+      let other = subst (λ (d : Command). Settles also releases h.0 d y b next) read.1 (subst (λ (s : ℕ). Settles also releases s k.1 y b next) read.0 k.3) in
+      one_settled h.0 h.1 x y u v h.3 other
   one_case line x y u v (inl h) (inr k) = absurd (asked_is_read line h.0 h.1 k.0 h.2 k.1)
   one_case line x y u v (inr h) (inl k) = absurd (asked_is_read line k.0 k.1 h.0 k.2 h.1)
   one_case line x y u v (inr h) (inr k) =
-      (h.2 ∙ ap (λ (r : Unread). Err (refusals.Unread r)) (one_refusal line h.0 k.0 h.1 k.1) ∙ sym k.2, then_same a b after next same (same_from a after h.3) (same_from b next k.3))
+      (
+        h.2 ∙ ap (λ (r : Unread). Err (refusals.Unread r)) (one_refusal line h.0 k.0 h.1 k.1) ∙ sym k.2,
+        then_same a b after next same (same_from a after h.3) (same_from b next k.3),
+        ap (λ (d : Server D). d.met_damage) k.3 ∙ met ∙ sym (ap (λ (d : Server D). d.met_damage) h.3),
+      )
 
 pub one_reply : (D : Type 0) (honest : D → Type 0) → OneReply D honest
-one_reply D honest releases line x y a b after next up so same h k u v = one_case releases a b after next (honest a.store.disk) (honest b.store.disk) up so same line x y u v h k
+one_reply D honest releases line x y a b after next up so (same, met) h k u v = one_case releases a b after next (honest a.store.disk) (honest b.store.disk) up so same met line x y u v h k

@@ -1,5 +1,6 @@
 -- When a line has which answer, and what the server is afterwards.
-use Rattle.std.specs.Prelude.{◌≡◌, ◌≢◌, ℕ, ◌≤◌, ◌<◌, ◌⊎◌, true, false, List, [], ◌∷◌, length, codes}
+use Rattle.std.specs.Prelude.{◌≡◌, ◌≢◌, ℕ, ◌≤◌, ◌<◌, ◌⊎◌, Bool, true, false, List, [], ◌∷◌, length}
+use Rattle.std.specs.Prelude.{codes}
 use Rattle.std.specs.Prelude.{decimal, slice_set, option_map, Option, Some, None, Result, Ok, Err}
 use Rattle.std.specs.Prelude.{option_to_list}
 use Rattle.rf2_values.specs.Row.{RowValue}
@@ -28,16 +29,23 @@ use Rattle.line_commands.specs.Requests.{Asks, IsUnread}
 use Rattle.line_server.specs.declared.refusal.LineRefusal.{LineRefusal}
 use Rattle.line_server.specs.declared.refusal.LineRefusal.TheVariants as refusals
 use Rattle.line_server.specs.Pins.{pin_of}
+use Rattle.line_server.specs.StateValue.{StateValue, HoldsBack, met_after}
 use Rattle.line_server.specs.Sources.{Releases}
 use Rattle.line_server.specs.ReplyValue.{Answer, Rows, Ids, Dates, Done}
 
--- what a reply rests on: what sessions are pinned to, and the store
+-- what a reply rests on: what sessions are pinned to, the store, and whether a call of it has
+-- answered 8 since it was opened
 pub record Server (D : Type 0) : Type 0 where
   pub pins : List (Option ℕ)
   pub store : StoreValue D
+  pub met_damage : Bool
 
-abbrev pub server : {D : Type 0} → List (Option ℕ) → StoreValue D → Server D
-server pins store = record { pins = pins; store = store }
+abbrev pub server : {D : Type 0} → StateValue → StoreValue D → Server D
+server state store = record {
+  pins = state.pins;
+  store = store;
+  met_damage = state.met_damage;
+}
 
 -- the store is as before, but perhaps for its device
 pub record SameStore {D : Type 0} (old new : StoreValue D) : Type 0 where
@@ -45,6 +53,7 @@ pub record SameStore {D : Type 0} (old new : StoreValue D) : Type 0 where
   pub catalog : new.catalog ≡ old.catalog
   pub needs_reopen : new.needs_reopen ≡ old.needs_reopen
 
+-- sessions are pinned as before, and the store is as before, but perhaps for its device
 pub record Same {D : Type 0} (old new : Server D) : Type 0 where
   pub pins : new.pins ≡ old.pins
   pub store : SameStore old.store new.store
@@ -93,7 +102,7 @@ IsFinding honest question rows answer =
 
 -- a session is pinned, or unpinned; the store and its disk are as before
 abbrev pub IsPinned : {D : Type 0} → Server D → Server D → ℕ → Option ℕ → Type 0
-IsPinned old new session pin = new ≡ server (slice_set old.pins session pin) old.store
+IsPinned old new session pin = new ≡ record old { pins = slice_set old.pins session pin }
 
 -- An import answered this, for the release under the name: on every
 -- disk as far as files and counts go, and on an honest disk altogether.
@@ -263,8 +272,8 @@ IsRefusal honest releases session command refusals.NoFolder old new =
 IsRefusal honest releases session command (refusals.Store refusal) old new =
     IsStoreRefusal honest releases session command refusal old new
 
--- The command has this outcome. `ERR 1` and `ERR 2` show that memory ran out or the device failed;
--- where neither is said, there is one outcome on an honest disk.
+-- The command, carried out, has this outcome. `ERR 1` and `ERR 2` show that memory ran out or the
+-- device failed; where neither is said, there is one outcome on an honest disk.
 abbrev pub IsOutcome : {D : Type 0} → Type 0 → Releases → ℕ → Command → Result Answer LineRefusal
     → Server D → Server D → Type 0
 IsOutcome honest releases session command (Ok answer) old new =
@@ -272,13 +281,28 @@ IsOutcome honest releases session command (Ok answer) old new =
 IsOutcome honest releases session command (Err refusal) old new =
     IsRefusal honest releases session command refusal old new
 
--- A line that asks something is answered by the outcome of its command. Of any other the first
--- reason is said why it asks nothing, and nothing changes.
+-- Damage was met, for which the command is held back: it is refused by 8, and nothing changes.
+pub record IsRefusedForDamage {D : Type 0} (command : Command) (outcome : Result Answer LineRefusal)
+    (old new : Server D) : Type 0 where
+  pub held_back : HoldsBack old.met_damage command
+  pub refused : outcome ≡ Err (refusals.Store store.Damaged)
+  pub unchanged : new ≡ old
+
+-- The command isn't held back. It has this outcome, by which it is known whether damage was met.
+pub record IsPerformed {D : Type 0} (honest : Type 0) (releases : Releases) (session : ℕ)
+    (command : Command) (outcome : Result Answer LineRefusal) (old new : Server D) : Type 0 where
+  pub free : HoldsBack old.met_damage command → ⊥
+  pub comes_out : IsOutcome honest releases session command outcome old new
+  pub damage : new.met_damage ≡ met_after outcome old.met_damage
+
+-- A line that asks something is answered by the outcome of its command, or is refused because
+-- damage was met. Of any other the first reason is said why it asks nothing, and nothing changes.
 abbrev pub Replies : {D : Type 0} → Type 0 → Releases → List ℕ → Result Answer LineRefusal
     → Server D → Server D → Type 0
 Replies honest releases text outcome old new =
     ((session : ℕ) × (command : Command) × Asks text session command
-    × IsOutcome honest releases session command outcome old new)
+    × (IsRefusedForDamage command outcome old new
+    ⊎ IsPerformed honest releases session command outcome old new))
     ⊎
     ((reason : Unread) × IsUnread text reason × (outcome ≡ Err (refusals.Unread reason))
     × (new ≡ old))
