@@ -20,10 +20,6 @@ OutcomeAt honest seen question (Err refusals.PinRange) old new = IsUnseen seen q
 OutcomeAt honest seen question (Err refusals.NoFolder) old new = ⊥
 OutcomeAt honest seen question (Err (refusals.Store refusal)) old new = IsRefusalAt honest seen question refusal old new
 
-abbrev pub is_import : Command → Bool
-is_import (Import name) = true
-is_import _ = false
-
 module _ {D : Type 0} (honest : Type 0) (releases : Releases) (session : ℕ) (question : Question) (old new : Server D) where
   -- a session's question, and one behind AT
 
@@ -31,7 +27,7 @@ module _ {D : Type 0} (honest : Type 0) (releases : Releases) (session : ℕ) (q
   asked (Ok answer) h = h
   asked (Err (refusals.Unread reason)) h = h
   asked (Err refusals.PinRange) h = h
-  asked (Err refusals.NoFolder) h = absurd (false≢true (ap is_import h.1))
+  asked (Err refusals.NoFolder) h = absurd h.1
   asked (Err (refusals.Store refusal)) h = h
 
   asked_at : (pin : ℕ) (outcome : Result Answer LineRefusal) → pin ≤ old.store.history.imports → IsOutcome honest releases session (At pin question) outcome old new → OutcomeAt honest pin question outcome old new
@@ -39,7 +35,7 @@ module _ {D : Type 0} (honest : Type 0) (releases : Releases) (session : ℕ) (q
   asked_at pin (Err (refusals.Unread reason)) within h = h
   asked_at pin (Err refusals.PinRange) within (inl above, same) = absurd (omega (arith, within, above))
   asked_at pin (Err refusals.PinRange) within (inr unseen, same) = (unseen, same)
-  asked_at pin (Err refusals.NoFolder) within h = absurd (false≢true (ap is_import h.1))
+  asked_at pin (Err refusals.NoFolder) within h = absurd h.1
   asked_at pin (Err (refusals.Store refusal)) within h = h.1
 
   comes_out : (outcome : Result Answer LineRefusal) → OutcomeAt honest (imports_seen old session) question outcome old new → IsOutcome honest releases session (Ask question) outcome old new

@@ -21,11 +21,11 @@ use Rattle.line_server.specs.Sources.{Releases}
 use Rattle.import_check.specs.Release.{files_of}
 use Rattle.line_server.specs.ReplyValue.{Answer, Done}
 use Rattle.line_server.specs.StateValue.{met_after}
-use Rattle.line_server.specs.Replies.{Server, Same, imports_seen, left_of, IsAnswer, IsImported, IsClosed, IsStoreRefusal, IsOutcome, Replies}
+use Rattle.line_server.specs.Replies.{Server, Same, imports_seen, left_of, IsAnswer, IsImported, IsClosed, IsStoreRefusal, IsOutcome, NamesRelease, Replies}
 use Rattle.store_life.specs.Laws.{IsSureImport}
 use Rattle.line_server.specs.Laws.{OneReply, AreAlike, IsSure}
 use Rattle.store_life.proofs.AlikeReleases.{import_alike}
-use Rattle.line_server.proofs.AskedOf.{OutcomeAt, is_import, outcome_at}
+use Rattle.line_server.proofs.AskedOf.{OutcomeAt, outcome_at}
 use Rattle.line_server.proofs.Finding.{AsksFound, same_from, found_out, one_way}
 use Rattle.line_server.proofs.Pinned.{Settles}
 use Rattle.line_server.proofs.Received.{receipt_out, one_receipt}
@@ -167,6 +167,10 @@ module _ {D : Type 0} (honest : Type 0) (up : honest) (releases : Releases) (ses
   store_told Unpin e f u h = absurd h
   store_told Status e f u h = told_pair Status (refused e) refl refl (closed_told old new _ e h)
 
+  unnamed : {name : List ℕ} (c : Command) → IsFated c → NamesRelease c name → ⊥
+  unnamed (Import other) f n = f
+  unnamed c f n = n
+
   told : (c : Command) (x : Result Answer LineRefusal) → IsFated c → IsSure x → IsOutcome honest releases session c x old new → Told c session x old new
   told c (Ok x) f u h = ok_told c x f h
   told c (Err (refusals.Unread reason)) f u h = absurd h
@@ -174,7 +178,7 @@ module _ {D : Type 0} (honest : Type 0) (up : honest) (releases : Releases) (ses
   told (Ask question) (Err refusals.PinRange) f u h = absurd f
   told (At number question) (Err refusals.PinRange) f u h = absurd f
   told c (Err refusals.PinRange) f u h = absurd h.0
-  told c (Err refusals.NoFolder) f u h = absurd (subst IsFated h.1 f)
+  told c (Err refusals.NoFolder) f u h = absurd (unnamed c f h.1)
   told c (Err (refusals.Store e)) f u h = store_told c e f u h
 
 -- ---- the beginning of a merge
@@ -193,7 +197,7 @@ merge_told : {D : Type 0} (honest : Type 0) (releases : Releases) (session : ℕ
 merge_told honest releases session (Ok x) old new h = record { result = Ok h.0; begins = h.1; is = ap Ok h.3; pins = h.2 }
 merge_told honest releases session (Err (refusals.Unread reason)) old new h = absurd h
 merge_told honest releases session (Err refusals.PinRange) old new h = absurd h.0
-merge_told honest releases session (Err refusals.NoFolder) old new h = absurd (false≢true (ap is_import h.1))
+merge_told honest releases session (Err refusals.NoFolder) old new h = absurd h.1
 merge_told honest releases session (Err (refusals.Store e)) old new h = record { result = Err e; begins = h.0; is = refl; pins = h.1 }
 
 one_merge : {D : Type 0} (x y : Result Answer LineRefusal) (a b after next : Server D) → Same a b → Begins x a after → Begins y b next → (x ≡ y) × Same after next
@@ -225,10 +229,9 @@ record WithRelease {D : Type 0} (honest : Type 0) (releases : Releases) (name : 
   imported : IsImported honest releases name result old new
   is : x ≡ said result
 
-named : {D : Type 0} (releases : Releases) (name : List ℕ) (old new : Server D) → (other : List ℕ) × (Import name ≡ Import other) × (releases other ≡ None) × (new ≡ old) → NoRelease releases name (Err refusals.NoFolder) old new
+named : {D : Type 0} (releases : Releases) (name : List ℕ) (old new : Server D) → (other : List ℕ) × (other ≡ name) × (releases other ≡ None) × (new ≡ old) → NoRelease releases name (Err refusals.NoFolder) old new
 named releases name old new h =
-    let here : name ≡ h.0 = cc in
-    record { is = refl; none = ap releases here ∙ h.2; stays = same_from old new h.3 }
+    record { is = refl; none = ap releases (sym h.1) ∙ h.2; stays = same_from old new h.3 }
 
 import_told : {D : Type 0} (honest : Type 0) (releases : Releases) (session : ℕ) (name : List ℕ) (x : Result Answer LineRefusal) (old new : Server D) → IsSure x → IsOutcome honest releases session (Import name) x old new
     → NoRelease releases name x old new ⊎ WithRelease honest releases name x old new
@@ -280,7 +283,7 @@ above_all : {D : Type 0} (honest : Type 0) (releases : Releases) (session number
 above_all honest releases session number question (Ok answer) old new above h = let within = h.0 in absurd (omega (arith, above, within))
 above_all honest releases session number question (Err (refusals.Unread reason)) old new above h = absurd h
 above_all honest releases session number question (Err refusals.PinRange) old new above h = (refl, same_from old new h.1)
-above_all honest releases session number question (Err refusals.NoFolder) old new above h = absurd (false≢true (ap is_import h.1))
+above_all honest releases session number question (Err refusals.NoFolder) old new above h = absurd h.1
 above_all honest releases session number question (Err (refusals.Store e)) old new above h = let within = h.0 in absurd (omega (arith, above, within))
 
 -- ---- a line

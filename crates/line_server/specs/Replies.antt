@@ -261,6 +261,11 @@ IsOutOfRange session (At number question) old =
     (old.store.history.imports < number) ⊎ IsUnseen number question
 IsOutOfRange session command old = ⊥
 
+-- the release under the name is one that the command asks the source for
+abbrev pub NamesRelease : Command → List ℕ → Type 0
+NamesRelease (Import name) other = other ≡ name
+NamesRelease command other = ⊥
+
 -- when a command is refused, and what comes after
 abbrev pub IsRefusal : {D : Type 0} → Type 0 → Releases → ℕ → Command → LineRefusal → Server D
     → Server D → Type 0
@@ -268,7 +273,7 @@ IsRefusal honest releases session command (refusals.Unread reason) old new = ⊥
 IsRefusal honest releases session command refusals.PinRange old new =
     IsOutOfRange session command old × (new ≡ old)
 IsRefusal honest releases session command refusals.NoFolder old new =
-    (name : List ℕ) × (command ≡ Import name) × (releases name ≡ None) × (new ≡ old)
+    (name : List ℕ) × NamesRelease command name × (releases name ≡ None) × (new ≡ old)
 IsRefusal honest releases session command (refusals.Store refusal) old new =
     IsStoreRefusal honest releases session command refusal old new
 

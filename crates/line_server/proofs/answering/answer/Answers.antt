@@ -1,3 +1,5 @@
+use Rattle.std.proofs.Common.{sym, ◌∙◌}
+use Rattle.std.proofs.lemmas.Bool.{false≢true}
 use Rattle.line_server.specs.Sources.{source_view}
 use Rattle.store_life.specs.DeviceView.{device_view}
 use Rattle.line_commands.specs.Requests.{command_of}
@@ -18,6 +20,12 @@ pub returns-in-Err-respond-clause-turn : goal.returns-in-Err-respond-clause-turn
 returns-in-Err-respond-clause-turn g c =
     rw c.note.ensures (answered_err (source_view (g.S.Source.is_honest c.args.source.now) (g.S.Source.releases c.args.source.now)) (device_view g.D.Disk.is_honest g.D.Disk.moments g.D.Disk.failures g.D.Disk.bytes_read) c.args.line.now c.in-Err-respond.refusal c.reply_refusal-in-Err-respond.result c.in-Ok.request.session (command_of c.in-Ok.request.command) (server c.args.state.now c.args.store.now) (server (record c.respond.new.state { met_damage = met_by c.in-Err-respond.refusal c.respond.new.state.met_damage }) c.respond.new.store) c.in-Ok.ensures.found
     c.in-Err-respond.ensures.response c.reply_refusal-in-Err-respond.ensures)
+
+pub returns-in-Ok-respond-clause-unasked : goal.returns-in-Ok-respond-clause-unasked
+returns-in-Ok-respond-clause-unasked g c = λ only. c.in-Ok-respond.ensures.unasked (λ name named. false≢true (sym c.if-holds_back.false ∙ c.holds_back.ensures.1 (only c.in-Ok.request.session (command_of c.in-Ok.request.command) name c.in-Ok.ensures.found named)))
+
+pub returns-in-Err-respond-clause-unasked : goal.returns-in-Err-respond-clause-unasked
+returns-in-Err-respond-clause-unasked g c = λ only. c.in-Err-respond.ensures.unasked (λ name named. false≢true (sym c.if-holds_back.false ∙ c.holds_back.ensures.1 (only c.in-Ok.request.session (command_of c.in-Ok.request.command) name c.in-Ok.ensures.found named)))
 
 pub returns-then-holds_back-clause-turn : goal.returns-then-holds_back-clause-turn
 returns-then-holds_back-clause-turn g c =
