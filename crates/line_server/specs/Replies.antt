@@ -16,22 +16,24 @@ use Rattle.history_store.specs.declared.refusal.Refusal.{Refusal}
 use Rattle.history_store.specs.declared.refusal.Refusal.TheVariants as store
 use Rattle.history_store.specs.Catalog.{Merge as CatalogMerge}
 use Rattle.history_store.specs.StoreValue.{StoreValue}
+use Rattle.store_digest.specs.Digest.{digest_of}
 use Rattle.history_store.specs.Answers.{IsImportOf, IsImportOnAnyDisk, IsReadRefusal, IsRefused}
+use Rattle.history_store.specs.Checking.{IsCheckingOf, IsCheckingOnAnyDisk}
 use Rattle.history_store.specs.MergeAnswers.{IsBeginningOf, IsSteppingOf, IsPublishingOf}
 use Rattle.history_store.specs.MergeAnswers.{IsAbandoningOf, IsTrimmingOf}
 use Rattle.line_commands.specs.declared.unread.Unread.{Unread}
 use Rattle.line_commands.specs.Questions.{Question, Get, History, Children, Ancestors, Descendants}
 use Rattle.line_commands.specs.Questions.{Terms, Search, Replaced, Replaces, About, Timeline, Page}
-use Rattle.line_commands.specs.Questions.{Delta, Dates as AskDates, Receipt as AskReceipt}
-use Rattle.line_commands.specs.Commands.{Command, Ask, At, Import, Pin, Unpin, Merge, Step, Publish}
-use Rattle.line_commands.specs.Commands.{Abandon, Trim, Status}
+use Rattle.line_commands.specs.Questions.{Delta, Dates as AskDates, Digest, Receipt as AskReceipt}
+use Rattle.line_commands.specs.Commands.{Command, Ask, At, Import, Check, Pin, Unpin, Merge, Step}
+use Rattle.line_commands.specs.Commands.{Publish, Abandon, Trim, Status}
 use Rattle.line_commands.specs.Requests.{Asks, IsUnread}
 use Rattle.line_server.specs.declared.refusal.LineRefusal.{LineRefusal}
 use Rattle.line_server.specs.declared.refusal.LineRefusal.TheVariants as refusals
 use Rattle.line_server.specs.Pins.{pin_of}
 use Rattle.line_server.specs.StateValue.{StateValue, HoldsBack, met_after}
 use Rattle.line_server.specs.Sources.{Releases}
-use Rattle.line_server.specs.ReplyValue.{Answer, Rows, Ids, Dates, Done}
+use Rattle.line_server.specs.ReplyValue.{Answer, Rows, Ids, Dates, Done, digits_of}
 
 -- what a reply rests on: what sessions are pinned to, the store, and whether a call of it has
 -- answered 8 since it was opened
@@ -84,10 +86,12 @@ IsFound (Page kind date after limit) rows answer = answer ≡ Rows (page kind da
 IsFound (Delta kind from date after limit) rows answer =
     answer ≡ Rows (delta kind from date after limit rows)
 IsFound AskDates rows answer = answer ≡ Dates (dates rows)
+IsFound Digest rows answer = answer ≡ digits_of (digest_of rows)
 IsFound (AskReceipt number) rows answer = ⊥
 
 -- The answer is what is found: on every disk where the index alone finds it, and else, where rows
--- are read, on an honest disk. What is answered on any disk are rows, or of ANCESTORS identifiers.
+-- are read, on an honest disk. What is answered on any disk are rows, of ANCESTORS identifiers, and
+-- of DIGEST the digits of 32 bytes.
 abbrev pub IsFinding : Type 0 → Question → List RowValue → Answer → Type 0
 IsFinding honest (Children concept date) rows answer =
     IsFound (Children concept date) rows answer
@@ -97,6 +101,8 @@ IsFinding honest AskDates rows answer = IsFound AskDates rows answer
 IsFinding honest (AskReceipt number) rows answer = ⊥
 IsFinding honest (Ancestors concept date) rows answer =
     (ids : List ℕ) × (answer ≡ Ids ids) × (honest → IsFound (Ancestors concept date) rows answer)
+IsFinding honest Digest rows answer = (digest : List ℕ) × (length digest ≡ 32)
+    × (answer ≡ digits_of digest) × (honest → IsFound Digest rows answer)
 IsFinding honest question rows answer =
     (given : List RowValue) × (answer ≡ Rows given) × (honest → IsFound question rows answer)
 
@@ -113,6 +119,22 @@ pub record IsImported {D : Type 0} (honest : Type 0) (releases : Releases) (name
   pub at_all : IsImportOnAnyDisk result old.store new.store release
   pub imported : honest → IsImportOf result old.store new.store release
   pub pins : new.pins ≡ old.pins
+
+-- A check answered this, for the release under the name: the same as of an import. Nothing is
+-- imported by it.
+pub record IsChecked {D : Type 0} (honest : Type 0) (releases : Releases) (name : List ℕ)
+    (result : Result Receipt Refusal) (old new : Server D) : Type 0 where
+  pub release : Release
+  pub has : releases name ≡ Some (files_of release)
+  pub at_all : IsCheckingOnAnyDisk result old.store new.store release
+  pub checked : honest → IsCheckingOf result old.store new.store release
+  pub pins : new.pins ≡ old.pins
+
+-- what is said of an import that is made, or would be: its number, and how many rows are new and
+-- how many are repeated
+abbrev pub import_words : Receipt → List (List ℕ)
+import_words receipt =
+    decimal receipt.number ∷ decimal receipt.new ∷ decimal receipt.repeated ∷ []
 
 abbrev pub number_or_none : Option ℕ → List ℕ
 number_or_none None = codes "-"
@@ -161,7 +183,10 @@ IsAnswer honest releases session (At number question) answer old new =
     (number ≤ old.store.history.imports) × IsAnswerAt honest number question answer old new
 IsAnswer honest releases session (Import name) answer old new =
     (receipt : Receipt) × IsImported honest releases name (Ok receipt) old new
-    × (answer ≡ Done (decimal receipt.number ∷ decimal receipt.new ∷ decimal receipt.repeated ∷ []))
+    × (answer ≡ Done (import_words receipt))
+IsAnswer honest releases session (Check name) answer old new =
+    (receipt : Receipt) × IsChecked honest releases name (Ok receipt) old new
+    × (answer ≡ Done (import_words receipt))
 IsAnswer honest releases session (Pin None) answer old new =
     IsPinned old new session (Some old.store.history.imports)
     × (answer ≡ Done (decimal old.store.history.imports ∷ []))
@@ -221,8 +246,8 @@ IsRefusalAt honest seen AskDates refusal old new =
     IsClosed refusal old new ⊎ IsLacking refusal old new
 IsRefusalAt honest seen question refusal old new = IsUnfound honest refusal old new
 
--- When a command is refused as the store refuses. Of an import the source is asked first, and
--- memory may run out there too. On an honest disk no step of a merge finds damage.
+-- When a command is refused as the store refuses. Of an import or a check the source is asked
+-- first, and memory may run out there too. On an honest disk no step of a merge finds damage.
 abbrev pub IsStoreRefusal : {D : Type 0} → Type 0 → Releases → ℕ → Command → Refusal → Server D
     → Server D → Type 0
 IsStoreRefusal honest releases session (Ask question) refusal old new =
@@ -232,6 +257,9 @@ IsStoreRefusal honest releases session (At number question) refusal old new =
 IsStoreRefusal honest releases session (Import name) store.OutOfMemory old new = Same old new
 IsStoreRefusal honest releases session (Import name) refusal old new =
     IsImported honest releases name (Err refusal) old new
+IsStoreRefusal honest releases session (Check name) store.OutOfMemory old new = Same old new
+IsStoreRefusal honest releases session (Check name) refusal old new =
+    IsChecked honest releases name (Err refusal) old new
 IsStoreRefusal honest releases session (Pin number) refusal old new = ⊥
 IsStoreRefusal honest releases session Unpin refusal old new = ⊥
 IsStoreRefusal honest releases session Merge refusal old new =
@@ -264,6 +292,7 @@ IsOutOfRange session command old = ⊥
 -- the release under the name is one that the command asks the source for
 abbrev pub NamesRelease : Command → List ℕ → Type 0
 NamesRelease (Import name) other = other ≡ name
+NamesRelease (Check name) other = other ≡ name
 NamesRelease command other = ⊥
 
 -- when a command is refused, and what comes after

@@ -1,7 +1,7 @@
 -- What a server keeps from line to line, beside its store, and which commands it then holds back.
 use Rattle.std.specs.Prelude.{◌≡◌, ℕ, Bool, true, false, List, Option, Result, Ok, Err}
 use Rattle.history_store.specs.declared.refusal.Refusal.TheVariants as store
-use Rattle.line_commands.specs.Commands.{Command, Import, Merge, Step, Publish}
+use Rattle.line_commands.specs.Commands.{Command, Import, Check, Merge, Step, Publish}
 use Rattle.line_server.specs.declared.refusal.LineRefusal.{LineRefusal}
 use Rattle.line_server.specs.declared.refusal.LineRefusal.TheVariants as refusals
 use Rattle.line_server.specs.Pins.{unpinned}
@@ -36,6 +36,7 @@ noted result state = record state { met_damage = met_after result state.met_dama
 -- and TRIM cuts off what no segment names.
 abbrev pub IsHeldBack : Command → Type 0
 IsHeldBack (Import name) = Unit {0}
+IsHeldBack (Check name) = Unit {0}
 IsHeldBack Merge = Unit {0}
 IsHeldBack (Step rows) = Unit {0}
 IsHeldBack Publish = Unit {0}

@@ -66,9 +66,11 @@ impl ServerState {
         ensures { IsTrue result ↔ HoldsBack self.now.met_damage (command_of command.now) }
     {
         match command {
-            Command::Import { .. } | Command::Merge | Command::Step { .. } | Command::Publish => {
-                self.met_damage
-            }
+            Command::Import { .. }
+            | Command::Check { .. }
+            | Command::Merge
+            | Command::Step { .. }
+            | Command::Publish => self.met_damage,
             _ => false,
         }
     }
