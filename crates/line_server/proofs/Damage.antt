@@ -5,7 +5,7 @@ use Rattle.store_life.specs.DeviceView.{DeviceView}
 use Rattle.history_store.specs.declared.refusal.Refusal.{Refusal}
 use Rattle.history_store.specs.declared.refusal.Refusal.TheVariants as store
 use Rattle.line_commands.specs.Questions.{Question, Children, Descendants, Dates, Receipt}
-use Rattle.line_commands.specs.Commands.{Command, Ask, At, Import, Pin, Unpin, Merge, Step, Publish, Abandon, Trim, Status}
+use Rattle.line_commands.specs.Commands.{Command, Ask, At, Import, Check, Pin, Unpin, Merge, Step, Publish, Abandon, Trim, Status}
 use Rattle.line_commands.specs.Requests.{Asks}
 use Rattle.line_server.specs.declared.refusal.LineRefusal.{LineRefusal}
 use Rattle.line_server.specs.declared.refusal.LineRefusal.TheVariants as refusals
@@ -84,6 +84,7 @@ module _ {D : Type 0} (honest : Type 0) (up : honest) (releases : Releases) (old
   undamaged session (Ask question) r = asked_undamaged (imports_seen old session) question r
   undamaged session (At number question) r = asked_undamaged number question r.1
   undamaged session (Import name) r = (r.imported up).0.1
+  undamaged session (Check name) r = (r.checked up).0.1
   undamaged session (Pin number) r = r
   undamaged session Unpin r = r
   undamaged session Merge r = r.0.0
@@ -93,17 +94,17 @@ module _ {D : Type 0} (honest : Type 0) (up : honest) (releases : Releases) (old
   undamaged session Trim r = r.0.0
   undamaged session Status r = closed_undamaged r
 
-  outcome_undamaged : (session : ℕ) (command : Command) (outcome : Result Answer LineRefusal) → old.met_damage ≡ false → IsOutcome honest releases session command outcome old new → met_after outcome old.met_damage ≡ false
-  outcome_undamaged session command (Ok x) e out = e
-  outcome_undamaged session command (Err (refusals.Store store.Damaged)) e out = absurd (undamaged session command out)
-  outcome_undamaged session command (Err (refusals.Store _)) e out = e
-  outcome_undamaged session command (Err (refusals.Unread reason)) e out = e
-  outcome_undamaged session command (Err refusals.PinRange) e out = e
-  outcome_undamaged session command (Err refusals.NoFolder) e out = e
+  pub outcome_undamaged : (session : ℕ) (command : Command) (outcome : Result Answer LineRefusal) → IsOutcome honest releases session command outcome old new → met_after outcome old.met_damage ≡ old.met_damage
+  outcome_undamaged session command (Ok x) out = refl
+  outcome_undamaged session command (Err (refusals.Store store.Damaged)) out = absurd (undamaged session command out)
+  outcome_undamaged session command (Err (refusals.Store _)) out = refl
+  outcome_undamaged session command (Err (refusals.Unread reason)) out = refl
+  outcome_undamaged session command (Err refusals.PinRange) out = refl
+  outcome_undamaged session command (Err refusals.NoFolder) out = refl
 
   line_undamaged : (line : List ℕ) (outcome : Result Answer LineRefusal) → old.met_damage ≡ false → Replies honest releases line outcome old new → new.met_damage ≡ false
   line_undamaged line outcome e (inl (session, command, asks, inl h)) = absurd (false≢true (sym e ∙ h.held_back.0))
-  line_undamaged line outcome e (inl (session, command, asks, inr h)) = h.damage ∙ outcome_undamaged session command outcome e h.comes_out
+  line_undamaged line outcome e (inl (session, command, asks, inr h)) = h.damage ∙ outcome_undamaged session command outcome h.comes_out ∙ e
   line_undamaged line outcome e (inr r) = ap (λ (d : Server D). d.met_damage) r.3 ∙ e
 
 pub honest_meets_no_damage : (D : Type 0) (view : DeviceView D) → HonestMeetsNoDamage D view

@@ -13,8 +13,8 @@ use Rattle.history_store.specs.Queries.{is_listed}
 use Rattle.blocks.proofs.Looked.{none_looks_up}
 use Rattle.history_store.specs.Answers.{CountsRefusal}
 use Rattle.line_commands.specs.declared.unread.Unread.{Unread}
-use Rattle.line_commands.specs.Questions.{Question, Children, Descendants, Dates, Receipt as AskReceipt}
-use Rattle.line_commands.specs.Commands.{Command, At, Import, Pin, Unpin, Merge, Step, Publish, Status}
+use Rattle.line_commands.specs.Questions.{Question, Children, Descendants, Dates, Digest, Receipt as AskReceipt}
+use Rattle.line_commands.specs.Commands.{Command, At, Import, Check, Pin, Unpin, Merge, Step, Publish, Status}
 use Rattle.line_commands.specs.Requests.{Asks, IsUnread}
 use Rattle.line_commands.proofs.Readings.{asked_is_read, one_reading}
 use Rattle.line_server.specs.declared.refusal.LineRefusal.{LineRefusal}
@@ -178,6 +178,7 @@ module _ {D : Type 0} (view : DeviceView D) (number : ℕ) (question : Question)
         unseen_left (Descendants concept date) = refl
         unseen_left Dates = refl
         unseen_left (AskReceipt other) = refl
+        unseen_left Digest = ((λ h. refl, none_looks_up (is_listed old.catalog.entries) old.cache (view.bytes_read old.disk)), omega arith)
         unseen_left other = ((λ h. refl, none_looks_up (is_listed old.catalog.entries) old.cache (view.bytes_read old.disk)), tt)
 
 -- ---- pins
@@ -232,6 +233,7 @@ module _ {D : Type 0} (source : SourceView) (view : DeviceView D) (line : List �
     -- the store isn't called
     held_left : (seen : ℕ) (c : Command) → IsHeldBack c → LeavesDisk view seen c (Err (refusals.Store store.Damaged)) s.store s.store
     held_left seen (Import name) h = λ up. refl
+    held_left seen (Check name) h = (λ up. refl, none_looks_up (is_listed s.store.catalog.entries) s.store.cache (view.bytes_read s.store.disk))
     held_left seen Merge h = refl
     held_left seen (Step rows) h = (λ up. refl, (s.store.cache, none_looks_up (is_listed s.store.catalog.entries) s.store.cache (view.bytes_read s.store.disk), inl refl))
     held_left seen Publish h = (λ up. refl, omega arith)

@@ -9,7 +9,7 @@ use Rattle.import_check.specs.declared.release.Release.{Release}
 use Rattle.history_store.specs.declared.refusal.Refusal.TheVariants as store
 use Rattle.history_store.specs.StoreValue.{IsAcknowledged}
 use Rattle.line_commands.specs.Questions.{Question, Receipt as AskReceipt}
-use Rattle.line_commands.specs.Commands.{Command, Ask, Import}
+use Rattle.line_commands.specs.Commands.{Command, Ask, Import, Check}
 use Rattle.line_commands.specs.Requests.{Asks}
 use Rattle.line_server.specs.declared.refusal.LineRefusal.{LineRefusal}
 use Rattle.line_server.specs.declared.refusal.LineRefusal.TheVariants as refusals
@@ -77,8 +77,8 @@ OneReply D honest = (releases : Releases) (line : List ℕ) (one two : Result An
     → Replies (honest b.store.disk) releases line two b next → IsSure one → IsSure two
     → (one ≡ two) × AreAlike after next
 
--- Once a line was answered 8, each later one that would import, merge or publish is answered 8 too
--- and changes nothing, whatever the disk does and whatever the source has.
+-- Once a line was answered 8, each later one that would import, check, merge or publish is answered
+-- 8 too and changes nothing, whatever the disk does and whatever the source has.
 abbrev pub DamageHoldsBack : (D : Type 0) → DeviceView D → Type 0
 DamageHoldsBack D view =
     (has : Releases) (before mid late after : Server D) (first turn : Turn) (turns : List Turn)
@@ -95,6 +95,17 @@ abbrev pub HonestMeetsNoDamage : (D : Type 0) → DeviceView D → Type 0
 HonestMeetsNoDamage D view = (has : Releases) (old new : Server D) (turns : List Turn)
     → view.is_honest old.store.disk → old.met_damage ≡ false
     → Run (source_view ⊥ has) view old turns new → new.met_damage ≡ false
+
+-- What CHECK answers an IMPORT of the same name answers next, on an honest disk and where the
+-- source has the same releases still.
+abbrev pub CheckForetells : (D : Type 0) → (D → Type 0) → Type 0
+CheckForetells D honest = (releases : Releases) (line text : List ℕ) (session other : ℕ)
+    (name : List ℕ) (one two : Result Answer LineRefusal) (old checked new : Server D)
+    → honest old.store.disk → honest checked.store.disk
+    → Asks line session (Check name) → Asks text other (Import name)
+    → Replies (honest old.store.disk) releases line one old checked
+    → Replies (honest checked.store.disk) releases text two checked new
+    → IsSure one → IsSure two → two ≡ one
 
 -- an import that was answered OK is the one that its turn imported
 abbrev pub OkIsImported : (D : Type 0) → DeviceView D → Type 0

@@ -15,6 +15,12 @@ returns-in-Import-clause-pins g c = within_more _ _ _ (c.import.ensures.response
 pub returns-in-Import-clause-response : goal.returns-in-Import-clause-response
 returns-in-Import-clause-response g c = rw c.in-Import.is (c.import.ensures.response c.args.session c.args.state.now (rw c.in-Import.is at c.requires.free))
 
+pub returns-in-Check-clause-pins : goal.returns-in-Check-clause-pins
+returns-in-Check-clause-pins g c = within_more _ _ _ (c.check.ensures.response c.args.session c.args.state.now (rw c.in-Check.is at c.requires.free)).grows c.requires.within
+
+pub returns-in-Check-clause-response : goal.returns-in-Check-clause-response
+returns-in-Check-clause-response g c = rw c.in-Check.is (c.check.ensures.response c.args.session c.args.state.now (rw c.in-Check.is at c.requires.free))
+
 pub ask-requires-clause-asked : goal.ask-requires-clause-asked
 ask-requires-clause-asked g c = let asked = rw c.in-Ask.is at c.requires.asked in asked
 
