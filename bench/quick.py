@@ -370,6 +370,9 @@ def main() -> int:
     with tempfile.TemporaryDirectory(prefix="sctd-quick-") as place:
         tree = Tree(Path(place))
         parts = chosen(tree.parts(), asked.only)
+        if not parts:
+            print(f"no part has {asked.only!r} in its name", file=sys.stderr)
+            return 2
         with ThreadPoolExecutor(at_once) as workers:
             outcomes = list(workers.map(progress.run, parts))
     sums = (sum(numbers) for numbers in list(zip(*outcomes))[:3])

@@ -52,21 +52,25 @@ module _ (h : History) (catalog : Catalog) (release : Release) where
   one_reason refusals.CountSpent (refusals.Line file line fault) why also = absurd (not_both h.imports catalog.epoch also.0 why)
   one_reason refusals.CountSpent refusals.TooManySegments why also = absurd (not_both h.imports catalog.epoch also.room why)
   one_reason refusals.CountSpent refusals.Full why also = absurd (not_both h.imports catalog.epoch also.room why)
+  one_reason refusals.CountSpent _ why also = absurd also
   one_reason (refusals.Line file line fault) refusals.CountSpent why also = absurd (not_both h.imports catalog.epoch why.0 also)
   one_reason (refusals.Line file line fault) (refusals.Line n l other) why also =
       let one = one_fault release n l other file line fault also.1 why.1 in
       λ i. refusals.Line (one.0 i) (one.1 i) (one.2 i)
   one_reason (refusals.Line file line fault) refusals.TooManySegments why also = absurd (no_fault file line fault also.fresh also.brings why.1)
   one_reason (refusals.Line file line fault) refusals.Full why also = absurd (no_fault file line fault also.fresh also.brings why.1)
+  one_reason (refusals.Line file line fault) _ why also = absurd also
   one_reason refusals.TooManySegments refusals.CountSpent why also = absurd (not_both h.imports catalog.epoch why.room also)
   one_reason refusals.TooManySegments (refusals.Line n l other) why also = absurd (no_fault n l other why.fresh why.brings also.1)
   one_reason refusals.TooManySegments refusals.TooManySegments why also = refl
   one_reason refusals.TooManySegments refusals.Full why also = absurd (omega (arith, why.lacks.all_taken, also.lacks.few))
+  one_reason refusals.TooManySegments _ why also = absurd also
   one_reason refusals.Full refusals.CountSpent why also = absurd (not_both h.imports catalog.epoch why.room also)
   one_reason refusals.Full (refusals.Line n l other) why also = absurd (no_fault n l other why.fresh why.brings also.1)
   one_reason refusals.Full refusals.TooManySegments why also = absurd (omega (arith, why.lacks.few, also.lacks.all_taken))
   one_reason refusals.Full refusals.Full why also = refl
-  one_reason _ _ why also = absurd why
+  one_reason refusals.Full _ why also = absurd also
+  one_reason _ f why also = absurd why
 
   module _ (after : History) (next : Catalog) (receipt : Receipt) (taken : IsTakenByKey h after catalog next release receipt) where
     lacking : (Lacks : List StampedRow → Catalog → Type 0) → (why : LacksByKey h catalog release Lacks) → Lacks (stamped (h.imports + 1) taken.fresh.rows.items) catalog
