@@ -57,11 +57,12 @@ impl Disk for Spoiled {
 }
 
 /// The lines to a store of which no row can be read any more. The first one finds that out.
-const LINES: [Turn; 13] = [
+const LINES: [Turn; 15] = [
     ("0 STATUS", &["OK 2 10 2 -"]),
     ("0 GET C 138875005 20230131", &["ERR 8 Damaged"]),
     ("0 IMPORT new-in-2030", &["ERR 8 Damaged"]),
     ("0 IMPORT r9", &["ERR 8 Damaged"]),
+    ("0 CHECK new-in-2030", &["ERR 8 Damaged"]),
     ("0 MERGE", &["ERR 8 Damaged"]),
     ("0 STEP 1", &["ERR 8 Damaged"]),
     ("0 PUBLISH", &["ERR 8 Damaged"]),
@@ -69,6 +70,7 @@ const LINES: [Turn; 13] = [
     ("1 PIN 1", &["OK 1"]),
     ("1 CHILDREN 138875005 20210131", &["ID 1000004", "END 1"]),
     ("0 RECEIPT 2", &["OK 2 4 20210131"]),
+    ("0 DIGEST", &["ERR 8 Damaged"]),
     ("0 STATUS", &["OK 2 10 2 -"]),
     ("1 IMPORT new-in-2030", &["ERR 8 Damaged"]),
 ];
