@@ -174,10 +174,10 @@ module _ {D : Type 0} (honest : Type 0) (up : honest) (releases : Releases) (ses
   store_told Unpin e f u h = absurd h
   store_told Status e f u h = told_pair Status (refused e) refl refl (closed_told old new _ e h)
 
-  unnamed : {name : List ℕ} (c : Command) → IsFated c → NamesRelease c name → ⊥
-  unnamed (Import other) f n = f
-  unnamed (Check other) f n = f
-  unnamed c f n = n
+  unnamed : (name : List ℕ) (c : Command) → IsFated c → NamesRelease c name → ⊥
+  unnamed name (Import other) f n = f
+  unnamed name (Check other) f n = f
+  unnamed name c f n = n
 
   told : (c : Command) (x : Result Answer LineRefusal) → IsFated c → IsSure x → IsOutcome honest releases session c x old new → Told c session x old new
   told c (Ok x) f u h = ok_told c x f h
@@ -186,7 +186,7 @@ module _ {D : Type 0} (honest : Type 0) (up : honest) (releases : Releases) (ses
   told (Ask question) (Err refusals.PinRange) f u h = absurd f
   told (At number question) (Err refusals.PinRange) f u h = absurd f
   told c (Err refusals.PinRange) f u h = absurd h.0
-  told c (Err refusals.NoFolder) f u h = absurd (unnamed c f h.1)
+  told c (Err refusals.NoFolder) f u h = absurd (unnamed h.0 c f h.1)
   told c (Err (refusals.Store e)) f u h = store_told c e f u h
 
 -- ---- the beginning of a merge
@@ -385,14 +385,13 @@ module _ {D : Type 0} (releases : Releases) (a b after next : Server D) (honest 
   one_settled : (session : ℕ) (c : Command) (x y : Result Answer LineRefusal) → IsSure x → IsSure y → Settles honest releases session c x a after → Settles also releases session c y b next → (x ≡ y) × AreAlike after next
   one_settled session c x y u v (inl h) (inl k) = (
     h.refused ∙ sym k.refused,
-    then_same a b after next same (same_from a after h.unchanged) (same_from b next k.unchanged),
-    ap (λ (d : Server D). d.met_damage) k.unchanged ∙ met ∙ sym (ap (λ (d : Server D). d.met_damage) h.unchanged),
+    (then_same a b after next same (same_from a after h.unchanged) (same_from b next k.unchanged), ap (λ (d : Server D). d.met_damage) k.unchanged ∙ met ∙ sym (ap (λ (d : Server D). d.met_damage) h.unchanged)),
   )
   one_settled session c x y u v (inl h) (inr k) = absurd (k.free (met ∙ h.held_back.0, h.held_back.1))
   one_settled session c x y u v (inr h) (inl k) = absurd (h.free (sym met ∙ k.held_back.0, k.held_back.1))
   one_settled session c x y u v (inr h) (inr k) =
       let one = one_outcome releases a b after next honest also up so same session c x y u v h.comes_out k.comes_out in
-      (one.0, one.1, k.damage ∙ ap (met_after y) met ∙ ap (λ (o : Result Answer LineRefusal). met_after o a.met_damage) (sym one.0) ∙ sym h.damage)
+      (one.0, (one.1, k.damage ∙ ap (met_after y) met ∙ ap (λ (o : Result Answer LineRefusal). met_after o a.met_damage) (sym one.0) ∙ sym h.damage))
 
   one_case : (line : List ℕ) (x y : Result Answer LineRefusal) → IsSure x → IsSure y
       → Replies honest releases line x a after → Replies also releases line y b next → (x ≡ y) × AreAlike after next
@@ -405,8 +404,7 @@ module _ {D : Type 0} (releases : Releases) (a b after next : Server D) (honest 
   one_case line x y u v (inr h) (inr k) =
       (
         h.2 ∙ ap (λ (r : Unread). Err (refusals.Unread r)) (one_refusal line h.0 k.0 h.1 k.1) ∙ sym k.2,
-        then_same a b after next same (same_from a after h.3) (same_from b next k.3),
-        ap (λ (d : Server D). d.met_damage) k.3 ∙ met ∙ sym (ap (λ (d : Server D). d.met_damage) h.3),
+        (then_same a b after next same (same_from a after h.3) (same_from b next k.3), ap (λ (d : Server D). d.met_damage) k.3 ∙ met ∙ sym (ap (λ (d : Server D). d.met_damage) h.3)),
       )
 
 pub one_reply : (D : Type 0) (honest : D → Type 0) → OneReply D honest
