@@ -80,11 +80,11 @@ module _ {D : Type 0} (is_honest : D → Type 0) (moments_of : D → Moments) (f
   answered_otherwise old new x y q = record { undamaged = λ h. tt; read = q.read; closed = q.closed; moments = q.moments; acknowledged = q.acknowledged; honesty = q.honesty; failures = q.failures }
 
   -- what was refused is refused, whatever would have been answered
-  pub refused_otherwise : {T U : Type 0} (old new : StoreValue D) (e : Refusal) → IsQuery {T} (Err e) is_honest moments_of failures_of old new → IsQuery {U} (Err e) is_honest moments_of failures_of old new
+  pub refused_otherwise : {T U : Type 0} (old new : StoreValue D) (e : Refusal) → IsQuery {T = T} (Err e) is_honest moments_of failures_of old new → IsQuery {T = U} (Err e) is_honest moments_of failures_of old new
   refused_otherwise old new e q = record { undamaged = q.undamaged; read = q.read; closed = q.closed; moments = q.moments; acknowledged = q.acknowledged; honesty = q.honesty; failures = q.failures }
 
   -- memory ran out after an answer
-  pub lacks_memory : {T U : Type 0} (old new : StoreValue D) (x : T) → IsQuery (Ok x) is_honest moments_of failures_of old new → IsQuery {U} (Err refusals.OutOfMemory) is_honest moments_of failures_of old new
+  pub lacks_memory : {T U : Type 0} (old new : StoreValue D) (x : T) → IsQuery (Ok x) is_honest moments_of failures_of old new → IsQuery {T = U} (Err refusals.OutOfMemory) is_honest moments_of failures_of old new
   lacks_memory old new x q = record {
     undamaged = λ h e. absurd (refusals-differ e);
     read = (q.read.open_before, record { history = q.read.history; catalog = q.read.catalog; closed = λ e. absurd (faults-differ e); still = λ other. q.read.open_still ∙ sym q.read.open_before });

@@ -55,6 +55,7 @@ byte_or n [] = n
 byte_or n (b ∷ bs) = b
 
 pub one_text_one_list : OneTextOneList
+unfolding letter_byte byte_or
 one_text_one_list [] [] all each e = refl
 one_text_one_list [] (row ∷ rows) all each e = absurd (let h = e ∙ begins row rows in cc)
 one_text_one_list (row ∷ rows) [] all each e = absurd (let h = sym e ∙ begins row rows in cc)
