@@ -16,13 +16,13 @@ use Rattle.line_commands.specs.Requests.{Asks}
 use Rattle.line_server.specs.declared.refusal.LineRefusal.TheVariants as refusals
 use Rattle.line_server.specs.declared.source.SourceFault.{SourceFault}
 use Rattle.line_server.specs.declared.source.SourceFault.TheVariants as faults
-use Rattle.line_server.specs.Sources.{Releases, SourceView, IsGiven}
+use Rattle.line_server.specs.Sources.{Releases, SourceView, IsGiven, of_source}
 use Rattle.line_server.specs.ReplyValue.{Done, ReplyValue, reply_value}
 use Rattle.line_server.specs.StateValue.{StateValue, HoldsBack}
 use Rattle.line_server.specs.Replies.{IsChecked, IsStoreRefusal, import_words, server}
 use Rattle.store_life.specs.Life.{Other}
 use Rattle.line_server.specs.Turns.{LeavesQueried}
-use Rattle.line_server.specs.Private.{IsResponse, of_source}
+use Rattle.line_server.specs.Private.{IsResponse}
 use Rattle.store_life.proofs.Made.{check_made, unmade}
 use Rattle.line_server.proofs.Importing.{same_server, refused_imports}
 use Rattle.line_server.proofs.Queried.{carried_out, refused_as, refused_by, lack_is_no_fault}

@@ -6,11 +6,7 @@ use Rattle.history_store.specs.StoreValue.{StoreValue}
 use Rattle.line_commands.specs.Questions.{Question, SpellsQuestion}
 use Rattle.line_commands.specs.Commands.{Command, SpellsArguments}
 use Rattle.line_commands.specs.Requests.{Asks}
-use Rattle.history_store.specs.declared.refusal.Refusal.TheVariants as store
 use Rattle.line_server.specs.declared.refusal.LineRefusal.{LineRefusal}
-use Rattle.line_server.specs.declared.refusal.LineRefusal.TheVariants as refusals
-use Rattle.line_server.specs.declared.source.SourceFault.{SourceFault}
-use Rattle.line_server.specs.declared.source.SourceFault.TheVariants as faults
 use Rattle.line_server.specs.Sources.{Releases, SourceView, source_view}
 use Rattle.line_server.specs.ReplyValue.{Answer, reply_value, ReplyValue}
 use Rattle.line_server.specs.Replies.{server, Server, IsAskedOf}
@@ -20,11 +16,6 @@ use Rattle.line_server.specs.Turns.{HasTurn}
 -- some line asks the command
 abbrev pub CanBeAsked : Command → Type 0
 CanBeAsked command = (arguments : List (List ℕ)) × SpellsArguments command arguments
-
--- why a line is refused for which no release was had
-abbrev pub of_source : SourceFault → LineRefusal
-of_source faults.OutOfMemory = refusals.Store store.OutOfMemory
-of_source faults.NoFolder = refusals.NoFolder
 
 -- the reply, or the refusal, says what came out
 abbrev pub IsToldBy : Result ReplyValue LineRefusal → Result Answer LineRefusal → Type 0

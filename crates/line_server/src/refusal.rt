@@ -35,7 +35,7 @@ impl From<Refusal> for LineRefusal {
 
 impl From<SourceFault> for LineRefusal {
     ghost use Rattle.std.specs.Prelude.{◌≡◌};
-    ghost use Rattle.line_server.specs.Private.{of_source};
+    ghost use Rattle.line_server.specs.Sources.{of_source};
 
     ghost from_gives = { λ fault e. e ≡ of_source fault };
 
