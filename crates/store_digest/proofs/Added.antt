@@ -1,6 +1,5 @@
 -- One row was read, and its line was added.
-use Rattle.std.proofs.Common.{◌≡◌, ℕ, suc, Option, Some, None, Ok, List, [], ◌∷◌, ◌++◌, take, map, refl, sym, ap, subst, ◌∙◌, append-nil}
-use Rattle.std.specs.Option.{option_to_list}
+use Rattle.std.proofs.Common.{◌≡◌, ℕ, Option, Some, Ok, List, [], ◌∷◌, ◌++◌, take, map, refl, sym, ap, subst, ◌∙◌, append-nil}
 use Rattle.std.specs.List.{filter, slice_get}
 use Rattle.std.proofs.lemmas.List.Concat.{flat_map-cons}
 use Rattle.sha2.specs.declared.Sha256.{Sha256}
@@ -36,9 +35,9 @@ module _ {D : Type 0} (is_honest : D → Type 0) (moments_of : D → Moments) (f
   row_added rows_of x row key before more q first key_is holds =
       let one = one_only (rows_of x) row after _ first q.keys in record {
         holds = λ h m holding.
-          let text : text_line row ≡ text_of (next_row after pin old) =
-              sym (append-nil (text_line row)) ∙ sym (flat_map-cons text_line row []) ∙ ap text_of (sym one ∙ q.found h) in
-          subst (λ t. Holds256 more (m ++ t)) text (holds m holding);
+            let text : text_line row ≡ text_of (next_row after pin old) =
+            sym (append-nil (text_line row)) ∙ sym (flat_map-cons text_line row []) ∙ ap text_of (sym one ∙ q.found h) in
+            subst (λ t. Holds256 more (m ++ t)) text (holds m holding);
         key = ap (λ k. k ∷ []) key_is ∙ ap (map key_of) (sym one) ∙ q.keys;
         query = answered_otherwise is_honest moments_of failures_of bytes_read_of other_calls_of old new x (Some key) q.query;
         other_calls = q.other_calls;

@@ -1,11 +1,11 @@
 -- One question after another, of a store that answered those before.
-use Rattle.std.proofs.Common.{◌≡◌, ◌↔◌, ◌≢◌, ℕ, true, false, Ok, Err, Result, refl, sym, subst, ap, ◌∙◌}
+use Rattle.std.proofs.Common.{◌≡◌, ◌↔◌, ℕ, true, Ok, Err, Result, refl, sym, subst, ◌∙◌}
 use Rattle.disk_model.specs.Disk.{Moments}
 use Rattle.blocks.proofs.Looked.{none_looks_up, some_more}
 use Rattle.history_store.specs.declared.refusal.Refusal.{Refusal}
 use Rattle.history_store.specs.declared.refusal.Refusal.TheVariants as refusals
-use Rattle.history_store.specs.StoreValue.{StoreValue, IsAcknowledged}
-use Rattle.history_store.specs.Answers.{Counts, CountsRefusal, IsReadingOf, IsReadRefusal, IsRefused, IsStill}
+use Rattle.history_store.specs.StoreValue.{StoreValue}
+use Rattle.history_store.specs.Answers.{Counts, IsReadingOf, IsReadRefusal}
 use Rattle.history_store.specs.Queries.{IsQuery, ReadsThroughCache, is_listed}
 
 module _ {D : Type 0} (is_honest : D → Type 0) (moments_of : D → Moments) (failures_of bytes_read_of other_calls_of : D → ℕ) where
@@ -82,19 +82,3 @@ module _ {D : Type 0} (is_honest : D → Type 0) (moments_of : D → Moments) (f
   -- what was refused is refused, whatever would have been answered
   pub refused_otherwise : {T U : Type 0} (old new : StoreValue D) (e : Refusal) → IsQuery {T = T} (Err e) is_honest moments_of failures_of old new → IsQuery {T = U} (Err e) is_honest moments_of failures_of old new
   refused_otherwise old new e q = record { undamaged = q.undamaged; read = q.read; closed = q.closed; moments = q.moments; acknowledged = q.acknowledged; honesty = q.honesty; failures = q.failures }
-
-  -- memory ran out after an answer
-  pub lacks_memory : {T U : Type 0} (old new : StoreValue D) (x : T) → IsQuery (Ok x) is_honest moments_of failures_of old new → IsQuery {T = U} (Err refusals.OutOfMemory) is_honest moments_of failures_of old new
-  lacks_memory old new x q = record {
-    undamaged = λ h e. absurd (refusals-differ e);
-    read = (q.read.open_before, record { history = q.read.history; catalog = q.read.catalog; closed = λ e. absurd (faults-differ e); still = λ other. q.read.open_still ∙ sym q.read.open_before });
-    closed = q.closed;
-    moments = q.moments;
-    acknowledged = q.acknowledged;
-    honesty = q.honesty;
-    failures = q.failures;
-  } where
-    refusals-differ : refusals.OutOfMemory ≡ refusals.Damaged → ⊥
-    refusals-differ e = absurd (cc)
-    faults-differ : refusals.OutOfMemory ≡ refusals.DiskFault → ⊥
-    faults-differ e = absurd (cc)

@@ -1,6 +1,5 @@
 -- What is fed to a hasher, row by row, and what these rows take to be read.
-use Rattle.std.proofs.Common.{◌≡◌, ℕ, ◌+◌, ◌≤◌, ◌<◌, Option, Some, None, Result, Ok, Err, List, [], ◌∷◌, ◌++◌, length, map, refl, sym, ap, subst, ◌∙◌, arith, append-nil}
-use Rattle.std.specs.Option.{option_to_list}
+use Rattle.std.proofs.Common.{◌≡◌, ℕ, ◌+◌, ◌≤◌, ◌<◌, Option, Some, None, Ok, Err, List, [], ◌∷◌, ◌++◌, length, map, sym, ap, subst, ◌∙◌, arith, append-nil}
 use Rattle.std.specs.List.{filter, sum_by}
 use Rattle.std.proofs.lemmas.Grind.{flat_map-append}
 use Rattle.std.proofs.lemmas.List.Sums.{sum_by-cons}
@@ -18,8 +17,8 @@ use Rattle.disk_model.specs.Disk.{Moments, IsImage}
 use Rattle.history_store.specs.declared.refusal.Refusal.{Refusal}
 use Rattle.history_store.specs.Reading.{row_cost}
 use Rattle.history_store.specs.StoreValue.{StoreValue, IsAcknowledged}
-use Rattle.store_digest.specs.Digest.{text_line, text_of, digest_of, IsDigestQuery}
-use Rattle.store_digest.specs.Private.{next_row, IsNextAdded}
+use Rattle.store_digest.specs.Digest.{text_line, text_of, IsDigestQuery}
+use Rattle.store_digest.specs.Private.{IsNextAdded}
 use Rattle.store_digest.proofs.Composed.{IsAsked, not_asked, asked_then, query_then, looked_up_then, answered_otherwise, refused_otherwise}
 use Rattle.store_digest.proofs.Remaining.{IsFirstLeft, all_left, key_answered, none_answered, first_takes_less, fewer_left, less_left, one_more}
 
@@ -79,20 +78,20 @@ module _ {D : Type 0} (is_honest : D → Type 0) (moments_of : D → Moments) (f
       gone_on = record {
         asked = asked_then is_honest moments_of failures_of bytes_read_of other_calls_of old now new d.asked (Some key) q.query q.other_calls q.looked_up;
         fed = λ h.
-          let still = d.asked.honesty.0 h in
-          let fed = d.fed h in
-          fed_next hasher more last (shown_of pin old) answered.0 (ascend still) answered.1 fed answered.3
-          (subst (λ (g : History). Holds256 more (text_of fed.done ++ text_of (rows_after last 1 (rows_at pin g.rows)))) d.asked.history (q.holds still (text_of fed.done) fed.holds))
-          key answered.2;
+            let still = d.asked.honesty.0 h in
+            let fed = d.fed h in
+            fed_next hasher more last (shown_of pin old) answered.0 (ascend still) answered.1 fed answered.3
+            (subst (λ (g : History). Holds256 more (text_of fed.done ++ text_of (rows_after last 1 (rows_at pin g.rows)))) d.asked.history (q.holds still (text_of fed.done) fed.holds))
+            key answered.2;
         bytes_read =
-          let before = d.bytes_read in
-          let read = q.bytes_read in
-          let same = ap (λ (h : History). sum_by row_cost (rows_after last 1 (rows_at pin h.rows))) d.asked.history in
-          let one = ap (sum_by row_cost) answered.3 in
-          let cost = sum_by-cons row_cost answered.0 [] in
-          let less = less_left last (shown_of pin old) answered.0 answered.1 row_cost in
-          let keyed = ap (λ k. sum_by row_cost (filter (is_after (Some k)) (shown_of pin old))) answered.2 in
-          omega arith;
+            let before = d.bytes_read in
+            let read = q.bytes_read in
+            let same = ap (λ (h : History). sum_by row_cost (rows_after last 1 (rows_at pin h.rows))) d.asked.history in
+            let one = ap (sum_by row_cost) answered.3 in
+            let cost = sum_by-cons row_cost answered.0 [] in
+            let less = less_left last (shown_of pin old) answered.0 answered.1 row_cost in
+            let keyed = ap (λ k. sum_by row_cost (filter (is_after (Some k)) (shown_of pin old))) answered.2 in
+            omega arith;
       }
 
       pub fewer : length (filter (is_after (Some key)) (shown_of pin old)) < length (filter (is_after last) (shown_of pin old))
@@ -106,23 +105,23 @@ module _ {D : Type 0} (is_honest : D → Type 0) (moments_of : D → Moments) (f
     ended q digest is =
         let none = none_answered last (shown_of pin old) (subst (λ (h : History). [] ≡ map key_of (rows_after last 1 (rows_at pin h.rows))) d.asked.history q.key) in record {
           found = λ h.
-            let fed = d.fed h in
-            is (text_of (shown_of pin old))
-            (fed_all more last (shown_of pin old) (record {
-              done = fed.done;
-              holds = subst (Holds256 more) (ap (λ ys. text_of fed.done ++ text_of ys) none.1 ∙ append-nil (text_of fed.done))
-                  (subst (λ (g : History). Holds256 more (text_of fed.done ++ text_of (rows_after last 1 (rows_at pin g.rows)))) d.asked.history (q.holds (d.asked.honesty.0 h) (text_of fed.done) fed.holds));
-              left = fed.left;
-            }) none.0);
+              let fed = d.fed h in
+              is (text_of (shown_of pin old))
+              (fed_all more last (shown_of pin old) (record {
+                done = fed.done;
+                holds = subst (Holds256 more) (ap (λ ys. text_of fed.done ++ text_of ys) none.1 ∙ append-nil (text_of fed.done))
+                    (subst (λ (g : History). Holds256 more (text_of fed.done ++ text_of (rows_after last 1 (rows_at pin g.rows)))) d.asked.history (q.holds (d.asked.honesty.0 h) (text_of fed.done) fed.holds));
+                left = fed.left;
+              }) none.0);
           query = query_then is_honest moments_of failures_of bytes_read_of other_calls_of old now new d.asked (Ok digest) (answered_otherwise is_honest moments_of failures_of bytes_read_of other_calls_of now new None digest q.query);
           other_calls = q.other_calls ∙ d.asked.other_calls;
           looked_up = looked_up_then is_honest moments_of failures_of bytes_read_of other_calls_of old now new d.asked q.looked_up;
           bytes_read =
-            let before = d.bytes_read in
-            let read = q.bytes_read in
-            let same = ap (λ (h : History). sum_by row_cost (rows_after last 1 (rows_at pin h.rows))) d.asked.history in
-            let less = first_takes_less row_cost last (shown_of pin old) in
-            omega arith;
+              let before = d.bytes_read in
+              let read = q.bytes_read in
+              let same = ap (λ (h : History). sum_by row_cost (rows_after last 1 (rows_at pin h.rows))) d.asked.history in
+              let less = first_takes_less row_cost last (shown_of pin old) in
+              omega arith;
         }
 
     -- a row wasn't read
@@ -133,9 +132,9 @@ module _ {D : Type 0} (is_honest : D → Type 0) (moments_of : D → Moments) (f
       other_calls = q.other_calls ∙ d.asked.other_calls;
       looked_up = looked_up_then is_honest moments_of failures_of bytes_read_of other_calls_of old now new d.asked q.looked_up;
       bytes_read =
-        let before = d.bytes_read in
-        let read = q.bytes_read in
-        let same = ap (λ (h : History). sum_by row_cost (rows_after last 1 (rows_at pin h.rows))) d.asked.history in
-        let less = first_takes_less row_cost last (shown_of pin old) in
-        omega arith;
+          let before = d.bytes_read in
+          let read = q.bytes_read in
+          let same = ap (λ (h : History). sum_by row_cost (rows_after last 1 (rows_at pin h.rows))) d.asked.history in
+          let less = first_takes_less row_cost last (shown_of pin old) in
+          omega arith;
     }

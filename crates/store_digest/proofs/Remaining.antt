@@ -1,17 +1,15 @@
 -- The rows that are left after a key.
 use Rattle.std.proofs.Common.{◌≡◌, ℕ, ◌+◌, ◌<◌, ◌≤◌, Bool, true, false, cond, List, [], ◌∷◌, ◌++◌, length, take, map, refl, sym, ap, subst, inl, inr, ◌∙◌, arith, append_assoc}
 use Rattle.std.specs.Prelude.{Option, Some, None}
-use Rattle.std.specs.Option.{option_to_list}
-use Rattle.std.specs.List.{filter, flat_map, sum_by}
+use Rattle.std.specs.List.{filter, sum_by}
 use Rattle.std.specs.declared.cmp.Ordering.TheVariants.{Less}
 use Rattle.std.proofs.lemmas.List.Sums.{sum_by-cons}
-use Rattle.std.proofs.lemmas.List.{flat_map_more}
 use Rattle.rf2_values.specs.declared.key.Key.{Key}
 use Rattle.rf2_values.specs.Row.{RowValue}
 use Rattle.rf2_values.specs.Key.{key_of}
 use Rattle.history_model.specs.InOrder.{Has, IsAscending}
 use Rattle.history_model.specs.History.{row_cmp}
-use Rattle.history_model.specs.KeyOrder.{is_key_after, is_after, rows_after}
+use Rattle.history_model.specs.KeyOrder.{is_after, rows_after}
 use Rattle.history_model.proofs.InOrder.{Has-all, not_below_itself, same_ascending}
 use Rattle.history_model.proofs.Filtered.{Has-filter, Has-filter_from, IsAscending-filter}
 use Rattle.history_model.proofs.Keys.{rows_total}
@@ -76,6 +74,7 @@ key_answered last rows key e = by (filter (is_after last) rows) refl where
   key_or : Key → List Key → Key
   key_or k [] = k
   key_or k (x ∷ xs) = x
+
   by : (ys : List RowValue) → filter (is_after last) rows ≡ ys → (b : RowValue) × IsFirstLeft last rows b × (key ≡ key_of b) × (rows_after last 1 rows ≡ b ∷ [])
   by [] f = absurd (let g : key ∷ [] ≡ [] = e ∙ ap (λ ys. map key_of (take 1 ys)) f in cc)
   by (b ∷ ys) f = (b, first_left last rows b ys f, ap (key_or key) (e ∙ ap (λ zs. map key_of (take 1 zs)) f), ap (take 1) f)
@@ -110,14 +109,14 @@ module _ (last : Option Key) (rows : List RowValue) (b : RowValue) (first : IsFi
       let rising : IsAscending row_cmp (b ∷ first.rest) = subst (IsAscending row_cmp) first.left_is (IsAscending-filter (is_after last) row_cmp rows up) in
       same_ascending rows_total first.rest (filter (is_after (Some (key_of b))) rows) rising.1 (IsAscending-filter (is_after (Some (key_of b))) row_cmp rows up)
       (λ z h.
-        let w = Has-filter (is_after last) rows z (subst (λ ys. Has ys z) (sym first.left_is) (inr h)) in
-        Has-filter_from (is_after (Some (key_of b))) rows z w.0 (is_lt_of (row_cmp b z) (Has-all (λ y. row_cmp b y ≡ Less) first.rest z rising.0 h)))
+      let w = Has-filter (is_after last) rows z (subst (λ ys. Has ys z) (sym first.left_is) (inr h)) in
+      Has-filter_from (is_after (Some (key_of b))) rows z w.0 (is_lt_of (row_cmp b z) (Has-all (λ y. row_cmp b y ≡ Less) first.rest z rising.0 h)))
       (λ z h.
-        let w = Has-filter (is_after (Some (key_of b))) rows z h in
-        elim (subst (λ ys. Has ys z) first.left_is (Has-filter_from (is_after last) rows z w.0 (further last (key_of b) (key_of z) first.comes_after w.1))) [
-          | inl s ↦ absurd (not_below_itself rows_total z (subst (λ y. row_cmp y z ≡ Less) s (lt_is (row_cmp b z) w.1)))
-          | inr t ↦ t
-        ])
+      let w = Has-filter (is_after (Some (key_of b))) rows z h in
+      elim (subst (λ ys. Has ys z) first.left_is (Has-filter_from (is_after last) rows z w.0 (further last (key_of b) (key_of z) first.comes_after w.1))) [
+        | inl s ↦ absurd (not_below_itself rows_total z (subst (λ y. row_cmp y z ≡ Less) s (lt_is (row_cmp b z) w.1)))
+        | inr t ↦ t
+      ])
 
   -- one row more is done
   pub one_more : IsAscending row_cmp rows → (done : List RowValue) → done ++ filter (is_after last) rows ≡ rows → (done ++ b ∷ []) ++ filter (is_after (Some (key_of b))) rows ≡ rows

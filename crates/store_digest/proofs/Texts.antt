@@ -1,7 +1,6 @@
 -- Rows of which the texts are the same.
-use Rattle.std.proofs.Common.{◌≡◌, ℕ, ◌<◌, true, false, eqb, List, [], ◌∷◌, ◌++◌, length, refl, sym, ap, subst, ◌∙◌, arith, append_assoc}
+use Rattle.std.proofs.Common.{◌≡◌, ℕ, false, eqb, List, [], ◌∷◌, ◌++◌, refl, sym, ap, subst, ◌∙◌, arith, append_assoc}
 use Rattle.std.specs.Prelude.{codes}
-use Rattle.std.specs.List.{AllByRecursion, flat_map}
 use Rattle.std.proofs.lemmas.List.Concat.{flat_map-cons}
 use Rattle.std.proofs.lemmas.List.Elements.{All-tail}
 use Rattle.rf2_values.specs.declared.row.Kind.{Kind}
@@ -13,7 +12,6 @@ use Rattle.rf2_rows.proofs.Clean.{all_clean, line_no_lf}
 use Rattle.rf2_rows.proofs.RowLaws.{spells_one_row, canonical_spells, columns_stand}
 use Rattle.line_commands.specs.Questions.{letter}
 use Rattle.line_commands.proofs.FirstWords.{one_letter}
-use Rattle.history_model.specs.History.{History, IsHistory, rows_at, after_release}
 use Rattle.history_model.proofs.Chains.{pinned_stays}
 use Rattle.store_digest.specs.Digest.{text_line, text_of, digest_of}
 use Rattle.store_digest.specs.Laws.{OneTextOneList, DigestStays}

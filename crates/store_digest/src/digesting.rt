@@ -48,11 +48,7 @@ fn add_next<D: Disk>(
 
 /// The digest of all rows that the first `pin` imports brought: the SHA-256 of their lines, kind by
 /// kind, ascending by identifier, then by time. It has one row in memory at a time.
-pub fn digest<D: Disk>(
-    alloc: Global,
-    store: &mut Store<D>,
-    pin: u32,
-) -> Result<[u8; 32], Refusal>
+pub fn digest<D: Disk>(alloc: Global, store: &mut Store<D>, pin: u32) -> Result<[u8; 32], Refusal>
     requires { pin ≤ store.old.history.imports }
     ensures answer { IsDigestQuery result pin
         D.is_honest D.moments D.failures D.bytes_read D.other_calls store.old store.new }

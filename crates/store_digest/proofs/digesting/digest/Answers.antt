@@ -28,6 +28,6 @@ rows-preserved g c =
 pub returns : goal.returns
 returns g c = record {
   answer =
-    let d = g.D.Disk in
-    ended d.is_honest d.moments d.failures d.bytes_read d.other_calls c.args.pin c.args.store.now c.rows.store c.add_next.new.store c.rows.hasher c.add_next.new.hasher c.rows.last c.rows.invariant (rw c.in_default.is at c.in_ok-key.ensures.added) c.finalize.result c.finalize.ensures;
+      let d = g.D.Disk in
+      ended d.is_honest d.moments d.failures d.bytes_read d.other_calls c.args.pin c.args.store.now c.rows.store c.add_next.new.store c.rows.hasher c.add_next.new.hasher c.rows.last c.rows.invariant (rw c.in_default.is at c.in_ok-key.ensures.added) c.finalize.result c.finalize.ensures;
 }
