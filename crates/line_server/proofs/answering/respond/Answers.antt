@@ -21,6 +21,12 @@ returns-in-Check-clause-pins g c = within_more _ _ _ (c.check.ensures.response c
 pub returns-in-Check-clause-response : goal.returns-in-Check-clause-response
 returns-in-Check-clause-response g c = rw c.in-Check.is (c.check.ensures.response c.args.session c.args.state.now (rw c.in-Check.is at c.requires.free))
 
+pub returns-in-Import-clause-unasked : goal.returns-in-Import-clause-unasked
+returns-in-Import-clause-unasked g c = λ only. absurd (only c.in-Import.name.now (rw c.in-Import.is refl))
+
+pub returns-in-Check-clause-unasked : goal.returns-in-Check-clause-unasked
+returns-in-Check-clause-unasked g c = λ only. absurd (only c.in-Check.name.now (rw c.in-Check.is refl))
+
 pub ask-requires-clause-asked : goal.ask-requires-clause-asked
 ask-requires-clause-asked g c = let asked = rw c.in-Ask.is at c.requires.asked in asked
 
