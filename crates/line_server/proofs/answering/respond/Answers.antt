@@ -15,6 +15,9 @@ returns-in-Import-clause-pins g c = within_more _ _ _ (c.import.ensures.response
 pub returns-in-Import-clause-response : goal.returns-in-Import-clause-response
 returns-in-Import-clause-response g c = rw c.in-Import.is (c.import.ensures.response c.args.session c.args.state.now (rw c.in-Import.is at c.requires.free))
 
+pub returns-in-Import-clause-unasked : goal.returns-in-Import-clause-unasked
+returns-in-Import-clause-unasked g c = λ only. absurd (only c.in-Import.name.now (rw c.in-Import.is refl))
+
 pub ask-requires-clause-asked : goal.ask-requires-clause-asked
 ask-requires-clause-asked g c = let asked = rw c.in-Ask.is at c.requires.asked in asked
 
