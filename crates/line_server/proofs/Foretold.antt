@@ -1,34 +1,18 @@
 -- What CHECK answers, IMPORT answers next.
 use Rattle.std.proofs.Common.{◌≡◌, ◌⊎◌, ℕ, true, List, Result, Ok, Err, sym, ap, ◌∙◌, inl, inr}
 use Rattle.std.proofs.lemmas.Option.{none-some, same_Some}
-use Rattle.history_model.specs.declared.receipt.Receipt.{Receipt}
 use Rattle.import_check.specs.Release.{files_of}
-use Rattle.history_store.specs.declared.refusal.Refusal.{Refusal}
-use Rattle.history_store.specs.declared.refusal.Refusal.TheVariants as store
-use Rattle.history_store.specs.Checking.{HasFailed}
-use Rattle.history_store.proofs.Foreseen.{checked_is_imported}
 use Rattle.line_commands.specs.Commands.{Import, Check}
 use Rattle.line_server.specs.declared.refusal.LineRefusal.{LineRefusal}
 use Rattle.line_server.specs.Sources.{Releases}
 use Rattle.line_server.specs.ReplyValue.{Answer}
 use Rattle.line_server.specs.Replies.{Server}
 use Rattle.line_server.specs.Laws.{CheckForetells, IsSure}
-use Rattle.store_life.specs.Laws.{IsSureImport}
+use Rattle.store_life.proofs.OneImports.{one_import}
 use Rattle.store_life.proofs.AlikeReleases.{import_alike}
 use Rattle.line_server.proofs.Damage.{outcome_undamaged}
-use Rattle.line_server.proofs.OneReplies.{said, NoRelease, WithRelease, WithCheck, import_told, check_told}
+use Rattle.line_server.proofs.OneReplies.{said, NoRelease, WithRelease, WithCheck, foreseen, stays_checked, import_told, check_told}
 use Rattle.line_server.proofs.Pinned.{Settles, asked_outcome}
-
-not_failed : {X : Type 0} (result : Result Receipt Refusal) → IsSureImport result → HasFailed result → X
-not_failed (Ok receipt) sure failed = absurd failed
-not_failed (Err store.OutOfMemory) sure failed = absurd sure
-not_failed (Err store.DiskFault) sure failed = absurd sure
-not_failed (Err _) sure failed = absurd failed
-
-one_of : (one two : Result Receipt Refusal) → IsSureImport one → IsSureImport two → (two ≡ one) ⊎ (HasFailed one ⊎ HasFailed two) → two ≡ one
-one_of one two u v (inl same) = same
-one_of one two u v (inr (inl failed)) = not_failed one u failed
-one_of one two u v (inr (inr failed)) = not_failed two v failed
 
 module _ {D : Type 0} (releases : Releases) (name : List ℕ) (one two : Result Answer LineRefusal) (old checked new : Server D) (honest also : Type 0) (up : honest) (so : also) where
   with_release : NoRelease releases name one old checked ⊎ WithCheck honest releases name one old checked → NoRelease releases name two checked new ⊎ WithRelease also releases name two checked new → two ≡ one
@@ -38,8 +22,10 @@ module _ {D : Type 0} (releases : Releases) (name : List ℕ) (one two : Result 
   with_release (inr h) (inr k) =
       let files : files_of k.imported.release ≡ files_of h.checked.release = same_Some _ _ (sym k.imported.has ∙ h.checked.has) in
       let other = import_alike k.imported.release h.checked.release files k.result checked.store new.store k.sure (k.imported.imported so) in
-      let same = one_of h.result k.result h.sure k.sure (checked_is_imported old.store checked.store new.store h.checked.release h.result k.result (h.checked.checked up) other) in
-      k.is ∙ ap said same ∙ sym h.is
+      let f = foreseen old.store checked.store h.checked.release h.result h.sure (h.checked.checked up) in
+      let s = stays_checked old.store checked.store h.checked.release h.result h.sure (h.checked.checked up) in
+      let both = one_import D h.checked.release h.result k.result old.store checked.store f.0 new.store s.history s.catalog s.needs_reopen f.1 other h.sure k.sure in
+      k.is ∙ sym (ap said both.0) ∙ sym h.is
 
   settled : (session other : ℕ) → IsSure one → IsSure two → Settles honest releases session (Check name) one old checked → Settles also releases other (Import name) two checked new → two ≡ one
   settled session other u v (inl h) (inl k) = k.refused ∙ sym h.refused

@@ -284,13 +284,13 @@ check_told honest releases session name (Err (refusals.Store e)) old new u h = i
 
 module _ {D : Type 0} (old new : StoreValue D) (release : Release) where
   -- an import that answers as the check does
-  foreseen : (result : Result Receipt Refusal) → IsSureImport result → IsCheckingOf result old new release → (after : StoreValue D) × IsImportOf result old after release
-  foreseen (Ok receipt) sure c = (record old { history = c.0.0; catalog = c.0.1 }, c.0.2, c.1.open_before, c.1.open_before)
+  pub foreseen : (result : Result Receipt Refusal) → IsSureImport result → IsCheckingOf result old new release → (after : StoreValue D) × IsImportOf result old after release
+  foreseen (Ok receipt) sure c = (record old { history = c.0.0; catalog = c.0.1 }, (c.0.2, c.1.open_before, c.1.open_before))
   foreseen (Err store.OutOfMemory) sure c = absurd sure
   foreseen (Err store.DiskFault) sure c = absurd sure
   foreseen (Err e) sure c = (new, c)
 
-  stays_checked : (result : Result Receipt Refusal) → IsSureImport result → IsCheckingOf result old new release → SameStore old new
+  pub stays_checked : (result : Result Receipt Refusal) → IsSureImport result → IsCheckingOf result old new release → SameStore old new
   stays_checked (Ok receipt) sure c = record { history = c.1.history; catalog = c.1.catalog; needs_reopen = c.1.open_still ∙ sym c.1.open_before }
   stays_checked (Err store.DiskFault) sure c = absurd sure
   stays_checked (Err e) sure c = record { history = c.1.history; catalog = c.1.catalog; needs_reopen = c.1.still (λ is. false≢true (ap is_fault is)) }

@@ -12,9 +12,9 @@ returns-in_err-release-clause-response g c session state free =
 pub returns-in-Ok-clause-response : goal.returns-in-Ok-clause-response
 returns-in-Ok-clause-response g c session state free =
     checked (source_view (g.S.Source.is_honest c.args.source.now) (g.S.Source.releases c.args.source.now)) (device_view g.D.Disk.is_honest g.D.Disk.moments g.D.Disk.failures g.D.Disk.bytes_read) c.args.name.now session state free c.args.store.now c.check.new.self c.in_ok-release.release
-    (λ h. c.in_ok-release.ensures.given h) c.in-Ok.receipt c.reply_import.result c.in-Ok.ensures c.reply_import.ensures
+    (λ h. c.in_ok-release.ensures.given h) c.in-Ok.receipt c.reply_import.result c.in-Ok.ensures.answer c.reply_import.ensures
 
 pub returns-in-Err-clause-response : goal.returns-in-Err-clause-response
 returns-in-Err-clause-response g c session state free =
     unchecked (source_view (g.S.Source.is_honest c.args.source.now) (g.S.Source.releases c.args.source.now)) (device_view g.D.Disk.is_honest g.D.Disk.moments g.D.Disk.failures g.D.Disk.bytes_read) c.args.name.now session state free c.args.store.now c.check.new.self c.in_ok-release.release
-    (λ h. c.in_ok-release.ensures.given h) c.in-Err.refusal c.in-Err.ensures
+    (λ h. c.in_ok-release.ensures.given h) c.in-Err.refusal c.in-Err.ensures.answer
