@@ -15,7 +15,7 @@ use Rattle.line_server.specs.declared.refusal.LineRefusal.TheVariants.{Store}
 use Rattle.line_server.specs.declared.serving.ServeFault.{ServeFault}
 use Rattle.line_server.specs.Sources.{SourceView, no_releases}
 use Rattle.line_server.specs.ReplyValue.{Answer, Done as AllDone}
-use Rattle.line_server.specs.Pins.{unpinned}
+use Rattle.line_server.specs.StateValue.{StateValue, fresh}
 use Rattle.line_server.specs.Replies.{server}
 use Rattle.line_server.specs.Turns.{HasTurn}
 use Rattle.line_server.specs.Serving.{IsServed}
@@ -45,9 +45,9 @@ pub record IsMade {D : Type 0} (layout : Layout) (view : DeviceView D) (device l
 -- reply was told, and the device was left as it then was.
 pub record IsLineTold {D : Type 0} (source : SourceView) (view : DeviceView D) (line : List ℕ)
     (store : StoreValue D) (left : D) (report : Report) : Type 0 where
-  pub pins : List (Option ℕ)
+  pub state : StateValue
   pub after : StoreValue D
-  pub told : HasTurn source view line (server unpinned store) (server pins after)
+  pub told : HasTurn source view line (server fresh store) (server state after)
       (λ turn. Tells report turn.outcome)
   pub left_so : left ≡ after.disk
 

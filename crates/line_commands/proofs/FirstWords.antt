@@ -15,7 +15,7 @@ use Rattle.rf2_values.proofs.Decimals.{own}
 use Rattle.line_commands.specs.declared.words.QuestionWord.{QuestionWord}
 use Rattle.line_commands.specs.declared.words.QuestionWord.TheVariants as asking
 use Rattle.line_commands.specs.Questions.{Question, Get, History, Children, Ancestors, Descendants, Terms, Search, Replaced, Replaces, About, Timeline, Page, Delta, Dates, Digest, Receipt, word_of_question, letter}
-use Rattle.line_commands.specs.Commands.{Command, Ask, At, Import, Pin, Unpin, Merge, Step, Publish, Abandon, Trim, Status, word_of}
+use Rattle.line_commands.specs.Commands.{Command, Ask, At, Import, Check, Pin, Unpin, Merge, Step, Publish, Abandon, Trim, Status, word_of}
 use Rattle.line_commands.specs.Requests.{with_rest, spaced}
 use Rattle.line_commands.specs.Private.{IsWord, IsOther, text_of_question, behind}
 
@@ -69,6 +69,7 @@ unfolding test
 command_is_word (Ask question) = question_is_word question
 command_is_word (At number question) = from_test (codes "AT") refl
 command_is_word (Import name) = from_test (codes "IMPORT") refl
+command_is_word (Check name) = from_test (codes "CHECK") refl
 command_is_word (Pin number) = from_test (codes "PIN") refl
 command_is_word Unpin = from_test (codes "UNPIN") refl
 command_is_word Merge = from_test (codes "MERGE") refl

@@ -12,7 +12,7 @@ use Rattle.rf2_values.specs.Row.{IsIdOf, SpellsId, IsConcept, IsComponent}
 use Rattle.rf2_values.proofs.Ids.{same_ids}
 use Rattle.line_commands.specs.declared.unread.Unread.TheVariants as unread
 use Rattle.line_commands.specs.Questions.{Question, Get, History, Children, Ancestors, Descendants, Terms, Search, Replaced, Replaces, About, Timeline, Page, Delta, Dates, Digest, Receipt, word_of_question, letter, IsSubjectOf, SpellsQuestion, SpellsAfter}
-use Rattle.line_commands.specs.Commands.{Command, Ask, At, Import, Pin, Unpin, Merge, Step, Publish, Abandon, Trim, Status, word_of, SpellsArguments}
+use Rattle.line_commands.specs.Commands.{Command, Ask, At, Import, Check, Pin, Unpin, Merge, Step, Publish, Abandon, Trim, Status, word_of, SpellsArguments}
 use Rattle.line_commands.specs.Requests.{with_rest, sessions, Asks, HasSession, HasCommand}
 use Rattle.line_commands.specs.Private.{IsWord, behind}
 use Rattle.line_commands.specs.Laws.{OneReading, AskedIsRead, OneRefusal}
@@ -196,6 +196,7 @@ one_command (At m p) (At n q) xs ys w s t same =
     let questions = one_question p q s.0 t.0 words.0 s.1 t.1 words.1 in
     ap (λ (x : ℕ). At x p) numbers ∙ ap (λ (x : Question). At n x) questions
 one_command (Import name) (Import other) xs ys w s t same = ap (λ (n : List ℕ). Import n) (same_Some _ _ (rest_same xs ys _ _ s.1 t.1 same))
+one_command (Check name) (Check other) xs ys w s t same = ap (λ (n : List ℕ). Check n) (same_Some _ _ (rest_same xs ys _ _ s.1 t.1 same))
 one_command (Pin None) (Pin None) xs ys w s t same = refl
 one_command (Pin None) (Pin (Some n)) xs ys w s t same = let e = rest_same xs ys _ _ s t.1 same in absurd cc
 one_command (Pin (Some n)) (Pin None) xs ys w s t same = let e = rest_same xs ys _ _ s.1 t same in absurd cc

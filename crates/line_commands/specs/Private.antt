@@ -41,6 +41,7 @@ abbrev pub text_of_word : Word → List ℕ
 text_of_word (words.Question word) = text_of_question word
 text_of_word words.At = codes "AT"
 text_of_word words.Import = codes "IMPORT"
+text_of_word words.Check = codes "CHECK"
 text_of_word words.Pin = codes "PIN"
 text_of_word words.Unpin = codes "UNPIN"
 text_of_word words.Merge = codes "MERGE"

@@ -35,6 +35,7 @@ pub(crate) enum Word {
     Question(QuestionWord),
     At,
     Import,
+    Check,
     Pin,
     Unpin,
     Merge,
@@ -112,6 +113,7 @@ fn other_word(text: &[u8]) -> Option<Word>
     match text {
         b"AT" => Some(Word::At),
         b"IMPORT" => Some(Word::Import),
+        b"CHECK" => Some(Word::Check),
         b"PIN" => Some(Word::Pin),
         b"UNPIN" => Some(Word::Unpin),
         b"MERGE" => Some(Word::Merge),

@@ -5,8 +5,8 @@ pub returns : goal.returns
 returns g c =
     let t = c.answer-reply.ensures.turn in
     record {
-      pins = c.answer-reply.new.pins;
+      state = c.answer-reply.new.state;
       after = c.answer-reply.new.store;
-      told = (t.0, t.1, rw (← c.new-pins.ensures.none) t.2, c.tell.ensures t.0.outcome t.3);
+      told = (t.0, t.1, rw (← c.new-state.ensures.value) t.2, c.tell.ensures t.0.outcome t.3);
       left_so = refl;
     }
