@@ -29,7 +29,7 @@ use Rattle.store_copy.specs.declared.fault.SegmentCopyFault.{SegmentCopyFault}
 use Rattle.store_copy.specs.declared.fault.SegmentCopyFault.TheVariants.{Read, Write}
 use Rattle.store_copy.specs.Private.Writing.{IsNoDamage, IsShut, in_segment}
 use Rattle.store_copy.proofs.Gates.{shut_but}
-use Rattle.store_copy.proofs.Listing.{end-append, end_least}
+use Rattle.store_copy.proofs.Listing.{end-append, end_least, segments_count}
 use Rattle.store_copy.proofs.UpTo.{lists-append, before-append}
 
 -- ---- the pieces of segments one behind the other
@@ -203,6 +203,19 @@ segment_at file (f ∷ entries) (l ∷ lists) zero e rows are held lt is_e is_ro
     subst (λ (r : List StampedRow). IsAt file e r) (sym is_rows) (subst (λ (g : Entry). IsAt file g l) (sym is_e) one)
 segment_at file (f ∷ entries) (l ∷ lists) (suc i) e rows are held lt is_e is_rows =
     segment_at file entries lists i e rows are.1 (All-tail (λ p. Holds p file) (start_of (extent_of f), segment_in f.form l) (pieces_of entries lists) held) (omega (arith, lt)) is_e is_rows
+
+same_or : {X : Type 0} (xs : List X) (i : ℕ) (d e : X) → i < length xs → get_or xs i d ≡ get_or xs i e
+same_or [] i d e lt = absurd (omega (arith, lt))
+same_or (x ∷ xs) zero d e lt = refl
+same_or (x ∷ xs) (suc i) d e lt = same_or xs i d e (omega (arith, lt))
+
+-- it is still there, whatever stands for an entry that isn't listed
+pub segment_still : (old new : Moments) (entries : List Entry) (lists : List (List StampedRow)) (i : ℕ) (d : Entry) (rows : List StampedRow) → new ≡ old → AreSegments entries lists → HoldsAll (pieces_of entries lists) old.state.now → i < length lists → rows ≡ get_or lists i rows → IsAt new.state.now (get_or entries i d) rows
+segment_still old new entries lists i d rows same are held lt is =
+    let e = get_or entries i d in
+    let listed : i < length entries = omega (arith, lt, segments_count entries lists are) in
+    let at = segment_at old.state.now entries lists i e rows are held lt (same_or entries i d e listed) is in
+    subst (λ (m : Moments). IsAt m.state.now e rows) (sym same) at
 
 pub first_entry : (left behind : List Entry) (entry : Entry) → left ≡ entry ∷ behind → AllByRecursion IsEntry left → IsEntry entry × AllByRecursion IsEntry behind
 first_entry left behind entry split all = subst (AllByRecursion IsEntry) split all

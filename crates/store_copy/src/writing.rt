@@ -274,11 +274,10 @@ fn copy_segments<S: Disk, T: Disk>(
         let rows = &shown[i];
         let listed = places[i].as_slice();
         if size_up_to(imports, listed, rows).rows > 0 {
-            let Some((entry, behind)) = left.split_first() else {
+            let Some((to, behind)) = left.split_first() else {
                 unreachable!()
             };
-            let (of, to) = (from[i], *entry);
-            match copy_segment(alloc, source, of, listed, rows, imports, target, to) {
+            match copy_segment(alloc, source, from[i], listed, rows, imports, target, *to) {
                 Ok(()) => {}
                 Err(fault) => return Err(fault.in_segment(i + 1)),
             }

@@ -1,10 +1,12 @@
-use Rattle.std.proofs.Common.{◌≡◌, inl, inr, ◌+◌, ◌^◌, ◌<◌, length, vec_items, sym, ap, subst, ◌∙◌, arith}
+use Rattle.std.proofs.Common.{◌≡◌, inl, inr, ◌+◌, ◌^◌, ◌<◌, ◌≤◌, List, length, take, vec_items, sym, ap, subst, ◌∙◌, arith}
 use Rattle.std.proofs.lemmas.List.{take_all}
 use Rattle.std.proofs.lemmas.Result.{err_from_is_err_and}
 use Rattle.history_model.specs.declared.stamped.StampedRow.{StampedRow}
 use Rattle.segment.specs.Standing.{places_of}
 use Rattle.store_copy.specs.Copying.{copied_listing, end_from, lists_up_to}
+use Rattle.directory.specs.Listings.{IsListing}
 use Rattle.store_copy.proofs.Done.{both_long, both_mapped}
+use Rattle.store_copy.proofs.Listing.{copied_is_listing}
 use Rattle.store_copy.proofs.Planned.{copied_same, first_same, copied_more, first_more, next_listed, too_large}
 use Rattle.store_copy.proofs.planning.plan.Goals as goal
 use Rattle.store_copy.proofs.planning.plan.Goals.{then-size-gt0+in_ok-first, else-size-gt0}
@@ -51,3 +53,14 @@ loop-i-preserved c =
             fits = omega (arith, w.first-is, inv.fits);
           }
     ]
+
+pub returns-clause-listing : goal.returns-clause-listing
+returns-clause-listing c =
+    let n = c.args.imports in
+    let shown = c.args.shown.now in
+    let inv = c.loop-i.invariant in
+    let all : take c.loop-i.i shown ≡ shown = take_all c.loop-i.i shown (omega (arith, c.loop-i-test.false)) in
+    let ends : c.loop-i.first ≡ end_from 4 (lists_up_to n shown) = inv.first ∙ ap (λ (l : List (List StampedRow)). end_from 4 (lists_up_to n l)) all in
+    let is = inv.copied ∙ ap (λ (l : List (List StampedRow)). copied_listing c.args.layout n l) all in
+    let fits = inv.fits in
+    subst IsListing (sym is) (copied_is_listing c.args.layout n shown (omega (arith, c.ranges.imports.fits)) c.requires.few c.requires.small (omega (arith, ends, fits)))

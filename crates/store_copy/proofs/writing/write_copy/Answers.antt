@@ -1,9 +1,62 @@
-use Rattle.std.proofs.Common.{length}
-use Rattle.std.proofs.lemmas.Result.{on_ok_weaker}
+use Rattle.std.proofs.Common.{◌≡◌, ◌≤◌, length, arith}
+use Rattle.disk_model.proofs.MomentSteps.{at_end}
 use Rattle.store_copy.specs.Copying.{lists_up_to}
+use Rattle.store_copy.specs.Private.Writing.{IsShut}
 use Rattle.store_copy.proofs.Copied.{closing_run, writing_run, opening_run}
 use Rattle.store_copy.proofs.Listing.{segments_count}
 use Rattle.store_copy.proofs.writing.write_copy.Goals as goal
 
 pub copy_segments-requires-clause-from : goal.copy_segments-requires-clause-from
 copy_segments-requires-clause-from g c = segments_count c.args.from.now c.args.shown.now c.requires.from
+
+pub returns-in_err-copy_segments-clause-any_moment : goal.returns-in_err-copy_segments-clause-any_moment
+returns-in_err-copy_segments-clause-any_moment g c = λ s t held none.
+    let copy = c.args.copy.now in
+    let lists = lists_up_to copy.imports c.args.shown.now in
+    let m0 = g.T.Disk.moments c.args.target.now in
+    let m1 = g.T.Disk.moments c.close_slots.new.target in
+    let m2 = g.T.Disk.moments c.copy_segments.new.target in
+    let run = c.copy_segments.ensures.any_moment (c.close_slots.ensures.honesty.0 t) (c.in_ok-close_slots.ensures.shut t none) in
+    writing_run copy lists m0 m1 m2 (closing_run copy lists m0 m1 (c.close_slots.ensures.any_moment t none)) run
+
+pub returns-in_err-open_slot-clause-any_moment : goal.returns-in_err-open_slot-clause-any_moment
+returns-in_err-open_slot-clause-any_moment g c = λ s t held none.
+    let copy = c.args.copy.now in
+    let lists = lists_up_to copy.imports c.args.shown.now in
+    let m0 = g.T.Disk.moments c.args.target.now in
+    let m1 = g.T.Disk.moments c.close_slots.new.target in
+    let m2 = g.T.Disk.moments c.copy_segments.new.target in
+    let m3 = g.T.Disk.moments c.open_slot.new.target in
+    let on = c.close_slots.ensures.honesty.0 t in
+    let run = c.copy_segments.ensures.any_moment on (c.in_ok-close_slots.ensures.shut t none) in
+    let first = c.in_ok-close_slots.ensures.long t none in
+    let more = c.in_ok-copy_segments.ensures.long on in
+    opening_run copy lists m0 m2 m3 (writing_run copy lists m0 m1 m2 (closing_run copy lists m0 m1 (c.close_slots.ensures.any_moment t none)) run)
+    (c.open_slot.ensures.any_moment (c.copy_segments.ensures.target_honesty.0 on) lists c.requires.kept (at_end m1 m2 IsShut run) (omega (arith, first, more)) (c.in_ok-copy_segments.ensures.held s on c.requires.from held))
+
+pub returns-clause-any_moment : goal.returns-clause-any_moment
+returns-clause-any_moment g c = λ s t held none.
+    let copy = c.args.copy.now in
+    let lists = lists_up_to copy.imports c.args.shown.now in
+    let m0 = g.T.Disk.moments c.args.target.now in
+    let m1 = g.T.Disk.moments c.close_slots.new.target in
+    let m2 = g.T.Disk.moments c.copy_segments.new.target in
+    let m3 = g.T.Disk.moments c.open_slot.new.target in
+    let on = c.close_slots.ensures.honesty.0 t in
+    let run = c.copy_segments.ensures.any_moment on (c.in_ok-close_slots.ensures.shut t none) in
+    let first = c.in_ok-close_slots.ensures.long t none in
+    let more = c.in_ok-copy_segments.ensures.long on in
+    opening_run copy lists m0 m2 m3 (writing_run copy lists m0 m1 m2 (closing_run copy lists m0 m1 (c.close_slots.ensures.any_moment t none)) run)
+    (c.open_slot.ensures.any_moment (c.copy_segments.ensures.target_honesty.0 on) lists c.requires.kept (at_end m1 m2 IsShut run) (omega (arith, first, more)) (c.in_ok-copy_segments.ensures.held s on c.requires.from held))
+
+pub returns-clause-on_disk : goal.returns-clause-on_disk
+returns-clause-on_disk g c = λ s t held none.
+    let copy = c.args.copy.now in
+    let lists = lists_up_to copy.imports c.args.shown.now in
+    let m1 = g.T.Disk.moments c.close_slots.new.target in
+    let m2 = g.T.Disk.moments c.copy_segments.new.target in
+    let on = c.close_slots.ensures.honesty.0 t in
+    let run = c.copy_segments.ensures.any_moment on (c.in_ok-close_slots.ensures.shut t none) in
+    let first = c.in_ok-close_slots.ensures.long t none in
+    let more = c.in_ok-copy_segments.ensures.long on in
+    c.in_ok-open_slot.ensures.on_disk (c.copy_segments.ensures.target_honesty.0 on) lists c.requires.kept (at_end m1 m2 IsShut run) (omega (arith, first, more)) (c.in_ok-copy_segments.ensures.held s on c.requires.from held)
