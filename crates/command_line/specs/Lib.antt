@@ -10,5 +10,8 @@ pub mod Words
 pub mod Devices
 pub mod Tasks
 pub mod Merging
+pub mod Checking
+pub mod Digests
+pub mod Copies
 pub mod Runs
 pub mod Private

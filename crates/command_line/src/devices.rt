@@ -5,8 +5,9 @@ ghost use Rattle.disk_model.specs.Disk.{raised_by};
 ghost use Rattle.command_line.specs.Devices.{files_asked};
 
 use disk_model::{Disk, DiskFault, FileDisk, OpenFault};
-use std::fs::{self, File, Files};
+use std::fs::{self, File, Files, OpenOptions};
 use std::io::{self, Write};
+use std::os::unix::fs::OpenOptionsExt;
 
 /// What holds stores, by names. It counts how often it is asked for one.
 pub trait Devices {
@@ -23,11 +24,19 @@ pub trait Devices {
     ghost makes: { Self → List ℕ → Self.Device → Type 0 };
     /// There is no file of this name that can be opened, and none can be created.
     ghost denies: { Self → List ℕ → Type 0 };
+    /// This was made under the name, where nothing stood.
+    ghost creates: { Self → List ℕ → Self.Device → Type 0 };
+    /// Something stands under the name, or nothing can be made there.
+    ghost occupies: { Self → List ℕ → Type 0 };
 
     /// What stands under a name. Where it can't be had, `faults` is told why.
     fn device<E: Write>(&mut self, path: &str, faults: &mut E) -> Result<Self::Device, DiskFault>
         ensures had { IfOk result (stands self.old path.now) }
         ensures missing { IfErr result (λ _. withholds self.old path.now) }
+        // What stands under other names, or can be made there, is as before.
+        ensures creates { (name : List ℕ) (device : Self.Device)
+            → creates self.new name device → creates self.old name device }
+        ensures occupies { (name : List ℕ) → occupies self.new name → occupies self.old name }
         ensures asked { asked self.new ≡ raised_by (asked self.old) 1 };
 
     /// What stands under a name, or a new one where nothing does.
@@ -39,6 +48,17 @@ pub trait Devices {
     ) -> Result<Self::Device, DiskFault>
         ensures had { IfOk result (makes self.old path.now) }
         ensures denied { IfErr result (λ _. denies self.old path.now) }
+        ensures asked { asked self.new ≡ raised_by (asked self.old) 1 };
+
+    /// A new device under a name, under which nothing stands.
+    /// Where something does, or none can be made, `faults` is told why.
+    fn new_device<E: Write>(
+        &mut self,
+        path: &str,
+        faults: &mut E,
+    ) -> Result<Self::Device, DiskFault>
+        ensures had { IfOk result (creates self.old path.now) }
+        ensures occupied { IfErr result (λ _. occupies self.old path.now) }
         ensures asked { asked self.new ≡ raised_by (asked self.old) 1 };
 
     /// What the system said of the device's call that failed last, if one has failed.
@@ -77,6 +97,10 @@ impl<R: Files<File = File>> Devices for FileDisks<'_, R> {
 
     ghost denies = { λ _ _. Unit {0} };
 
+    ghost creates = { λ _ _ _. Unit {0} };
+
+    ghost occupies = { λ _ _. Unit {0} };
+
     fn device<E: Write>(&mut self, path: &str, faults: &mut E) -> Result<FileDisk, DiskFault> {
         self.asked = self.asked.saturating_add(1);
         device_or_told(FileDisk::open(self.rt, path), path, faults)
@@ -91,6 +115,15 @@ impl<R: Files<File = File>> Devices for FileDisks<'_, R> {
         device_or_told(FileDisk::open_or_make(self.rt, path), path, faults)
     }
 
+    fn new_device<E: Write>(&mut self, path: &str, faults: &mut E) -> Result<FileDisk, DiskFault> {
+        self.asked = self.asked.saturating_add(1);
+        let opened = match make_new(self.rt, path) {
+            Ok(()) => FileDisk::open(self.rt, path),
+            Err(error) => Err(OpenFault::System(error)),
+        };
+        device_or_told(opened, path, faults)
+    }
+
     fn last_error(&self, device: &FileDisk) -> Option<io::Error> {
         device.fault()
     }
@@ -101,6 +134,20 @@ impl<R: Files<File = File>> Devices for FileDisks<'_, R> {
             Err(_) => None,
         }
     }
+}
+
+/// The rights of a file that its owner alone may read and write.
+const OWNER_ALONE: u32 = 0o600;
+
+/// Makes an empty file with these rights where nothing stands, not even a link.
+fn make_new<R: Files<File = File>>(rt: &R, path: &str) -> io::Result<()> {
+    OpenOptions::new()
+        .read(true)
+        .write(true)
+        .create_new(true)
+        .mode(OWNER_ALONE)
+        .open(rt, path)?;
+    Ok(())
 }
 
 /// A file's disk, or the line that says why there is none.

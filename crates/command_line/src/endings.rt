@@ -23,6 +23,12 @@ pub enum Ending {
     Refused,
 }
 
+/// How a task ended, and the device that it was done on, if there is one.
+pub(crate) type Ended<D> = (Result<Ending, ServeFault>, Option<D>);
+
+/// The same, and the device that was made for a copy, if there is one.
+pub(crate) type Performed<D> = (Result<Ending, ServeFault>, Option<D>, Option<D>);
+
 /// Flushes what was written, and answers the status.
 pub(crate) fn finish<O: Write, E: Write>(
     ended: Result<Ending, ServeFault>,

@@ -11,7 +11,7 @@ use import_check::Release;
 use line_server::{Source, SourceFault};
 use release_folder::{FolderFault, read_release};
 use std::alloc::Global;
-use std::fs::{File, Files};
+use std::fs::{self, File, Files};
 use std::io::{self, Write};
 
 /// The folders that the words name, and those of the files that they name.
@@ -20,6 +20,10 @@ pub trait Folders {
     ghost keeps: { Self → List ℕ → Type 0 };
     /// The folder can't be synced, so the name may be lost in a crash.
     ghost loses: { Self → List ℕ → Type 0 };
+    /// What was made under the name is there no longer.
+    ghost removes: { Self → List ℕ → Type 0 };
+    /// What was made under the name can't be removed.
+    ghost retains: { Self → List ℕ → Type 0 };
     /// The folders have the releases that they are said to have, and they stay.
     ghost is_honest: { Self → Type 0 };
     /// The releases in the folders below one.
@@ -29,6 +33,11 @@ pub trait Folders {
     fn settle<E: Write>(&self, alloc: Global, path: &str, faults: &mut E) -> Result<(), DiskFault>
         ensures kept { IfOk result (λ _. keeps self.now path.now) }
         ensures lost { IfErr result (λ _. loses self.now path.now) };
+
+    /// Removes what was made under a name. Where that fails, `faults` is told why.
+    fn remove<E: Write>(&self, path: &str, faults: &mut E) -> Result<(), DiskFault>
+        ensures removed { IfOk result (λ _. removes self.now path.now) }
+        ensures retained { IfErr result (λ _. retains self.now path.now) };
 
     /// The release in a folder below one. Where there is none, `faults` is told why. It is also
     /// told which files are read and passed over; if `quiet`, only of those that may be wrong.
@@ -51,6 +60,10 @@ impl<R: Files<File = File> + AllocGlobal + Clone + Drop> Folders for R {
 
     ghost loses = { λ _ _. Unit {0} };
 
+    ghost removes = { λ _ _. Unit {0} };
+
+    ghost retains = { λ _ _. Unit {0} };
+
     ghost is_honest = { λ _. ⊥ };
 
     ghost releases = { λ _ _ _. None };
@@ -63,6 +76,16 @@ impl<R: Files<File = File> + AllocGlobal + Clone + Drop> Folders for R {
                     faults,
                     "sctd: the folder of {path} can't be synced: {error}"
                 );
+                Err(DiskFault)
+            }
+        }
+    }
+
+    fn remove<E: Write>(&self, path: &str, faults: &mut E) -> Result<(), DiskFault> {
+        match fs::remove_file(self, path) {
+            Ok(()) => Ok(()),
+            Err(error) => {
+                let _ = writeln!(faults, "sctd: {path} can't be removed: {error}");
                 Err(DiskFault)
             }
         }

@@ -2,9 +2,12 @@
 #![tactic(auto)]
 
 mod answering;
+mod checking;
+mod copying;
 mod demonstration;
 mod devices;
 mod differing;
+mod digesting;
 mod endings;
 mod folders;
 mod helps;

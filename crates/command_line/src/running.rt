@@ -1,19 +1,24 @@
 //! How what the words ask for is done.
 
-ghost use Rattle.std.specs.Prelude.{◌≡◌, ◌≤◌, ◌⊎◌, IfOk, IfErr, map, string_bytes};
+ghost use Rattle.std.specs.Prelude.{◌≡◌, ◌≤◌, ◌⊎◌, IfOk, IfErr, None, map, string_bytes};
 ghost use Rattle.command_line.specs.Endings.{report};
 ghost use Rattle.line_server.specs.Streams.{streams};
 ghost use Rattle.line_server.specs.Sources.{source_view};
 ghost use Rattle.store_life.specs.DeviceView.{device_view};
 ghost use Rattle.command_line.specs.Tasks.{IsImport, IsStatus, IsServing, IsUpgrade};
 ghost use Rattle.command_line.specs.Merging.{IsMergedOnDisk};
+ghost use Rattle.command_line.specs.Checking.{IsCheck};
+ghost use Rattle.command_line.specs.Digests.{IsDigest};
 ghost use Rattle.command_line.specs.Runs.{IsDoneAt, IsMadeAt, IsMissing, IsDemonstrated, Does};
 ghost use Rattle.command_line.specs.Runs.{IsRun, IsNoTask, IsExplained, AsksFor};
 ghost use Rattle.disk_model.specs.Disk.{raised_by};
 
+use crate::checking::check;
+use crate::copying::copy_at;
 use crate::demonstration::{SCRIPT, Samples};
 use crate::devices::Devices;
-use crate::endings::{Ending, fail, finish, refuse};
+use crate::digesting::digest;
+use crate::endings::{Ended, Ending, Performed, fail, finish, refuse};
 use crate::folders::{FolderSource, Folders};
 use crate::importing::import;
 use crate::inspecting::status;
@@ -32,7 +37,8 @@ use std::io::{Read, Write};
 
 /// Does what the words ask for, of which the first is the program's name, and answers the status of
 /// the program: 0 where it was done; 1 where it was refused, or a stream or the memory failed; 2
-/// where the words are no command. The device that the task was done on comes back as it was left.
+/// where the words are no command. The device that the task was done on comes back as it was left,
+/// and so does the one that it made for a copy.
 pub fn run<V: Devices, F: Folders, I: Read, O: Write, E: Write>(
     devices: &mut V,
     folders: &F,
@@ -41,7 +47,7 @@ pub fn run<V: Devices, F: Folders, I: Read, O: Write, E: Write>(
     input: &mut I,
     output: &mut O,
     faults: &mut E,
-) -> (u8, Option<V::Device>)
+) -> (u8, Option<V::Device>, Option<V::Device>)
     ensures status { result.0 ≤ 2 }
     // Words that are no command do nothing but to be told.
     ensures no_command { result.0 ≡ 2 → (input.new ≡ input.old) × (output.new ≡ output.old) }
@@ -50,32 +56,34 @@ pub fn run<V: Devices, F: Folders, I: Read, O: Write, E: Write>(
       withholds = V.withholds devices.old;
       makes = V.makes devices.old;
       denies = V.denies devices.old;
+      creates = V.creates devices.old;
+      occupies = V.occupies devices.old;
       keeps = F.keeps folders.now;
       loses = F.loses folders.now;
+      removes = F.removes folders.now;
+      retains = F.retains folders.now;
       is_honest = F.is_honest folders.now;
       releases = F.releases folders.now;
       device = device_view V.Device.is_honest V.Device.moments V.Device.failures
           V.Device.bytes_read;
-    }) SCRIPT.now (map string_bytes words.now) result.1 result.0
+    }) SCRIPT.now (map string_bytes words.now) result.1 result.2 result.0
         (streams (I.remaining input.old) (I.remaining input.new)
         (O.contents output.old) (O.contents output.new))
         (V.asked devices.old) (V.asked devices.new)
-        ⊎ IsNoTask (map string_bytes words.now) result.1 result.0
+        ⊎ IsNoTask (map string_bytes words.now) result.1 result.2 result.0
         (streams (I.remaining input.old) (I.remaining input.new)
         (O.contents output.old) (O.contents output.new))
         (V.asked devices.old) (V.asked devices.new) }
 {
     match task_of(alloc, words) {
         Ok(task) => {
-            let (ended, left) = perform(devices, folders, alloc, &task, input, output, faults);
-            (finish(ended, output, faults), left)
+            let (ended, left, made) =
+                perform(devices, folders, alloc, &task, input, output, faults);
+            (finish(ended, output, faults), left, made)
         }
-        Err(refused) => (explain(&refused, output, faults), None),
+        Err(refused) => (explain(&refused, output, faults), None, None),
     }
 }
-
-/// How a task ended, and the device that it was done on, if there is one.
-type Ended<D> = (Result<Ending, ServeFault>, Option<D>);
 
 /// Does a task. Where it is refused, `faults` is told why.
 fn perform<V: Devices, F: Folders, I: Read, O: Write, E: Write>(
@@ -86,47 +94,70 @@ fn perform<V: Devices, F: Folders, I: Read, O: Write, E: Write>(
     input: &mut I,
     output: &mut O,
     faults: &mut E,
-) -> Ended<V::Device>
+) -> Performed<V::Device>
     ensures does { Does (record {
       stands = V.stands devices.old;
       withholds = V.withholds devices.old;
       makes = V.makes devices.old;
       denies = V.denies devices.old;
+      creates = V.creates devices.old;
+      occupies = V.occupies devices.old;
       keeps = F.keeps folders.now;
       loses = F.loses folders.now;
+      removes = F.removes folders.now;
+      retains = F.retains folders.now;
       is_honest = F.is_honest folders.now;
       releases = F.releases folders.now;
       device = device_view V.Device.is_honest V.Device.moments V.Device.failures
           V.Device.bytes_read;
-    }) SCRIPT.now task.now result.1 result.0
+    }) SCRIPT.now task.now result.1 result.2 result.0
         (streams (I.remaining input.old) (I.remaining input.new)
         (O.contents output.old) (O.contents output.new)) }
-    ensures asked { AsksFor task.now (V.asked devices.old) (V.asked devices.new) }
+    ensures asked { AsksFor task.now result.1 (V.asked devices.old) (V.asked devices.new) }
 {
     match task {
         Task::Init { store, layout } => {
-            init_at(devices, folders, alloc, *store, *layout, output, faults)
+            alone(init_at(devices, folders, alloc, *store, *layout, output, faults))
         }
         Task::Import {
             store,
             releases,
             name,
             quiet,
-        } => import_at(
+        } => alone(import_at(
             devices, folders, alloc, *store, *releases, *name, *quiet, output, faults,
-        ),
-        Task::Serve { store, releases } => {
-            serve_at(
-                devices, folders, alloc, *store, *releases, input, output, faults,
-            )
-        }
-        Task::Status { store } => status_at(devices, alloc, *store, output, faults),
+        )),
+        Task::Check {
+            store,
+            releases,
+            name,
+            quiet,
+        } => alone(check_at(
+            devices, folders, alloc, *store, *releases, *name, *quiet, output, faults,
+        )),
+        Task::Serve { store, releases } => alone(serve_at(
+            devices, folders, alloc, *store, *releases, input, output, faults,
+        )),
+        Task::Status { store } => alone(status_at(devices, alloc, *store, output, faults)),
         Task::Merge { store, segments } => {
-            merge_at(devices, alloc, *store, *segments, output, faults)
+            alone(merge_at(devices, alloc, *store, *segments, output, faults))
         }
-        Task::Upgrade { store } => upgrade_at(devices, alloc, *store, output, faults),
-        Task::Demo => (demo(alloc, output), None),
+        Task::Copy { store, to, imports } => copy_at(
+            devices, folders, alloc, *store, *to, *imports, output, faults,
+        ),
+        Task::Digest { store, imports } => {
+            alone(digest_at(devices, alloc, *store, *imports, output, faults))
+        }
+        Task::Upgrade { store } => alone(upgrade_at(devices, alloc, *store, output, faults)),
+        Task::Demo => (demo(alloc, output), None, None),
     }
+}
+
+/// How a task ended that made no copy.
+fn alone<D: Drop>(ended: Ended<D>) -> Performed<D>
+    ensures { result ≡ (ended.0, ended.1, None) }
+{
+    (ended.0, ended.1, None)
 }
 
 /// Makes a store of this version under a name. The name is seen to stay before anything is
@@ -145,8 +176,12 @@ fn init_at<V: Devices, F: Folders, O: Write, E: Write>(
       withholds = V.withholds devices.old;
       makes = V.makes devices.old;
       denies = V.denies devices.old;
+      creates = V.creates devices.old;
+      occupies = V.occupies devices.old;
       keeps = F.keeps folders.now;
       loses = F.loses folders.now;
+      removes = F.removes folders.now;
+      retains = F.retains folders.now;
       is_honest = F.is_honest folders.now;
       releases = F.releases folders.now;
       device = device_view V.Device.is_honest V.Device.moments V.Device.failures
@@ -203,6 +238,44 @@ fn import_at<V: Devices, F: Folders, O: Write, E: Write>(
                 quiet,
             };
             let (ended, left) = import(alloc, device, name, &mut source, output, &mut told);
+            source.tell_why(told, path, devices.last_error(&left));
+            (ended, Some(left))
+        }
+        Err(_) => (refuse(alloc, output, Refusal::DiskFault, &mut told), None),
+    }
+}
+
+/// Checks a release against the store under a name.
+fn check_at<V: Devices, F: Folders, O: Write, E: Write>(
+    devices: &mut V,
+    folders: &F,
+    alloc: Global,
+    path: &str,
+    dir: &str,
+    name: &str,
+    quiet: bool,
+    output: &mut O,
+    faults: &mut E,
+) -> Ended<V::Device>
+    ensures done { IsDoneAt (V.stands devices.old path.now)
+        (λ device after. IsCheck
+        (source_view (F.is_honest folders.now) (F.releases folders.now dir.now))
+        (device_view V.Device.is_honest V.Device.moments V.Device.failures V.Device.bytes_read)
+        name.now device after (report result.0 (O.contents output.old) (O.contents output.new)))
+        (IsMissing (report result.0 (O.contents output.old) (O.contents output.new))
+        × V.withholds devices.old path.now) result.1 }
+    ensures asked { V.asked devices.new ≡ raised_by (V.asked devices.old) 1 }
+{
+    let mut told = Told::new();
+    match devices.device(path, faults) {
+        Ok(device) => {
+            let mut source = FolderSource {
+                folders,
+                dir,
+                faults,
+                quiet,
+            };
+            let (ended, left) = check(alloc, device, name, &mut source, output, &mut told);
             source.tell_why(told, path, devices.last_error(&left));
             (ended, Some(left))
         }
@@ -307,6 +380,39 @@ fn merge_at<V: Devices, O: Write, E: Write>(
     match stands {
         Ok(device) => {
             let (ended, left) = merge(alloc, device, path, most, output, &mut told, faults);
+            let context = Context {
+                store: path,
+                last_error: devices.last_error(&left),
+            };
+            tell_why(told, &context, faults);
+            (ended, Some(left))
+        }
+        Err(_) => (refuse(alloc, output, Refusal::DiskFault, &mut told), None),
+    }
+}
+
+/// Tells the digest of the store under a name.
+fn digest_at<V: Devices, O: Write, E: Write>(
+    devices: &mut V,
+    alloc: Global,
+    path: &str,
+    imports: Option<u32>,
+    output: &mut O,
+    faults: &mut E,
+) -> Ended<V::Device>
+    ensures done { IsDoneAt (V.stands devices.old path.now)
+        (λ device after. IsDigest
+        (device_view V.Device.is_honest V.Device.moments V.Device.failures V.Device.bytes_read)
+        imports device after
+        (report result.0 (O.contents output.old) (O.contents output.new)))
+        (IsMissing (report result.0 (O.contents output.old) (O.contents output.new))
+        × V.withholds devices.old path.now) result.1 }
+    ensures asked { V.asked devices.new ≡ raised_by (V.asked devices.old) 1 }
+{
+    let mut told = Told::new();
+    match devices.device(path, faults) {
+        Ok(device) => {
+            let (ended, left) = digest(alloc, device, imports, output, &mut told);
             let context = Context {
                 store: path,
                 last_error: devices.last_error(&left),

@@ -89,6 +89,7 @@ reach 4 GiB"
             "a release's name is ASCII letters, digits, _, - and ., in parts with one / between \
 them; no part is . or .., and it has at most 1,024 bytes"
         }
+        44 => "the store has fewer imports",
         _ => "it was refused",
     }
 }
