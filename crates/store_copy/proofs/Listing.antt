@@ -1,0 +1,180 @@
+-- The directory of a copy.
+use Rattle.std.proofs.Common.{◌≡◌, ℕ, ◌+◌, ◌*◌, ◌^◌, ◌<◌, ◌≤◌, List, [], ◌∷◌, ◌++◌, length, map, cond, true, false, refl, sym, ap, subst, ◌∙◌, arith, length-append}
+use Rattle.std.specs.Prelude.{nat_le}
+use Rattle.std.specs.List.{AllByRecursion}
+use Rattle.std.specs.Int.{div_ceil}
+use Rattle.history_model.specs.declared.stamped.StampedRow.{StampedRow}
+use Rattle.history_model.specs.History.{IsHistory}
+use Rattle.history_model.specs.Lists.{listed}
+use Rattle.blocks.specs.declared.extent.Extent.{Extent}
+use Rattle.blocks.specs.Extents.{block_limit}
+use Rattle.checksum.specs.declared.form.Form.{Form}
+use Rattle.directory.specs.declared.entry.Entry.{Entry}
+use Rattle.directory.specs.declared.layout.Layout.{Layout}
+use Rattle.directory.specs.declared.layout.Layout.TheVariants as layouts
+use Rattle.directory.specs.Listings.{DirectoryValue, IsEntry, IsListing, HasForm, form_of, most_entries}
+use Rattle.directory.specs.Places.{AreApart, AreBeside, end_block, extent_of, extents_of}
+use Rattle.segment.specs.Records.{IsSegment, segment_of, record_of}
+use Rattle.store_image.specs.Kept.{AreSegments, IsKept, IsSegmentOf}
+use Rattle.store_image.proofs.Windowed.{record_least}
+use Rattle.store_copy.specs.Copying.{up_to, before, lists_up_to, entry_at, entries_from, end_from, copied_listing}
+use Rattle.store_copy.specs.Private.Writing.{MayBeSegment}
+use Rattle.store_copy.proofs.UpTo.{up_to_ascends, up_to_all, lists_all, lists_are, listed_up_to, up_to_is_history, lists_kinds, lists_count}
+
+-- ---- segments one behind the other
+
+pub entries-append : (form : Form) (first : ℕ) (lists : List (List StampedRow)) (rows : List StampedRow) → entries_from form first (lists ++ rows ∷ []) ≡ entries_from form first lists ++ entry_at form (end_from first lists) rows ∷ []
+entries-append form first [] rows = refl
+entries-append form first (o ∷ lists) rows = ap (λ (es : List Entry). entry_at form first o ∷ es) (entries-append form (end_block (extent_of (entry_at form first o))) lists rows)
+
+pub end-append : (first : ℕ) (lists : List (List StampedRow)) (rows : List StampedRow) → end_from first (lists ++ rows ∷ []) ≡ end_from first lists + div_ceil (length (segment_of rows)) 4096
+end-append first [] rows = refl
+end-append first (o ∷ lists) rows = end-append (first + div_ceil (length (segment_of o)) 4096) lists rows
+
+pub end_least : (first : ℕ) (lists : List (List StampedRow)) → first ≤ end_from first lists
+end_least first [] = omega arith
+end_least first (rows ∷ lists) = omega (arith, end_least (first + div_ceil (length (segment_of rows)) 4096) lists)
+
+pub end_grows : (first : ℕ) (lists more : List (List StampedRow)) → end_from first lists ≤ end_from first (lists ++ more)
+end_grows first [] more = end_least first more
+end_grows first (rows ∷ lists) more = end_grows (first + div_ceil (length (segment_of rows)) 4096) lists more
+
+entries_count : (form : Form) (first : ℕ) (lists : List (List StampedRow)) → length (entries_from form first lists) ≡ length lists
+entries_count form first [] = refl
+entries_count form first (rows ∷ lists) = let rest = entries_count form (end_block (extent_of (entry_at form first rows))) lists in omega (arith, rest)
+
+starts : (form : Form) (low first : ℕ) (lists : List (List StampedRow)) → low ≤ first → AllByRecursion (λ (e : Extent). low ≤ e.first) (extents_of (entries_from form first lists))
+starts form low first [] le = tt
+starts form low first (rows ∷ lists) le = (le, starts form low (end_block (extent_of (entry_at form first rows))) lists (omega (arith, le)))
+
+beside_above : (extent : Extent) (extents : List Extent) → AllByRecursion (λ (e : Extent). end_block extent ≤ e.first) extents → AllByRecursion (AreBeside extent) extents
+beside_above extent [] all = tt
+beside_above extent (e ∷ extents) all = (λ block here there. let above = all.0 in let below = here.1 in let from = there.0 in omega (arith, above, below, from), beside_above extent extents all.1)
+
+entries_apart : (form : Form) (first : ℕ) (lists : List (List StampedRow)) → AreApart (extents_of (entries_from form first lists))
+entries_apart form first [] = tt
+entries_apart form first (rows ∷ lists) =
+    let e = extent_of (entry_at form first rows) in
+    (beside_above e (extents_of (entries_from form (end_block e) lists)) (starts form (end_block e) (end_block e) lists (omega arith)), entries_apart form (end_block e) lists)
+
+plain_form : (layout : Layout) (entry : Entry) → entry.form ≡ form_of layout → HasForm layout entry
+plain_form layouts.One entry is = is
+plain_form layouts.Two entry is = is
+plain_form layouts.Three entry is = tt
+
+entries_forms : (layout : Layout) (first : ℕ) (lists : List (List StampedRow)) → AllByRecursion (HasForm layout) (entries_from (form_of layout) first lists)
+entries_forms layout first [] = tt
+entries_forms layout first (rows ∷ lists) =
+    (plain_form layout (entry_at (form_of layout) first rows) refl, entries_forms layout (end_block (extent_of (entry_at (form_of layout) first rows))) lists)
+
+-- ---- rows that a segment may have
+
+some_bytes : (s : StampedRow) (rows : List StampedRow) → 1 ≤ length (segment_of (s ∷ rows))
+unfolding segment_of
+some_bytes s rows = omega (arith, record_least s, length-append (record_of s) (segment_of rows))
+
+each_entry : (form : Form) (first : ℕ) (lists : List (List StampedRow)) → 4 ≤ first → AllByRecursion (λ rows. 1 ≤ length rows) lists → AllByRecursion MayBeSegment lists → end_from first lists ≤ block_limit → AllByRecursion IsEntry (entries_from form first lists)
+each_entry form first [] from some small fits = tt
+each_entry form first ([] ∷ lists) from some small fits = absurd (omega (arith, some.0))
+each_entry form first ((s ∷ rows) ∷ lists) from some small fits =
+    let next = first + div_ceil (length (segment_of (s ∷ rows))) 4096 in
+    let below = end_least next lists in (
+      record {
+        first = from;
+        bytes = some_bytes s rows;
+        rows = some.0;
+        bytes_fit = small.0.0;
+        rows_fit = small.0.1;
+        end_is = omega (arith, below, fits);
+      },
+      each_entry form next lists (omega (arith, from)) some.1 small.1 fits,
+    )
+
+-- ---- what is copied of a segment
+
+before_some : (rows : List StampedRow) (lists : List (List StampedRow)) → AllByRecursion (λ (r : List StampedRow). 1 ≤ length r) lists → AllByRecursion (λ (r : List StampedRow). 1 ≤ length r) (before rows lists)
+before_some [] lists all = all
+before_some (s ∷ rows) lists all = (omega arith, all)
+
+lists_some : (n : ℕ) (lists : List (List StampedRow)) → AllByRecursion (λ (r : List StampedRow). 1 ≤ length r) (lists_up_to n lists)
+lists_some n [] = tt
+lists_some n (rows ∷ lists) = before_some (up_to n rows) (lists_up_to n lists) (lists_some n lists)
+
+-- some rows of a segment are no more than all, and have no more bytes
+module _ (n : ℕ) where
+  first_len : (s : StampedRow) (rows : List StampedRow) → length (segment_of (s ∷ rows)) ≡ length (record_of s) + length (segment_of rows)
+  unfolding segment_of
+  first_len s rows = length-append (record_of s) (segment_of rows)
+
+  pub fewer : (rows : List StampedRow) → (length (segment_of (up_to n rows)) ≤ length (segment_of rows)) × (length (up_to n rows) ≤ length rows)
+  unfolding up_to
+  fewer [] = (omega arith, omega arith)
+  fewer (s ∷ rows) =
+      let rest = fewer rows in
+      let all = first_len s rows in
+      elim (nat_le s.import n) as (λ b. (length (segment_of (cond b (s ∷ up_to n rows) (up_to n rows))) ≤ length (segment_of (s ∷ rows))) × (length (cond b (s ∷ up_to n rows) (up_to n rows)) ≤ length (s ∷ rows))) [
+        | true ↦ (omega (arith, rest.0, all, first_len s (up_to n rows)), omega (arith, rest.1))
+        | false ↦ (omega (arith, rest.0, all), omega (arith, rest.1))
+      ]
+
+  may_be : (rows : List StampedRow) → MayBeSegment rows → MayBeSegment (up_to n rows)
+  may_be rows is = let few = fewer rows in (omega (arith, few.0, is.0), omega (arith, few.1, is.1))
+
+pub segments_small : (entries : List Entry) (lists : List (List StampedRow)) → AllByRecursion IsEntry entries → AreSegments entries lists → AllByRecursion MayBeSegment lists
+segments_small [] [] each are = tt
+segments_small [] (rows ∷ lists) each are = absurd are
+segments_small (entry ∷ entries) [] each are = absurd are
+segments_small (entry ∷ entries) (rows ∷ lists) each are =
+    let bytes = are.0.bytes in
+    let count = are.0.count in
+    let few = each.0.bytes_fit in
+    let rows_fit = each.0.rows_fit in
+    ((omega (arith, bytes, few), omega (arith, count, rows_fit)), segments_small entries lists each.1 are.1)
+
+-- rows that are a segment
+abbrev IsSome : List StampedRow → Type 0
+IsSome rows = IsSegment rows (segment_of rows)
+
+segments_are : (entries : List Entry) (lists : List (List StampedRow)) → AreSegments entries lists → AllByRecursion IsSome lists
+segments_are [] [] are = tt
+segments_are [] (rows ∷ lists) are = absurd are
+segments_are (entry ∷ entries) [] are = absurd are
+segments_are (entry ∷ entries) (rows ∷ lists) are = (are.0.is, segments_are entries lists are.1)
+
+some_up_to : (n : ℕ) (rows : List StampedRow) → IsSome rows → IsSome (up_to n rows)
+some_up_to n rows is = record { each = up_to_all n _ rows is.each; ascending = up_to_ascends n rows is.ascending; bytes_are = refl }
+
+entries_segments : (form : Form) (first : ℕ) (lists : List (List StampedRow)) → AllByRecursion IsSome lists → AreSegments (entries_from form first lists) lists
+entries_segments form first [] all = tt
+entries_segments form first (rows ∷ lists) all =
+    (record { is = all.0; bytes = refl; count = refl }, entries_segments form (end_block (extent_of (entry_at form first rows))) lists all.1)
+
+-- ---- the directory
+
+pub segments_count : (entries : List Entry) (lists : List (List StampedRow)) → AreSegments entries lists → length entries ≡ length lists
+segments_count [] [] are = refl
+segments_count [] (rows ∷ lists) are = absurd are
+segments_count (entry ∷ entries) [] are = absurd are
+segments_count (entry ∷ entries) (rows ∷ lists) are = let rest = segments_count entries lists are.1 in omega (arith, rest)
+
+-- of the first lists, too
+pub copied_is_listing : (layout : Layout) (n : ℕ) (lists : List (List StampedRow)) → n < 2 ^ 32 → length lists ≤ most_entries layout → AllByRecursion MayBeSegment lists → end_from 4 (lists_up_to n lists) ≤ block_limit → IsListing (copied_listing layout n lists)
+copied_is_listing layout n lists small few each fits = record {
+  epoch = omega arith;
+  epoch_fits = omega arith;
+  imports = small;
+  count = omega (arith, few, lists_count n lists, entries_count (form_of layout) 4 (lists_up_to n lists));
+  entries = each_entry (form_of layout) 4 (lists_up_to n lists) (omega arith) (lists_some n lists) (lists_all n MayBeSegment lists (may_be n) each) fits;
+  apart = entries_apart (form_of layout) 4 (lists_up_to n lists);
+  forms = entries_forms layout 4 (lists_up_to n lists);
+}
+
+-- and what it lists fits together
+pub copied_is_kept : (d : DirectoryValue) (n : ℕ) (lists : List (List StampedRow)) → IsKept d lists → IsListing (copied_listing d.layout n lists) → IsKept (copied_listing d.layout n lists) (lists_up_to n lists)
+copied_is_kept d n lists kept listing = record {
+  listing = listing;
+  segments = entries_segments (form_of d.layout) 4 (lists_up_to n lists) (lists_all n IsSome lists (some_up_to n) (segments_are d.entries lists kept.segments));
+  apart = lists_are n lists kept.apart;
+  history = subst (λ (rows : List StampedRow). IsHistory (record { imports = n; rows = rows })) (sym (listed_up_to n lists kept.apart)) (up_to_is_history n d.imports (listed lists) kept.history);
+  kinds = lists_kinds n d.layout lists kept.kinds;
+}

@@ -1,0 +1,104 @@
+-- What a copy has while it is written.
+use Rattle.std.specs.Prelude.{◌≡◌, ℕ, Option, ◌^◌, ◌<◌, ◌≤◌, List, ◌++◌, length, take, drop}
+use Rattle.rf2_values.specs.Key.{key_of}
+use Rattle.blocks.specs.declared.extent.Extent.{Extent}
+use Rattle.blocks.specs.declared.slots.Slot.TheVariants.{A, B}
+use Rattle.blocks.specs.Slots.{IsClosed}
+use Rattle.checksum.specs.declared.form.Form.{Form}
+use Rattle.directory.specs.declared.entry.Entry.{Entry}
+use Rattle.directory.specs.declared.layout.Layout.{Layout}
+use Rattle.directory.specs.Listings.{DirectoryValue, IsListing, form_of}
+use Rattle.history_model.specs.declared.stamped.StampedRow.{StampedRow}
+use Rattle.segment.specs.declared.place.RowPlace.{RowPlace}
+use Rattle.segment.specs.Records.{IsStamped, record_in, segment_of, segment_in}
+use Rattle.segment.specs.Standing.{record_len}
+use Rattle.store_image.specs.Ahead.{BeginsWith}
+use Rattle.store_image.specs.Kept.{IsKept}
+use Rattle.fault_counts.specs.Counting.{CountsDiskFault, HasRisen}
+use Rattle.fault_counts.specs.declared.fault.ReadFault.{ReadFault}
+use Rattle.fault_counts.specs.declared.fault.ReadFault.TheVariants as reading
+use Rattle.store_image.specs.declared.fault.Damage.TheVariants as damages
+use Rattle.store_copy.specs.Copying.{chosen, copied_listing, entries_from, lists_up_to}
+use Rattle.store_copy.specs.declared.fault.CopyFault.{CopyFault}
+use Rattle.store_copy.specs.declared.fault.CopyFault.TheVariants as faults
+use Rattle.store_copy.specs.declared.fault.SegmentCopyFault.{SegmentCopyFault}
+use Rattle.store_copy.specs.declared.fault.SegmentCopyFault.TheVariants.{Read, Write}
+use Rattle.store_copy.specs.declared.planning.Size.{Size}
+
+-- so few rows that a segment may have them
+abbrev pub MayBeSegment : List StampedRow → Type 0
+MayBeSegment rows = (length (segment_of rows) < 2 ^ 32) × (length rows < 2 ^ 32)
+
+-- a segment of so many bytes and rows, from a block on
+abbrev pub next_entry : Layout → ℕ → Size → Entry
+next_entry layout first size =
+    record { first = first; bytes = size.bytes; rows = size.rows; form = form_of layout }
+
+-- the directory lists what is copied of the segments of these rows, one behind the other
+abbrev pub IsPlan : DirectoryValue → List (List StampedRow) → Type 0
+IsPlan copy lists =
+    copy.entries ≡ entries_from (form_of copy.layout) 4 (lists_up_to copy.imports lists)
+
+-- the directory and the rows of a store, and the directory of a copy with so many of its imports
+pub record IsPlanned (asked : Option ℕ) (d : DirectoryValue) (lists : List (List StampedRow))
+    (copy : DirectoryValue) : Type 0 where
+  pub kept : IsKept d lists
+  pub within : chosen asked d.imports ≤ d.imports
+  pub copy_is : copy ≡ copied_listing d.layout (chosen asked d.imports) lists
+  pub listing : IsListing copy
+
+-- both gates are there, and closed
+pub record IsShut (file : List ℕ) : Type 0 where
+  pub long : 8193 ≤ length file
+  pub first : IsClosed A file
+  pub second : IsClosed B file
+
+-- the first bytes of the segment of these rows are in the extent, and the others are pending
+pub record ArePending (form : Form) (extent : Extent) (rows : List StampedRow) (written : ℕ)
+    (bytes file : List ℕ) : Type 0 where
+  pub front : List ℕ
+  pub front_is : length front ≡ written
+  pub there : BeginsWith extent front file
+  pub all : front ++ bytes ≡ segment_in form rows
+
+-- the row is that of the place
+abbrev pub IsRowOf : StampedRow → RowPlace → Type 0
+IsRowOf s p = (key_of s.row ≡ p.key) × (s.import ≡ p.import)
+
+-- the row may be written, and has the key, the number and the length of the place
+pub record IsOfPlace (s : StampedRow) (p : RowPlace) : Type 0 where
+  pub stamped : IsStamped s
+  pub is : IsRowOf s p
+  pub bytes : record_len s ≡ p.bytes
+
+-- the row's record in this form is in the file at this byte, and this is what is listed of it
+pub record IsThere (form : Form) (from : ℕ) (s : StampedRow) (p : RowPlace) (file : List ℕ)
+    : Type 0 where
+  pub whole : length (take p.bytes (drop from file)) ≡ p.bytes
+  pub is : take p.bytes (drop from file) ≡ record_in form s
+  pub stamped : IsStamped s
+  pub key : key_of s.row ≡ p.key
+  pub import : s.import ≡ p.import
+
+-- the fault of the segment with this number
+abbrev pub in_segment : ℕ → SegmentCopyFault → CopyFault
+in_segment number (Read reading.OutOfMemory) = faults.OutOfMemory
+in_segment number (Read reading.DiskFault) = faults.SourceFailed
+in_segment number (Read reading.Damaged) = faults.Damaged (damages.Segment number)
+in_segment number Write = faults.TargetFailed
+
+-- a device failed, or memory ran out
+abbrev pub IsNoDamage : SegmentCopyFault → Type 0
+IsNoDamage (Read reading.OutOfMemory) = Unit {0}
+IsNoDamage (Read reading.DiskFault) = Unit {0}
+IsNoDamage (Read reading.Damaged) = ⊥
+IsNoDamage Write = Unit {0}
+
+-- the count of a disk's failures rises where it failed, and else stays
+abbrev pub CountsRead : SegmentCopyFault → ℕ → ℕ → Type 0
+CountsRead (Read fault) old new = CountsDiskFault fault old new
+CountsRead Write old new = new ≡ old
+
+abbrev pub CountsWrite : SegmentCopyFault → ℕ → ℕ → Type 0
+CountsWrite (Read fault) old new = new ≡ old
+CountsWrite Write old new = HasRisen old new

@@ -1,0 +1,89 @@
+//! A row, read at its place.
+
+ghost use Rattle.std.specs.Prelude.{◌≡◌, ◌≢◌, ◌↔◌, ◌+◌, ◌*◌, ◌<◌, ◌≤◌, length, take, drop, IsTrue};
+ghost use Rattle.std.specs.Prelude.{IfOk, IfErr, MatchResult};
+ghost use Rattle.fault_counts.specs.Counting.{Counts, CountsDiskFault};
+ghost use Rattle.fault_counts.specs.declared.fault.ReadFault.TheVariants as readfault;
+ghost use Rattle.history_model.specs.declared.stamped.StampedRow.{StampedRow};
+ghost use Rattle.store_copy.specs.Private.Writing.{IsRowOf, IsOfPlace, IsThere};
+
+use blocks::BLOCK;
+use directory::Entry;
+use disk_model::Disk;
+use fault_counts::ReadFault;
+use history_model::StampedRow;
+use segment::{RowPlace, SegmentFault, record_at};
+use std::alloc::Global;
+
+/// Whether the row is that of the place.
+fn is_row_of(s: &StampedRow, at: RowPlace) -> bool
+    ensures { IsTrue result ↔ IsRowOf s.now at }
+{
+    s.row.key() == at.key && s.import == at.import
+}
+
+/// So many bytes from a place on.
+fn read_bytes<S: Disk>(
+    alloc: Global,
+    source: &mut S,
+    from: u64,
+    len: u32,
+) -> Result<Vec<u8>, ReadFault>
+    ensures bytes { S.is_honest source.old → IfOk result (λ bytes. bytes.items
+        ≡ take len (drop from (S.moments source.old).state.now)) }
+    ensures len { IfOk result (λ bytes. length bytes.items ≡ len) }
+    ensures short { S.is_honest source.old → IfErr result (λ e. e ≡ readfault.Damaged
+        → length (take len (drop from (S.moments source.old).state.now)) < len) }
+    ensures moments { S.is_honest source.old → S.moments source.new ≡ S.moments source.old }
+    ensures honesty { S.is_honest source.old ↔ S.is_honest source.new }
+    ensures failures { Counts CountsDiskFault result
+        (S.failures source.old) (S.failures source.new) }
+    ensures bytes_read { S.bytes_read source.new ≤ S.bytes_read source.old + len }
+    ensures other_calls { S.other_calls source.new ≡ S.other_calls source.old }
+{
+    let mut bytes = vec![in alloc; 0u8; len as usize]?;
+    match source.read_at(from, bytes.as_mut_slice()) {
+        Ok(count) => {
+            if count < len as usize {
+                return Err(ReadFault::Damaged);
+            }
+            Ok(bytes)
+        }
+        Err(_) => Err(ReadFault::DiskFault),
+    }
+}
+
+/// The row at a place of a segment: its record is decoded, and has to be that of the place.
+pub(crate) fn read_row<S: Disk>(
+    alloc: Global,
+    source: &mut S,
+    entry: Entry,
+    at: RowPlace,
+) -> Result<StampedRow, ReadFault>
+    ensures found { S.is_honest source.old → (s : StampedRow)
+        → IsThere entry.form (4096 * entry.first + at.at) s at (S.moments source.old).state.now
+        → MatchResult result (λ row. row ≡ s) (λ e. e ≢ readfault.Damaged) }
+    // Whatever the disk gave, the row is as its place says.
+    ensures of_place { IfOk result (λ row. IsOfPlace row at) }
+    ensures moments { S.is_honest source.old → S.moments source.new ≡ S.moments source.old }
+    ensures honesty { S.is_honest source.old ↔ S.is_honest source.new }
+    ensures failures { Counts CountsDiskFault result
+        (S.failures source.old) (S.failures source.new) }
+    ensures bytes_read { S.bytes_read source.new ≤ S.bytes_read source.old + at.bytes }
+    ensures other_calls { S.other_calls source.new ≡ S.other_calls source.old }
+{
+    let from = BLOCK * u64::from(entry.first) + u64::from(at.at);
+    let len = at.bytes;
+    let form = entry.form;
+    let bytes = read_bytes(alloc, source, from, len)?;
+    match record_at(alloc, form, bytes.as_slice(), 0) {
+        Ok((row, next)) => {
+            if next != len as usize || !is_row_of(&row, at) {
+                return Err(ReadFault::Damaged);
+            }
+            Ok(row)
+        }
+        Err(SegmentFault::OutOfMemory) => Err(ReadFault::OutOfMemory),
+        Err(SegmentFault::BadSegment) => Err(ReadFault::Damaged),
+    }
+}

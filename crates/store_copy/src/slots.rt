@@ -1,0 +1,67 @@
+//! The slots of a copy: both closed while it is written, and the first one opened when it is whole.
+
+ghost use Rattle.std.specs.Prelude.{◌≡◌, ◌⊎◌, ◌↔◌, ◌+◌, ◌≤◌, List, length, OnOk};
+ghost use Rattle.disk_model.specs.Disk.{EachImage, IsImage, LeavesOnly};
+ghost use Rattle.fault_counts.specs.Counting.{CountsEach};
+ghost use Rattle.blocks.specs.declared.slots.Slot.TheVariants.{A};
+ghost use Rattle.history_model.specs.declared.stamped.StampedRow.{StampedRow};
+ghost use Rattle.store_image.specs.Images.{IsStore};
+ghost use Rattle.store_image.specs.Pieces.{HoldsAll};
+ghost use Rattle.store_image.specs.Kept.{IsKept, pieces_of};
+ghost use Rattle.store_image.specs.OnDisk.{HasStore, IsOnDisk};
+ghost use Rattle.store_copy.specs.Private.Writing.{IsShut};
+
+use blocks::write_and_sync;
+use directory::Directory;
+use disk_model::{Disk, DiskFault};
+
+/// Writes zeros over both slots of an empty disk: first up to the second gate, and then what is
+/// behind it. So no stop leaves as many bytes as the slots have before both gates are closed.
+pub(crate) fn close_slots<T: Disk>(target: &mut T) -> Result<(), DiskFault>
+    // A stop at any moment leaves what it might have left before, or no store.
+    ensures any_moment { T.is_honest target.old → length (T.moments target.old).state.now ≡ 0
+        → LeavesOnly (T.moments target.old) (T.moments target.new)
+        (λ c. IsImage (T.moments target.old).state c ⊎ (IsStore c → ⊥)) }
+    ensures shut { T.is_honest target.old → length (T.moments target.old).state.now ≡ 0
+        → OnOk result (EachImage (T.moments target.new).state IsShut) }
+    ensures long { T.is_honest target.old → length (T.moments target.old).state.now ≡ 0
+        → OnOk result (16384 ≤ length (T.moments target.new).state.now) }
+    ensures honesty { T.is_honest target.old ↔ T.is_honest target.new }
+    ensures failures { CountsEach result (T.failures target.old) (T.failures target.new) }
+    ensures bytes_read { T.bytes_read target.new ≡ T.bytes_read target.old }
+    ensures other_calls { T.other_calls target.new ≤ T.other_calls target.old + 4 }
+{
+    target.sync()?;
+    write_and_sync(target, 0, &[0; 8193])?;
+    target.write_at(8193, &[0; 8191])
+}
+
+/// Syncs, writes the directory into the first slot, and opens its gate: from this byte on the disk
+/// has a store. `a5` opens a gate, and the slot's content begins at the second block.
+pub(crate) fn open_slot<T: Disk>(target: &mut T, directory: &Directory) -> Result<(), DiskFault>
+    // A stop at any moment leaves no store, or the whole copy.
+    ensures any_moment { T.is_honest target.old
+        → (lists : List (List StampedRow)) → IsKept directory.now lists
+        → EachImage (T.moments target.old).state IsShut
+        → 16384 ≤ length (T.moments target.old).state.now
+        → HoldsAll (pieces_of directory.now.entries lists) (T.moments target.old).state.now
+        → LeavesOnly (T.moments target.old) (T.moments target.new)
+        (λ c. (IsStore c → ⊥) ⊎ HasStore A directory.now lists c) }
+    // After Ok each stop leaves the copy.
+    ensures on_disk { T.is_honest target.old
+        → (lists : List (List StampedRow)) → IsKept directory.now lists
+        → EachImage (T.moments target.old).state IsShut
+        → 16384 ≤ length (T.moments target.old).state.now
+        → HoldsAll (pieces_of directory.now.entries lists) (T.moments target.old).state.now
+        → OnOk result (IsOnDisk (T.moments target.new).state A directory.now lists) }
+    ensures honesty { T.is_honest target.old ↔ T.is_honest target.new }
+    ensures failures { CountsEach result (T.failures target.old) (T.failures target.new) }
+    ensures bytes_read { T.bytes_read target.new ≡ T.bytes_read target.old }
+    ensures other_calls { T.other_calls target.new ≤ T.other_calls target.old + 5 }
+{
+    target.sync()?;
+    let mut content = [0; 4096];
+    directory.encode(&mut content);
+    write_and_sync(target, 4096, &content)?;
+    write_and_sync(target, 0, &[0xa5])
+}

@@ -1,0 +1,336 @@
+//! The segments of a copy.
+
+ghost use Rattle.std.specs.Prelude.{◌≡◌, ◌≢◌, ◌⊎◌, ◌↔◌, ◌+◌, ◌*◌, ◌≤◌, ◌++◌, ◌∷◌, [], List, length};
+ghost use Rattle.std.specs.Prelude.{map, vec_items, IfErr, OnOk};
+ghost use Rattle.std.specs.List.{AllByRecursion};
+ghost use Rattle.fault_counts.specs.Counting.{Counts, CountsEach, CountsDiskFault};
+ghost use Rattle.fault_counts.specs.declared.fault.ReadFault.TheVariants as readfault;
+ghost use Rattle.disk_model.specs.Disk.{EachImage, IsImage, LeavesOnly};
+ghost use Rattle.blocks.specs.declared.slots.Slot.TheVariants.{A};
+ghost use Rattle.blocks.specs.Extents.{block_limit, byte_range};
+ghost use Rattle.blocks.specs.Outside.{SameOutside, StemsWithin};
+ghost use Rattle.checksum.specs.declared.form.Form.{Form as FormValue};
+ghost use Rattle.history_model.specs.declared.stamped.StampedRow.{StampedRow};
+ghost use Rattle.directory.specs.Listings.{IsEntry};
+ghost use Rattle.directory.specs.Places.{end_block, extent_of};
+ghost use Rattle.segment.specs.Records.{record_in, segment_in, segment_of};
+ghost use Rattle.segment.specs.Standing.{places_of};
+ghost use Rattle.store_image.specs.Ahead.{BeginsWith};
+ghost use Rattle.store_image.specs.Pieces.{HoldsAll};
+ghost use Rattle.store_image.specs.Images.{IsStore};
+ghost use Rattle.store_image.specs.Kept.{AreSegments, IsKept, pieces_of};
+ghost use Rattle.store_image.specs.OnDisk.{HasStore, IsOnDisk};
+ghost use Rattle.store_image.specs.Reading.{IsAt};
+ghost use Rattle.store_copy.specs.Copying.{lists_up_to, up_to};
+ghost use Rattle.store_copy.specs.Answers.{CountsSource, CountsTarget, IsFailure};
+ghost use Rattle.store_copy.specs.Private.Writing.{ArePending, CountsRead, CountsWrite, IsNoDamage};
+ghost use Rattle.store_copy.specs.Private.Writing.{IsPlan, IsShut, IsThere, MayBeSegment};
+
+use crate::fault::{CopyFault, SegmentCopyFault};
+use crate::planning::size_up_to;
+use crate::reading::read_row;
+use crate::slots::{close_slots, open_slot};
+use blocks::{Extent, write_part};
+use directory::{Directory, Entry};
+use disk_model::{Disk, DiskFault};
+use fault_counts::ReadFault;
+use history_model::GhostRows;
+use segment::{Form, RowPlace, put_record};
+use std::alloc::Global;
+
+/// So many bytes are written at once, and those of one record more.
+const PIECE: usize = 65_536;
+
+/// What of a segment isn't written yet.
+#[derive(Drop)]
+struct Pending {
+    /// How many bytes of it are written.
+    written: u32,
+    /// Those that come next.
+    bytes: Vec<u8>,
+    /// Where the fields of a record are made.
+    fields: Vec<u8>,
+}
+
+impl Pending {
+    fn new(alloc: Global) -> Pending
+        ensures written { result.written ≡ 0 }
+        ensures bytes { result.bytes.items ≡ [] }
+    {
+        Pending {
+            written: 0,
+            bytes: Vec::new(alloc),
+            fields: Vec::new(alloc),
+        }
+    }
+
+    /// Takes the row at a place.
+    fn take<S: Disk>(
+        &mut self,
+        alloc: Global,
+        source: &mut S,
+        from: Entry,
+        at: RowPlace,
+        form: Form,
+    ) -> Result<(), ReadFault>
+        ensures written { OnOk result (self.new.written ≡ self.old.written) }
+        ensures len { OnOk result (length self.new.bytes.items
+            ≡ length self.old.bytes.items + at.bytes) }
+        ensures bytes { S.is_honest source.old → (s : StampedRow)
+            → IsThere from.form (4096 * from.first + at.at) s at (S.moments source.old).state.now
+            → OnOk result (self.new.bytes.items ≡ self.old.bytes.items ++ record_in form s) }
+        ensures found { S.is_honest source.old → (s : StampedRow)
+            → IsThere from.form (4096 * from.first + at.at) s at (S.moments source.old).state.now
+            → IfErr result (λ e. e ≢ readfault.Damaged) }
+        ensures moments { S.is_honest source.old → S.moments source.new ≡ S.moments source.old }
+        ensures honesty { S.is_honest source.old ↔ S.is_honest source.new }
+        ensures failures { Counts CountsDiskFault result
+            (S.failures source.old) (S.failures source.new) }
+        ensures other_calls { S.other_calls source.new ≡ S.other_calls source.old }
+    {
+        let row = read_row(alloc, source, from, at)?;
+        put_record(&mut self.bytes, &mut self.fields, form, &row)?;
+        Ok(())
+    }
+
+    /// Writes what is pending.
+    fn flush<T: Disk>(&mut self, target: &mut T, extent: Extent) -> Result<(), DiskFault>
+        requires inside { self.old.written + length self.old.bytes.items ≤ extent.bytes }
+        requires below_limit { end_block extent ≤ block_limit }
+        ensures written { OnOk result
+            (self.new.written ≡ self.old.written + length self.old.bytes.items) }
+        ensures none { OnOk result (self.new.bytes.items ≡ []) }
+        ensures pending { T.is_honest target.old → (form : FormValue) (rows : List StampedRow)
+            → ArePending form extent rows self.old.written self.old.bytes.items
+            (T.moments target.old).state.now
+            → OnOk result (ArePending form extent rows self.new.written self.new.bytes.items
+            (T.moments target.new).state.now) }
+        ensures any_moment { T.is_honest target.old
+            → LeavesOnly (T.moments target.old) (T.moments target.new)
+            (StemsWithin (T.moments target.old).state (byte_range extent)) }
+        ensures elsewhere { T.is_honest target.old → OnOk result
+            (SameOutside (byte_range extent ∷ [])
+            (T.moments target.old).state.now (T.moments target.new).state.now) }
+        ensures honesty { T.is_honest target.old ↔ T.is_honest target.new }
+        ensures failures { CountsEach result (T.failures target.old) (T.failures target.new) }
+        ensures bytes_read { T.bytes_read target.new ≡ T.bytes_read target.old }
+    {
+        write_part(target, extent, self.written, self.bytes.as_slice())?;
+        self.written += self.bytes.len() as u32;
+        self.bytes.clear();
+        Ok(())
+    }
+}
+
+/// Copies the row at a place, and writes what is pending where it is much.
+fn copy_row<S: Disk, T: Disk>(
+    alloc: Global,
+    source: &mut S,
+    from: Entry,
+    at: RowPlace,
+    target: &mut T,
+    to: Entry,
+    pending: &mut Pending,
+) -> Result<(), SegmentCopyFault>
+    requires entry { IsEntry to }
+    requires inside { pending.old.written + length pending.old.bytes.items + at.bytes ≤ to.bytes }
+    ensures len { OnOk result (pending.new.written + length pending.new.bytes.items
+        ≡ pending.old.written + length pending.old.bytes.items + at.bytes) }
+    ensures pending { S.is_honest source.old → T.is_honest target.old
+        → (rows : List StampedRow) (s : StampedRow)
+        → IsThere from.form (4096 * from.first + at.at) s at (S.moments source.old).state.now
+        → ArePending to.form (extent_of to) rows pending.old.written pending.old.bytes.items
+        (T.moments target.old).state.now
+        → OnOk result (ArePending to.form (extent_of to) (rows ++ s ∷ [])
+        pending.new.written pending.new.bytes.items (T.moments target.new).state.now) }
+    ensures found { S.is_honest source.old → (s : StampedRow)
+        → IsThere from.form (4096 * from.first + at.at) s at (S.moments source.old).state.now
+        → IfErr result (λ e. IsNoDamage e) }
+    ensures any_moment { T.is_honest target.old
+        → LeavesOnly (T.moments target.old) (T.moments target.new)
+        (StemsWithin (T.moments target.old).state (byte_range (extent_of to))) }
+    ensures elsewhere { T.is_honest target.old → OnOk result
+        (SameOutside (byte_range (extent_of to) ∷ [])
+        (T.moments target.old).state.now (T.moments target.new).state.now) }
+    ensures moments { S.is_honest source.old → S.moments source.new ≡ S.moments source.old }
+    ensures source_honesty { S.is_honest source.old ↔ S.is_honest source.new }
+    ensures target_honesty { T.is_honest target.old ↔ T.is_honest target.new }
+    ensures source_failures { Counts CountsRead result
+        (S.failures source.old) (S.failures source.new) }
+    ensures target_failures { Counts CountsWrite result
+        (T.failures target.old) (T.failures target.new) }
+    ensures other_calls { S.other_calls source.new ≡ S.other_calls source.old }
+    ensures bytes_read { T.bytes_read target.new ≡ T.bytes_read target.old }
+{
+    let form = to.form;
+    match pending.take(alloc, source, from, at, form) {
+        Ok(()) => {}
+        Err(fault) => return Err(SegmentCopyFault::Read(fault)),
+    }
+    if pending.bytes.len() < PIECE {
+        return Ok(());
+    }
+    match pending.flush(target, to.extent()) {
+        Ok(()) => Ok(()),
+        Err(_) => Err(SegmentCopyFault::Write),
+    }
+}
+
+/// Copies the rows of a segment that the first imports brought.
+fn copy_segment<S: Disk, T: Disk>(
+    alloc: Global,
+    source: &mut S,
+    from: Entry,
+    places: &[RowPlace],
+    shown: &GhostRows,
+    imports: u32,
+    target: &mut T,
+    to: Entry,
+) -> Result<(), SegmentCopyFault>
+    requires places { places.now ≡ places_of shown.now }
+    requires entry { IsEntry to }
+    requires size { to.bytes ≡ length (segment_of (up_to imports shown.now)) }
+    // After Ok a read of the extent gives the segment of these rows.
+    ensures written { S.is_honest source.old → T.is_honest target.old
+        → IsAt (S.moments source.old).state.now from shown.now
+        → OnOk result (BeginsWith (extent_of to) (segment_in to.form (up_to imports shown.now))
+        (T.moments target.new).state.now) }
+    ensures found { S.is_honest source.old → IsAt (S.moments source.old).state.now from shown.now
+        → IfErr result (λ e. IsNoDamage e) }
+    ensures any_moment { T.is_honest target.old
+        → LeavesOnly (T.moments target.old) (T.moments target.new)
+        (StemsWithin (T.moments target.old).state (byte_range (extent_of to))) }
+    ensures elsewhere { T.is_honest target.old → OnOk result
+        (SameOutside (byte_range (extent_of to) ∷ [])
+        (T.moments target.old).state.now (T.moments target.new).state.now) }
+    ensures moments { S.is_honest source.old → S.moments source.new ≡ S.moments source.old }
+    ensures source_honesty { S.is_honest source.old ↔ S.is_honest source.new }
+    ensures target_honesty { T.is_honest target.old ↔ T.is_honest target.new }
+    ensures source_failures { Counts CountsRead result
+        (S.failures source.old) (S.failures source.new) }
+    ensures target_failures { Counts CountsWrite result
+        (T.failures target.old) (T.failures target.new) }
+    ensures other_calls { S.other_calls source.new ≡ S.other_calls source.old }
+    ensures bytes_read { T.bytes_read target.new ≡ T.bytes_read target.old }
+{
+    let mut pending = Pending::new(alloc);
+    for place in places {
+        if place.import <= imports {
+            match copy_row(alloc, source, from, *place, target, to, &mut pending) {
+                Ok(()) => {}
+                Err(fault) => return Err(fault),
+            }
+        }
+    }
+    match pending.flush(target, to.extent()) {
+        Ok(()) => Ok(()),
+        Err(_) => Err(SegmentCopyFault::Write),
+    }
+}
+
+/// Copies the rows of all segments that the first imports brought: those of the segments of `from`
+/// into the segments of the copy, of which there is one for each that has such a row.
+fn copy_segments<S: Disk, T: Disk>(
+    alloc: Global,
+    source: &mut S,
+    from: &[Entry],
+    places: &[Vec<RowPlace>],
+    shown: &[GhostRows],
+    target: &mut T,
+    copy: &Directory,
+) -> Result<(), CopyFault>
+    requires places { map vec_items places.now ≡ map places_of shown.now }
+    requires from { length from.now ≡ length shown.now }
+    requires small { AllByRecursion MayBeSegment shown.now }
+    requires copy { IsPlan copy.now shown.now }
+    // After Ok a read gives all segments of the copy.
+    ensures held { S.is_honest source.old → T.is_honest target.old
+        → AreSegments from.now shown.now
+        → HoldsAll (pieces_of from.now shown.now) (S.moments source.old).state.now
+        → OnOk result (HoldsAll
+        (pieces_of copy.now.entries (lists_up_to copy.now.imports shown.now))
+        (T.moments target.new).state.now) }
+    ensures found { S.is_honest source.old → AreSegments from.now shown.now
+        → HoldsAll (pieces_of from.now shown.now) (S.moments source.old).state.now
+        → IfErr result (λ e. IsFailure e) }
+    ensures long { T.is_honest target.old → OnOk result
+        (length (T.moments target.old).state.now ≤ length (T.moments target.new).state.now) }
+    // Both gates stay closed.
+    ensures any_moment { T.is_honest target.old → EachImage (T.moments target.old).state IsShut
+        → LeavesOnly (T.moments target.old) (T.moments target.new) IsShut }
+    ensures moments { S.is_honest source.old → S.moments source.new ≡ S.moments source.old }
+    ensures source_honesty { S.is_honest source.old ↔ S.is_honest source.new }
+    ensures target_honesty { T.is_honest target.old ↔ T.is_honest target.new }
+    ensures source_failures { Counts CountsSource result
+        (S.failures source.old) (S.failures source.new) }
+    ensures target_failures { Counts CountsTarget result
+        (T.failures target.old) (T.failures target.new) }
+    ensures other_calls { S.other_calls source.new ≡ S.other_calls source.old }
+    ensures bytes_read { T.bytes_read target.new ≡ T.bytes_read target.old }
+{
+    let imports = copy.imports();
+    let mut left = copy.entries();
+    for i in 0..shown.len() {
+        let rows = &shown[i];
+        let listed = places[i].as_slice();
+        if size_up_to(imports, listed, rows).rows > 0 {
+            let Some((entry, behind)) = left.split_first() else {
+                unreachable!()
+            };
+            let (of, to) = (from[i], *entry);
+            match copy_segment(alloc, source, of, listed, rows, imports, target, to) {
+                Ok(()) => {}
+                Err(fault) => return Err(fault.in_segment(i + 1)),
+            }
+            left = behind;
+        }
+    }
+    Ok(())
+}
+
+/// Writes a copy on an empty disk: both gates are closed, and the first one is opened when all
+/// segments are there.
+pub(crate) fn write_copy<S: Disk, T: Disk>(
+    alloc: Global,
+    source: &mut S,
+    from: &[Entry],
+    places: &[Vec<RowPlace>],
+    shown: &[GhostRows],
+    target: &mut T,
+    copy: &Directory,
+) -> Result<(), CopyFault>
+    requires places { map vec_items places.now ≡ map places_of shown.now }
+    requires from { AreSegments from.now shown.now }
+    requires small { AllByRecursion MayBeSegment shown.now }
+    requires copy { IsPlan copy.now shown.now }
+    requires kept { IsKept copy.now (lists_up_to copy.now.imports shown.now) }
+    // After Ok each stop leaves the copy.
+    ensures on_disk { S.is_honest source.old → T.is_honest target.old
+        → HoldsAll (pieces_of from.now shown.now) (S.moments source.old).state.now
+        → length (T.moments target.old).state.now ≡ 0
+        → OnOk result (IsOnDisk (T.moments target.new).state A copy.now
+        (lists_up_to copy.now.imports shown.now)) }
+    ensures found { S.is_honest source.old
+        → HoldsAll (pieces_of from.now shown.now) (S.moments source.old).state.now
+        → IfErr result (λ e. IsFailure e) }
+    // A stop at any moment leaves what it might have left before, no store, or the whole copy.
+    ensures any_moment { S.is_honest source.old → T.is_honest target.old
+        → HoldsAll (pieces_of from.now shown.now) (S.moments source.old).state.now
+        → length (T.moments target.old).state.now ≡ 0
+        → LeavesOnly (T.moments target.old) (T.moments target.new)
+        (λ c. IsImage (T.moments target.old).state c ⊎ (IsStore c → ⊥)
+        ⊎ HasStore A copy.now (lists_up_to copy.now.imports shown.now) c) }
+    ensures moments { S.is_honest source.old → S.moments source.new ≡ S.moments source.old }
+    ensures source_honesty { S.is_honest source.old ↔ S.is_honest source.new }
+    ensures target_honesty { T.is_honest target.old ↔ T.is_honest target.new }
+    ensures source_failures { Counts CountsSource result
+        (S.failures source.old) (S.failures source.new) }
+    ensures target_failures { Counts CountsTarget result
+        (T.failures target.old) (T.failures target.new) }
+    ensures bytes_read { T.bytes_read target.new ≡ T.bytes_read target.old }
+{
+    close_slots(target)?;
+    copy_segments(alloc, source, from, places, shown, target, copy)?;
+    open_slot(target, copy)?;
+    Ok(())
+}
