@@ -1,6 +1,6 @@
 -- What copying a store does.
 use Rattle.std.specs.Prelude.{◌≡◌, ◌⊎◌, ◌↔◌, ℕ, [], Option, Some, None, Result, Ok, Err}
-use Rattle.std.specs.Prelude.{IfOk, IfErr}
+use Rattle.std.specs.Prelude.{IfOk, IfErr, OnOk, length}
 use Rattle.disk_model.specs.Disk.{IsImage, LeavesOnly}
 use Rattle.fault_counts.specs.Counting.{Counts}
 use Rattle.store_life.specs.DeviceView.{DeviceView}
@@ -47,6 +47,7 @@ pub record IsCopied {D : Type 0} (view : DeviceView D) (imports : Option ℕ)
       → LeavesOnly (view.moments target) (view.moments target_left)
       (λ c. IsImage (view.moments target).state c ⊎ (IsStore c → ⊥)
       ⊎ IsCopyOf imports (view.moments source).state.now c)
+  pub empty : view.is_honest target → OnOk result (length (view.moments target).state.now ≡ 0)
   pub refused : view.is_honest source → view.is_honest target → IfErr result
       (λ e. IsNotCopied e imports (view.moments source).state.now
       (view.moments target).state.now)

@@ -124,6 +124,8 @@ pub struct FolderSource<'a, F: Folders, E: Write> {
     pub dir: &'a str,
     /// Takes what stood in the way of a release, and what is told while it is imported.
     pub faults: &'a mut E,
+    /// What is done with a release, as people are told.
+    pub doing: &'static str,
     /// People are told of nothing but what may be wrong.
     pub quiet: bool,
 }
@@ -146,7 +148,7 @@ impl<F: Folders, E: Write> Source for FolderSource<'_, F, E> {
             .folders
             .release(alloc, self.dir, name, self.quiet, self.faults);
         if let Ok(release) = &given {
-            tell_taken(release, self.quiet, self.faults);
+            tell_taken(release, self.doing, self.quiet, self.faults);
         }
         given
     }

@@ -33,8 +33,8 @@ mind its case, and an x before it"
     }
 }
 
-/// Tells which files of a release were taken, and that its import begins.
-pub(crate) fn tell_taken<E: Write>(release: &Release, quiet: bool, faults: &mut E) {
+/// Tells which files of a release were taken, and what is done with it now.
+pub(crate) fn tell_taken<E: Write>(release: &Release, doing: &str, quiet: bool, faults: &mut E) {
     if !quiet {
         for file in &release.files {
             let (name, kind, rows) = (&file.name, word_of(file.kind), rows_of(file));
@@ -52,7 +52,7 @@ pub(crate) fn tell_taken<E: Write>(release: &Release, quiet: bool, faults: &mut 
         );
     }
     if !quiet {
-        let _ = writeln!(faults, "sctd: importing");
+        let _ = writeln!(faults, "sctd: {doing}");
     }
 }
 

@@ -235,6 +235,7 @@ fn import_at<V: Devices, F: Folders, O: Write, E: Write>(
                 folders,
                 dir,
                 faults,
+                doing: "importing",
                 quiet,
             };
             let (ended, left) = import(alloc, device, name, &mut source, output, &mut told);
@@ -273,6 +274,7 @@ fn check_at<V: Devices, F: Folders, O: Write, E: Write>(
                 folders,
                 dir,
                 faults,
+                doing: "checking",
                 quiet,
             };
             let (ended, left) = check(alloc, device, name, &mut source, output, &mut told);
@@ -312,6 +314,7 @@ fn serve_at<V: Devices, F: Folders, I: Read, O: Write, E: Write>(
                 folders,
                 dir,
                 faults,
+                doing: "importing",
                 quiet: true,
             };
             let (ended, left) = serve_device(alloc, device, &mut source, input, output, &mut told);

@@ -43,7 +43,7 @@ fn main(rt: HostRuntime) -> ExitCode {
     };
     let (mut input, mut output, mut faults) = (rt.stdin(), rt.stdout(), rt.stderr());
     let mut disks = FileDisks::new(&rt);
-    let (status, _) = run(
+    let (status, _, _) = run(
         &mut disks,
         &rt,
         rt.alloc(),
