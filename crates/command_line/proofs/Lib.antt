@@ -1,4 +1,3 @@
 mod Commands
 mod Merged
 mod Checked
-mod Pinned

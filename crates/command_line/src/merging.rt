@@ -28,7 +28,7 @@ const PUBLISH: &[u8] = b"0 PUBLISH";
 const TRIM: &[u8] = b"0 TRIM";
 
 /// Answers a line, and gives the reply back where it is refused.
-pub(crate) fn ask<D: Disk>(
+fn ask<D: Disk>(
     alloc: Global,
     line: &[u8],
     pins: &mut Pins,
