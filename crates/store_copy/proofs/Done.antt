@@ -23,7 +23,11 @@ use Rattle.store_image.specs.Kept.{AreSegments, pieces_of}
 use Rattle.store_image.specs.Reading.{IsAt}
 use Rattle.store_image.proofs.Unlisted.{begins_holds}
 use Rattle.store_copy.specs.Copying.{up_to, before, lists_up_to, entry_at, entries_from, end_from}
-use Rattle.store_copy.specs.Private.Writing.{IsShut}
+use Rattle.fault_counts.specs.declared.fault.ReadFault.TheVariants as reading
+use Rattle.store_copy.specs.Answers.{IsFailure}
+use Rattle.store_copy.specs.declared.fault.SegmentCopyFault.{SegmentCopyFault}
+use Rattle.store_copy.specs.declared.fault.SegmentCopyFault.TheVariants.{Read, Write}
+use Rattle.store_copy.specs.Private.Writing.{IsNoDamage, IsShut, in_segment}
 use Rattle.store_copy.proofs.Gates.{shut_but}
 use Rattle.store_copy.proofs.Listing.{end-append, end_least}
 use Rattle.store_copy.proofs.UpTo.{lists-append, before-append}
@@ -202,3 +206,11 @@ segment_at file (f ∷ entries) (l ∷ lists) (suc i) e rows are held lt is_e is
 
 pub first_entry : (left behind : List Entry) (entry : Entry) → left ≡ entry ∷ behind → AllByRecursion IsEntry left → IsEntry entry × AllByRecursion IsEntry behind
 first_entry left behind entry split all = subst (AllByRecursion IsEntry) split all
+
+-- ---- a fault in a segment
+
+pub fails_in : (number : ℕ) (fault : SegmentCopyFault) → IsNoDamage fault → IsFailure (in_segment number fault)
+fails_in number (Read reading.OutOfMemory) none = tt
+fails_in number (Read reading.DiskFault) none = tt
+fails_in number (Read reading.Damaged) none = absurd none
+fails_in number Write none = tt

@@ -30,11 +30,6 @@ of_loading loading.DiskFault = faults.SourceFailed
 of_loading loading.NotAStore = faults.NotAStore
 of_loading (loading.Damaged damage) = faults.Damaged damage
 
--- so many imports as asked for, or all, where there are as many
-abbrev pub IsChosen : Result ℕ CopyFault → Option ℕ → ℕ → Type 0
-IsChosen (Ok n) asked all = (n ≡ chosen asked all) × (n ≤ all)
-IsChosen (Err e) asked all = (e ≡ faults.NoSuchImport) × (all < chosen asked all)
-
 -- what bytes represent that have a store: its directory, and the rows of its segments
 pub record Shown (file : List ℕ) : Type 0 where
   pub slot : Slot

@@ -8,9 +8,9 @@ ghost use Rattle.segment.specs.Standing.{places_of};
 ghost use Rattle.store_image.specs.Answers.{synced};
 ghost use Rattle.store_image.specs.Images.{IsStore};
 ghost use Rattle.store_image.specs.OnDisk.{HasStore};
-ghost use Rattle.store_copy.specs.Answers.{CountsSource, CountsTarget, HasCopy, IsChosen, IsCopyOf};
+ghost use Rattle.store_copy.specs.Answers.{CountsSource, CountsTarget, HasCopy, IsCopyOf};
 ghost use Rattle.store_copy.specs.Answers.{IsNotCopied, StaysUnlessFailed};
-ghost use Rattle.store_copy.specs.Private.Writing.{IsPlanned};
+ghost use Rattle.store_copy.specs.Private.Writing.{IsChosen, IsPlanned};
 
 use crate::fault::CopyFault;
 use crate::planning::plan;

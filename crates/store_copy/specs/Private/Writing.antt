@@ -1,5 +1,5 @@
 -- What a copy has while it is written.
-use Rattle.std.specs.Prelude.{◌≡◌, ℕ, Option, ◌^◌, ◌<◌, ◌≤◌, List, ◌++◌, length, take, drop}
+use Rattle.std.specs.Prelude.{◌≡◌, ℕ, Option, Result, Ok, Err, ◌^◌, ◌<◌, ◌≤◌, List, ◌++◌, length, take, drop}
 use Rattle.rf2_values.specs.Key.{key_of}
 use Rattle.blocks.specs.declared.extent.Extent.{Extent}
 use Rattle.blocks.specs.declared.slots.Slot.TheVariants.{A, B}
@@ -24,6 +24,11 @@ use Rattle.store_copy.specs.declared.fault.CopyFault.TheVariants as faults
 use Rattle.store_copy.specs.declared.fault.SegmentCopyFault.{SegmentCopyFault}
 use Rattle.store_copy.specs.declared.fault.SegmentCopyFault.TheVariants.{Read, Write}
 use Rattle.store_copy.specs.declared.planning.Size.{Size}
+
+-- so many imports as asked for, or all, where there are as many
+abbrev pub IsChosen : Result ℕ CopyFault → Option ℕ → ℕ → Type 0
+IsChosen (Ok n) asked all = (n ≡ chosen asked all) × (n ≤ all)
+IsChosen (Err e) asked all = (e ≡ faults.NoSuchImport) × (all < chosen asked all)
 
 -- so few rows that a segment may have them
 abbrev pub MayBeSegment : List StampedRow → Type 0
