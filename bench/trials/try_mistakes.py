@@ -13,6 +13,8 @@ status is 1 where something isn't as wanted. Standard library alone.
 """
 
 import os
+import pty
+import re
 import resource
 import select
 import shutil
@@ -27,6 +29,8 @@ ROOT = os.path.dirname(os.path.dirname(os.path.dirname(os.path.abspath(__file__)
 CONCEPTS = "sct2_Concept_Full_INT_20200131.txt"
 COLUMNS = "id\teffectiveTime\tactive\tmoduleId\tdefinitionStatusId\n"
 ROOT_ROW = "138875005\t%s\t1\t900000000000207008\t900000000000074008\n"
+# What tells the process that holds a store's lock.
+HOLDER = re.compile(r"in use by another process, whose id is (\d+)\n$")
 PARTS = "no folder Terminology or Refset/Content in it"
 
 
@@ -169,6 +173,93 @@ def try_telling(tries):
     tries.check("a release of few kinds", fine, got)
 
 
+def try_lacking(tries):
+    """A Full release with concepts and no descriptions, and files that stand in other folders."""
+    write_release(tries, "lacking/Full", "20200131")
+    stray = tries.path("releases", "lacking", "Full", "terminology", CONCEPTS)
+    write(stray, COLUMNS)
+    got = tries.run(["import", "--quiet", "--store", "named", "releases/lacking/Full"])
+    wanted = "sctd: warning: passed over terminology/%s, whose name is one to take: " % CONCEPTS
+    wanted += "a release has it in Terminology or Refset/Content\n"
+    for kind in ("Description", "Relationship"):
+        wanted += "sctd: warning: a Full file of concepts was taken, and no %s file\n" % kind
+    tries.check("what a Full release lacks", got[0] == 0 and got[2] == wanted, got)
+
+
+def try_forged(tries):
+    """Names and paths with control characters make no line of their own on standard error."""
+    forged = "store\nsctd: all is well\x1b[2J\r"
+    shown = "store\\nsctd: all is well\\u{1b}[2J\\r"
+    for words in (["init", "--store", "absent/" + forged],
+                  ["status", "--store", "absent/" + forged]):
+        tries.refused("a forged path to " + words[0], words, "ERR 2 DiskFault",
+                      "sctd: absent/%s: No such file" % shown)
+    tries.refused("a forged folder", ["serve", "--store", "store", "--releases", forged],
+                  "ERR 45 NoFolder", "sctd: %s: No such file" % shown)
+    made = tries.run(["init", "--store", forged])
+    tries.check("init of a forged path", made == (0, "OK\n", ""), made)
+    got = tries.run(["status", "--store", forged])
+    fine = got[2].startswith("sctd: %s: layout 2, " % shown) and got[2].count("\n") == 1
+    tries.check("the status of a forged path", fine, got)
+    name = CONCEPTS.replace(".txt", "\nsctd: took it.txt")
+    write(tries.path("releases", "forged", "Terminology", name), COLUMNS + "?\n")
+    got = tries.run(["import", "--store", forged, "releases/forged"])
+    lines = got[2].splitlines()
+    fine = got[1] == "ERR 23 Columns 1 2\n" and not any(line.startswith("sctd: took it") for line in lines)
+    fine = fine and any(CONCEPTS.replace(".txt", "\\nsctd: took it.txt, line 2: ") in line for line in lines)
+    tries.check("a forged name of a file", fine, got)
+    os.mkdir(tries.path("releases", "coded"))
+    os.mkdir(tries.path("releases", "coded", "Terminology"))
+    folder = os.fsencode(tries.path("releases", "coded", "Terminology"))
+    with open(folder + b"/caf\xe9\n.txt", "wb"):
+        pass
+    tries.import_refused("a name that isn't UTF-8", "coded", "ERR 45 NoFolder",
+                         "the name of a file in it isn't UTF-8: caf\\xe9\\n.txt\n")
+
+
+def try_new_rights(tries):
+    """A store is made for its owner alone, whatever the umask is; a file keeps its rights."""
+    made = tries.run(["init", "--store", "private"], before=lambda: os.umask(0))
+    mode = stat.S_IMODE(os.stat(tries.path("private")).st_mode)
+    tries.check("the rights of a store", made[1] == "OK\n" and mode == 0o600, (made, oct(mode)))
+    write(tries.path("given"), "")
+    os.chmod(tries.path("given"), 0o640)
+    made = tries.run(["init", "--store", "given"])
+    mode = stat.S_IMODE(os.stat(tries.path("given")).st_mode)
+    tries.check("the rights of a file that was there", made[1] == "OK\n" and mode == 0o640,
+                (made, oct(mode)))
+    os.symlink("linked", tries.path("link"))
+    made = tries.run(["init", "--store", "link"], before=lambda: os.umask(0))
+    mode = stat.S_IMODE(os.stat(tries.path("linked")).st_mode)
+    tries.check("the rights behind a link", made[1] == "OK\n" and mode == 0o600, (made, oct(mode)))
+
+
+def try_demonstration(tries):
+    """The questions of the demonstration are shown where its output is a terminal, and only there."""
+    plain = tries.run(["demo"])
+    tries.check("the demonstration", plain[0] == 0 and plain[2] == "", plain[2])
+    main, other = pty.openpty()
+    ran = subprocess.run([tries.program, "demo"], cwd=tries.place, stdin=subprocess.DEVNULL,
+                         stdout=other, stderr=other, timeout=SECONDS)
+    os.close(other)
+    shown = b""
+    while select.select([main], [], [], 0.1)[0]:
+        try:
+            piece = os.read(main, 65536)
+        except OSError:
+            break
+        if not piece:
+            break
+        shown += piece
+    os.close(main)
+    lines = shown.decode().replace("\r\n", "\n").split("\n")
+    asked = [line for line in lines if line.startswith("> ")]
+    others = "\n".join(line for line in lines if not line.startswith("> "))
+    fine = ran.returncode == 0 and lines[0] == "> 0 STATUS" and lines[1] == "OK 0 0 0 -"
+    tries.check("the demonstration on a terminal",
+                fine and len(asked) == 20 and others == plain[1], (lines[:4], len(asked)))
+
+
 def try_traps(tries):
     """Files that never end, and links that lead nowhere."""
     missing = "ERR 45 NoFolder"
@@ -198,6 +289,7 @@ def try_stores(tries):
     broken = "ERR 2 DiskFault"
     os.mkfifo(tries.path("pipe"))
     os.mkdir(tries.path("folder"))
+    write(tries.path("text"), "no store")
     places = [("a wrong path", "absent", "No such file"), ("a wrong folder", "absent/store", "No such file"),
               ("a folder", "folder", "Is a directory"), ("a FIFO", "pipe", "not a regular file"),
               ("a full device", "/dev/full", "not a regular file")]
@@ -207,9 +299,13 @@ def try_stores(tries):
             tries.refused(what + " to " + words[0], words, broken, path + ": " + why)
         if path != "absent":
             tries.refused(what + " to init", ["init", "--store", path], broken, path + ": " + why)
+    closed = ["serve", "--store", "store", "--releases"]
+    tries.refused("no folder of releases", closed + ["relaeses"], "ERR 45 NoFolder",
+                  "sctd: relaeses: No such file")
+    tries.refused("a file as the folder of releases", closed + ["text"], "ERR 45 NoFolder",
+                  "sctd: text: not a folder")
     tries.check("nothing was made", not os.path.exists(tries.path("absent")), "a file")
     tries.refused("init again", ["init", "--store", "store"], "ERR 4 NotEmpty", "store: the file isn't empty")
-    write(tries.path("text"), "no store")
     tries.refused("a text", ["serve", "--store", "text", "--releases", "releases"],
                   "ERR 7 NotAStore", "text: the file is no store")
 
@@ -288,16 +384,20 @@ def ended(process):
     return process.returncode, output, faults
 
 
-def import_at_once(tries, what, store, names, may_pass):
-    """Imports them by processes of their own at once. The number of those that were answered OK."""
+def import_at_once(tries, what, store, names, holder=None):
+    """Imports them by processes of their own at once. The number of those that were answered OK.
+    Where the id of the process that holds the store is known, each has to be refused and to tell
+    it."""
     begun = [start(tries, ["import", "--store", store, "--releases", "releases", name]) for name in names]
     passed = 0
     for name, process in zip(names, begun):
         status, output, faults = ended(process)
-        if may_pass and status == 0 and output.startswith(b"OK "):
+        if holder is None and status == 0 and output.startswith(b"OK "):
             passed += 1
             continue
         fine = status == 1 and output == b"ERR 2 DiskFault\n" and b"in use by another" in faults
+        told = HOLDER.search(faults.decode())
+        fine = fine and (holder is None or (told is not None and int(told.group(1)) == holder))
         tries.check(what + ", " + name, fine, (status, output, faults))
     return passed
 
@@ -314,7 +414,7 @@ def try_at_once(tries):
     for turn in range(5):
         store = "shared%d" % turn
         tries.check("init", tries.run(["init", "--store", store])[1] == "OK\n", "no store")
-        passed = import_at_once(tries, "four at once", store, names, True)
+        passed = import_at_once(tries, "four at once", store, names)
         tries.check("one of four", passed >= 1, passed)
         got = count_imports(tries, store)
         tries.check("four at once", got == [str(passed), str(passed)], (passed, got))
@@ -323,11 +423,11 @@ def try_at_once(tries):
     server = start(tries, ["serve", "--store", "store", "--releases", "releases"])
     status = ask(server, "0 STATUS")
     tries.check("the server's status", status == "OK 0 0 0 -\n", status)
-    import_at_once(tries, "beside a server", "store", names, False)
+    import_at_once(tries, "beside a server", "store", names, server.pid)
     replies = [ask(server, "0 IMPORT " + name) for name in names]
     wanted = ["OK %d 1 0\n" % number for number in range(1, 5)]
     tries.check("the server's imports", replies == wanted, replies)
-    import_at_once(tries, "beside a server", "store", names, False)
+    import_at_once(tries, "beside a server", "store", names, server.pid)
     got = ended(server)
     tries.check("the end of the server", got[:2] == (0, b""), got)
     got = count_imports(tries, "store")
@@ -344,7 +444,8 @@ def main(words):
             write_release(tries, "r%d" % number, "%d0131" % (2019 + number))
         made = tries.run(["init", "--store", "store"])
         tries.check("init", made == (0, "OK\n", ""), made)
-        for part in (try_folders, try_names, try_telling, try_traps, try_stores, try_rights,
+        for part in (try_folders, try_names, try_telling, try_lacking, try_forged, try_new_rights,
+                     try_demonstration, try_traps, try_stores, try_rights,
                      try_full_disk, try_few_files, try_at_once):
             part(tries)
     print("%d tried, %d not as wanted, %d skipped" % (tries.done, tries.wrong, tries.skipped))

@@ -4,9 +4,12 @@ ghost use Rattle.std.specs.Prelude.{◌≡◌, ℕ, List, IfOk, IfErr};
 ghost use Rattle.disk_model.specs.Disk.{raised_by};
 ghost use Rattle.command_line.specs.Devices.{files_asked};
 
+use crate::holders::holder_of;
 use disk_model::{Disk, DiskFault, FileDisk, OpenFault};
-use std::fs::{self, File, Files};
+use shown_names::Shown;
+use std::fs::{self, File, Files, OpenOptions};
 use std::io::{self, Write};
+use std::os::unix::fs::OpenOptionsExt;
 
 /// What holds stores, by names. It counts how often it is asked for one.
 pub trait Devices {
@@ -55,7 +58,7 @@ pub struct FileDisks<'a, R: Files<File = File>> {
     asked: u64,
 }
 
-impl<'a, R: Files<File = File>> FileDisks<'a, R> {
+impl<'a, R: Files<File = File> + AllocGlobal> FileDisks<'a, R> {
     /// None was asked for yet.
     pub fn new(rt: &'a R) -> FileDisks<'a, R>
         ensures { files_asked result ≡ 0 }
@@ -64,7 +67,7 @@ impl<'a, R: Files<File = File>> FileDisks<'a, R> {
     }
 }
 
-impl<R: Files<File = File>> Devices for FileDisks<'_, R> {
+impl<R: Files<File = File> + AllocGlobal> Devices for FileDisks<'_, R> {
     type Device = FileDisk;
 
     ghost asked = { files_asked };
@@ -79,7 +82,7 @@ impl<R: Files<File = File>> Devices for FileDisks<'_, R> {
 
     fn device<E: Write>(&mut self, path: &str, faults: &mut E) -> Result<FileDisk, DiskFault> {
         self.asked = self.asked.saturating_add(1);
-        device_or_told(FileDisk::open(self.rt, path), path, faults)
+        device_or_told(self.rt, FileDisk::open(self.rt, path), path, faults)
     }
 
     fn device_or_new<E: Write>(
@@ -88,7 +91,14 @@ impl<R: Files<File = File>> Devices for FileDisks<'_, R> {
         faults: &mut E,
     ) -> Result<FileDisk, DiskFault> {
         self.asked = self.asked.saturating_add(1);
-        device_or_told(FileDisk::open_or_make(self.rt, path), path, faults)
+        // Where that fails, the next call says why.
+        let _ = make_private(self.rt, path);
+        device_or_told(
+            self.rt,
+            FileDisk::open_or_make(self.rt, path),
+            path,
+            faults,
+        )
     }
 
     fn last_error(&self, device: &FileDisk) -> Option<io::Error> {
@@ -103,8 +113,23 @@ impl<R: Files<File = File>> Devices for FileDisks<'_, R> {
     }
 }
 
+/// The rights of a file that its owner alone may read and write.
+const OWNER_ALONE: u32 = 0o600;
+
+/// Makes an empty file with these rights where there is none. A file that exists keeps its own.
+fn make_private<R: Files<File = File>>(rt: &R, path: &str) -> io::Result<()> {
+    OpenOptions::new()
+        .read(true)
+        .write(true)
+        .create(true)
+        .mode(OWNER_ALONE)
+        .open(rt, path)?;
+    Ok(())
+}
+
 /// A file's disk, or the line that says why there is none.
-fn device_or_told<E: Write>(
+fn device_or_told<R: Files<File = File> + AllocGlobal, E: Write>(
+    rt: &R,
     opened: Result<FileDisk, OpenFault>,
     path: &str,
     faults: &mut E,
@@ -112,8 +137,27 @@ fn device_or_told<E: Write>(
     match opened {
         Ok(disk) => Ok(disk),
         Err(fault) => {
-            let _ = writeln!(faults, "sctd: {path}: {fault}");
+            let _ = tell_withheld(rt, &fault, path, faults);
             Err(DiskFault)
         }
     }
+}
+
+/// Writes why a file isn't had, and which process has it where that is known.
+fn tell_withheld<R: Files<File = File> + AllocGlobal, E: Write>(
+    rt: &R,
+    fault: &OpenFault,
+    path: &str,
+    faults: &mut E,
+) -> io::Result<()> {
+    let holder = match fault {
+        OpenFault::Busy => holder_of(rt, rt.alloc(), path),
+        _ => None,
+    };
+    let name = Shown(path.as_bytes());
+    write!(faults, "sctd: {name}: {fault}")?;
+    if let Some(holder) = holder {
+        write!(faults, ", whose id is {holder}")?;
+    }
+    writeln!(faults)
 }

@@ -1,6 +1,6 @@
 //! Releases in unpacked folders.
 
-ghost use Rattle.std.specs.Prelude.{ℕ, List, IfOk, IfErr};
+ghost use Rattle.std.specs.Prelude.{ℕ, List, IfOk, IfErr, IsFalse};
 ghost use Rattle.line_server.specs.Sources.{Releases, IsGiven};
 
 use crate::progress::{Progress, tell_taken};
@@ -10,8 +10,9 @@ use history_store::Refusal;
 use import_check::Release;
 use line_server::{Source, SourceFault};
 use release_folder::{FolderFault, read_release};
+use shown_names::Shown;
 use std::alloc::Global;
-use std::fs::{File, Files};
+use std::fs::{self, File, Files};
 use std::io::{self, Write};
 
 /// The folders that the words name, and those of the files that they name.
@@ -24,11 +25,17 @@ pub trait Folders {
     ghost is_honest: { Self → Type 0 };
     /// The releases in the folders below one.
     ghost releases: { Self → List ℕ → Releases };
+    /// There is no folder of this name to look for releases in.
+    ghost lacks: { Self → List ℕ → Type 0 };
 
     /// Sees that what was made under a name keeps it. Where that fails, `faults` is told why.
     fn settle<E: Write>(&self, alloc: Global, path: &str, faults: &mut E) -> Result<(), DiskFault>
         ensures kept { IfOk result (λ _. keeps self.now path.now) }
         ensures lost { IfErr result (λ _. loses self.now path.now) };
+
+    /// Whether there is a folder to look for releases in. Where there is none, `faults` is told why.
+    fn has_folder<E: Write>(&self, dir: &str, faults: &mut E) -> bool
+        ensures { IsFalse result → lacks self.now dir.now };
 
     /// The release in a folder below one. Where there is none, `faults` is told why. It is also
     /// told which files are read and passed over; if `quiet`, only of those that may be wrong.
@@ -55,10 +62,13 @@ impl<R: Files<File = File> + AllocGlobal + Clone + Drop> Folders for R {
 
     ghost releases = { λ _ _ _. None };
 
+    ghost lacks = { λ _ _. Unit {0} };
+
     fn settle<E: Write>(&self, alloc: Global, path: &str, faults: &mut E) -> Result<(), DiskFault> {
         match sync_folder_of(self, alloc, path) {
             Ok(()) => Ok(()),
             Err(error) => {
+                let path = Shown(path.as_bytes());
                 let _ = writeln!(
                     faults,
                     "sctd: the folder of {path} can't be synced: {error}"
@@ -66,6 +76,17 @@ impl<R: Files<File = File> + AllocGlobal + Clone + Drop> Folders for R {
                 Err(DiskFault)
             }
         }
+    }
+
+    fn has_folder<E: Write>(&self, dir: &str, faults: &mut E) -> bool {
+        let found = fs::metadata(self, dir);
+        let name = Shown(dir.as_bytes());
+        let _ = match found {
+            Ok(found) if found.is_dir() => return true,
+            Ok(_) => writeln!(faults, "sctd: {name}: not a folder"),
+            Err(error) => writeln!(faults, "sctd: {name}: {error}"),
+        };
+        false
     }
 
     fn release<E: Write>(
