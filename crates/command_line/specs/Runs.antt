@@ -30,8 +30,8 @@ use Rattle.command_line.specs.Tasks.{IsMade, IsImport, IsStatus, IsServing, IsSe
 use Rattle.command_line.specs.Tasks.{IsUpgrade}
 
 -- What the words can name, as clauses see it: which device stands under a name, or is made there,
--- and whether it can't be had; whether the name stays; whether there is no folder of a name; and the
--- releases of each folder, if they are honest.
+-- and whether it can't be had; whether the name stays; whether there is a folder of a name to look for
+-- releases in; and the releases of each folder, if they are honest.
 pub record SystemView (D : Type 0) : Type 1 where
   pub stands : List ℕ → D → Type 0
   pub withholds : List ℕ → Type 0
@@ -39,6 +39,7 @@ pub record SystemView (D : Type 0) : Type 1 where
   pub denies : List ℕ → Type 0
   pub keeps : List ℕ → Type 0
   pub loses : List ℕ → Type 0
+  pub finds : List ℕ → Type 0
   pub lacks : List ℕ → Type 0
   pub is_honest : Type 0
   pub releases : List ℕ → Releases
@@ -69,14 +70,15 @@ IsMadeAt {D} layout system name left report =
     × (left ≡ Some device))
     ⊎ (system.denies name × IsMissing report × (left ≡ None))
 
--- The lines were served from what is under a name, with the releases of a folder. Where there is no
--- such folder, that was told, nothing was read, and what is under the name was left as it was; and
--- so it was told where nothing can be had under the name.
+-- The lines were served from what is under a name, with the releases of a folder that was found.
+-- Where there is no such folder, that was told, nothing was read, and what is under the name was left
+-- as it was. Where nothing can be had under the name, that was told, and nothing was read.
 abbrev pub IsServedAt : {D : Type 0} → SystemView D → List ℕ → List ℕ → Option D
     → Result Ending ServeFault → Streams → Type 0
 IsServedAt {D} system name releases left ended streams =
     IsDoneAt (system.stands name)
-    (λ device after. IsServing (source_in system releases) system.device device after ended streams)
+    (λ device after. system.finds releases
+    × IsServing (source_in system releases) system.device device after ended streams)
     (IsMissing (report ended streams.old streams.new) × (streams.rest ≡ streams.input)
     × system.withholds name) left
     ⊎ ((device : D) × system.stands name device × system.lacks releases

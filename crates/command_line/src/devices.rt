@@ -4,7 +4,9 @@ ghost use Rattle.std.specs.Prelude.{◌≡◌, ℕ, List, IfOk, IfErr};
 ghost use Rattle.disk_model.specs.Disk.{raised_by};
 ghost use Rattle.command_line.specs.Devices.{files_asked};
 
+use crate::file_names::{FileName, name_disk};
 use crate::holders::holder_of;
+use crate::named_disk::NamedDisk;
 use disk_model::{Disk, DiskFault, FileDisk, OpenFault};
 use shown_names::Shown;
 use std::fs::{self, File, Files, OpenOptions};
@@ -67,8 +69,11 @@ impl<'a, R: Files<File = File> + AllocGlobal> FileDisks<'a, R> {
     }
 }
 
-impl<R: Files<File = File> + AllocGlobal> Devices for FileDisks<'_, R> {
-    type Device = FileDisk;
+/// A file's disk, under the name of the file.
+type NamedFile<'a, R> = NamedDisk<FileDisk, FileName<'a, R>>;
+
+impl<'a, R: Files<File = File> + AllocGlobal> Devices for FileDisks<'a, R> {
+    type Device = NamedFile<'a, R>;
 
     ghost asked = { files_asked };
 
@@ -80,29 +85,35 @@ impl<R: Files<File = File> + AllocGlobal> Devices for FileDisks<'_, R> {
 
     ghost denies = { λ _ _. Unit {0} };
 
-    fn device<E: Write>(&mut self, path: &str, faults: &mut E) -> Result<FileDisk, DiskFault> {
+    fn device<E: Write>(
+        &mut self,
+        path: &str,
+        faults: &mut E,
+    ) -> Result<NamedFile<'a, R>, DiskFault> {
         self.asked = self.asked.saturating_add(1);
-        device_or_told(self.rt, FileDisk::open(self.rt, path), path, faults)
+        let name = FileName::of(self.rt, path);
+        let named = name_disk(name, FileDisk::open(self.rt, path));
+        device_or_told(self.rt, named, path, faults)
     }
 
     fn device_or_new<E: Write>(
         &mut self,
         path: &str,
         faults: &mut E,
-    ) -> Result<FileDisk, DiskFault> {
+    ) -> Result<NamedFile<'a, R>, DiskFault> {
         self.asked = self.asked.saturating_add(1);
-        // Where that fails, the next call says why.
+        // Where that fails, the opening says why.
         let _ = make_private(self.rt, path);
-        device_or_told(
-            self.rt,
-            FileDisk::open_or_make(self.rt, path),
-            path,
-            faults,
-        )
+        let name = FileName::of(self.rt, path);
+        let named = name_disk(name, FileDisk::open_or_make(self.rt, path));
+        device_or_told(self.rt, named, path, faults)
     }
 
-    fn last_error(&self, device: &FileDisk) -> Option<io::Error> {
-        device.fault()
+    fn last_error(&self, device: &NamedFile<'a, R>) -> Option<io::Error> {
+        match device.missed() {
+            Some(error) => Some(error),
+            None => device.disk().fault(),
+        }
     }
 
     fn size(&self, path: &str) -> Option<u64> {
@@ -128,13 +139,13 @@ fn make_private<R: Files<File = File>>(rt: &R, path: &str) -> io::Result<()> {
 }
 
 /// A file's disk, or the line that says why there is none.
-fn device_or_told<R: Files<File = File> + AllocGlobal, E: Write>(
+fn device_or_told<'a, R: Files<File = File> + AllocGlobal, E: Write>(
     rt: &R,
-    opened: Result<FileDisk, OpenFault>,
+    named: Result<NamedFile<'a, R>, OpenFault>,
     path: &str,
     faults: &mut E,
-) -> Result<FileDisk, DiskFault> {
-    match opened {
+) -> Result<NamedFile<'a, R>, DiskFault> {
+    match named {
         Ok(disk) => Ok(disk),
         Err(fault) => {
             let _ = tell_withheld(rt, &fault, path, faults);

@@ -1,6 +1,6 @@
 //! Releases in unpacked folders.
 
-ghost use Rattle.std.specs.Prelude.{ℕ, List, IfOk, IfErr, IsFalse};
+ghost use Rattle.std.specs.Prelude.{◌≡◌, ℕ, List, IfOk, IfErr, true, false};
 ghost use Rattle.line_server.specs.Sources.{Releases, IsGiven};
 
 use crate::progress::{Progress, tell_taken};
@@ -25,6 +25,8 @@ pub trait Folders {
     ghost is_honest: { Self → Type 0 };
     /// The releases in the folders below one.
     ghost releases: { Self → List ℕ → Releases };
+    /// There is a folder of this name to look for releases in.
+    ghost finds: { Self → List ℕ → Type 0 };
     /// There is no folder of this name to look for releases in.
     ghost lacks: { Self → List ℕ → Type 0 };
 
@@ -35,7 +37,8 @@ pub trait Folders {
 
     /// Whether there is a folder to look for releases in. Where there is none, `faults` is told why.
     fn has_folder<E: Write>(&self, dir: &str, faults: &mut E) -> bool
-        ensures { IsFalse result → lacks self.now dir.now };
+        ensures found { result ≡ true → finds self.now dir.now }
+        ensures missing { result ≡ false → lacks self.now dir.now };
 
     /// The release in a folder below one. Where there is none, `faults` is told why. It is also
     /// told which files are read and passed over; if `quiet`, only of those that may be wrong.
@@ -61,6 +64,8 @@ impl<R: Files<File = File> + AllocGlobal + Clone + Drop> Folders for R {
     ghost is_honest = { λ _. ⊥ };
 
     ghost releases = { λ _ _ _. None };
+
+    ghost finds = { λ _ _. Unit {0} };
 
     ghost lacks = { λ _ _. Unit {0} };
 

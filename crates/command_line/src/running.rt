@@ -54,6 +54,7 @@ pub fn run<V: Devices, F: Folders, I: Read, O: Write, E: Write>(
       denies = V.denies devices.old;
       keeps = F.keeps folders.now;
       loses = F.loses folders.now;
+      finds = F.finds folders.now;
       lacks = F.lacks folders.now;
       is_honest = F.is_honest folders.now;
       releases = F.releases folders.now;
@@ -97,6 +98,7 @@ fn perform<V: Devices, F: Folders, I: Read, O: Write, E: Write>(
       denies = V.denies devices.old;
       keeps = F.keeps folders.now;
       loses = F.loses folders.now;
+      finds = F.finds folders.now;
       lacks = F.lacks folders.now;
       is_honest = F.is_honest folders.now;
       releases = F.releases folders.now;
@@ -151,6 +153,7 @@ fn init_at<V: Devices, F: Folders, O: Write, E: Write>(
       denies = V.denies devices.old;
       keeps = F.keeps folders.now;
       loses = F.loses folders.now;
+      finds = F.finds folders.now;
       lacks = F.lacks folders.now;
       is_honest = F.is_honest folders.now;
       releases = F.releases folders.now;
@@ -234,6 +237,7 @@ fn serve_at<V: Devices, F: Folders, I: Read, O: Write, E: Write>(
       denies = V.denies devices.old;
       keeps = F.keeps folders.now;
       loses = F.loses folders.now;
+      finds = F.finds folders.now;
       lacks = F.lacks folders.now;
       is_honest = F.is_honest folders.now;
       releases = F.releases folders.now;
