@@ -4,9 +4,10 @@
 try_mistakes.py PROGRAM
 
 PROGRAM is the built `sctd`. In a fresh folder below the system's temporary one it is given wrong
-paths, folders that are no release, files that never end, a full disk, too few files that may be
-open and a store that is in use. Each time its reply, its status and the line on standard error have
-to be as wanted within ten seconds, and the store has to be left as it was. Then four imports run on
+paths, folders that are no release, files that never end, names with control characters, a full
+disk, too few files that may be open, a store that is in use and one whose file is replaced. Each
+time its reply, its status and the line on standard error have to be as wanted within ten seconds,
+and the store has to be left as it was. Then four imports run on
 one store at once, and again beside a server: each release that was answered OK has to be there
 after the next opening, and no other. What the machine lacks for a try is said and not counted. The
 status is 1 where something isn't as wanted. Standard library alone.
@@ -31,6 +32,8 @@ COLUMNS = "id\teffectiveTime\tactive\tmoduleId\tdefinitionStatusId\n"
 ROOT_ROW = "138875005\t%s\t1\t900000000000207008\t900000000000074008\n"
 # What tells the process that holds a store's lock.
 HOLDER = re.compile(r"in use by another process, whose id is (\d+)\n$")
+# The number of a user who owns nothing.
+OTHER_USER = 65534
 PARTS = "no folder Terminology or Refset/Content in it"
 
 
@@ -348,6 +351,92 @@ def try_full_disk(tries):
         subprocess.run(["umount", small], check=False)
 
 
+def bytes_of(path):
+    with open(path, "rb") as file:
+        return file.read()
+
+
+def served_import(tries, what, change):
+    """An import by a server whose store's file is changed meanwhile: it has to be refused, and why
+    has to be told. What the store's path leads to by then, None if nothing."""
+    store = what.replace(" ", "-")
+    path = tries.path(store)
+    made = tries.run(["init", "--store", store])
+    tries.check("init", made[1] == "OK\n", made)
+    got = tries.run(["import", "--quiet", "--store", store, "--releases", "releases", "r1"])
+    tries.check("import", got[:2] == (0, "OK 1 1 0\n"), got)
+    server = start(tries, ["serve", "--store", store, "--releases", "releases"])
+    got = ask(server, "0 STATUS")
+    tries.check("the status", got == "OK 1 1 1 -\n", got)
+    change(path)
+    before = bytes_of(path) if os.path.exists(path) else None
+    got = ask(server, "0 IMPORT r2")
+    tries.check("an import into " + what, got == "ERR 2 DiskFault\n", got)
+    told = b"sctd: %s: the file was replaced or removed while it was open\n" % store.encode()
+    got = ended(server)
+    tries.check("what is told of " + what, got == (0, b"", told), got)
+    after = bytes_of(path) if os.path.exists(path) else None
+    tries.check("what was left of " + what, after == before, len(after or b""))
+    return after
+
+
+def move_copy(path):
+    shutil.copy(path, path + "-copy")
+    os.replace(path + "-copy", path)
+
+
+def link_copy(path):
+    shutil.copy(path, path + "-copy")
+    os.remove(path)
+    os.symlink(path + "-copy", path)
+
+
+def try_replaced(tries):
+    """Another file is put in the place of a store that is served, or the file goes or is cut."""
+    for what, change in (("a replaced file", move_copy), ("a linked copy", link_copy)):
+        content = served_import(tries, what, change)
+        got = tries.run(["status", "--store", what.replace(" ", "-")])
+        tries.check("the status of " + what, content and got[:2] == (0, "OK 1 1 1 -\n"), got)
+    served_import(tries, "a removed file", os.remove)
+    served_import(tries, "a cut file", lambda path: os.truncate(path, 16384))
+    # The path leads to the same file again.
+    tries.run(["init", "--store", "moved"])
+    server = start(tries, ["serve", "--store", "moved", "--releases", "releases"])
+    tries.check("the status", ask(server, "0 STATUS") == "OK 0 0 0 -\n", "another")
+    os.rename(tries.path("moved"), tries.path("away"))
+    os.rename(tries.path("away"), tries.path("moved"))
+    got = ask(server, "0 IMPORT r1")
+    tries.check("an import into a file that is back", got == "OK 1 1 0\n", got)
+    tries.check("its end", ended(server) == (0, b"", b""), "another")
+
+
+def try_other_user(tries):
+    """Another user's process has the lock: it is told which one."""
+    if os.geteuid() != 0:
+        tries.skip("the lock of another user", "it takes the superuser")
+        return
+    if shutil.which("flock") is None:
+        tries.skip("the lock of another user", "there is no flock")
+        return
+    made = tries.run(["init", "--store", "others"])
+    tries.check("init", made[1] == "OK\n", made)
+    os.chmod(tries.path("others"), 0o644)
+    os.chmod(tries.place, 0o755)
+    # It has the lock once it says something.
+    holder = subprocess.Popen(["flock", tries.path("others"), "cat"], user=OTHER_USER,
+                              stdin=subprocess.PIPE, stdout=subprocess.PIPE)
+    holder.stdin.write(b"locked\n")
+    holder.stdin.flush()
+    tries.check("the other user", holder.stdout.readline() == b"locked\n", "no lock")
+    got = tries.run(["status", "--store", "others"])
+    told = HOLDER.search(got[2])
+    fine = got[:2] == (1, "ERR 2 DiskFault\n") and told is not None
+    tries.check("the lock of another user", fine and int(told.group(1)) == holder.pid, got)
+    holder.communicate(timeout=SECONDS)
+    got = tries.run(["status", "--store", "others"])
+    tries.check("after the lock", got[:2] == (0, "OK 0 0 0 -\n"), got)
+
+
 def try_few_files(tries):
     """A process that may have five files open, as with `ulimit -n 5`: one too few to begin with."""
     got = tries.run(["status", "--store", "store"],
@@ -446,7 +535,7 @@ def main(words):
         tries.check("init", made == (0, "OK\n", ""), made)
         for part in (try_folders, try_names, try_telling, try_lacking, try_forged, try_new_rights,
                      try_demonstration, try_traps, try_stores, try_rights,
-                     try_full_disk, try_few_files, try_at_once):
+                     try_full_disk, try_few_files, try_replaced, try_other_user, try_at_once):
             part(tries)
     print("%d tried, %d not as wanted, %d skipped" % (tries.done, tries.wrong, tries.skipped))
     return 1 if tries.wrong else 0

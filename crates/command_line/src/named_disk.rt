@@ -1,12 +1,9 @@
-//! A disk that was had under a name, and on which nothing is published once the name leads
-//! elsewhere.
+//! A disk that was had under a name, and on which nothing is written once the name leads elsewhere.
 
 ghost use Rattle.std.specs.Prelude.{◌≡◌, ◌+◌, ◌≤◌, ◌↔◌, length, IfOk, IfErr, OnOk, OnErr, true, false};
 ghost use Rattle.disk_model.specs.Disk.{Fails, followed_by, after_write, raised_by};
 ghost use Rattle.fault_counts.specs.Counting.{CountsEach};
-ghost use Rattle.command_line.specs.NamedDisks.{IsInSlots};
 
-use blocks::{BLOCK, Slot};
 use disk_model::{Disk, DiskFault, MAX_END};
 use fault_counts::raised;
 use std::io;
@@ -24,9 +21,10 @@ pub trait Name {
         ensures misses { IfErr result (λ _. misses self.now length) };
 }
 
-/// A disk, and the name that it was had by. Where the name no longer leads to the disk, or to a part
-/// of it alone, neither slot is written: such a write fails and changes nothing, so that nothing is
-/// published where nobody would find it. All else goes to the disk.
+/// A disk, and the name that it was had by. Before each write it is looked whether the name still
+/// leads to the disk, and the disk is no shorter than the calls have left it. Where it isn't so, the
+/// write fails and changes nothing: so nothing is published where nobody would find it. All else
+/// goes to the disk.
 #[derive(Drop)]
 pub struct NamedDisk<D, N> {
     disk: D,
@@ -35,7 +33,7 @@ pub struct NamedDisk<D, N> {
     length: u64,
     failures: u64,
     other_calls: u64,
-    /// Why a slot wasn't written, if one wasn't.
+    /// Why a write was refused, if one was.
     missed: Option<io::Error>,
 }
 
@@ -62,18 +60,10 @@ impl<D, N> NamedDisk<D, N> {
         &self.disk
     }
 
-    /// Why the name was seen to lead elsewhere when a slot was to be written, if it was.
+    /// Why a write was refused, if one was.
     pub fn missed(&self) -> Option<io::Error> {
         self.missed
     }
-}
-
-/// Whether a place is in a slot.
-fn is_in_slots(at: u64) -> bool
-    ensures inside { result ≡ true → IsInSlots at }
-    ensures behind { result ≡ false → IsInSlots at → ⊥ }
-{
-    at < BLOCK * Slot::B.extent().end()
 }
 
 /// Counts a failure.
@@ -123,16 +113,14 @@ impl<D: Disk, N: Name> Disk for NamedDisk<D, N> {
         ensures failures { CountsEach result self.old.failures self.new.failures }
         ensures bytes_read { D.bytes_read self.new.disk ≡ D.bytes_read self.old.disk }
         ensures other_calls { self.new.other_calls ≡ raised_by self.old.other_calls 1 }
-        // What it does where the name leads elsewhere.
-        ensures named { WritesNamed N.leads N.misses D.other_calls at result self.old self.new }
+        // Nothing is written where the name leads elsewhere.
+        ensures named { WritesNamed N.leads N.misses D.other_calls result self.old self.new }
     {
         self.other_calls = self.other_calls.saturating_add(1);
-        if is_in_slots(at) {
-            if let Err(error) = self.name.look(self.length) {
-                self.missed = Some(error);
-                self.failures = raised(self.failures);
-                return Err(DiskFault);
-            }
+        if let Err(error) = self.name.look(self.length) {
+            self.missed = Some(error);
+            self.failures = raised(self.failures);
+            return Err(DiskFault);
         }
         counted(self.disk.write_at(at, bytes), &mut self.failures)?;
         if !bytes.is_empty() {
