@@ -7,10 +7,10 @@ PROGRAM is the built `sctd`. In a fresh folder below the system's temporary one 
 paths, folders that are no release, files that never end, names with control characters, a full
 disk, too few files that may be open, a store that is in use and one whose file is replaced. Each
 time its reply, its status and the line on standard error have to be as wanted within ten seconds,
-and the store has to be left as it was. Then four imports run on
-one store at once, and again beside a server: each release that was answered OK has to be there
-after the next opening, and no other. What the machine lacks for a try is said and not counted. The
-status is 1 where something isn't as wanted. Standard library alone.
+and the store has to be left as it was. Then four imports run on one store at once, and again beside
+a server: each release that was answered OK has to be there after the next opening, and no other.
+What the machine lacks for a try is said and not counted. The status is 1 where something isn't as
+wanted. Standard library alone.
 """
 
 import os
