@@ -1,6 +1,6 @@
 //! A disk that was had under a name, and on which nothing is written once the name leads elsewhere.
 
-ghost use Rattle.std.specs.Prelude.{◌≡◌, ◌+◌, ◌≤◌, ◌↔◌, length, IfOk, IfErr, OnOk, OnErr, true, false};
+ghost use Rattle.std.specs.Prelude.{◌≡◌, ◌↔◌, ◌+◌, ◌≤◌, ℕ, length, IfOk, IfErr, OnOk, OnErr};
 ghost use Rattle.disk_model.specs.Disk.{Fails, followed_by, after_write, raised_by};
 ghost use Rattle.fault_counts.specs.Counting.{CountsEach};
 

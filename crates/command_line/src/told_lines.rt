@@ -1,7 +1,6 @@
 //! A text that is read a line at a time, of which each line is shown as it is read.
 
-ghost use Rattle.std.specs.Prelude.{◌≤◌, length};
-ghost use Rattle.std.specs.List.{StartsWith};
+ghost use Rattle.std.specs.Io.{StartsWith};
 
 use std::io::{self, Read, Write};
 

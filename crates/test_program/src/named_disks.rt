@@ -36,10 +36,10 @@ fn nothing_is_written_where_the_name_leads_elsewhere(rt: HostRuntime) -> Result<
     assert_eq!(rt; disk.write_at(8, b"i"), Ok(()));
     assert_eq!(rt; disk.write_at(0, b"z"), Err(DiskFault));
     assert!(rt; disk.missed().is_some());
-    assert_eq!(rt; disk.disk().bytes(), b"abcdefghi");
+    assert_eq!(rt; disk.disk().bytes(), b"abcdefghi".as_slice());
     assert_eq!(rt; disk.cut(8), Ok(()));
     assert_eq!(rt; disk.write_at(0, b"z"), Ok(()));
-    assert_eq!(rt; disk.disk().bytes(), b"zbcdefgh");
+    assert_eq!(rt; disk.disk().bytes(), b"zbcdefgh".as_slice());
     // A write of no bytes makes no disk longer.
     assert_eq!(rt; disk.write_at(100, b""), Ok(()));
     assert_eq!(rt; disk.write_at(0, b"y"), Ok(()));
