@@ -167,9 +167,10 @@ pub(crate) fn tell_segments<E: Write>(store: &str, segments: u32, faults: &mut E
 
 /// Tells that the only segment of a store was written anew.
 pub(crate) fn tell_rewritten<E: Write>(store: &str, faults: &mut E) {
+    let name = Shown(store.as_bytes());
     let _ = writeln!(
         faults,
-        "sctd: {store}: the segment was written anew, with checksums"
+        "sctd: {name}: the segment was written anew, with checksums"
     );
 }
 
