@@ -8,6 +8,7 @@ pub mod Endings
 pub mod Paths
 pub mod Words
 pub mod Devices
+pub mod NamedDisks
 pub mod Tasks
 pub mod Merging
 pub mod Checking

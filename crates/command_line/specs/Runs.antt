@@ -13,7 +13,7 @@ use Rattle.clap.specs.Values.{kind_of}
 use Rattle.clap.specs.declared.error.kind.ErrorKind.{ErrorKind}
 use Rattle.clap.specs.declared.error.kind.ErrorKind.TheVariants.{DisplayHelp, DisplayVersion}
 use Rattle.history_store.specs.declared.refusal.Refusal.TheVariants.{DiskFault}
-use Rattle.line_server.specs.declared.refusal.LineRefusal.TheVariants.{Store}
+use Rattle.line_server.specs.declared.refusal.LineRefusal.TheVariants.{Store, NoFolder}
 use Rattle.line_server.specs.declared.serving.ServeFault.{ServeFault}
 use Rattle.line_server.specs.Sources.{Releases, SourceView, source_view}
 use Rattle.line_server.specs.Streams.{Streams, streams}
@@ -34,8 +34,8 @@ use Rattle.command_line.specs.Copies.{IsCopyMade, IsRemoved}
 
 -- What the words can name, as clauses see it: which device stands under a name, or is made there,
 -- and whether it can't be had; which one is made where nothing may stand, or that none is; whether
--- the name stays; whether what was made is removed; and the releases of each folder, if they are
--- honest.
+-- the name stays; whether what was made is removed; whether there is a folder of a name to look for
+-- releases in; and the releases of each folder, if they are honest.
 pub record SystemView (D : Type 0) : Type 1 where
   pub stands : List ℕ → D → Type 0
   pub withholds : List ℕ → Type 0
@@ -47,6 +47,8 @@ pub record SystemView (D : Type 0) : Type 1 where
   pub loses : List ℕ → Type 0
   pub removes : List ℕ → Type 0
   pub retains : List ℕ → Type 0
+  pub finds : List ℕ → Type 0
+  pub lacks : List ℕ → Type 0
   pub is_honest : Type 0
   pub releases : List ℕ → Releases
   pub device : DeviceView D
@@ -94,6 +96,21 @@ IsCopiedAt {D} system name to imports left made report =
     × IsCopyMade system.device (system.removes to) (system.retains to) imports source target left
     made report)
 
+-- The lines were served from what is under a name, with the releases of a folder that was found.
+-- Where there is no such folder, that was told, nothing was read, and what is under the name was left
+-- as it was. Where nothing can be had under the name, that was told, and nothing was read.
+abbrev pub IsServedAt : {D : Type 0} → SystemView D → List ℕ → List ℕ → Option D
+    → Result Ending ServeFault → Streams → Type 0
+IsServedAt {D} system name releases left ended streams =
+    IsDoneAt (system.stands name)
+    (λ device after. system.finds releases
+    × IsServing (source_in system releases) system.device device after ended streams)
+    (IsMissing (report ended streams.old streams.new) × (streams.rest ≡ streams.input)
+    × system.withholds name) left
+    ⊎ ((device : D) × system.stands name device × system.lacks releases
+    × Tells (report ended streams.old streams.new) (Err NoFolder) × (streams.rest ≡ streams.input)
+    × (left ≡ Some device))
+
 -- the lines of the script were served, as lines that come in
 -- are, from a new store in memory and the sample releases
 pub record IsDemonstrated (script : List ℕ) (report : Report) : Type 0 where
@@ -104,6 +121,15 @@ pub record IsDemonstrated (script : List ℕ) (report : Report) : Type 0 where
   pub serving : IsServingNew (source_view ⊤ sample_files)
       (device_view (λ _. Unit {0}) memory_moments failure_count bytes_read_of)
       disk left report.ended (streams (Some script) rest report.old report.new)
+
+-- the lines of the script were served so, what was written went out at the end, and the status is 0
+-- only where that ended well
+pub record IsDemonstration (script : List ℕ) (status : ℕ) (old new : Option (List ℕ)) : Type 0 where
+  pub ended : Result Ending ServeFault
+  pub written : Option (List ℕ)
+  pub does : IsDemonstrated script (report ended old written)
+  pub kept : Keeps written new
+  pub done : status ≡ 0 → ended ≡ Ok Done
 
 -- how each task is done, and how its device is left, and the one that it made for a copy: a store is
 -- made on what was made under its name, and all else is done on what was under its name; only a
@@ -131,11 +157,7 @@ Does system script (tasks.Status store) left made ended streams =
     (IsMissing (report ended streams.old streams.new) × system.withholds store.now) left
     × (streams.rest ≡ streams.input) × (made ≡ None)
 Does system script (tasks.Serve store releases) left made ended streams =
-    IsDoneAt (system.stands store.now)
-    (λ device after. IsServing (source_in system releases.now) system.device device after ended
-    streams)
-    (IsMissing (report ended streams.old streams.new) × (streams.rest ≡ streams.input)
-    × system.withholds store.now) left × (made ≡ None)
+    IsServedAt system store.now releases.now left ended streams × (made ≡ None)
 Does system script (tasks.Merge store segments) left made ended streams =
     IsDoneAt (system.stands store.now)
     (λ device after. IsMergedOnDisk system.device segments device after

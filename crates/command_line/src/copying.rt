@@ -171,6 +171,8 @@ pub(crate) fn copy_at<V: Devices, F: Folders, O: Write, E: Write>(
       loses = F.loses folders.now;
       removes = F.removes folders.now;
       retains = F.retains folders.now;
+      finds = F.finds folders.now;
+      lacks = F.lacks folders.now;
       is_honest = F.is_honest folders.now;
       releases = F.releases folders.now;
       device = device_view V.Device.is_honest V.Device.moments V.Device.failures

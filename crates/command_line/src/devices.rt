@@ -4,7 +4,11 @@ ghost use Rattle.std.specs.Prelude.{◌≡◌, ℕ, List, IfOk, IfErr};
 ghost use Rattle.disk_model.specs.Disk.{raised_by};
 ghost use Rattle.command_line.specs.Devices.{files_asked};
 
+use crate::file_names::{FileName, name_disk};
+use crate::holders::holder_of;
+use crate::named_disk::NamedDisk;
 use disk_model::{Disk, DiskFault, FileDisk, OpenFault};
+use shown_names::Shown;
 use std::fs::{self, File, Files, OpenOptions};
 use std::io::{self, Write};
 use std::os::unix::fs::OpenOptionsExt;
@@ -75,7 +79,7 @@ pub struct FileDisks<'a, R: Files<File = File>> {
     asked: u64,
 }
 
-impl<'a, R: Files<File = File>> FileDisks<'a, R> {
+impl<'a, R: Files<File = File> + AllocGlobal> FileDisks<'a, R> {
     /// None was asked for yet.
     pub fn new(rt: &'a R) -> FileDisks<'a, R>
         ensures { files_asked result ≡ 0 }
@@ -84,8 +88,11 @@ impl<'a, R: Files<File = File>> FileDisks<'a, R> {
     }
 }
 
-impl<R: Files<File = File>> Devices for FileDisks<'_, R> {
-    type Device = FileDisk;
+/// A file's disk, under the name of the file.
+type NamedFile<'a, R> = NamedDisk<FileDisk, FileName<'a, R>>;
+
+impl<'a, R: Files<File = File> + AllocGlobal> Devices for FileDisks<'a, R> {
+    type Device = NamedFile<'a, R>;
 
     ghost asked = { files_asked };
 
@@ -101,31 +108,51 @@ impl<R: Files<File = File>> Devices for FileDisks<'_, R> {
 
     ghost occupies = { λ _ _. Unit {0} };
 
-    fn device<E: Write>(&mut self, path: &str, faults: &mut E) -> Result<FileDisk, DiskFault> {
+    fn device<E: Write>(
+        &mut self,
+        path: &str,
+        faults: &mut E,
+    ) -> Result<NamedFile<'a, R>, DiskFault> {
         self.asked = self.asked.saturating_add(1);
-        device_or_told(FileDisk::open(self.rt, path), path, faults)
+        let name = FileName::of(self.rt, path);
+        let named = name_disk(name, FileDisk::open(self.rt, path));
+        device_or_told(self.rt, named, path, faults)
     }
 
     fn device_or_new<E: Write>(
         &mut self,
         path: &str,
         faults: &mut E,
-    ) -> Result<FileDisk, DiskFault> {
+    ) -> Result<NamedFile<'a, R>, DiskFault> {
         self.asked = self.asked.saturating_add(1);
-        device_or_told(FileDisk::open_or_make(self.rt, path), path, faults)
+        // Where that fails, the opening says why.
+        let _ = make_private(self.rt, path);
+        let name = FileName::of(self.rt, path);
+        let named = name_disk(name, FileDisk::open_or_make(self.rt, path));
+        device_or_told(self.rt, named, path, faults)
     }
 
-    fn new_device<E: Write>(&mut self, path: &str, faults: &mut E) -> Result<FileDisk, DiskFault> {
+    fn new_device<E: Write>(
+        &mut self,
+        path: &str,
+        faults: &mut E,
+    ) -> Result<NamedFile<'a, R>, DiskFault> {
         self.asked = self.asked.saturating_add(1);
-        let opened = match make_new(self.rt, path) {
-            Ok(()) => FileDisk::open(self.rt, path),
+        let named = match make_new(self.rt, path) {
+            Ok(()) => {
+                let name = FileName::of(self.rt, path);
+                name_disk(name, FileDisk::open(self.rt, path))
+            }
             Err(error) => Err(OpenFault::System(error)),
         };
-        device_or_told(opened, path, faults)
+        device_or_told(self.rt, named, path, faults)
     }
 
-    fn last_error(&self, device: &FileDisk) -> Option<io::Error> {
-        device.fault()
+    fn last_error(&self, device: &NamedFile<'a, R>) -> Option<io::Error> {
+        match device.missed() {
+            Some(error) => Some(error),
+            None => device.disk().fault(),
+        }
     }
 
     fn size(&self, path: &str) -> Option<u64> {
@@ -150,17 +177,48 @@ fn make_new<R: Files<File = File>>(rt: &R, path: &str) -> io::Result<()> {
     Ok(())
 }
 
+/// Makes an empty file with these rights where there is none. A file that exists keeps its own.
+fn make_private<R: Files<File = File>>(rt: &R, path: &str) -> io::Result<()> {
+    OpenOptions::new()
+        .read(true)
+        .write(true)
+        .create(true)
+        .mode(OWNER_ALONE)
+        .open(rt, path)?;
+    Ok(())
+}
+
 /// A file's disk, or the line that says why there is none.
-fn device_or_told<E: Write>(
-    opened: Result<FileDisk, OpenFault>,
+fn device_or_told<'a, R: Files<File = File> + AllocGlobal, E: Write>(
+    rt: &R,
+    named: Result<NamedFile<'a, R>, OpenFault>,
     path: &str,
     faults: &mut E,
-) -> Result<FileDisk, DiskFault> {
-    match opened {
+) -> Result<NamedFile<'a, R>, DiskFault> {
+    match named {
         Ok(disk) => Ok(disk),
         Err(fault) => {
-            let _ = writeln!(faults, "sctd: {path}: {fault}");
+            let _ = tell_withheld(rt, &fault, path, faults);
             Err(DiskFault)
         }
     }
+}
+
+/// Writes why a file isn't had, and which process has it where that is known.
+fn tell_withheld<R: Files<File = File> + AllocGlobal, E: Write>(
+    rt: &R,
+    fault: &OpenFault,
+    path: &str,
+    faults: &mut E,
+) -> io::Result<()> {
+    let holder = match fault {
+        OpenFault::Busy => holder_of(rt, rt.alloc(), path),
+        _ => None,
+    };
+    let name = Shown(path.as_bytes());
+    write!(faults, "sctd: {name}: {fault}")?;
+    if let Some(holder) = holder {
+        write!(faults, ", whose id is {holder}")?;
+    }
+    writeln!(faults)
 }

@@ -1,6 +1,6 @@
 //! Releases in unpacked folders.
 
-ghost use Rattle.std.specs.Prelude.{ℕ, List, IfOk, IfErr};
+ghost use Rattle.std.specs.Prelude.{◌≡◌, ℕ, List, IfOk, IfErr, true, false};
 ghost use Rattle.line_server.specs.Sources.{Releases, IsGiven};
 
 use crate::progress::{Progress, tell_taken};
@@ -10,6 +10,7 @@ use history_store::Refusal;
 use import_check::Release;
 use line_server::{Source, SourceFault};
 use release_folder::{FolderFault, read_release};
+use shown_names::Shown;
 use std::alloc::Global;
 use std::fs::{self, File, Files};
 use std::io::{self, Write};
@@ -28,6 +29,10 @@ pub trait Folders {
     ghost is_honest: { Self → Type 0 };
     /// The releases in the folders below one.
     ghost releases: { Self → List ℕ → Releases };
+    /// There is a folder of this name to look for releases in.
+    ghost finds: { Self → List ℕ → Type 0 };
+    /// There is no folder of this name to look for releases in.
+    ghost lacks: { Self → List ℕ → Type 0 };
 
     /// Sees that what was made under a name keeps it. Where that fails, `faults` is told why.
     fn settle<E: Write>(&self, alloc: Global, path: &str, faults: &mut E) -> Result<(), DiskFault>
@@ -38,6 +43,11 @@ pub trait Folders {
     fn remove<E: Write>(&self, path: &str, faults: &mut E) -> Result<(), DiskFault>
         ensures removed { IfOk result (λ _. removes self.now path.now) }
         ensures retained { IfErr result (λ _. retains self.now path.now) };
+
+    /// Whether there is a folder to look for releases in. Where there is none, `faults` is told why.
+    fn has_folder<E: Write>(&self, dir: &str, faults: &mut E) -> bool
+        ensures found { result ≡ true → finds self.now dir.now }
+        ensures missing { result ≡ false → lacks self.now dir.now };
 
     /// The release in a folder below one. Where there is none, `faults` is told why. It is also
     /// told which files are read and passed over; if `quiet`, only of those that may be wrong.
@@ -68,10 +78,15 @@ impl<R: Files<File = File> + AllocGlobal + Clone + Drop> Folders for R {
 
     ghost releases = { λ _ _ _. None };
 
+    ghost finds = { λ _ _. Unit {0} };
+
+    ghost lacks = { λ _ _. Unit {0} };
+
     fn settle<E: Write>(&self, alloc: Global, path: &str, faults: &mut E) -> Result<(), DiskFault> {
         match sync_folder_of(self, alloc, path) {
             Ok(()) => Ok(()),
             Err(error) => {
+                let path = Shown(path.as_bytes());
                 let _ = writeln!(
                     faults,
                     "sctd: the folder of {path} can't be synced: {error}"
@@ -85,10 +100,22 @@ impl<R: Files<File = File> + AllocGlobal + Clone + Drop> Folders for R {
         match fs::remove_file(self, path) {
             Ok(()) => Ok(()),
             Err(error) => {
-                let _ = writeln!(faults, "sctd: {path} can't be removed: {error}");
+                let name = Shown(path.as_bytes());
+                let _ = writeln!(faults, "sctd: {name} can't be removed: {error}");
                 Err(DiskFault)
             }
         }
+    }
+
+    fn has_folder<E: Write>(&self, dir: &str, faults: &mut E) -> bool {
+        let found = fs::metadata(self, dir);
+        let name = Shown(dir.as_bytes());
+        let _ = match found {
+            Ok(found) if found.is_dir() => return true,
+            Ok(_) => writeln!(faults, "sctd: {name}: not a folder"),
+            Err(error) => writeln!(faults, "sctd: {name}: {error}"),
+        };
+        false
     }
 
     fn release<E: Write>(

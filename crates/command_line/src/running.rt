@@ -5,11 +5,12 @@ ghost use Rattle.command_line.specs.Endings.{report};
 ghost use Rattle.line_server.specs.Streams.{streams};
 ghost use Rattle.line_server.specs.Sources.{source_view};
 ghost use Rattle.store_life.specs.DeviceView.{device_view};
-ghost use Rattle.command_line.specs.Tasks.{IsImport, IsStatus, IsServing, IsUpgrade};
+ghost use Rattle.command_line.specs.Tasks.{IsImport, IsStatus, IsUpgrade};
 ghost use Rattle.command_line.specs.Merging.{IsMergedOnDisk};
 ghost use Rattle.command_line.specs.Checking.{IsCheck};
 ghost use Rattle.command_line.specs.Digests.{IsDigest};
-ghost use Rattle.command_line.specs.Runs.{IsDoneAt, IsMadeAt, IsMissing, IsDemonstrated, Does};
+ghost use Rattle.command_line.specs.Runs.{IsDoneAt, IsMadeAt, IsServedAt, IsMissing};
+ghost use Rattle.command_line.specs.Runs.{IsDemonstrated, IsDemonstration, Does};
 ghost use Rattle.command_line.specs.Runs.{IsRun, IsNoTask, IsExplained, AsksFor};
 ghost use Rattle.disk_model.specs.Disk.{raised_by};
 
@@ -18,7 +19,7 @@ use crate::copying::copy_at;
 use crate::demonstration::{SCRIPT, Samples};
 use crate::devices::Devices;
 use crate::digesting::digest;
-use crate::endings::{Ended, Ending, Performed, fail, finish, refuse};
+use crate::endings::{Ended, Ending, Performed, fail, finish, refuse, refuse_folder};
 use crate::folders::{FolderSource, Folders};
 use crate::importing::import;
 use crate::inspecting::status;
@@ -26,6 +27,7 @@ use crate::making::init;
 use crate::merging::merge;
 use crate::serving::{serve_device, serve_new};
 use crate::telling::{Context, Told, tell_figures, tell_why};
+use crate::told_lines::ToldLines;
 use crate::upgrading::upgrade;
 use crate::words::{Refused, Task, task_of};
 use directory::Layout;
@@ -62,6 +64,8 @@ pub fn run<V: Devices, F: Folders, I: Read, O: Write, E: Write>(
       loses = F.loses folders.now;
       removes = F.removes folders.now;
       retains = F.retains folders.now;
+      finds = F.finds folders.now;
+      lacks = F.lacks folders.now;
       is_honest = F.is_honest folders.now;
       releases = F.releases folders.now;
       device = device_view V.Device.is_honest V.Device.moments V.Device.failures
@@ -106,6 +110,8 @@ fn perform<V: Devices, F: Folders, I: Read, O: Write, E: Write>(
       loses = F.loses folders.now;
       removes = F.removes folders.now;
       retains = F.retains folders.now;
+      finds = F.finds folders.now;
+      lacks = F.lacks folders.now;
       is_honest = F.is_honest folders.now;
       releases = F.releases folders.now;
       device = device_view V.Device.is_honest V.Device.moments V.Device.failures
@@ -182,6 +188,8 @@ fn init_at<V: Devices, F: Folders, O: Write, E: Write>(
       loses = F.loses folders.now;
       removes = F.removes folders.now;
       retains = F.retains folders.now;
+      finds = F.finds folders.now;
+      lacks = F.lacks folders.now;
       is_honest = F.is_honest folders.now;
       releases = F.releases folders.now;
       device = device_view V.Device.is_honest V.Device.moments V.Device.failures
@@ -285,7 +293,8 @@ fn check_at<V: Devices, F: Folders, O: Write, E: Write>(
     }
 }
 
-/// Answers the lines of the input from the store under a name.
+/// Answers the lines of the input from the store under a name. Where there is no folder to look for
+/// releases in, this is refused before the store is opened: each import would be.
 fn serve_at<V: Devices, F: Folders, I: Read, O: Write, E: Write>(
     devices: &mut V,
     folders: &F,
@@ -296,20 +305,33 @@ fn serve_at<V: Devices, F: Folders, I: Read, O: Write, E: Write>(
     output: &mut O,
     faults: &mut E,
 ) -> Ended<V::Device>
-    ensures done { IsDoneAt (V.stands devices.old path.now)
-        (λ device after. IsServing
-        (source_view (F.is_honest folders.now) (F.releases folders.now dir.now))
-        (device_view V.Device.is_honest V.Device.moments V.Device.failures V.Device.bytes_read)
-        device after result.0 (streams (I.remaining input.old) (I.remaining input.new)
-        (O.contents output.old) (O.contents output.new)))
-        (IsMissing (report result.0 (O.contents output.old) (O.contents output.new))
-        × (I.remaining input.new ≡ I.remaining input.old)
-        × V.withholds devices.old path.now) result.1 }
+    ensures done { IsServedAt (record {
+      stands = V.stands devices.old;
+      withholds = V.withholds devices.old;
+      makes = V.makes devices.old;
+      denies = V.denies devices.old;
+      creates = V.creates devices.old;
+      occupies = V.occupies devices.old;
+      keeps = F.keeps folders.now;
+      loses = F.loses folders.now;
+      removes = F.removes folders.now;
+      retains = F.retains folders.now;
+      finds = F.finds folders.now;
+      lacks = F.lacks folders.now;
+      is_honest = F.is_honest folders.now;
+      releases = F.releases folders.now;
+      device = device_view V.Device.is_honest V.Device.moments V.Device.failures
+          V.Device.bytes_read;
+    }) path.now dir.now result.1 result.0 (streams (I.remaining input.old) (I.remaining input.new)
+        (O.contents output.old) (O.contents output.new)) }
     ensures asked { V.asked devices.new ≡ raised_by (V.asked devices.old) 1 }
 {
     let mut told = Told::new();
     match devices.device(path, faults) {
         Ok(device) => {
+            if !folders.has_folder(dir, faults) {
+                return (refuse_folder(alloc, output, &mut told), Some(device));
+            }
             let mut source = FolderSource {
                 folders,
                 dir,
@@ -476,6 +498,29 @@ fn demo<O: Write>(alloc: Global, output: &mut O) -> Result<Ending, ServeFault>
         &mut told,
     );
     ended
+}
+
+/// Answers the lines of the script, on a store in memory, and answers the status of the program.
+/// Each line is shown on `faults` before its reply is written, as on a terminal one wants it.
+pub fn demonstrate<O: Write, E: Write>(alloc: Global, output: &mut O, faults: &mut E) -> u8
+    ensures status { result ≤ 1 }
+    ensures done { IsDemonstration SCRIPT.now result
+        (O.contents output.old) (O.contents output.new) }
+{
+    let mut told = Told::new();
+    let mut script = ToldLines {
+        rest: SCRIPT,
+        told: faults,
+    };
+    let (ended, _) = serve_new(
+        alloc,
+        MemDisk::new(alloc),
+        &mut Samples,
+        &mut script,
+        output,
+        &mut told,
+    );
+    finish(ended, output, script.told)
 }
 
 /// Writes why the words give no task. A help that was asked for is no fault.
