@@ -145,7 +145,11 @@ fn copy_onto<V: Devices, F: Folders, O: Write, E: Write>(
     let ended = tell_copy(alloc, &copied, output, &mut told);
     let context = context_of(devices, path, to, &source, &target, &copied);
     tell_why(told, &context, faults);
-    (ended, Some(source), keep(folders, to, &copied, target, faults))
+    (
+        ended,
+        Some(source),
+        keep(folders, to, &copied, target, faults),
+    )
 }
 
 /// Copies the first imports of the store under a name, or all, to a new device under another one.
@@ -183,7 +187,11 @@ pub(crate) fn copy_at<V: Devices, F: Folders, O: Write, E: Write>(
 {
     let mut told = Told::new();
     let Ok(source) = devices.device(path, faults) else {
-        return (refuse(alloc, output, Refusal::DiskFault, &mut told), None, None);
+        return (
+            refuse(alloc, output, Refusal::DiskFault, &mut told),
+            None,
+            None,
+        );
     };
     let Ok(target) = devices.new_device(to, faults) else {
         let ended = refuse(alloc, output, Refusal::DiskFault, &mut told);
@@ -193,5 +201,7 @@ pub(crate) fn copy_at<V: Devices, F: Folders, O: Write, E: Write>(
         let ended = refuse(alloc, output, Refusal::DiskFault, &mut told);
         return (ended, Some(source), discard(folders, to, target, faults));
     }
-    copy_onto(devices, folders, alloc, path, to, imports, source, target, output, faults)
+    copy_onto(
+        devices, folders, alloc, path, to, imports, source, target, output, faults,
+    )
 }

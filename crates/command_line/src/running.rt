@@ -81,8 +81,9 @@ pub fn run<V: Devices, F: Folders, I: Read, O: Write, E: Write>(
 {
     match task_of(alloc, words) {
         Ok(task) => {
-            let (ended, left, made) =
-                perform(devices, folders, alloc, &task, input, output, faults);
+            let (ended, left, made) = perform(
+                devices, folders, alloc, &task, input, output, faults,
+            );
             (finish(ended, output, faults), left, made)
         }
         Err(refused) => (explain(&refused, output, faults), None, None),
