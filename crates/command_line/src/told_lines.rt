@@ -1,6 +1,6 @@
 //! A text that is read a line at a time, of which each line is shown as it is read.
 
-ghost use Rattle.std.specs.Io.{StartsWith};
+ghost use Rattle.std.specs.Prelude.{◌≤◌};
 
 use std::io::{self, Read, Write};
 
@@ -17,32 +17,28 @@ impl<E: Write> Read for ToldLines<'_, E> {
     ghost remaining = { λ s. Some s.rest.now };
 
     fn read(&mut self, buf: &mut [u8]) -> io::Result<usize> {
-        let mut line = first_line(self.rest);
-        let count = line.read(buf)?;
-        let Some((read, rest)) = self.rest.split_at_checked(count) else {
-            return Ok(0);
-        };
-        if !read.is_empty() {
-            let _ = tell_line(read, self.told);
-        }
-        self.rest = rest;
+        let most = first_line_length(self.rest).min(buf.len());
+        let count = self.rest.read(&mut buf[..most])?;
+        let _ = tell_line(&buf[..count], self.told);
         Ok(count)
     }
 }
 
-/// The front of a text up to the end of its first line.
-fn first_line(text: &[u8]) -> &[u8]
-    ensures { StartsWith text.now result.now }
+/// How many bytes the first line of a text has, with its end. Of an empty text it is one.
+fn first_line_length(text: &[u8]) -> usize
+    ensures { 1 ≤ result }
 {
-    let length = match text.iter().position(|byte| *byte == b'\n') {
+    match text.iter().position(|byte| *byte == b'\n') {
         Some(end) => end.saturating_add(1),
-        None => text.len(),
-    };
-    text.get(..length).unwrap_or(text)
+        None => text.len().max(1),
+    }
 }
 
-/// Shows a line as what is asked.
+/// Shows a line, or a part of one, as what is asked.
 fn tell_line<E: Write>(line: &[u8], told: &mut E) -> io::Result<()> {
+    if line.is_empty() {
+        return Ok(());
+    }
     told.write_all(b"> ")?;
     told.write_all(line)
 }
