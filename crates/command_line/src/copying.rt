@@ -120,8 +120,8 @@ fn keep<F: Folders, D: Drop, E: Write>(
     }
 }
 
-/// Copies the first imports of the store of a device, or all, to one of no bytes, which stands under
-/// the name `to`, and tells it.
+/// Copies the first imports of the store of a device, or all, to a new one that stands under the
+/// name `to`, and tells it.
 fn copy_onto<V: Devices, F: Folders, O: Write, E: Write>(
     devices: &V,
     folders: &F,
