@@ -77,8 +77,8 @@ abbrev pub IsKept : {D : Type 0} → (removes retains : Type 0) → Result Direc
 IsKept removes retains (Ok copy) made left = left ≡ Some made
 IsKept removes retains (Err e) made left = IsRemoved removes retains made left
 
--- A copy was made of the store on one device onto another one, or it is said why not. That was told,
--- and each device was left as it then was, but for one that was made for a copy that failed.
+-- A copy was made of the store on one device onto another one, or it is said why not. That was
+-- told, and each device was left as it then was, but for one that was made for a copy that failed.
 pub record IsCopyMade {D : Type 0} (view : DeviceView D) (removes retains : Type 0)
     (imports : Option ℕ) (source target : D) (left made : Option D) (report : Report)
     : Type 0 where

@@ -131,8 +131,8 @@ pub record IsDemonstration (script : List ℕ) (status : ℕ) (old new : Option 
   pub kept : Keeps written new
   pub done : status ≡ 0 → ended ≡ Ok Done
 
--- how each task is done, and how its device is left, and the one that it made for a copy: a store is
--- made on what was made under its name, and all else is done on what was under its name; only a
+-- how each task is done, and how its device is left, and the one that it made for a copy: a store
+-- is made on what was made under its name, and all else is done on what was under its name; only a
 -- server reads, and the demonstration has no device
 abbrev pub Does : {D : Type 0} → SystemView D → List ℕ → Task → (left made : Option D)
     → Result Ending ServeFault → Streams → Type 0
@@ -187,8 +187,8 @@ abbrev pub AsksForPair : {D : Type 0} → Option D → ℕ → ℕ → Type 0
 AsksForPair None old new = new ≡ raised_by old 1
 AsksForPair (Some source) old new = new ≡ raised_by (raised_by old 1) 1
 
--- how often a task asks for what holds a store: the demonstration never, a copy for each of the two,
--- and any other once
+-- how often a task asks for what holds a store: the demonstration never, a copy for each of the
+-- two, and any other once
 abbrev pub AsksFor : {D : Type 0} → Task → Option D → ℕ → ℕ → Type 0
 AsksFor tasks.Demo left old new = new ≡ old
 AsksFor (tasks.Copy store to imports) left old new = AsksForPair left old new
