@@ -51,6 +51,12 @@ pub record IsLineTold {D : Type 0} (source : SourceView) (view : DeviceView D) (
       (λ turn. Tells report turn.outcome)
   pub left_so : left ≡ after.disk
 
+-- the line was answered so, or memory ran out for the line itself
+abbrev pub AnswersLine : {D : Type 0} → SourceView → DeviceView D → List ℕ → D → Report
+    → StoreValue D → Type 0
+AnswersLine source view line left report store = IsLineTold source view line store left report
+    ⊎ (Tells report (Err (Store OutOfMemory)) × (left ≡ store.disk))
+
 -- the task was done on the store; or it was told why there is none, and the device was left as the
 -- opening left it
 abbrev pub OnStore : {D : Type 0} → (StoreValue D → Type 0) → StoreOr D → D → Report → Type 0
@@ -74,8 +80,7 @@ import_line name = codes "0 IMPORT " ++ name
 abbrev pub Imports : {D : Type 0} → SourceView → DeviceView D → List ℕ → D → Report → StoreValue D
     → Type 0
 Imports source view name left report store =
-    IsLineTold source view (import_line name) store left report
-    ⊎ (Tells report (Err (Store OutOfMemory)) × (left ≡ store.disk))
+    AnswersLine source view (import_line name) left report store
 
 -- the store was opened from this device, and the release was imported into it
 abbrev pub IsImport : {D : Type 0} → SourceView → DeviceView D → List ℕ → D → D → Report → Type 0
