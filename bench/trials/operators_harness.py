@@ -60,6 +60,22 @@ class Place:
     def path(self, name: str) -> Path:
         return self.folder / name
 
+    def below(self, name: str) -> Place:
+        """The same in a new folder of its own."""
+        self.path(name).mkdir()
+        place = Place(self.program, self.path(name))
+        place.releases.mkdir()
+        return place
+
+    def link_release(self, name: str) -> None:
+        """Puts one of the small releases beside those that are made."""
+        self.path("releases").joinpath(name).symlink_to(RELEASES / name)
+
+    def contents(self) -> dict[str, bytes]:
+        """The bytes of each file, by its path."""
+        files = [path for path in self.folder.rglob("*") if path.is_file()]
+        return {str(path.relative_to(self.folder)): path.read_bytes() for path in files}
+
     def run(self, *words: str | Path) -> Ran:
         """Runs the program to its end."""
         done = subprocess.run(
@@ -79,9 +95,12 @@ class Place:
         self.done("init", "--store", path, "--layout", str(layout))
         return path
 
+    def import_one(self, store: Path, release: Path) -> str:
+        return self.done("import", "--quiet", "--store", store, release)
+
     def import_all(self, store: Path, releases: Sequence[Path]) -> None:
         for release in releases:
-            self.done("import", "--quiet", "--store", store, release)
+            self.import_one(store, release)
 
     def small_store(self, layout: int = 2) -> Path:
         """A store with the three releases of the guide, 6, 4 and 2 new rows in a segment each."""
