@@ -241,17 +241,19 @@ class Refusal(NamedTuple):
     more: Sequence[str] = ()
 
 
+IS_THERE = "ERR 2 DiskFault", "File exists"
 REFUSED = [
-    Refusal("onto a file", "store", "text", "ERR 4 NotEmpty", "text: "),
-    Refusal("onto an empty file", "store", "nothing", "ERR 4 NotEmpty", "nothing: "),
-    Refusal("onto itself", "store", "store", "ERR 4 NotEmpty", "store: "),
-    Refusal("onto a link to itself", "store", "link", "ERR 4 NotEmpty", "link: "),
-    Refusal("into a folder that isn't there", "store", "absent/new", "ERR 2 DiskFault",
-            "absent/new: "),
-    Refusal("of more imports than there are", "store", "new", "ERR 44 PinRange", "store: ",
+    Refusal("onto a file", "store", "text", *IS_THERE),
+    Refusal("onto an empty file", "store", "nothing", *IS_THERE),
+    Refusal("onto itself", "store", "store", *IS_THERE),
+    Refusal("onto a link to itself", "store", "link", *IS_THERE),
+    Refusal("onto a link that leads nowhere", "store", "dangling", *IS_THERE),
+    Refusal("onto a folder", "store", "releases", *IS_THERE),
+    Refusal("into no folder", "store", "absent/new", "ERR 2 DiskFault", "No such file"),
+    Refusal("of more imports than there are", "store", "new", "ERR 44 PinRange", "",
             ("--imports", "4")),
-    Refusal("of a file that isn't there", "absent", "new", "ERR 2 DiskFault", "absent: "),
-    Refusal("of a text", "text", "new", "ERR 7 NotAStore", "text: "),
+    Refusal("of a file that isn't there", "absent", "new", "ERR 2 DiskFault", "No such file"),
+    Refusal("of a text", "text", "new", "ERR 7 NotAStore", "the file is no store"),
     Refusal("of a damaged store", "damaged", "new", "ERR 8 Damaged", "segment 1"),
 ]
 
@@ -275,6 +277,7 @@ def refused_copies(place: Place) -> None:
     place.path("text").write_text("no store", encoding="ascii")
     place.path("nothing").touch()
     place.path("link").symlink_to("store")
+    place.path("dangling").symlink_to("new")
     place.path("damaged").write_bytes(store.read_bytes())
     flip(place.path("damaged"), FIRST_ROW)
     for refusal in REFUSED:
