@@ -250,7 +250,7 @@ REFUSED = [
     Refusal("onto a link that leads nowhere", "store", "dangling", *IS_THERE),
     Refusal("onto a folder", "store", "releases", *IS_THERE),
     Refusal("into no folder", "store", "absent/new", "ERR 2 DiskFault", "No such file"),
-    Refusal("of more imports than there are", "store", "new", "ERR 44 PinRange", "",
+    Refusal("of more imports than there are", "store", "new", "ERR 44 PinRange", "fewer imports",
             ("--imports", "4")),
     Refusal("of a file that isn't there", "absent", "new", "ERR 2 DiskFault", "No such file"),
     Refusal("of a text", "text", "new", "ERR 7 NotAStore", "the file is no store"),
