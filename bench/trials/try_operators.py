@@ -5,12 +5,12 @@ try_operators.py PROGRAM [TRIAL ..]
 
 PROGRAM is the built `sctd`, and TRIAL the name of one of the functions below, all if none is given.
 Tried are releases that are checked before they count, a wrong release that is taken back, copies
-that are refused or killed, the digest against examples/digest.py, damage under a served store, a
-file that is replaced, and the lock of another user. What many clients and a year of nights do to
-the hub, try_hub.py tries. A trial that can't be done on this machine says so in a line that begins
-with `skipped`, and one that isn't as it has to be in a line that begins with `WRONG`. The last line
-is `N passed, M failed`, and `, K skipped` where there are any; the status is 1 where one failed.
-Standard library alone.
+that are refused or killed, the digest against examples/digest.py, and damage under a served store.
+What many clients and a year of nights do to the hub, try_hub.py tries; other files in the store's
+place, forged names and locks, try_mistakes.py. A trial that can't be done on this machine says so
+in a line that begins with `skipped`, and one that isn't as it has to be in a line that begins with
+`WRONG`. The last line is `N passed, M failed`, and `, K skipped` where there are any; the status is
+1 where one failed. Standard library alone.
 """
 
 from __future__ import annotations
@@ -52,9 +52,6 @@ PINNED = ["GET C 1000004 20211231", "HISTORY C 1000004", "ABOUT D 1000004 202112
           "ANCESTORS 1000004 20200630", "DELTA C 20200131 20211231 - 1000"]
 PINNED += ["PAGE %s 20211231 - 1000" % kind for kind in KINDS]
 NO_ROWS = hashlib.sha256(b"").hexdigest()
-# Another user than the one that tries.
-NOBODY = 65534
-FOR_ALL_TO_ENTER, FOR_ALL_TO_READ = 0o711, 0o644
 
 
 # ---- A release that is tried before it counts
@@ -421,7 +418,7 @@ def digest_refused(place: Place) -> None:
     same("the store", store.read_bytes() == bytes(flipped), True)
 
 
-# ---- Damage, and other files and users
+# ---- Damage
 
 
 def damage_is_met(place: Place, layout: int, meets: str) -> None:
@@ -457,56 +454,9 @@ def damage(place: Place) -> None:
             damage_is_met(here, layout, meets)
 
 
-def replaced(place: Place) -> None:
-    """Where another file has the store's name, an import isn't confirmed, and neither is written."""
-    for what in ("replaced", "removed", "shortened"):
-        here = place.below(what)
-        store = here.small_store()
-        other = here.copy(store, "other", imports=2)
-        content = other.read_bytes()
-        with Server(here, store, write_wrong_and_right(here)[0].parent) as server:
-            same("its state", server.ask("STATUS"), ["OK 3 12 3 -"])
-            if what == "replaced":
-                os.replace(other, store)
-            elif what == "removed":
-                store.unlink()
-            else:
-                os.truncate(store, FIRST_ROW)
-            same("an import into a file that was %s" % what, server.ask("IMPORT right"),
-                 ["ERR 2 DiskFault"])
-            told = server.told.read_text(encoding="utf-8").splitlines()
-        same("why: %r" % told, any("replaced" in line for line in told), True)
-        if what == "replaced":
-            same("the other file", store.read_bytes() == content, True)
-
-
-def another_user(place: Place) -> None:
-    """The process that has locked the store is told, another user's too."""
-    if os.geteuid() != 0:
-        raise Skipped("it takes another user")
-    store = place.small_store()
-    store.chmod(FOR_ALL_TO_READ)
-    # (It has the lock once it says something.)
-    with subprocess.Popen(
-            ["flock", str(store), "cat"], user=NOBODY, stdin=subprocess.PIPE,
-            stdout=subprocess.PIPE) as holder:
-        assert holder.stdin and holder.stdout
-        holder.stdin.write(b"locked\n")
-        holder.stdin.flush()
-        same("the other user", holder.stdout.readline(), b"locked\n")
-        for words in (["status", "--store", str(store)], ["digest", "--store", str(store)],
-                      ["copy", "--store", str(store), "--to", str(place.path("new"))]):
-            ran = place.run(*words)
-            same(words[0], (ran.status, ran.output), (1, "ERR 2 DiskFault\n"))
-            same("who holds the lock: %r" % ran.faults, " %d\n" % holder.pid in ran.faults, True)
-        holder.stdin.close()
-        holder.wait(SECONDS)
-    same("afterwards", place.status(store), "OK 3 12 3 -")
-
-
 TRIALS: list[Callable[[Place], None]] = [
     checks, contradictions, warnings, wrong_release, whole_copies, refused_copies, full_disk,
-    killed_copies, digests, digest_refused, damage, replaced, another_user]
+    killed_copies, digests, digest_refused, damage]
 
 
 def said_of(trial: Callable[[Place], None], place: Place) -> str:
@@ -529,8 +479,6 @@ def main(words: Sequence[str]) -> int:
     wanted: Optional[Sequence[str]] = words[1:] or None
     counts = collections.Counter[str]()
     with tempfile.TemporaryDirectory() as folder:
-        # Another user may reach the store in it.
-        os.chmod(folder, FOR_ALL_TO_ENTER)
         for trial in TRIALS:
             if wanted is None or trial.__name__ in wanted:
                 said = said_of(trial, Place(program, Path(folder)).below(trial.__name__))
