@@ -8,14 +8,14 @@ from pathlib import Path
 KINDS = {"sct2_Concept_": "C", "sct2_Description_": "D", "sct2_Relationship_": "R",
          "der2_cRefset_Association": "A", "sct2_RelationshipConcreteValues_": "V"}
 rows = set()
-for path in (path for folder in sys.argv[1:] for part in ("Terminology", "Refset/Content")
-             for path in Path(folder, part).glob("*.txt")):
-    kind = "".join(kind for name, kind in KINDS.items() if path.name.startswith(name))
-    if kind and ("Full" in path.name or "Delta" in path.name):
-        for line in path.read_bytes().removesuffix(b"\n").split(b"\n")[1:]:
-            identifier, tab, columns = line.removesuffix(b"\r").partition(b"\t")
-            identifier = identifier.lower()  # A UUID may be spelled in capitals.
-            rows.add(("CDRAV".index(kind), len(identifier), identifier, tab + columns))
+for folder in map(Path, sys.argv[1:]):
+    for path in [*folder.glob("Terminology/*.txt"), *folder.glob("Refset/Content/*.txt")]:
+        kind = "".join(kind for name, kind in KINDS.items() if path.name.startswith(name))
+        if kind and ("Full" in path.name or "Delta" in path.name):
+            for line in path.read_bytes().removesuffix(b"\n").split(b"\n")[1:]:
+                identifier, tab, columns = line.removesuffix(b"\r").partition(b"\t")
+                identifier = identifier.lower()  # A UUID may be spelled in capitals.
+                rows.add(("CDRAV".index(kind), len(identifier), identifier, tab + columns))
 digest = hashlib.sha256()
 for place, _, identifier, columns in sorted(rows):
     digest.update(b"CDRAV"[place : place + 1] + b" " + identifier + columns + b"\n")
