@@ -279,7 +279,8 @@ def refused_copies(place: Place) -> None:
     flip(place.path("damaged"), FIRST_ROW)
     for refusal in REFUSED:
         copy_is_refused(place, refusal)
-    with Server(place, store):
+    with Server(place, store) as server:
+        same("its state", server.ask("STATUS"), ["OK 3 12 3 -"])
         copy_is_refused(place, Refusal(
             "of a store that is served", "store", "new", "ERR 2 DiskFault", "in use by another"))
 
@@ -313,12 +314,15 @@ def full_disk(place: Place) -> None:
 # ---- Copies that are killed
 
 
-def kill_at(place: Place, store: Path, copy: Path, moment: float) -> bool:
-    """Begins a copy, and kills it after so many seconds. Whether it was still running."""
+def kill_at(place: Place, store: Path, copy: Path, moment: float, is_made: bool) -> bool:
+    """Begins a copy, and kills it after so many seconds, from its start on or from when its file is
+    made. Whether it was still running."""
     words = ["copy", "--store", str(store), "--to", str(copy)]
     process = subprocess.Popen(
         [str(place.program), *words], stdin=subprocess.DEVNULL, stdout=subprocess.DEVNULL,
         stderr=subprocess.DEVNULL)
+    while is_made and not copy.exists() and process.poll() is None:
+        pass
     try:
         process.wait(moment)
         return False
@@ -352,7 +356,7 @@ def killed_copies(place: Place) -> None:
     chance, left = random.Random(SEED), collections.Counter[str]()
     for number in range(KILLS):
         copy = place.path("copy%d" % number)
-        was_running = kill_at(place, store, copy, chance.uniform(0, took * MARGIN))
+        was_running = kill_at(place, store, copy, chance.uniform(0, took * MARGIN), number % 2 == 1)
         same("the store after a kill", store.read_bytes() == before, True)
         found = left_of(place, copy, state, digest)
         if not was_running:
