@@ -434,7 +434,7 @@ def damage_is_met(place: Place, layout: int, meets: str) -> None:
         same("a merge", [server.ask(line)[-1] for line in ("MERGE", "STEP 100")], ["OK 6", "OK 0"])
         byte = flip(store, FIRST_ROW)
         same(meets, server.ask(meets), DAMAGED)
-        for line in ("IMPORT new", "CHECK new", "PUBLISH", "MERGE", "IMPORT r1"):
+        for line in ("IMPORT new", "CHECK new", "PUBLISH", "MERGE", "STEP 1", "IMPORT r1"):
             same("%s after damage" % line, server.ask(line), DAMAGED)
         same("a question", server.ask(OTHER_QUESTION)[-1], "END 1")
         same("a receipt", server.ask("RECEIPT 1"), ["OK 1 6 20200131"])
