@@ -5,16 +5,18 @@ measure_copy.py PROGRAM FOLDER [ROWS ..]
 
 PROGRAM is the built `sctd`. For each number of rows (235000 and 2350000, if none is given) a Full
 release is made in FOLDER by make_release.py, if it isn't there, and imported into a store of
-version 2 of the layout and into one of version 3. Each of `sctd status`, which is an opening, `sctd
-copy` and `sctd digest` is run five times by turns, and examples/digest.py once; the least seconds
-of the processor and of wall are printed as a table, those of the processor for a million rows too,
-and the peak of memory in bytes a row. A digest that differs from that of examples/digest.py ends
-it. GNU time starts each process and says its peak, as in measure.py. Standard library alone.
+version 2 of the layout and into one of version 3; of the fewest rows, also dealt out at random to
+128 releases, into one of version 3. Each of `sctd status`, which is an opening, `sctd copy` and
+`sctd digest` is run five times by turns, and examples/digest.py once; the least seconds of the
+processor and of wall are printed as a table, those of the processor for a million rows too, and the
+peak of memory in bytes a row. A digest that differs from that of examples/digest.py ends it. GNU
+time starts each process and says its peak, as in measure.py. Standard library alone.
 """
 
 from __future__ import annotations
 
 import os
+import random
 import shutil
 import subprocess
 import sys
@@ -28,9 +30,11 @@ DIGEST = TOP / "examples" / "digest.py"
 TIMES = 5
 DEFAULT_ROWS = (235_000, 2_350_000)
 LAYOUTS = (2, 3)
+MANY_SEGMENTS = 128
+SEED = 7
 MILLION = 1_000_000
 KILOBYTE = 1024
-HEAD = ("Rows", "Version", "Work", "Processor seconds", "Wall seconds",
+HEAD = ("Rows", "Store", "Work", "Processor seconds", "Wall seconds",
         "Processor seconds a million rows", "Peak bytes a row")
 
 
@@ -80,25 +84,45 @@ class Measured:
     def run(self, *words: str) -> Cost:
         return run(self.timed, self.place / "peak", words)
 
-    def row(self, layout: str, work: str, cost: Cost) -> None:
+    def row(self, what: str, work: str, cost: Cost) -> None:
         """Prints a row of the table."""
         million = cost.processor * MILLION / self.rows
         print("| %d | %s | %s | %.2f | %.2f | %.2f | %d |" % (
-            self.rows, layout, work, cost.processor, cost.wall, million, cost.peak // self.rows),
+            self.rows, what, work, cost.processor, cost.wall, million, cost.peak // self.rows),
             flush=True)
 
-    def store(self, layout: int) -> Path:
-        """A store of the release."""
+    def store(self, layout: int, names: Sequence[str]) -> Path:
+        """A store into which the releases of these names were imported."""
         store = self.place / ("version%d.store" % layout)
         store.unlink(missing_ok=True)
         program = str(self.program)
         self.run(program, "init", "--store", str(store), "--layout", str(layout))
-        self.run(program, "import", "--quiet", "--store", str(store), str(self.release))
+        words = ["serve", "--store", str(store), "--releases", str(self.place)]
+        lines = "".join("0 IMPORT %s\n" % name for name in names)
+        done = subprocess.run([program, *words], input=lines.encode(), stdout=subprocess.PIPE,
+                              stderr=subprocess.DEVNULL, check=True)
+        if done.stdout.count(b"OK ") != len(names):
+            raise SystemExit("imports: %r" % done.stdout)
         return store
 
-    def measure(self, layout: int, digest: str) -> None:
-        """Prints what is done with a store of a version of the layout."""
-        store, copy = self.store(layout), self.place / "copy"
+    def dealt_out(self, count: int) -> list[str]:
+        """The names of so many releases, to which the rows of the release are dealt out."""
+        chance = random.Random(SEED)
+        names = ["dealt/p%d" % number for number in range(count)]
+        for path in sorted(self.release.rglob("*.txt")):
+            head, *lines = path.read_bytes().splitlines(keepends=True)
+            parts: list[list[bytes]] = [[] for _ in names]
+            for line in lines:
+                chance.choice(parts).append(line)
+            for name, part in zip(names, parts):
+                to = self.place / name / path.relative_to(self.release)
+                to.parent.mkdir(parents=True, exist_ok=True)
+                to.write_bytes(head + b"".join(part))
+        return names
+
+    def measure(self, what: str, layout: int, names: Sequence[str], digest: str) -> None:
+        """Prints what is done with a store of a version of the layout, and some releases."""
+        store, copy = self.store(layout, names), self.place / "copy"
         works = {
             "open": ["status", "--store", str(store)],
             "copy": ["copy", "--store", str(store), "--to", str(copy)],
@@ -110,7 +134,7 @@ class Measured:
                 costs[work].append(self.run(str(self.program), *words))
                 copy.unlink(missing_ok=True)
         for work in works:
-            self.row(str(layout), work, least(costs[work]))
+            self.row(what, work, least(costs[work]))
         if costs["digest"][0].output != "OK " + digest:
             raise SystemExit("the digest is %r, and not %r" % (costs["digest"][0].output, digest))
         store.unlink()
@@ -123,11 +147,16 @@ def main(words: Sequence[str]) -> int:
         print(__doc__.strip() if timed else "measure_copy.py wants GNU time", file=sys.stderr)
         return 2
     print("| %s |\n|%s" % (" | ".join(HEAD), "---|" * len(HEAD)))
-    for rows in [int(word) for word in words[2:]] or DEFAULT_ROWS:
+    counts = [int(word) for word in words[2:]] or DEFAULT_ROWS
+    for rows in counts:
         measured = Measured(timed, Path(words[0]).resolve(), Path(words[1]), rows)
         by_script = measured.run(sys.executable, str(DIGEST), str(measured.release))
         for layout in LAYOUTS:
-            measured.measure(layout, by_script.output)
+            what = "version %d" % layout
+            measured.measure(what, layout, ["full"], by_script.output)
+        if rows == min(counts):
+            what = "version 3, %d segments" % MANY_SEGMENTS
+            measured.measure(what, 3, measured.dealt_out(MANY_SEGMENTS), by_script.output)
         measured.row("-", "`examples/digest.py`", by_script)
     return 0
 
