@@ -104,35 +104,46 @@ def checks(place: Place) -> None:
         same("the store's state", place.status(store), "OK 4 12 3 -")
 
 
+def store_of_halves(place: Place, first: range, second: range) -> Path:
+    """A store into which concepts of these numbers were imported, and then others."""
+    store = place.make_store()
+    for name, half in (("half1", first), ("half2", second)):
+        folder = place.releases / name
+        write_release(folder, {"C": [concept(one, DATE) for one in half]}, DATE)
+        place.import_one(store, folder)
+    return store
+
+
+def contradictions_told(place: Place, store: Path, numbers: range) -> tuple[list[str], list[str]]:
+    """What is told of a release with a new row, in line 2, and then rows of known concepts that say
+    something else: the lines with a place, from line 3 on, and the others."""
+    what = "of%d" % len(numbers)
+    rows = [concept(0, DATE), *(concept(one, DATE, active=0) for one in numbers)]
+    write_release(place.releases / what, {"C": rows}, DATE)
+    told = check_told(place, store, what)
+    same("a check of %d contradictions" % len(numbers), (told.status, told.output),
+         (1, "ERR 32 Contradiction 1 3\n"))
+    name = rf2.NAMES["C"].format("Delta", DATE).rpartition("/")[2]
+    lines = told.faults.splitlines()
+    places = [line for line in lines if line.startswith("sctd: %s, line " % name)]
+    starts = ["sctd: %s, line %d: " % (name, number) for number in range(3, len(places) + 3)]
+    same("the places of contradictions", [
+        line for line, start in zip(places, starts) if not line.startswith(start)], [])
+    return places, [line for line in lines if line not in places]
+
+
 def contradictions(place: Place) -> None:
     """Each contradiction is told with its file and line, and the import that brought the other row;
     where there are too many, how many more there are."""
-    store = place.make_store()
-    count = MOST_TOLD + 5
-    halves = [range(1, 4), range(4, count + 1)]
-    for number, half in enumerate(halves, 1):
-        folder = place.releases / ("half%d" % number)
-        write_release(folder, {"C": [concept(one, DATE) for one in half]}, DATE)
-    place.import_all(store, [place.releases / "half1", place.releases / "half2"])
-    name = rf2.NAMES["C"].format("Delta", DATE).rpartition("/")[2]
-    for what, numbers in (("few", range(1, 7)), ("many", range(1, count + 1))):
-        rows = [concept(0, DATE), *(concept(one, DATE, active=0) for one in numbers)]
-        write_release(place.releases / what, {"C": rows}, DATE)
-        told = check_told(place, store, what)
-        same("a check of %s" % what, (told.status, told.output), (1, "ERR 32 Contradiction 1 3\n"))
-        lines = told.faults.splitlines()
-        places = [line for line in lines if line.startswith("sctd: %s, line " % name)]
-        same("how many contradictions are told", len(places), min(len(numbers), MOST_TOLD))
-        for number, line in enumerate(places, 1):
-            same("the line of a contradiction", line.startswith(
-                "sctd: %s, line %d: " % (name, number + 2)), True)
-            imported = 1 if number in halves[0] else 2
-            same("the import in %r" % line, "import %d" % imported in line, True)
-        more = [line for line in lines if line not in places]
-        if len(numbers) > MOST_TOLD:
-            same("how many more in %r" % more, any(" 5 " in line for line in more), True)
-        else:
-            same("what else is told", more, [])
+    first, second = range(1, 4), range(4, MOST_TOLD + 6)
+    store = store_of_halves(place, first, second)
+    places, more = contradictions_told(place, store, range(1, 7))
+    imports = [[number for number in (1, 2) if "import %d" % number in line] for line in places]
+    same("the imports in %r" % places, imports, [[1]] * 3 + [[2]] * 3)
+    same("what else is told", more, [])
+    places, more = contradictions_told(place, store, range(1, MOST_TOLD + 6))
+    same("how many contradictions are told", len(places), MOST_TOLD)
+    same("how many more are, in %r" % more, any(" 5 " in line for line in more), True)
 
 
 def warnings(place: Place) -> None:
