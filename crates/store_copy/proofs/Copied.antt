@@ -1,6 +1,6 @@
 -- What a copy is once it is written, and what stops leave up to then.
 use Rattle.std.specs.Prelude.{Option}
-use Rattle.std.proofs.Common.{◌≡◌, ◌⊎◌, inl, inr, ℕ, ◌+◌, ◌*◌, ◌^◌, ◌<◌, ◌≤◌, List, length, refl, sym, ap, subst, ◌∙◌, arith}
+use Rattle.std.proofs.Common.{◌≡◌, ◌⊎◌, inl, inr, ℕ, ◌<◌, List, refl, sym, ap, subst}
 use Rattle.disk_model.specs.Disk.{DiskState, IsImage, Moments, LeavesOnly}
 use Rattle.disk_model.proofs.MomentSteps.{joined, weaker}
 use Rattle.blocks.specs.declared.slots.Slot.{Slot}
@@ -17,7 +17,7 @@ use Rattle.store_image.specs.Pieces.{HoldsAll}
 use Rattle.store_image.specs.OnDisk.{HasStore, IsOnDisk}
 use Rattle.store_copy.specs.declared.fault.CopyFault.{CopyFault}
 use Rattle.store_copy.specs.declared.fault.CopyFault.TheVariants as faults
-use Rattle.store_copy.specs.Copying.{chosen, copied_listing, end_from, lists_up_to}
+use Rattle.store_copy.specs.Copying.{chosen, end_from, lists_up_to}
 use Rattle.store_copy.specs.Answers.{Shown, IsCopyOf, HasCopy, IsFailure, IsNotCopied, of_loading}
 use Rattle.store_copy.specs.Private.Writing.{IsPlan, IsPlanned, IsShut}
 use Rattle.store_copy.proofs.Gates.{NoStore, Whole, shut_is_none}

@@ -1,13 +1,12 @@
 -- The laws of copies.
 use Rattle.std.specs.Prelude.{◌==◌, nat_le}
 use Rattle.std.specs.List.{AllByRecursion, filter}
-use Rattle.std.proofs.Common.{◌≡◌, inl, inr, ℕ, zero, suc, ◌+◌, ◌<◌, ◌≤◌, Bool, true, false, cond, List, [], ◌∷◌, length, map, take, refl, sym, ap, subst, ◌∙◌, arith}
+use Rattle.std.proofs.Common.{◌≡◌, inl, inr, ℕ, zero, suc, ◌+◌, ◌≤◌, Bool, true, false, cond, List, [], ◌∷◌, length, map, take, refl, sym, ap, subst, ◌∙◌, arith}
 use Rattle.std.proofs.lemmas.Bool.Decides.{nat_tests}
 use Rattle.rf2_values.specs.Row.{RowValue}
 use Rattle.blocks.specs.declared.slots.Slot.{Slot}
 use Rattle.blocks.specs.declared.slots.Slot.TheVariants.{A}
 use Rattle.history_model.specs.declared.stamped.StampedRow.{StampedRow}
-use Rattle.history_model.specs.InOrder.{Has}
 use Rattle.history_model.specs.History.{History, IsHistory, after_release, no_history, rows_at, stamped, stamped_cmp, then_all}
 use Rattle.history_model.specs.Brought.{IsLatestDay, brought_by}
 use Rattle.history_model.proofs.InOrder.{same_ascending, Has-put_all_cases, Has-put_all_old}

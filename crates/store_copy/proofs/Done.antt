@@ -1,11 +1,10 @@
 -- The segments of a copy that are written, one after the other.
-use Rattle.std.specs.Prelude.{All, Result, Ok, Err, OnOk}
-use Rattle.std.proofs.Common.{◌≡◌, ◌⊎◌, inl, inr, ℕ, zero, suc, ◌+◌, ◌*◌, ◌<◌, ◌≤◌, List, [], ◌∷◌, ◌++◌, length, get_or, map, take, drop, refl, sym, ap, subst, ◌∙◌, arith}
+use Rattle.std.proofs.Common.{◌≡◌, inl, inr, ℕ, zero, suc, ◌+◌, ◌*◌, ◌<◌, ◌≤◌, List, [], ◌∷◌, ◌++◌, length, get_or, map, take, drop, refl, sym, ap, subst, ◌∙◌, arith}
 use Rattle.std.specs.Int.{div_ceil}
 use Rattle.std.specs.List.{AllByRecursion}
 use Rattle.std.proofs.lemmas.List.{append-nil, length-map, take_all, take_more}
 use Rattle.std.proofs.lemmas.List.Elements.{All-nil, All-cons, All-head, All-tail}
-use Rattle.disk_model.specs.Disk.{DiskState, IsOutside, Moments, LeavesOnly, SameBut, EachImage}
+use Rattle.disk_model.specs.Disk.{DiskState, IsOutside, Moments, LeavesOnly, EachImage}
 use Rattle.disk_model.proofs.MomentSteps.{joined, weaker, at_end}
 use Rattle.blocks.specs.Extents.{byte_range, start_of}
 use Rattle.blocks.specs.Outside.{SameOutside, StemsWithin}
@@ -30,7 +29,7 @@ use Rattle.store_copy.specs.declared.fault.SegmentCopyFault.TheVariants.{Read, W
 use Rattle.store_copy.specs.Private.Writing.{IsNoDamage, IsShut, in_segment}
 use Rattle.store_copy.proofs.Gates.{shut_but}
 use Rattle.store_copy.proofs.Listing.{end-append, end_least, segments_count}
-use Rattle.store_copy.proofs.UpTo.{lists-append, before-append}
+use Rattle.store_copy.proofs.UpTo.{lists-append}
 
 -- ---- the pieces of segments one behind the other
 

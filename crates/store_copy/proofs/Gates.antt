@@ -1,7 +1,6 @@
 -- Slots that are closed, and the first one when it is opened.
-use Rattle.std.specs.Prelude.{All, Result, Ok, Err, OnOk, OnErr}
-use Rattle.std.proofs.Common.{◌≡◌, ◌≢◌, ◌⊎◌, inl, inr, ℕ, ◌+◌, ◌-◌, ◌<◌, ◌≤◌, List, [], ◌∷◌, length, get_or, take, drop, replicate, refl, sym, ◌∙◌, ap, subst, arith}
-use Rattle.std.proofs.lemmas.List.{length-replicate, get_or-replicate}
+use Rattle.std.specs.Prelude.{Result, Ok, Err, OnOk, OnErr}
+use Rattle.std.proofs.Common.{◌≡◌, ◌⊎◌, inl, inr, ℕ, ◌+◌, ◌-◌, ◌<◌, ◌≤◌, List, [], ◌∷◌, length, get_or, sym, ◌∙◌, ap, subst, arith}
 use Rattle.std.proofs.lemmas.Bool.{cases_eq}
 use Rattle.disk_model.specs.Disk.{DiskState, IsImage, EachImage, Moments, LeavesOnly, SameBut, Fails, followed_by, settled, after_write, put}
 use Rattle.disk_model.specs.Private.Put.{length-put, get_or-put_below, get_or-put_inside, get_or-put_above}
@@ -15,10 +14,9 @@ use Rattle.blocks.proofs.SlotImages.{Either, now-after_write, opened_there}
 use Rattle.blocks.proofs.Windows.{window_put}
 use Rattle.history_model.specs.declared.stamped.StampedRow.{StampedRow}
 use Rattle.directory.specs.Listings.{DirectoryValue}
-use Rattle.directory.specs.Content.{Lists}
 use Rattle.store_image.specs.Images.{IsStore}
-use Rattle.store_image.specs.Pieces.{Holds, HoldsAll}
-use Rattle.store_image.specs.Kept.{IsContentOf, IsKept, pieces_of}
+use Rattle.store_image.specs.Pieces.{HoldsAll}
+use Rattle.store_image.specs.Kept.{IsContentOf, pieces_of}
 use Rattle.store_image.specs.OnDisk.{HasStore, IsOnDisk, Shows}
 use Rattle.store_image.proofs.Frames.{pieces_beside}
 use Rattle.store_image.proofs.Listed.{listed_epoch}

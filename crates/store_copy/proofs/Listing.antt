@@ -1,5 +1,5 @@
 -- The directory of a copy.
-use Rattle.std.proofs.Common.{◌≡◌, ℕ, ◌+◌, ◌*◌, ◌^◌, ◌<◌, ◌≤◌, List, [], ◌∷◌, ◌++◌, length, map, cond, true, false, refl, sym, ap, subst, ◌∙◌, arith, length-append}
+use Rattle.std.proofs.Common.{◌≡◌, ℕ, ◌+◌, ◌^◌, ◌<◌, ◌≤◌, List, [], ◌∷◌, ◌++◌, length, cond, true, false, refl, sym, ap, subst, arith, length-append}
 use Rattle.std.specs.Prelude.{nat_le}
 use Rattle.std.specs.List.{AllByRecursion}
 use Rattle.std.specs.Int.{div_ceil}
@@ -15,7 +15,7 @@ use Rattle.directory.specs.declared.layout.Layout.TheVariants as layouts
 use Rattle.directory.specs.Listings.{DirectoryValue, IsEntry, IsListing, HasForm, form_of, most_entries}
 use Rattle.directory.specs.Places.{AreApart, AreBeside, end_block, extent_of, extents_of}
 use Rattle.segment.specs.Records.{IsSegment, segment_of, record_of}
-use Rattle.store_image.specs.Kept.{AreSegments, IsKept, IsSegmentOf}
+use Rattle.store_image.specs.Kept.{AreSegments, IsKept}
 use Rattle.store_image.proofs.Windowed.{record_least}
 use Rattle.store_copy.specs.Copying.{up_to, before, lists_up_to, entry_at, entries_from, end_from, copied_listing}
 use Rattle.store_copy.specs.Private.Writing.{MayBeSegment}

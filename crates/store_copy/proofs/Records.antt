@@ -1,17 +1,14 @@
 -- The record of a row, in a file that has the segment.
-use Rattle.std.proofs.Common.{◌≡◌, inl, inr, ℕ, zero, suc, ◌+◌, ◌-◌, ◌*◌, ◌<◌, ◌≤◌, ◌++◌, List, [], ◌∷◌, length, get_or, map, take, drop, refl, sym, ap, ◌∙◌, subst, arith, length-append, length-take, length-drop}
-use Rattle.std.proofs.lemmas.List.{ext_get_or, get_or-take, get_or-drop, take_at}
-use Rattle.blocks.specs.Extents.{start_of}
+use Rattle.std.proofs.Common.{◌≡◌, inl, inr, ℕ, zero, suc, ◌+◌, ◌*◌, ◌<◌, ◌≤◌, ◌++◌, List, [], ◌∷◌, length, get_or, map, take, drop, refl, sym, ap, ◌∙◌, arith, length-take, length-drop}
+use Rattle.std.proofs.lemmas.List.{ext_get_or, get_or-take, get_or-drop}
 use Rattle.directory.specs.declared.entry.Entry.{Entry}
-use Rattle.directory.specs.Places.{extent_of}
 use Rattle.history_model.specs.declared.stamped.StampedRow.{StampedRow}
 use Rattle.history_model.specs.InOrder.{Has}
-use Rattle.history_model.proofs.InOrder.{Has-all}
 use Rattle.checksum.specs.declared.form.Form.{Form}
 use Rattle.segment.specs.declared.place.RowPlace.{RowPlace}
-use Rattle.segment.specs.Records.{record_in, record_of, segment_in, IsStamped, IsRecordAt}
-use Rattle.segment.specs.Standing.{record_len, row_place, with_places}
-use Rattle.segment.proofs.Posting.{row_there, says, record_there}
+use Rattle.segment.specs.Records.{record_in, record_of, segment_in, IsRecordAt}
+use Rattle.segment.specs.Standing.{record_len, with_places}
+use Rattle.segment.proofs.Posting.{says, record_there}
 use Rattle.segment.proofs.RecordLaws.{length-record_in}
 use Rattle.store_image.specs.Reading.{IsAt}
 use Rattle.store_image.proofs.Windowed.{record_least}

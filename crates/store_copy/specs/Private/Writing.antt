@@ -15,7 +15,6 @@ use Rattle.segment.specs.Standing.{record_len}
 use Rattle.store_image.specs.Ahead.{BeginsWith}
 use Rattle.store_image.specs.Kept.{IsKept}
 use Rattle.fault_counts.specs.Counting.{CountsDiskFault, HasRisen}
-use Rattle.fault_counts.specs.declared.fault.ReadFault.{ReadFault}
 use Rattle.fault_counts.specs.declared.fault.ReadFault.TheVariants as reading
 use Rattle.store_image.specs.declared.fault.Damage.TheVariants as damages
 use Rattle.store_copy.specs.Copying.{chosen, copied_listing, entries_from, lists_up_to}

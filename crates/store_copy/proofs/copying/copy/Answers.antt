@@ -1,4 +1,4 @@
-use Rattle.std.proofs.Common.{◌≡◌, inl, List, length, sym, ap, subst, ◌∙◌}
+use Rattle.std.proofs.Common.{inl, List, length, sym, ap, subst, ◌∙◌}
 use Rattle.std.specs.List.{AllByRecursion}
 use Rattle.disk_model.specs.Disk.{Moments}
 use Rattle.disk_model.proofs.MomentSteps.{stayed}

@@ -1,4 +1,4 @@
-use Rattle.std.proofs.Common.{◌⊎◌, inl, ℕ, List, length, get_or, replicate, refl, arith}
+use Rattle.std.proofs.Common.{◌⊎◌, inl, ℕ, replicate, refl, arith}
 use Rattle.std.proofs.lemmas.List.{length-replicate, get_or-replicate}
 use Rattle.disk_model.specs.Disk.{IsImage}
 use Rattle.disk_model.proofs.MomentSteps.{started, synced}

@@ -1,4 +1,4 @@
-use Rattle.std.proofs.Common.{refl, length, arith}
+use Rattle.std.proofs.Common.{refl}
 use Rattle.std.proofs.lemmas.Result.{on_ok_weaker}
 use Rattle.disk_model.proofs.MomentSteps.{joined}
 use Rattle.store_copy.proofs.Gates.{Whole, sync_run, content_run, gate_run, opened}

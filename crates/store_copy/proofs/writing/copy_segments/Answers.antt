@@ -1,4 +1,4 @@
-use Rattle.std.proofs.Common.{◌≡◌, ◌+◌, ◌*◌, ◌<◌, ◌≤◌, List, length, map, vec_items, take, sym, ap, subst, ◌∙◌, arith}
+use Rattle.std.proofs.Common.{◌≡◌, ◌<◌, ◌≤◌, length, vec_items, sym, ap, subst, ◌∙◌, arith}
 use Rattle.blocks.specs.Extents.{byte_range}
 use Rattle.directory.specs.Listings.{form_of}
 use Rattle.directory.specs.Places.{extent_of}

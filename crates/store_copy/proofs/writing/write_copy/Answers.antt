@@ -1,4 +1,4 @@
-use Rattle.std.proofs.Common.{◌≡◌, ◌≤◌, length, arith}
+use Rattle.std.proofs.Common.{arith}
 use Rattle.disk_model.proofs.MomentSteps.{at_end}
 use Rattle.store_copy.specs.Copying.{lists_up_to}
 use Rattle.store_copy.specs.Private.Writing.{IsShut}
