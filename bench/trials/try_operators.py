@@ -28,7 +28,7 @@ from pathlib import Path
 from typing import Callable, Iterator, NamedTuple, Optional, Sequence
 
 from operators_harness import BLOCK, FIRST_ROW, RELEASES, SECONDS, Place, Ran, Server, Skipped
-from operators_harness import Wrong, concept, concept_id, digest_of, flip, put_back, rf2, same
+from operators_harness import Wrong, concept, digest_of, flip, put_back, rf2, same
 from operators_harness import write_edition, write_release
 
 KINDS = "CDRAV"
@@ -39,11 +39,7 @@ SEED = 48
 KILLS, KILLS_WHILE_WRITTEN = 50, 5
 # A moment is drawn from so much more than the time that a copy takes.
 MARGIN = 1.1
-# How many contradictions of a release are told, and modules that are new to a store.
-MOST_TOLD, MODULES_TOLD = 1_000, 10
-DATE, LATER = "20220131", "20220731"
-# More than a year after all others.
-FAR = "20300131"
+DATE = "20220131"
 DAMAGED = ["ERR 8 Damaged"]
 # The row of the guide's releases that stands first in the first segment, and another one.
 FIRST_QUESTION = "GET C 1000004 20200131"
@@ -102,70 +98,6 @@ def checks(place: Place) -> None:
                 ("../r1", "ERR 43 Arguments")):
             checked_is_imported(place, store, name, wanted)
         same("the store's state", place.status(store), "OK 4 12 3 -")
-
-
-def store_of_halves(place: Place, first: range, second: range) -> Path:
-    """A store into which concepts of these numbers were imported, and then others."""
-    store = place.make_store()
-    for name, half in (("half1", first), ("half2", second)):
-        folder = place.releases / name
-        write_release(folder, {"C": [concept(one, DATE) for one in half]}, DATE)
-        place.import_one(store, folder)
-    return store
-
-
-def contradictions_told(place: Place, store: Path, numbers: range) -> tuple[list[str], list[str]]:
-    """What is told of a release with a new row, in line 2, and then rows of known concepts that say
-    something else: the lines with a place, from line 3 on, and the others."""
-    what = "of%d" % len(numbers)
-    rows = [concept(0, DATE), *(concept(one, DATE, active=0) for one in numbers)]
-    write_release(place.releases / what, {"C": rows}, DATE)
-    told = check_told(place, store, what)
-    same("a check of %d contradictions" % len(numbers), (told.status, told.output),
-         (1, "ERR 32 Contradiction 1 3\n"))
-    name = rf2.NAMES["C"].format("Delta", DATE).rpartition("/")[2]
-    lines = told.faults.splitlines()
-    places = [line for line in lines if line.startswith("sctd: %s, line " % name)]
-    starts = ["sctd: %s, line %d: " % (name, number) for number in range(3, len(places) + 3)]
-    same("the places of contradictions", [
-        line for line, start in zip(places, starts) if not line.startswith(start)], [])
-    return places, [line for line in lines if line not in places]
-
-
-def contradictions(place: Place) -> None:
-    """Each contradiction is told with its file and line, and the import that brought the other row;
-    where there are too many, how many more there are."""
-    first, second = range(1, 4), range(4, MOST_TOLD + 6)
-    store = store_of_halves(place, first, second)
-    places, more = contradictions_told(place, store, range(1, 7))
-    imports = [[number for number in (1, 2) if "import %d" % number in line] for line in places]
-    same("the imports in %r" % places, imports, [[1]] * 3 + [[2]] * 3)
-    same("what else is told", more, [])
-    places, more = contradictions_told(place, store, range(1, MOST_TOLD + 6))
-    same("how many contradictions are told", len(places), MOST_TOLD)
-    same("how many more are, in %r" % more, any(" 5 " in line for line in more), True)
-
-
-def warnings(place: Place) -> None:
-    """A check warns of times that are far off, and of modules that the store hasn't met."""
-    store = place.make_store()
-    write_release(place.releases / "first", {"C": [concept(1, DATE)]}, DATE)
-    place.import_all(store, [place.releases / "first"])
-    modules = [concept_id(100 + number) for number in range(MODULES_TOLD + 2)]
-    made = {
-        "plain": [concept(2, LATER)], "far": [concept(2, FAR)],
-        "strange": [concept(2 + number, LATER, module=one) for number, one in enumerate(modules)]}
-    told = {}
-    for name, rows in made.items():
-        write_release(place.releases / name, {"C": rows, "D": [], "R": []}, LATER)
-        told[name] = check_told(place, store, name).faults.splitlines()
-    same("warnings of a plain release", told["plain"], [])
-    same("the time in %r" % told["far"],
-         len(told["far"]) == 1 and told["far"][0].startswith("sctd: warning: ")
-         and FAR in told["far"][0], True)
-    text = "\n".join(told["strange"])
-    found = [str(one) in text for one in modules]
-    same("the modules in %r" % text, found, [True] * MODULES_TOLD + [False] * 2)
 
 
 # ---- A wrong release that is taken back
@@ -470,7 +402,7 @@ def damage(place: Place) -> None:
 
 
 TRIALS: list[Callable[[Place], None]] = [
-    checks, contradictions, warnings, wrong_release, whole_copies, refused_copies, full_disk,
+    checks, wrong_release, whole_copies, refused_copies, full_disk,
     killed_copies, digests, digest_refused, damage]
 
 
