@@ -1,9 +1,8 @@
 -- Questions that are asked of the first so many imports.
-use Rattle.std.proofs.Common.{◌≡◌, ℕ, ◌≤◌, Bool, true, false, Result, Ok, Err, sym, ap, subst, inl, inr, arith}
-use Rattle.std.proofs.lemmas.Bool.{false≢true}
+use Rattle.std.proofs.Common.{◌≡◌, ℕ, ◌≤◌, Bool, Result, Ok, Err, sym, subst, inl, inr, arith}
 use Rattle.store_life.specs.DeviceView.{DeviceView}
 use Rattle.line_commands.specs.Questions.{Question}
-use Rattle.line_commands.specs.Commands.{Command, Ask, At, Import}
+use Rattle.line_commands.specs.Commands.{Command, Ask, At}
 use Rattle.line_server.specs.declared.refusal.LineRefusal.{LineRefusal}
 use Rattle.line_server.specs.declared.refusal.LineRefusal.TheVariants as refusals
 use Rattle.line_server.specs.Sources.{Releases}

@@ -1,5 +1,5 @@
 -- What CHECK answers, IMPORT answers next.
-use Rattle.std.proofs.Common.{◌≡◌, ◌⊎◌, ℕ, true, List, Result, Ok, Err, sym, ap, ◌∙◌, inl, inr}
+use Rattle.std.proofs.Common.{◌≡◌, ◌⊎◌, ℕ, true, List, Result, sym, ap, ◌∙◌, inl, inr}
 use Rattle.std.proofs.lemmas.Option.{none-some, same_Some}
 use Rattle.import_check.specs.Release.{files_of}
 use Rattle.line_commands.specs.Commands.{Import, Check}

@@ -1,6 +1,6 @@
 -- Words that private functions and proofs need, of this crate or of one above it.
 -- No public clause cites them.
-use Rattle.std.specs.Prelude.{ℕ, List, Option, Result, ◌≡◌, ◌≤◌, Ok, Err}
+use Rattle.std.specs.Prelude.{ℕ, List, Result, ◌≡◌, ◌≤◌, Ok, Err}
 use Rattle.store_life.specs.DeviceView.{DeviceView}
 use Rattle.history_store.specs.StoreValue.{StoreValue}
 use Rattle.line_commands.specs.Questions.{Question, SpellsQuestion}
