@@ -88,7 +88,7 @@ eq_of k l Less e f = absurd (cc)
 eq_of k l Equal e f = same_key k l e
 eq_of k l Greater e f = absurd (cc)
 
-has_from : (rows : List RowValue) (key : Key) → has_key rows key ≡ true → (row : RowValue) × Has rows row × (key_of row ≡ key)
+pub has_from : (rows : List RowValue) (key : Key) → has_key rows key ≡ true → (row : RowValue) × Has rows row × (key_of row ≡ key)
 has_from [] key h = absurd (cc)
 has_from (x ∷ xs) key h = by (has_from xs key) (is_eq (key_cmp (key_of x) key)) refl where
   by : (has_key xs key ≡ true → (row : RowValue) × Has xs row × (key_of row ≡ key)) → (b : Bool) → is_eq (key_cmp (key_of x) key) ≡ b → (row : RowValue) × Has (x ∷ xs) row × (key_of row ≡ key)
@@ -103,7 +103,7 @@ has_to (x ∷ xs) key row (inr t) e = by (is_eq (key_cmp (key_of x) key)) (has_t
   by true g = refl
   by false g = g
 
-no_key : (rows : List RowValue) (key : Key) → has_key rows key ≡ false → IsUnknown rows key
+pub no_key : (rows : List RowValue) (key : Key) → has_key rows key ≡ false → IsUnknown rows key
 no_key rows key none row h e = let yes : true ≡ false = sym (has_to rows key row h e) ∙ none in absurd (cc)
 
 more_keys : (rows others : List RowValue) → ((row : RowValue) → Has rows row → Has others row) → (key : Key) → has_key rows key ≡ true → has_key others key ≡ true

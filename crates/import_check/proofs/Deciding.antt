@@ -88,7 +88,7 @@ same_row a b = elim (decided _ (slice_eq-Decides bytes_eq-Decides (of_row a) (of
   | inr n ↦ inr (λ e. n (ap of_row e))
 ]
 
-same_or_other_key : (k l : Key) → (k ≡ l) ⊎ (k ≡ l → ⊥)
+pub same_or_other_key : (k l : Key) → (k ≡ l) ⊎ (k ≡ l → ⊥)
 same_or_other_key k l = by (key_cmp k l) refl where
   tie : k ≡ l → key_cmp k l ≡ Equal
   tie e = subst (λ m. key_cmp k m ≡ Equal) e (tied_itself keys_total k)

@@ -1,5 +1,5 @@
 -- Lines in key order, of which those that contradict are listed.
-use Rattle.std.proofs.Common.{◌≡◌, ◌≢◌, ◌⊎◌, ℕ, ◌+◌, ◌-◌, ◌≤◌, ◌<◌, cond, false, true, List, [], ◌∷◌, ◌++◌, length, take, refl, sym, ap, subst, inl, inr, ◌∙◌, arith, length-append, length-take}
+use Rattle.std.proofs.Common.{◌≡◌, ◌≢◌, ◌⊎◌, ℕ, ◌≤◌, cond, false, true, List, [], ◌∷◌, ◌++◌, refl, sym, ap, subst, inl, inr, ◌∙◌, arith}
 use Rattle.std.specs.Prelude.{Option, Some, None, MatchOption, IsSomeAnd, ◌↔◌, Result, Ok, Err, IfOk}
 use Rattle.std.specs.List.{AllByRecursion, sum_by}
 use Rattle.std.specs.List.Sorted.{IsPermutation}
@@ -7,7 +7,6 @@ use Rattle.std.specs.Ordering.{nat_cmp, ordering_then, is_gt, is_eq}
 use Rattle.std.specs.Cmp.{IsTotalOrder, tied_itself}
 use Rattle.std.specs.declared.cmp.Ordering.{Ordering}
 use Rattle.std.specs.declared.cmp.Ordering.TheVariants.{Less, Equal, Greater}
-use Rattle.std.proofs.lemmas.List.{take_all, take-append-le}
 use Rattle.std.proofs.lemmas.List.Sums.{sum_by-cons}
 use Rattle.std.proofs.lemmas.List.Sorted.{IsPermutation-sym, sum_by-IsPermutation}
 use Rattle.rf2_values.specs.Row.{RowValue}
@@ -23,17 +22,14 @@ use Rattle.import_check.specs.declared.contradicting.OtherRow.TheVariants as oth
 use Rattle.import_check.specs.declared.contradicting.Counting.{Counting}
 use Rattle.import_check.specs.declared.contradicting.ContradictingLine.{ContradictingLine}
 use Rattle.import_check.specs.declared.contradicting.Contradictions.{Contradictions}
-use Rattle.import_check.specs.Known.{IsUnknown, IsRowAt}
-use Rattle.rf2_values.specs.declared.key.Key.{Key}
-use Rattle.import_check.specs.Contradictions.{place_cmp, rank_cmp, row_of, CountsForKey, IsContradiction, AreContradictionsOf, IsNotListed}
+use Rattle.import_check.specs.Known.{IsUnknown}
+use Rattle.import_check.specs.Contradictions.{place_cmp, rank_cmp, row_of, CountsForKey, IsContradiction, AreContradictionsOf}
 use Rattle.import_check.specs.Private.Contradictions.{CountsAmong, IsFoundFor, IsNext, AreListed, IsNoted, Sifted, AreSifted}
-use Rattle.import_check.specs.Private.Parsed.{IsParsed, IsParseFault}
-use Rattle.import_check.specs.Private.Sweep.{StandsBy, IsRising, IsEarliest, IsCutShort}
+use Rattle.import_check.specs.Private.Parsed.{IsParsed}
+use Rattle.import_check.specs.Private.Sweep.{StandsBy, IsRising, IsEarliest}
 use Rattle.import_check.specs.declared.release.Release.{Release}
 use Rattle.import_check.specs.declared.fault.ImportFault.{ImportFault}
-use Rattle.import_check.specs.declared.fault.ImportFault.TheVariants as importfault
-use Rattle.import_check.specs.Release.{placed_lines, rows_of}
-use Rattle.import_check.specs.NewRows.{IsRead}
+use Rattle.import_check.specs.Release.{rows_of}
 use Rattle.import_check.proofs.Sweeping.{rank_split, placed_by, below_further, cases, earliest, ascending-push, stands_by_itself}
 use Rattle.import_check.proofs.Uniting.{Has-permutation, places_total, split_at, ascending_before, ascending_after, not_after, tie_from}
 

@@ -1,8 +1,7 @@
-use Rattle.std.proofs.Common.{◌≡◌, ◌+◌, ◌≤◌, subst, arith}
+use Rattle.std.proofs.Common.{◌+◌, ◌≤◌, subst, arith}
 use Rattle.std.specs.List.{sum_by}
 use Rattle.import_check.specs.Known.{already_known}
 use Rattle.import_check.specs.Release.{rows_of}
-use Rattle.import_check.specs.Contradictions.{AreContradictionsOf}
 use Rattle.import_check.proofs.Asking.{more_sorted}
 use Rattle.import_check.proofs.Receipts.{one_list}
 use Rattle.import_check.proofs.Refusals.{ascending, of_release, was_read}
