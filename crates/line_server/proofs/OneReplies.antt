@@ -309,8 +309,8 @@ module _ {D : Type 0} (releases : Releases) (a b after next : Server D) (honest 
       let both = one_import D h.checked.release h.result k.result a.store b.store f.0 g.0 same.store.history same.store.catalog same.store.needs_reopen f.1 other h.sure k.sure in (
         h.is ∙ ap said both.0 ∙ sym k.is,
         then_same a b after next same
-        (record { pins = h.checked.pins; store = stays_checked a.store after.store h.checked.release h.result h.sure (h.checked.checked up) })
-        (record { pins = k.checked.pins; store = stays_checked b.store next.store k.checked.release k.result k.sure (k.checked.checked so) }),
+            (record { pins = h.checked.pins; store = stays_checked a.store after.store h.checked.release h.result h.sure (h.checked.checked up) })
+            (record { pins = k.checked.pins; store = stays_checked b.store next.store k.checked.release k.result k.sure (k.checked.checked so) }),
       )
 
 -- ---- questions
@@ -401,11 +401,10 @@ module _ {D : Type 0} (releases : Releases) (a b after next : Server D) (honest 
       one_settled h.0 h.1 x y u v h.3 other
   one_case line x y u v (inl h) (inr k) = absurd (asked_is_read line h.0 h.1 k.0 h.2 k.1)
   one_case line x y u v (inr h) (inl k) = absurd (asked_is_read line k.0 k.1 h.0 k.2 h.1)
-  one_case line x y u v (inr h) (inr k) =
-      (
-        h.2 ∙ ap (λ (r : Unread). Err (refusals.Unread r)) (one_refusal line h.0 k.0 h.1 k.1) ∙ sym k.2,
-        (then_same a b after next same (same_from a after h.3) (same_from b next k.3), ap (λ (d : Server D). d.met_damage) k.3 ∙ met ∙ sym (ap (λ (d : Server D). d.met_damage) h.3)),
-      )
+  one_case line x y u v (inr h) (inr k) = (
+    h.2 ∙ ap (λ (r : Unread). Err (refusals.Unread r)) (one_refusal line h.0 k.0 h.1 k.1) ∙ sym k.2,
+    (then_same a b after next same (same_from a after h.3) (same_from b next k.3), ap (λ (d : Server D). d.met_damage) k.3 ∙ met ∙ sym (ap (λ (d : Server D). d.met_damage) h.3)),
+  )
 
 pub one_reply : (D : Type 0) (honest : D → Type 0) → OneReply D honest
 one_reply D honest releases line x y a b after next up so (same, met) h k u v = one_case releases a b after next (honest a.store.disk) (honest b.store.disk) up so same met line x y u v h k

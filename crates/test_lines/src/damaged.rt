@@ -100,7 +100,10 @@ fn served(alloc: Global, bytes: &[u8], sound_reads: u32) -> Result<Option<(Vec<u
 
 #[test]
 fn nothing_is_confirmed_once_damage_was_met(rt: HostRuntime) -> Result<(), Fail> {
-    let imports: [Turn; 2] = [("0 IMPORT r1", &["OK 1 6 0"]), ("0 IMPORT r2", &["OK 2 4 0"])];
+    let imports: [Turn; 2] = [
+        ("0 IMPORT r1", &["OK 1 6 0"]),
+        ("0 IMPORT r2", &["OK 2 4 0"]),
+    ];
     let Some(server) = after(rt.alloc(), &imports)? else {
         return Err(Fail::from("the imports are answered otherwise"));
     };
