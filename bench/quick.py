@@ -10,8 +10,8 @@ many seconds it took; below it stands what failed. The parts are:
 
 - the checks of the documents, with which `.ci/run` begins;
 - `sctd`, and the trials of it: a soak of 20 seconds, the guide's examples, mistakes, syncs, the
-  hub, the gateway, and a failed sync. A trial that needs what this machine lacks says so, and is
-  skipped;
+  hub, an operator's year, the gateway, and a failed sync. A trial that needs what this machine
+  lacks says so, and is skipped;
 - the tests of the crates that no other crate uses, built as one crate;
 - the tests of each other crate that has any;
 - each program with a file `stdin`, `stdout` or `args`: what it writes has to be its file `stdout`.

@@ -17,8 +17,10 @@ READ_SIZE = 1 << 16
 # Behind AT the program takes questions alone.
 QUESTIONS = frozenset((
     b"GET", b"HISTORY", b"ABOUT", b"TIMELINE", b"CHILDREN", b"ANCESTORS", b"DESCENDANTS", b"SEARCH",
-    b"TERMS", b"REPLACED", b"REPLACES", b"PAGE", b"DELTA", b"DATES", b"RECEIPT", b"AT", b"STATUS",
-    b"PIN", b"UNPIN"))
+    b"TERMS", b"REPLACED", b"REPLACES", b"PAGE", b"DELTA", b"DATES", b"RECEIPT", b"DIGEST", b"AT",
+    b"STATUS", b"PIN", b"UNPIN"))
+# A question that reads each row of the store.
+DIGEST = b"DIGEST"
 BACKUP = b"BACKUP"
 # What the hub itself answers. The program's refusals have a number where these have a word.
 TOO_LONG = b"ERR 40 Long\n"
@@ -60,12 +62,18 @@ def sort_of(line: Line, may_change: bool) -> Sort:
     return Sort.BACKUP if word == BACKUP else Sort.CHANGE
 
 
+def is_long(line: bytes) -> bool:
+    """Whether others wait for the answer to a question so long that it gets a turn of its own."""
+    return without_cr(line).rpartition(b" ")[2] == DIGEST
+
+
 def turns(lines: list[Line], may_change: bool) -> Iterator[tuple[Sort, list[bytes]]]:
-    """The lines in their order, parted into turns: questions together, every other line alone."""
+    """The lines in their order, parted into turns: questions together that are answered soon, every
+    other line alone."""
     questions: list[bytes] = []
     for line in lines:
         sort = sort_of(line, may_change)
-        if sort is Sort.QUESTION and line is not None:
+        if sort is Sort.QUESTION and line is not None and not is_long(line):
             questions.append(line)
             continue
         if questions:

@@ -23,9 +23,10 @@ LAST_LINE = re.compile(rb"^(?:OK|ERR|END)(?: .*)?$", re.MULTILINE)
 STEP = b"STEP 1000"
 # The most segments that a store may have.
 MOST_SEGMENTS = 250
-IMPORT = b"IMPORT"
+# The lines that are answered for a release, and for which a store that is full is merged first.
+FOR_RELEASES = (b"IMPORT", b"CHECK")
 # The lines whose replies are logged, and those of which only refusals are.
-LOGGED = (IMPORT, b"CHECK", b"PUBLISH")
+LOGGED = (*FOR_RELEASES, b"PUBLISH")
 LOGGED_REFUSED = (b"MERGE", b"STEP", b"ABANDON", b"TRIM")
 # How many bytes of a copy are written at a time.
 COPY_SIZE = 1 << 20
@@ -167,7 +168,7 @@ class Store:
 
     async def change(self, session: int, line: bytes) -> Replies:
         """The reply to a line that may change the store, once it is logged."""
-        asking = self.imported if first_word(line) == IMPORT else self.asked
+        asking = self.imported if first_word(line) in FOR_RELEASES else self.asked
         try:
             replies = await asking(session, line)
         except Ended:
@@ -178,7 +179,7 @@ class Store:
         return replies
 
     async def imported(self, session: int, line: bytes) -> Replies:
-        """The reply to an import, for which room is made first."""
+        """The reply to an import, or to the check of one, for which room is made first."""
         async with self.imports:
             await self.make_room()
             return await self.asked(session, line)

@@ -15,7 +15,10 @@ call that writes, cuts or syncs is taken down. What has to hold of each import, 
 
 Of a release without new rows the first step is left out. And of `init`: the slots are written, the
 content of the first one, and its gate, each with a sync before the next; and the folder in which
-the file was made is synced, before `OK`. The last is left out with --no-folder.
+the file was made is synced, before `OK`. The last is left out with --no-folder. Then `sctd copy`
+copies the store: all rows of the copy are on the disk before the content of its first slot, that
+before its gate, and that before `OK`; its folder is synced before its first byte is written, and of
+the store nothing is written.
 
 The calls are those that strace prints, where there is one, or else those of a library of a few
 lines for LD_PRELOAD, which needs a C compiler (`cc`). It needs Linux, and ends by itself with the
@@ -259,6 +262,26 @@ def check_making(tracer, words, store, with_folder):
     return wrong
 
 
+def check_copy(tracer, words, store, with_folder):
+    """What is wrong with a copy of the store."""
+    copy = os.path.join(os.path.dirname(os.path.dirname(store)), "copies", "copy")
+    os.mkdir(os.path.dirname(copy))
+    told, calls = tracer.run([*words, "copy", "--store", store, "--to", copy], "")
+    wrong = [] if told == "OK\n" else ["copy: other replies: %r" % told]
+    if any(call.path == store and call.what != "sync" for call in calls):
+        wrong.append("the store is changed while it is copied")
+    found = steps(calls, copy)
+    wanted = ["data", "sync", "content 0", "sync", "open 0", "sync", "reply"]
+    if found[-len(wanted):] != wanted or any(word in found[: -len(wanted)] for word in wanted[2::2]):
+        wrong += ["copy: %s" % ", ".join(found), "  wanted at its end: %s" % ", ".join(wanted)]
+    first = next((n for n, call in enumerate(calls)
+                  if call.path == copy and call.what == "write"), len(calls))
+    if with_folder and os.path.dirname(copy) not in [
+            call.path for call in calls[:first] if call.what == "sync"]:
+        wrong.append("copy: the folder of the copy isn't synced before it is written")
+    return wrong
+
+
 def write_releases(folder):
     for number, dates in enumerate(RELEASES, 1):
         place = os.path.join(folder, "r%d" % number, "Terminology")
@@ -283,6 +306,7 @@ def main():
         store = os.path.join(folder, "stores", "store")
         wrong = check_making(tracer, words, store, not asked.no_folder)
         wrong += check_imports(tracer, words, store)
+        wrong += check_copy(tracer, words, store, not asked.no_folder)
     finally:
         shutil.rmtree(folder)
     for sentence in wrong:

@@ -46,9 +46,13 @@ ODD = [
 FAULTY = {"STATUS ": 43, "STATUS  ": 43, "GET  C 1000004 20200131": 43, "GET": 43, "PIN 9": 44,
           "UNPIN IMPORT r3": 43, "GET C 1000004 20200131\0": 43, "AT": 43, "AT 1": 43,
           "AT 1 IMPORT r3": 43, "AT 1 UNPIN": 43, "AT 1 AT 1 DATES": 43, "AT 3 DATES": 44,
-          "DATES ": 43, "ANCESTORS 1000015 20200131": 43}
+          "DATES ": 43, "ANCESTORS 1000015 20200131": 43, "DIGEST ": 43, "DIGEST 1": 43,
+          "AT 1 CHECK r3": 43, "AT 3 DIGEST": 44}
 
 
+# What examples/digest.py says of r1, and of r1 and r2.
+DIGEST_IN_2020 = "f7a233c7191872b693ccbfd82de00044fc814d77d323e51e5fbafb5e06671b5b"
+DIGEST_IN_2021 = "c90a8f82de0dccf7f92d4d999bde82dad4914097938c58c11ff3ea917dfec364"
 # An auditor's questions, whose replies are read off the releases.
 MEMBER = ("ROW 0b6a0c2e-5d0f-4c53-9f6e-8d9d2a7b1c01\t20210131\t1\t900000000000207008"
           "\t900000000000527005\t1000004\t2000001")
@@ -59,9 +63,11 @@ AUDIT = [
     ("DELTA A 20200131 20210131 - 10", [MEMBER, "END 1"]),
     ("REPLACES 2000001 20210131", [MEMBER, "END 1"]),
     ("TIMELINE A 1000004", [MEMBER, "END 1"]),
+    ("DIGEST", ["OK " + DIGEST_IN_2021]),
 ]
 AT_A_PIN = [("AT 2 " + line, wanted) for line, wanted in AUDIT] + [
-    ("AT 1 DATES", ["DATE 20200131", "END 1"]), ("AT 1 TIMELINE A 1000004", ["END 0"])]
+    ("AT 1 DATES", ["DATE 20200131", "END 1"]), ("AT 1 TIMELINE A 1000004", ["END 0"]),
+    ("AT 1 DIGEST", ["OK " + DIGEST_IN_2020])]
 
 
 def questions_alone(place, store):
@@ -220,7 +226,7 @@ def the_log(place, store):
     own = place.make_store("own")
     with Hub(place, own) as hub:
         client = Client(hub.socket)
-        checked = client.ask("CHECK r1")[0]
+        same("a check", client.ask("CHECK r1"), ["OK 1 6 0"])
         for line in ("IMPORT r1", "IMPORT r2", "STATUS", "GET C 1 2", "x", "IMPORT r9", "STEP 1",
                      "MERGE", "STEP 10", "PUBLISH", "TRIM", "IMPORT r\x1b[31m",
                      "IMPORT a\rb\u2028c\\n", "BACKUP " + place.path("copy")):
@@ -232,7 +238,7 @@ def the_log(place, store):
         told = hub.told()
         lines = [line for line in logged_beside(told)]
     same("the log", lines, [
-        "CHECK r1: " + checked, "IMPORT r1: OK 1 6 0", "IMPORT r2: OK 2 4 0",
+        "CHECK r1: OK 1 6 0", "IMPORT r1: OK 1 6 0", "IMPORT r2: OK 2 4 0",
         "IMPORT r9: ERR 45 NoFolder", "STEP 1: ERR 11 NoMerge", "PUBLISH: OK",
         "IMPORT r\\x1b[31m: ERR 43 Arguments",
         "IMPORT a\\rb\\u2028c\\\\n: ERR 43 Arguments",
@@ -271,10 +277,15 @@ sys.exit(real.wait())
 
 
 def write_nights(releases, count):
-    """Writes releases of a row each, and answers the lines that import them."""
+    """Writes releases of a row each, and answers the lines that import them, without their ends."""
     for number in range(1, count + 1):
         write_release(releases, "n%d" % number, {"C": [concept(number)]})
-    return ["IMPORT n%d\n" % number for number in range(1, count + 1)]
+    return ["IMPORT n%d" % number for number in range(1, count + 1)]
+
+
+def check_of(line):
+    """The line that checks what another one imports."""
+    return line.replace("IMPORT", "CHECK")
 
 
 def nights(place, store):
@@ -284,7 +295,8 @@ def nights(place, store):
     with Hub(place, own, releases=releases) as hub:
         client, other = Client(hub.socket), Client(hub.socket)
         for number, line in enumerate(lines, 1):
-            same("an import", client.ask(line.rstrip("\n")), ["OK %d 1 0" % number])
+            for asked in (check_of(line), line):
+                same(asked, client.ask(asked), ["OK %d 1 0" % number])
         until("the segments are merged",
               lambda: int(other.ask("STATUS")[0].split(" ")[3]) <= MERGE_ABOVE)
         same("the rows", other.ask("STATUS")[0].split(" ")[:3], ["OK", str(NIGHTS), str(NIGHTS)])
@@ -301,7 +313,7 @@ def import_alone(place, store, releases, lines):
     """Imports without a hub, and so without merges."""
     done = subprocess.run(
         [place.program, "serve", "--store", store, "--releases", releases],
-        input="".join("0 " + line for line in lines).encode(), stdout=subprocess.PIPE,
+        input="".join("0 %s\n" % line for line in lines).encode(), stdout=subprocess.PIPE,
         stderr=subprocess.DEVNULL, timeout=SECONDS, check=False)
     same("imports without the hub", done.stdout.count(b" 1 0\n"), len(lines))
 
@@ -318,7 +330,7 @@ def full_store(place, store):
         owner, *importing = [Client(hub.socket) for _ in range(3)]
         begin_copy(owner, copy)
         for number, client in enumerate(importing, ALMOST_FULL):
-            client.send("".join(lines[number:-2:2]).encode())
+            client.send("".join(line + "\n" for line in lines[number:-2:2]).encode())
         # So both wait for the copy, and there is room for one.
         time.sleep(0.1)
         with open(go_on, "wb"):
@@ -332,7 +344,12 @@ def full_store(place, store):
         client = Client(hub.socket)
         for line, wanted in zip(lines[-2:],
                                 ("OK %d 1 0" % (len(lines) - 1), "ERR 6 TooManySegments")):
-            same("an import without merges", client.ask(line.rstrip("\n")), [wanted])
+            for asked in (check_of(line), line):
+                same("%s without merges" % asked, client.ask(asked), [wanted])
+    with Hub(place, own, "--merge-above", str(ALMOST_FULL), releases=releases) as hub:
+        client = Client(hub.socket)
+        for asked in (check_of(lines[-1]), lines[-1]):
+            same(asked, client.ask(asked), ["OK %d 1 0" % len(lines)])
 
 
 def steps(place, store):

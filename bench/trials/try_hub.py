@@ -36,6 +36,7 @@ SESSIONS = 1_023
 # Clients that only ask leave so many sessions to the others.
 KEPT_SESSIONS = 23
 LINES_A_TURN = 32
+DIGESTS = 5
 # How long all of it may take.
 ALL_SECONDS = 170
 CONCEPT = "ROW 1000004\t%s\t900000000000207008\t900000000000074008"
@@ -137,8 +138,8 @@ def kept_sessions(place, store):
 
 
 def turns(place, store):
-    """The lines of a client that have come already go to the program together, 32 at most; the
-    replies come in their order, and a refusal of the hub's own among them."""
+    """The lines of a client that have come already go to the program together, 32 at most, but each
+    DIGEST alone; the replies come in their order, and a refusal of the hub's own among them."""
     recording = place.wrapped(RECORDER)
     with Hub(recording, store) as hub:
         client = Client(hub.socket)
@@ -150,13 +151,23 @@ def turns(place, store):
         wanted = {"RECEIPT 1": ["OK 1 6 20200131"], "RECEIPT 2": ["OK 2 4 20210131"]}
         for number, line in enumerate(asked):
             same("line %d of many" % number, client.read(), wanted.get(line, ["ERR 40 Long"]))
+        client.send(b"RECEIPT 1\nDIGEST\nAT 2 DIGEST\n" * DIGESTS)
+        for _ in range(DIGESTS):
+            same("before a digest", client.read(), wanted["RECEIPT 1"])
+            for _ in range(2):
+                same("a digest", client.read(), ["OK " + hub_duties.DIGEST_IN_2021])
         client.leave()
         same("the end of the hub", hub.stop("a hub that is stopped"), 0)
     with open(recording.path("parts"), encoding="ascii") as parts:
         counts = [int(part) for part in parts]
     same("the most lines of a turn", max(counts), LINES_A_TURN)
+    with open(recording.path("lines"), "rb") as file:
+        lines = iter(file)
+        asked_together = [[next(lines) for _ in range(count)] for count in counts]
+    digests = [part for part in asked_together if any(b"DIGEST" in line for line in part)]
+    same("turns of digests", [len(part) for part in digests], [1] * (2 * DIGESTS))
     # Of the 100 lines, and some of the hub's and of the client's.
-    if len(counts) > 20:
+    if len(counts) > 20 + 3 * DIGESTS:
         raise Wrong("lines that came together are asked in %d turns: %r" % (len(counts), counts))
 
 

@@ -4,15 +4,18 @@
 try_mistakes.py PROGRAM
 
 PROGRAM is the built `sctd`. In a fresh folder below the system's temporary one it is given wrong
-paths, folders that are no release, files that never end, a full disk, too few files that may be
-open and a store that is in use. Each time its reply, its status and the line on standard error have
-to be as wanted within ten seconds, and the store has to be left as it was. Then four imports run on
-one store at once, and again beside a server: each release that was answered OK has to be there
-after the next opening, and no other. What the machine lacks for a try is said and not counted. The
-status is 1 where something isn't as wanted. Standard library alone.
+paths, folders that are no release, files that never end, names with control characters, a full
+disk, too few files that may be open, a store that is in use and one whose file is replaced. Each
+time its reply, its status and the line on standard error have to be as wanted within ten seconds,
+and the store has to be left as it was. Then four imports run on one store at once, and again beside
+a server: each release that was answered OK has to be there after the next opening, and no other.
+What the machine lacks for a try is said and not counted. The status is 1 where something isn't as
+wanted. Standard library alone.
 """
 
 import os
+import pty
+import re
 import resource
 import select
 import shutil
@@ -27,6 +30,10 @@ ROOT = os.path.dirname(os.path.dirname(os.path.dirname(os.path.abspath(__file__)
 CONCEPTS = "sct2_Concept_Full_INT_20200131.txt"
 COLUMNS = "id\teffectiveTime\tactive\tmoduleId\tdefinitionStatusId\n"
 ROOT_ROW = "138875005\t%s\t1\t900000000000207008\t900000000000074008\n"
+# What tells the process that holds a store's lock.
+HOLDER = re.compile(r"in use by another process, whose id is (\d+)\n$")
+# The number of a user who owns nothing.
+OTHER_USER = 65534
 PARTS = "no folder Terminology or Refset/Content in it"
 
 
@@ -169,6 +176,93 @@ def try_telling(tries):
     tries.check("a release of few kinds", fine, got)
 
 
+def try_lacking(tries):
+    """A Full release with concepts and no descriptions, and files that stand in other folders."""
+    write_release(tries, "lacking/Full", "20200131")
+    stray = tries.path("releases", "lacking", "Full", "terminology", CONCEPTS)
+    write(stray, COLUMNS)
+    got = tries.run(["import", "--quiet", "--store", "named", "releases/lacking/Full"])
+    wanted = "sctd: warning: passed over terminology/%s, whose name is one to take: " % CONCEPTS
+    wanted += "a release has it in Terminology or Refset/Content\n"
+    for kind in ("Description", "Relationship"):
+        wanted += "sctd: warning: a Full file of concepts was taken, and no %s file\n" % kind
+    tries.check("what a Full release lacks", got[0] == 0 and got[2] == wanted, got)
+
+
+def try_forged(tries):
+    """Names and paths with control characters make no line of their own on standard error."""
+    forged = "store\nsctd: all is well\x1b[2J\r"
+    shown = "store\\nsctd: all is well\\u{1b}[2J\\r"
+    for words in (["init", "--store", "absent/" + forged],
+                  ["status", "--store", "absent/" + forged]):
+        tries.refused("a forged path to " + words[0], words, "ERR 2 DiskFault",
+                      "sctd: absent/%s: No such file" % shown)
+    tries.refused("a forged folder", ["serve", "--store", "store", "--releases", forged],
+                  "ERR 45 NoFolder", "sctd: %s: No such file" % shown)
+    made = tries.run(["init", "--store", forged])
+    tries.check("init of a forged path", made == (0, "OK\n", ""), made)
+    got = tries.run(["status", "--store", forged])
+    fine = got[2].startswith("sctd: %s: layout 2, " % shown) and got[2].count("\n") == 1
+    tries.check("the status of a forged path", fine, got)
+    name = CONCEPTS.replace(".txt", "\nsctd: took it.txt")
+    write(tries.path("releases", "forged", "Terminology", name), COLUMNS + "?\n")
+    got = tries.run(["import", "--store", forged, "releases/forged"])
+    lines = got[2].splitlines()
+    fine = got[1] == "ERR 23 Columns 1 2\n" and not any(line.startswith("sctd: took it") for line in lines)
+    fine = fine and any(CONCEPTS.replace(".txt", "\\nsctd: took it.txt, line 2: ") in line for line in lines)
+    tries.check("a forged name of a file", fine, got)
+    os.mkdir(tries.path("releases", "coded"))
+    os.mkdir(tries.path("releases", "coded", "Terminology"))
+    folder = os.fsencode(tries.path("releases", "coded", "Terminology"))
+    with open(folder + b"/caf\xe9\n.txt", "wb"):
+        pass
+    tries.import_refused("a name that isn't UTF-8", "coded", "ERR 45 NoFolder",
+                         "the name of a file in it isn't UTF-8: caf\\xe9\\n.txt\n")
+
+
+def try_new_rights(tries):
+    """A store is made for its owner alone, whatever the umask is; a file keeps its rights."""
+    made = tries.run(["init", "--store", "private"], before=lambda: os.umask(0))
+    mode = stat.S_IMODE(os.stat(tries.path("private")).st_mode)
+    tries.check("the rights of a store", made[1] == "OK\n" and mode == 0o600, (made, oct(mode)))
+    write(tries.path("given"), "")
+    os.chmod(tries.path("given"), 0o640)
+    made = tries.run(["init", "--store", "given"])
+    mode = stat.S_IMODE(os.stat(tries.path("given")).st_mode)
+    tries.check("the rights of a file that was there", made[1] == "OK\n" and mode == 0o640,
+                (made, oct(mode)))
+    os.symlink("linked", tries.path("link"))
+    made = tries.run(["init", "--store", "link"], before=lambda: os.umask(0))
+    mode = stat.S_IMODE(os.stat(tries.path("linked")).st_mode)
+    tries.check("the rights behind a link", made[1] == "OK\n" and mode == 0o600, (made, oct(mode)))
+
+
+def try_demonstration(tries):
+    """The questions of the demonstration are shown where its output is a terminal, and only there."""
+    plain = tries.run(["demo"])
+    tries.check("the demonstration", plain[0] == 0 and plain[2] == "", plain[2])
+    main, other = pty.openpty()
+    ran = subprocess.run([tries.program, "demo"], cwd=tries.place, stdin=subprocess.DEVNULL,
+                         stdout=other, stderr=other, timeout=SECONDS)
+    os.close(other)
+    shown = b""
+    while select.select([main], [], [], 0.1)[0]:
+        try:
+            piece = os.read(main, 65536)
+        except OSError:
+            break
+        if not piece:
+            break
+        shown += piece
+    os.close(main)
+    lines = shown.decode().replace("\r\n", "\n").split("\n")
+    asked = [line for line in lines if line.startswith("> ")]
+    others = "\n".join(line for line in lines if not line.startswith("> "))
+    fine = ran.returncode == 0 and lines[0] == "> 0 STATUS" and lines[1] == "OK 0 0 0 -"
+    tries.check("the demonstration on a terminal",
+                fine and len(asked) == 20 and others == plain[1], (lines[:4], len(asked)))
+
+
 def try_traps(tries):
     """Files that never end, and links that lead nowhere."""
     missing = "ERR 45 NoFolder"
@@ -198,6 +292,7 @@ def try_stores(tries):
     broken = "ERR 2 DiskFault"
     os.mkfifo(tries.path("pipe"))
     os.mkdir(tries.path("folder"))
+    write(tries.path("text"), "no store")
     places = [("a wrong path", "absent", "No such file"), ("a wrong folder", "absent/store", "No such file"),
               ("a folder", "folder", "Is a directory"), ("a FIFO", "pipe", "not a regular file"),
               ("a full device", "/dev/full", "not a regular file")]
@@ -207,9 +302,13 @@ def try_stores(tries):
             tries.refused(what + " to " + words[0], words, broken, path + ": " + why)
         if path != "absent":
             tries.refused(what + " to init", ["init", "--store", path], broken, path + ": " + why)
+    closed = ["serve", "--store", "store", "--releases"]
+    tries.refused("no folder of releases", closed + ["relaeses"], "ERR 45 NoFolder",
+                  "sctd: relaeses: No such file")
+    tries.refused("a file as the folder of releases", closed + ["text"], "ERR 45 NoFolder",
+                  "sctd: text: not a folder")
     tries.check("nothing was made", not os.path.exists(tries.path("absent")), "a file")
     tries.refused("init again", ["init", "--store", "store"], "ERR 4 NotEmpty", "store: the file isn't empty")
-    write(tries.path("text"), "no store")
     tries.refused("a text", ["serve", "--store", "text", "--releases", "releases"],
                   "ERR 7 NotAStore", "text: the file is no store")
 
@@ -252,6 +351,92 @@ def try_full_disk(tries):
         subprocess.run(["umount", small], check=False)
 
 
+def bytes_of(path):
+    with open(path, "rb") as file:
+        return file.read()
+
+
+def served_import(tries, what, change):
+    """An import by a server whose store's file is changed meanwhile: it has to be refused, and why
+    has to be told. What the store's path leads to by then, None if nothing."""
+    store = what.replace(" ", "-")
+    path = tries.path(store)
+    made = tries.run(["init", "--store", store])
+    tries.check("init", made[1] == "OK\n", made)
+    got = tries.run(["import", "--quiet", "--store", store, "--releases", "releases", "r1"])
+    tries.check("import", got[:2] == (0, "OK 1 1 0\n"), got)
+    server = start(tries, ["serve", "--store", store, "--releases", "releases"])
+    got = ask(server, "0 STATUS")
+    tries.check("the status", got == "OK 1 1 1 -\n", got)
+    change(path)
+    before = bytes_of(path) if os.path.exists(path) else None
+    got = ask(server, "0 IMPORT r2")
+    tries.check("an import into " + what, got == "ERR 2 DiskFault\n", got)
+    told = b"sctd: %s: the file was replaced or removed while it was open\n" % store.encode()
+    got = ended(server)
+    tries.check("what is told of " + what, got == (0, b"", told), got)
+    after = bytes_of(path) if os.path.exists(path) else None
+    tries.check("what was left of " + what, after == before, len(after or b""))
+    return after
+
+
+def move_copy(path):
+    shutil.copy(path, path + "-copy")
+    os.replace(path + "-copy", path)
+
+
+def link_copy(path):
+    shutil.copy(path, path + "-copy")
+    os.remove(path)
+    os.symlink(path + "-copy", path)
+
+
+def try_replaced(tries):
+    """Another file is put in the place of a store that is served, or the file goes or is cut."""
+    for what, change in (("a replaced file", move_copy), ("a linked copy", link_copy)):
+        content = served_import(tries, what, change)
+        got = tries.run(["status", "--store", what.replace(" ", "-")])
+        tries.check("the status of " + what, content and got[:2] == (0, "OK 1 1 1 -\n"), got)
+    served_import(tries, "a removed file", os.remove)
+    served_import(tries, "a cut file", lambda path: os.truncate(path, 16384))
+    # The path leads to the same file again.
+    tries.run(["init", "--store", "moved"])
+    server = start(tries, ["serve", "--store", "moved", "--releases", "releases"])
+    tries.check("the status", ask(server, "0 STATUS") == "OK 0 0 0 -\n", "another")
+    os.rename(tries.path("moved"), tries.path("away"))
+    os.rename(tries.path("away"), tries.path("moved"))
+    got = ask(server, "0 IMPORT r1")
+    tries.check("an import into a file that is back", got == "OK 1 1 0\n", got)
+    tries.check("its end", ended(server) == (0, b"", b""), "another")
+
+
+def try_other_user(tries):
+    """Another user's process has the lock: it is told which one."""
+    if os.geteuid() != 0:
+        tries.skip("the lock of another user", "it takes the superuser")
+        return
+    if shutil.which("flock") is None:
+        tries.skip("the lock of another user", "there is no flock")
+        return
+    made = tries.run(["init", "--store", "others"])
+    tries.check("init", made[1] == "OK\n", made)
+    os.chmod(tries.path("others"), 0o644)
+    os.chmod(tries.place, 0o755)
+    # It has the lock once it says something.
+    holder = subprocess.Popen(["flock", tries.path("others"), "cat"], user=OTHER_USER,
+                              stdin=subprocess.PIPE, stdout=subprocess.PIPE)
+    holder.stdin.write(b"locked\n")
+    holder.stdin.flush()
+    tries.check("the other user", holder.stdout.readline() == b"locked\n", "no lock")
+    got = tries.run(["status", "--store", "others"])
+    told = HOLDER.search(got[2])
+    fine = got[:2] == (1, "ERR 2 DiskFault\n") and told is not None
+    tries.check("the lock of another user", fine and int(told.group(1)) == holder.pid, got)
+    holder.communicate(timeout=SECONDS)
+    got = tries.run(["status", "--store", "others"])
+    tries.check("after the lock", got[:2] == (0, "OK 0 0 0 -\n"), got)
+
+
 def try_few_files(tries):
     """A process that may have five files open, as with `ulimit -n 5`: one too few to begin with."""
     got = tries.run(["status", "--store", "store"],
@@ -288,16 +473,20 @@ def ended(process):
     return process.returncode, output, faults
 
 
-def import_at_once(tries, what, store, names, may_pass):
-    """Imports them by processes of their own at once. The number of those that were answered OK."""
+def import_at_once(tries, what, store, names, holder=None):
+    """Imports them by processes of their own at once. The number of those that were answered OK.
+    Where the id of the process that holds the store is known, each has to be refused and to tell
+    it."""
     begun = [start(tries, ["import", "--store", store, "--releases", "releases", name]) for name in names]
     passed = 0
     for name, process in zip(names, begun):
         status, output, faults = ended(process)
-        if may_pass and status == 0 and output.startswith(b"OK "):
+        if holder is None and status == 0 and output.startswith(b"OK "):
             passed += 1
             continue
         fine = status == 1 and output == b"ERR 2 DiskFault\n" and b"in use by another" in faults
+        told = HOLDER.search(faults.decode())
+        fine = fine and (holder is None or (told is not None and int(told.group(1)) == holder))
         tries.check(what + ", " + name, fine, (status, output, faults))
     return passed
 
@@ -314,7 +503,7 @@ def try_at_once(tries):
     for turn in range(5):
         store = "shared%d" % turn
         tries.check("init", tries.run(["init", "--store", store])[1] == "OK\n", "no store")
-        passed = import_at_once(tries, "four at once", store, names, True)
+        passed = import_at_once(tries, "four at once", store, names)
         tries.check("one of four", passed >= 1, passed)
         got = count_imports(tries, store)
         tries.check("four at once", got == [str(passed), str(passed)], (passed, got))
@@ -323,11 +512,11 @@ def try_at_once(tries):
     server = start(tries, ["serve", "--store", "store", "--releases", "releases"])
     status = ask(server, "0 STATUS")
     tries.check("the server's status", status == "OK 0 0 0 -\n", status)
-    import_at_once(tries, "beside a server", "store", names, False)
+    import_at_once(tries, "beside a server", "store", names, server.pid)
     replies = [ask(server, "0 IMPORT " + name) for name in names]
     wanted = ["OK %d 1 0\n" % number for number in range(1, 5)]
     tries.check("the server's imports", replies == wanted, replies)
-    import_at_once(tries, "beside a server", "store", names, False)
+    import_at_once(tries, "beside a server", "store", names, server.pid)
     got = ended(server)
     tries.check("the end of the server", got[:2] == (0, b""), got)
     got = count_imports(tries, "store")
@@ -344,8 +533,9 @@ def main(words):
             write_release(tries, "r%d" % number, "%d0131" % (2019 + number))
         made = tries.run(["init", "--store", "store"])
         tries.check("init", made == (0, "OK\n", ""), made)
-        for part in (try_folders, try_names, try_telling, try_traps, try_stores, try_rights,
-                     try_full_disk, try_few_files, try_at_once):
+        for part in (try_folders, try_names, try_telling, try_lacking, try_forged, try_new_rights,
+                     try_demonstration, try_traps, try_stores, try_rights,
+                     try_full_disk, try_few_files, try_replaced, try_other_user, try_at_once):
             part(tries)
     print("%d tried, %d not as wanted, %d skipped" % (tries.done, tries.wrong, tries.skipped))
     return 1 if tries.wrong else 0

@@ -23,6 +23,7 @@ SCRIPTS: list[tuple[str, ...]] = [
     ("trials/try_mistakes.py",),
     ("trials/check_syncs.py",),
     ("trials/try_hub.py",),
+    ("trials/try_operators.py",),
     ("trials/refuse_growths.py", "script"),
     ("trials/soak.py", "12", "1"),
     ("trials/soak.py", "12", "2"),

@@ -1,5 +1,5 @@
 -- What lines of a merge leave of a store.
-use Rattle.std.proofs.Common.{◌≡◌, ℕ, ◌+◌, List, [], ◌∷◌, ◌++◌, length, codes, true, false, slice_set, min, Option, Some, None, Result, Ok, Err, IsOk, IsErr, refl, ap, sym, subst, ◌∙◌, arith, inl, inr, ◌<◌, ◌≤◌, ◌-◌}
+use Rattle.std.proofs.Common.{◌≡◌, ◌⊎◌, ℕ, ◌+◌, List, [], ◌∷◌, ◌++◌, length, codes, true, false, slice_set, min, Option, Some, None, Result, Ok, Err, IsOk, IsErr, refl, ap, sym, subst, ◌∙◌, arith, inl, inr, ◌<◌, ◌≤◌, ◌-◌}
 use Rattle.store_life.specs.DeviceView.{DeviceView}
 use Rattle.std.specs.Prelude.{unwrap_or, option_map}
 use Rattle.std.specs.Fmt.{digits}
@@ -17,15 +17,15 @@ use Rattle.history_store.specs.Catalog.{Catalog, Merge as CatalogMerge, plain_co
 use Rattle.history_store.specs.Merging.{IsBegun, IsStepped, IsPublished, GoesOn, IsFinished}
 use Rattle.history_store.specs.MergeAnswers.{IsNotBegun, IsNotStepped, IsNotPublished, IsNotTrimmed}
 use Rattle.history_store.specs.StoreValue.{StoreValue}
-use Rattle.line_commands.specs.Commands.{Command, Merge, Step, Publish, Trim, Import}
+use Rattle.line_commands.specs.Commands.{Command, Merge, Step, Publish, Trim}
 use Rattle.line_commands.specs.Requests.{Asks}
 use Rattle.line_commands.proofs.Readings.{one_reading, asked_is_read}
 use Rattle.line_server.specs.declared.refusal.LineRefusal.{LineRefusal}
 use Rattle.line_server.specs.declared.refusal.LineRefusal.TheVariants as refusals
 use Rattle.line_server.specs.Sources.{Releases, no_releases}
 use Rattle.line_server.specs.ReplyValue.{Answer, ReplyValue, reply_value}
-use Rattle.line_server.specs.Pins.{unpinned}
-use Rattle.line_server.specs.Replies.{Server, Replies, IsAnswer, IsRefusal, server}
+use Rattle.line_server.specs.StateValue.{StateValue, fresh}
+use Rattle.line_server.specs.Replies.{Server, Replies, IsAnswer, IsRefusal, IsRefusedForDamage, IsPerformed, server}
 use Rattle.store_life.specs.Life.{Call, Imported, Failed, Other, taken, TakesAll}
 use Rattle.line_server.specs.Turns.{Turn, IsTurn, IsOfAsked}
 use Rattle.command_line.specs.Merging.{HasNoMerge, Merges, IsMergeLine, IsHalt, IsHaltedBy, IsMergedTo, IsMergedAndAsked, TellsLines, rows_left, segments_of, trim_line}
@@ -58,20 +58,34 @@ module _ {D : Type 0} (honest : Type 0) (releases : Releases) (old new : Server 
       → (answer : Answer) × IsAnswer honest releases session command answer old new
   answered (Ok answer) ok (inl r) =
       let same = one_reading line r.0 session r.1 command r.2 asks in
-      (answer, rw (← same.0, ← same.1) r.3)
+      (answer, performed r.0 r.1 same.0 same.1 r.3) where
+        performed : (s : ℕ) (c : Command) → s ≡ session → c ≡ command → IsRefusedForDamage c (Ok answer) old new ⊎ IsPerformed honest releases s c (Ok answer) old new → IsAnswer honest releases session command answer old new
+        performed s c at is (inl h) = let no : Ok answer ≡ Err (refusals.Store store.Damaged) = h.refused in cc
+        performed s c at is (inr h) = rw (← at, ← is) h.comes_out
   answered (Ok answer) ok (inr r) = let no : Ok answer ≡ Err (refusals.Unread r.0) = r.2 in cc
   answered (Err refusal) ok r = let no : false ≡ true = ok in absurd (false≢true no)
 
-  -- and one that was refused was refused as its command is
+  -- and one that was refused was refused as its command is, or since damage was met
+  abbrev IsRefusedSo : LineRefusal → Type 0
+  IsRefusedSo refusal = (refusal ≡ refusals.Store store.Damaged) ⊎ IsRefusal honest releases session command refusal old new
+
   refused_as : (outcome : Result Answer LineRefusal) → IsErr outcome → Replies honest releases line outcome old new
-      → (refusal : LineRefusal) × (outcome ≡ Err refusal) × IsRefusal honest releases session command refusal old new
+      → (refusal : LineRefusal) × (outcome ≡ Err refusal) × IsRefusedSo refusal
   refused_as (Ok answer) err r = let no : false ≡ true = err in absurd (false≢true no)
   refused_as (Err refusal) err (inl r) =
       let same = one_reading line r.0 session r.1 command r.2 asks in
-      (refusal, refl, rw (← same.0, ← same.1) r.3)
+      (refusal, refl, performed r.0 r.1 same.0 same.1 r.3) where
+        performed : (s : ℕ) (c : Command) → s ≡ session → c ≡ command → IsRefusedForDamage c (Err refusal) old new ⊎ IsPerformed honest releases s c (Err refusal) old new → IsRefusedSo refusal
+        performed s c at is (inl h) = inl (let so : Err refusal ≡ Err (refusals.Store store.Damaged) = h.refused in cc)
+        performed s c at is (inr h) = inr (rw (← at, ← is) h.comes_out)
   refused_as (Err refusal) err (inr r) = absurd (asked_is_read line session command r.0 asks r.1)
 
 -- ---- why a line of a merge is refused
+
+-- damage halts it, and so does what its command is refused for
+halts_so : {Refused : Type 0} (refusal : LineRefusal) → (Refused → IsHalt (Err refusal)) → (refusal ≡ refusals.Store store.Damaged) ⊎ Refused → IsHalt (Err refusal)
+halts_so refusal halts (inl is) = subst (λ (r : LineRefusal). IsHalt (Err r)) (sym is) tt
+halts_so refusal halts (inr r) = halts r
 
 not_closed : {D : Type 0} (s : StoreValue D) → s.needs_reopen ≡ true → s.needs_reopen ≡ false → ⊥
 not_closed s closed open_still = false≢true (sym open_still ∙ closed)
@@ -116,25 +130,25 @@ module _ {D : Type 0} (honest : Type 0) (releases : Releases) (old new : Server 
   merge_halts : (refusal : LineRefusal) → IsRefusal honest releases 0 Merge refusal old new → IsAtRest old → 2 ≤ segments_of old → IsHalt (Err refusal)
   merge_halts (refusals.Unread reason) r rest two = absurd r
   merge_halts refusals.PinRange r rest two = absurd r.0
-  merge_halts refusals.NoFolder r rest two = let no : Merge ≡ Import r.0 = r.1 in cc
+  merge_halts refusals.NoFolder r rest two = absurd r.1
   merge_halts (refusals.Store e) r rest two = not_begun e old.store r.0.0 rest.0 rest.1 two
 
   step_halts : (n : ℕ) (refusal : LineRefusal) → IsRefusal honest releases 0 (Step n) refusal old new → IsMerging old → IsHalt (Err refusal)
   step_halts n (refusals.Unread reason) r on = absurd r
   step_halts n refusals.PinRange r on = absurd r.0
-  step_halts n refusals.NoFolder r on = let no : Step n ≡ Import r.0 = r.1 in cc
+  step_halts n refusals.NoFolder r on = absurd r.1
   step_halts n (refusals.Store e) r on = not_stepped e old.store n r.0.0 on.0 on.1
 
   publish_halts : (refusal : LineRefusal) → IsRefusal honest releases 0 Publish refusal old new → HasMerged old → IsHalt (Err refusal)
   publish_halts (refusals.Unread reason) r done = absurd r
   publish_halts refusals.PinRange r done = absurd r.0
-  publish_halts refusals.NoFolder r done = let no : Publish ≡ Import r.0 = r.1 in cc
+  publish_halts refusals.NoFolder r done = absurd r.1
   publish_halts (refusals.Store e) r done = not_published e old.store r.0.0 done.0 done.1
 
   trim_halts : (refusal : LineRefusal) → IsRefusal honest releases 0 Trim refusal old new → IsAtRest old → IsHalt (Err refusal)
   trim_halts (refusals.Unread reason) r rest = absurd r
   trim_halts refusals.PinRange r rest = absurd r.0
-  trim_halts refusals.NoFolder r rest = let no : Trim ≡ Import r.0 = r.1 in cc
+  trim_halts refusals.NoFolder r rest = absurd r.1
   trim_halts (refusals.Store e) r rest = not_trimmed e old.store r.0.0 rest.0
 
 -- ---- how many segments stand then
@@ -210,22 +224,22 @@ module _ {D : Type 0} (view : DeviceView D) where
   pub merge_stops : (most : ℕ) (old new : Server D) (turn : Turn) → turn.line ≡ codes "0 MERGE" → IsErr turn.outcome → IsAtRest old → most < segments_of old → Goes old turn new → 1 ≤ most → IsHalt turn.outcome
   merge_stops most old new turn is err rest more t one =
       let r = refused_as (view.is_honest old.store.disk) t.releases old new turn.line 0 Merge (rw is merge_asks) turn.outcome err t.goes.replies in
-      subst IsHalt (sym r.1) (merge_halts (view.is_honest old.store.disk) t.releases old new r.0 r.2 rest (omega (arith, more, one)))
+      subst IsHalt (sym r.1) (halts_so r.0 (λ so. merge_halts (view.is_honest old.store.disk) t.releases old new r.0 so rest (omega (arith, more, one))) r.2)
 
   pub step_stops : (old new : Server D) (turn : Turn) → turn.line ≡ codes "0 STEP 100000" → IsErr turn.outcome → IsMerging old → Goes old turn new → IsHalt turn.outcome
   step_stops old new turn is err on t =
       let r = refused_as (view.is_honest old.store.disk) t.releases old new turn.line 0 (Step 100000) (rw is step_asks) turn.outcome err t.goes.replies in
-      subst IsHalt (sym r.1) (step_halts (view.is_honest old.store.disk) t.releases old new 100000 r.0 r.2 on)
+      subst IsHalt (sym r.1) (halts_so r.0 (λ so. step_halts (view.is_honest old.store.disk) t.releases old new 100000 r.0 so on) r.2)
 
   publish_stops : (old new : Server D) (turn : Turn) → turn.line ≡ codes "0 PUBLISH" → IsErr turn.outcome → HasMerged old → Goes old turn new → IsHalt turn.outcome
   publish_stops old new turn is err done t =
       let r = refused_as (view.is_honest old.store.disk) t.releases old new turn.line 0 Publish (rw is publish_asks) turn.outcome err t.goes.replies in
-      subst IsHalt (sym r.1) (publish_halts (view.is_honest old.store.disk) t.releases old new r.0 r.2 done)
+      subst IsHalt (sym r.1) (halts_so r.0 (λ so. publish_halts (view.is_honest old.store.disk) t.releases old new r.0 so done) r.2)
 
   trim_stops : (old new : Server D) (turn : Turn) → turn.line ≡ trim_line → IsErr turn.outcome → IsAtRest old → Goes old turn new → IsHalt turn.outcome
   trim_stops old new turn is err rest t =
       let r = refused_as (view.is_honest old.store.disk) t.releases old new turn.line 0 Trim (rw is trim_asks) turn.outcome err t.goes.replies in
-      subst IsHalt (sym r.1) (trim_halts (view.is_honest old.store.disk) t.releases old new r.0 r.2 rest)
+      subst IsHalt (sym r.1) (halts_so r.0 (λ so. trim_halts (view.is_honest old.store.disk) t.releases old new r.0 so rest) r.2)
 
   -- ---- lines one after the other
 
@@ -402,18 +416,18 @@ module _ {D : Type 0} (view : DeviceView D) where
   -- ---- the whole
 
   -- so many segments stand, and the status was asked for
-  pub asked_status : (most : ℕ) (old mid : Server D) (pins : List (Option ℕ)) (after store : StoreValue D) (last : Turn) (left : D) (r : Report)
-      → old ≡ server unpinned store → IsMergedTo view most old mid → last.line ≡ status_line → Goes mid last (server pins after)
+  pub asked_status : (most : ℕ) (old mid : Server D) (state : StateValue) (after store : StoreValue D) (last : Turn) (left : D) (r : Report)
+      → old ≡ server fresh store → IsMergedTo view most old mid → last.line ≡ status_line → Goes mid last (server state after)
       → Tells r last.outcome → left ≡ after.disk → TellsLines view most left r store
-  asked_status most old mid pins after store last left r from merged is t told so =
-      let goes : IsMergedAndAsked view most last (server unpinned store) (server pins after) =
-      subst (λ (d : Server D). IsMergedAndAsked view most last d (server pins after)) from (mid, merged, is, t) in
-      record { last = last; pins = pins; after = after; goes = inl goes; told = told; left_so = so; history = merged_keeps most (server unpinned store) (server pins after) last goes }
+  asked_status most old mid state after store last left r from merged is t told so =
+      let goes : IsMergedAndAsked view most last (server fresh store) (server state after) =
+      subst (λ (d : Server D). IsMergedAndAsked view most last d (server state after)) from (mid, merged, is, t) in
+      record { last = last; state = state; after = after; goes = inl goes; told = told; left_so = so; history = merged_keeps most (server fresh store) (server state after) last goes }
 
-  pub told_refusal : (most : ℕ) (old : Server D) (pins : List (Option ℕ)) (after store : StoreValue D) (last : Turn) (left : D) (r : Report)
-      → old ≡ server unpinned store → IsHaltedBy view most last old (server pins after)
+  pub told_refusal : (most : ℕ) (old : Server D) (state : StateValue) (after store : StoreValue D) (last : Turn) (left : D) (r : Report)
+      → old ≡ server fresh store → IsHaltedBy view most last old (server state after)
       → Tells r last.outcome → left ≡ after.disk → TellsLines view most left r store
-  told_refusal most old pins after store last left r from halted told so =
-      let goes : IsHaltedBy view most last (server unpinned store) (server pins after) =
-      subst (λ (d : Server D). IsHaltedBy view most last d (server pins after)) from halted in
-      record { last = last; pins = pins; after = after; goes = inr goes; told = told; left_so = so; history = halted_keeps most (server unpinned store) (server pins after) last goes }
+  told_refusal most old state after store last left r from halted told so =
+      let goes : IsHaltedBy view most last (server fresh store) (server state after) =
+      subst (λ (d : Server D). IsHaltedBy view most last d (server state after)) from halted in
+      record { last = last; state = state; after = after; goes = inr goes; told = told; left_so = so; history = halted_keeps most (server fresh store) (server state after) last goes }

@@ -8,7 +8,11 @@ pub mod Endings
 pub mod Paths
 pub mod Words
 pub mod Devices
+pub mod NamedDisks
 pub mod Tasks
 pub mod Merging
+pub mod Checking
+pub mod Digests
+pub mod Copies
 pub mod Runs
 pub mod Private

@@ -14,7 +14,7 @@ use Rattle.history_store.specs.StoreValue.{StoreValue}
 use Rattle.line_server.specs.declared.refusal.LineRefusal.{LineRefusal}
 use Rattle.line_server.specs.declared.refusal.LineRefusal.TheVariants as refusals
 use Rattle.line_server.specs.ReplyValue.{Answer}
-use Rattle.line_server.specs.Pins.{unpinned}
+use Rattle.line_server.specs.StateValue.{StateValue, fresh}
 use Rattle.line_server.specs.Replies.{Server, server}
 use Rattle.line_server.specs.Turns.{Turn, IsTurn}
 use Rattle.command_line.specs.Endings.{Report, Tells}
@@ -108,10 +108,10 @@ IsMergedAndAsked {D} view most last old new =
 pub record TellsLines {D : Type 0} (view : DeviceView D) (most : ℕ) (left : D) (report : Report)
     (store : StoreValue D) : Type 0 where
   pub last : Turn
-  pub pins : List (Option ℕ)
+  pub state : StateValue
   pub after : StoreValue D
-  pub goes : IsMergedAndAsked view most last (server unpinned store) (server pins after)
-      ⊎ IsHaltedBy view most last (server unpinned store) (server pins after)
+  pub goes : IsMergedAndAsked view most last (server fresh store) (server state after)
+      ⊎ IsHaltedBy view most last (server fresh store) (server state after)
   pub told : Tells report last.outcome
   pub left_so : left ≡ after.disk
   -- what stands in the store stays the same

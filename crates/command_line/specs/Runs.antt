@@ -13,7 +13,7 @@ use Rattle.clap.specs.Values.{kind_of}
 use Rattle.clap.specs.declared.error.kind.ErrorKind.{ErrorKind}
 use Rattle.clap.specs.declared.error.kind.ErrorKind.TheVariants.{DisplayHelp, DisplayVersion}
 use Rattle.history_store.specs.declared.refusal.Refusal.TheVariants.{DiskFault}
-use Rattle.line_server.specs.declared.refusal.LineRefusal.TheVariants.{Store}
+use Rattle.line_server.specs.declared.refusal.LineRefusal.TheVariants.{Store, NoFolder}
 use Rattle.line_server.specs.declared.serving.ServeFault.{ServeFault}
 use Rattle.line_server.specs.Sources.{Releases, SourceView, source_view}
 use Rattle.line_server.specs.Streams.{Streams, streams}
@@ -28,17 +28,27 @@ use Rattle.command_line.specs.Words.{AskFor, AskForNone}
 use Rattle.command_line.specs.Merging.{IsMergedOnDisk}
 use Rattle.command_line.specs.Tasks.{IsMade, IsImport, IsStatus, IsServing, IsServingNew}
 use Rattle.command_line.specs.Tasks.{IsUpgrade}
+use Rattle.command_line.specs.Checking.{IsCheck}
+use Rattle.command_line.specs.Digests.{IsDigest}
+use Rattle.command_line.specs.Copies.{IsCopyMade, IsRemoved}
 
 -- What the words can name, as clauses see it: which device stands under a name, or is made there,
--- and whether it can't be had; whether the name stays; and the releases of each folder, if they are
--- honest.
+-- and whether it can't be had; which one is made where nothing may stand, or that none is; whether
+-- the name stays; whether what was made is removed; whether there is a folder of a name to look for
+-- releases in; and the releases of each folder, if they are honest.
 pub record SystemView (D : Type 0) : Type 1 where
   pub stands : List ℕ → D → Type 0
   pub withholds : List ℕ → Type 0
   pub makes : List ℕ → D → Type 0
   pub denies : List ℕ → Type 0
+  pub creates : List ℕ → D → Type 0
+  pub occupies : List ℕ → Type 0
   pub keeps : List ℕ → Type 0
   pub loses : List ℕ → Type 0
+  pub removes : List ℕ → Type 0
+  pub retains : List ℕ → Type 0
+  pub finds : List ℕ → Type 0
+  pub lacks : List ℕ → Type 0
   pub is_honest : Type 0
   pub releases : List ℕ → Releases
   pub device : DeviceView D
@@ -68,6 +78,39 @@ IsMadeAt {D} layout system name left report =
     × (left ≡ Some device))
     ⊎ (system.denies name × IsMissing report × (left ≡ None))
 
+-- The first imports of what stands under a name, or all, were copied to what was made under another
+-- one, where nothing stood, once it was seen that the new name stays. Where one of the two can't be
+-- had, or the new name isn't seen to stay, that was told: what was made is removed, and the other
+-- one was left as it was.
+abbrev pub IsCopiedAt : {D : Type 0} → SystemView D → (name to : List ℕ) → Option ℕ
+    → (left made : Option D) → Report → Type 0
+IsCopiedAt {D} system name to imports left made report =
+    (system.withholds name × IsMissing report × (left ≡ None) × (made ≡ None))
+    ⊎ ((source : D) × system.stands name source × system.occupies to × IsMissing report
+    × (left ≡ Some source) × (made ≡ None))
+    ⊎ ((source : D) × (target : D) × system.stands name source × system.creates to target
+    × system.loses to × IsMissing report × (left ≡ Some source)
+    × IsRemoved (system.removes to) (system.retains to) target made)
+    ⊎ ((source : D) × (target : D) × system.stands name source × system.creates to target
+    × system.keeps to
+    × IsCopyMade system.device (system.removes to) (system.retains to) imports source target left
+    made report)
+
+-- The lines were served from what is under a name, with the releases of a folder that was found.
+-- Where there is no such folder, that was told, nothing was read, and what is under the name was left
+-- as it was. Where nothing can be had under the name, that was told, and nothing was read.
+abbrev pub IsServedAt : {D : Type 0} → SystemView D → List ℕ → List ℕ → Option D
+    → Result Ending ServeFault → Streams → Type 0
+IsServedAt {D} system name releases left ended streams =
+    IsDoneAt (system.stands name)
+    (λ device after. system.finds releases
+    × IsServing (source_in system releases) system.device device after ended streams)
+    (IsMissing (report ended streams.old streams.new) × (streams.rest ≡ streams.input)
+    × system.withholds name) left
+    ⊎ ((device : D) × system.stands name device × system.lacks releases
+    × Tells (report ended streams.old streams.new) (Err NoFolder) × (streams.rest ≡ streams.input)
+    × (left ≡ Some device))
+
 -- the lines of the script were served, as lines that come in
 -- are, from a new store in memory and the sample releases
 pub record IsDemonstrated (script : List ℕ) (report : Report) : Type 0 where
@@ -79,62 +122,90 @@ pub record IsDemonstrated (script : List ℕ) (report : Report) : Type 0 where
       (device_view (λ _. Unit {0}) memory_moments failure_count bytes_read_of)
       disk left report.ended (streams (Some script) rest report.old report.new)
 
--- how each task is done, and how its device is left: a store is made on what was made under its
--- name, and all else is done on what was under its name; only a server reads, and the demonstration
--- has no device
-abbrev pub Does : {D : Type 0} → SystemView D → List ℕ → Task → Option D
+-- the lines of the script were served so, what was written went out at the end, and the status is 0
+-- only where that ended well
+pub record IsDemonstration (script : List ℕ) (status : ℕ) (old new : Option (List ℕ)) : Type 0 where
+  pub ended : Result Ending ServeFault
+  pub written : Option (List ℕ)
+  pub does : IsDemonstrated script (report ended old written)
+  pub kept : Keeps written new
+  pub done : status ≡ 0 → ended ≡ Ok Done
+
+-- how each task is done, and how its device is left, and the one that it made for a copy: a store
+-- is made on what was made under its name, and all else is done on what was under its name; only a
+-- server reads, and the demonstration has no device
+abbrev pub Does : {D : Type 0} → SystemView D → List ℕ → Task → (left made : Option D)
     → Result Ending ServeFault → Streams → Type 0
-Does system script (tasks.Init store layout) left ended streams =
+Does system script (tasks.Init store layout) left made ended streams =
     IsMadeAt layout system store.now left (report ended streams.old streams.new)
-    × (streams.rest ≡ streams.input)
-Does system script (tasks.Import store releases name quiet) left ended streams =
+    × (streams.rest ≡ streams.input) × (made ≡ None)
+Does system script (tasks.Import store releases name quiet) left made ended streams =
     IsDoneAt (system.stands store.now)
     (λ device after. IsImport (source_in system releases.now) system.device name.now device after
     (report ended streams.old streams.new))
     (IsMissing (report ended streams.old streams.new) × system.withholds store.now) left
-    × (streams.rest ≡ streams.input)
-Does system script (tasks.Status store) left ended streams =
+    × (streams.rest ≡ streams.input) × (made ≡ None)
+Does system script (tasks.Check store releases name quiet) left made ended streams =
+    IsDoneAt (system.stands store.now)
+    (λ device after. IsCheck (source_in system releases.now) system.device name.now device after
+    (report ended streams.old streams.new))
+    (IsMissing (report ended streams.old streams.new) × system.withholds store.now) left
+    × (streams.rest ≡ streams.input) × (made ≡ None)
+Does system script (tasks.Status store) left made ended streams =
     IsDoneAt (system.stands store.now)
     (λ device after. IsStatus system.device device after (report ended streams.old streams.new))
     (IsMissing (report ended streams.old streams.new) × system.withholds store.now) left
-    × (streams.rest ≡ streams.input)
-Does system script (tasks.Serve store releases) left ended streams =
-    IsDoneAt (system.stands store.now)
-    (λ device after. IsServing (source_in system releases.now) system.device device after ended
-    streams)
-    (IsMissing (report ended streams.old streams.new) × (streams.rest ≡ streams.input)
-    × system.withholds store.now) left
-Does system script (tasks.Merge store segments) left ended streams =
+    × (streams.rest ≡ streams.input) × (made ≡ None)
+Does system script (tasks.Serve store releases) left made ended streams =
+    IsServedAt system store.now releases.now left ended streams × (made ≡ None)
+Does system script (tasks.Merge store segments) left made ended streams =
     IsDoneAt (system.stands store.now)
     (λ device after. IsMergedOnDisk system.device segments device after
     (report ended streams.old streams.new))
     (IsMissing (report ended streams.old streams.new) × system.withholds store.now) left
+    × (streams.rest ≡ streams.input) × (made ≡ None)
+Does system script (tasks.Copy store to imports) left made ended streams =
+    IsCopiedAt system store.now to.now imports left made (report ended streams.old streams.new)
     × (streams.rest ≡ streams.input)
-Does system script (tasks.Upgrade store) left ended streams =
+Does system script (tasks.Digest store imports) left made ended streams =
+    IsDoneAt (system.stands store.now)
+    (λ device after. IsDigest system.device imports device after
+    (report ended streams.old streams.new))
+    (IsMissing (report ended streams.old streams.new) × system.withholds store.now) left
+    × (streams.rest ≡ streams.input) × (made ≡ None)
+Does system script (tasks.Upgrade store) left made ended streams =
     IsDoneAt (system.stands store.now)
     (λ device after. IsUpgrade system.device device after (report ended streams.old streams.new))
     (IsMissing (report ended streams.old streams.new) × system.withholds store.now) left
-    × (streams.rest ≡ streams.input)
-Does system script tasks.Demo left ended streams =
+    × (streams.rest ≡ streams.input) × (made ≡ None)
+Does system script tasks.Demo left made ended streams =
     IsDemonstrated script (report ended streams.old streams.new) × (left ≡ None)
-    × (streams.rest ≡ streams.input)
+    × (streams.rest ≡ streams.input) × (made ≡ None)
 
--- how often a task asks for what holds a store: the demonstration never, and any other once
-abbrev pub AsksFor : Task → ℕ → ℕ → Type 0
-AsksFor tasks.Demo old new = new ≡ old
-AsksFor _ old new = new ≡ raised_by old 1
+-- a copy asks for a second device where it has what it copies
+abbrev pub AsksForPair : {D : Type 0} → Option D → ℕ → ℕ → Type 0
+AsksForPair None old new = new ≡ raised_by old 1
+AsksForPair (Some source) old new = new ≡ raised_by (raised_by old 1) 1
+
+-- how often a task asks for what holds a store: the demonstration never, a copy for each of the
+-- two, and any other once
+abbrev pub AsksFor : {D : Type 0} → Task → Option D → ℕ → ℕ → Type 0
+AsksFor tasks.Demo left old new = new ≡ old
+AsksFor (tasks.Copy store to imports) left old new = AsksForPair left old new
+AsksFor _ left old new = new ≡ raised_by old 1
 
 -- The words ask for a task, and it was done. The status is 0 only where it ended so. So many
 -- devices had been asked for before it, and so many after it.
 pub record IsRun {D : Type 0} (system : SystemView D) (script : List ℕ) (words : List (List ℕ))
-    (left : Option D) (status : ℕ) (known : Streams) (before after : ℕ) : Type 0 where
+    (left made : Option D) (status : ℕ) (known : Streams) (before after : ℕ) : Type 0 where
   pub task : Task
   pub asked : AskFor words task
-  pub devices : AsksFor task before after
+  pub devices : AsksFor task left before after
   pub ended : Result Ending ServeFault
   -- what was written, and went out at the end
   pub written : Option (List ℕ)
-  pub does : Does system script task left ended (streams known.input known.rest known.old written)
+  pub does : Does system script task left made ended
+      (streams known.input known.rest known.old written)
   pub kept : Keeps written known.new
   pub at_most : status ≤ 1
   pub done : status ≡ 0 → ended ≡ Ok Done
@@ -151,11 +222,12 @@ IsExplained (refusals.Words error) status old new =
     × ((IsFaulty (kind_of error) → ⊥) → status ≤ 1)
 
 -- the words ask for no task, and that was told; no device was asked for, and none is left
-pub record IsNoTask {D : Type 0} (words : List (List ℕ)) (left : Option D) (status : ℕ)
+pub record IsNoTask {D : Type 0} (words : List (List ℕ)) (left made : Option D) (status : ℕ)
     (known : Streams) (before after : ℕ) : Type 0 where
   pub refused : Refused
   pub asked : AskForNone words refused
   pub explained : IsExplained refused status known.old known.new
   pub unread : known.rest ≡ known.input
   pub none_left : left ≡ None
+  pub none_made : made ≡ None
   pub none_asked : after ≡ before

@@ -15,7 +15,7 @@ use Rattle.line_server.specs.declared.refusal.LineRefusal.TheVariants.{Store}
 use Rattle.line_server.specs.declared.serving.ServeFault.{ServeFault}
 use Rattle.line_server.specs.Sources.{SourceView, no_releases}
 use Rattle.line_server.specs.ReplyValue.{Answer, Done as AllDone}
-use Rattle.line_server.specs.Pins.{unpinned}
+use Rattle.line_server.specs.StateValue.{StateValue, fresh}
 use Rattle.line_server.specs.Replies.{server}
 use Rattle.line_server.specs.Turns.{HasTurn}
 use Rattle.line_server.specs.Serving.{IsServed}
@@ -45,11 +45,17 @@ pub record IsMade {D : Type 0} (layout : Layout) (view : DeviceView D) (device l
 -- reply was told, and the device was left as it then was.
 pub record IsLineTold {D : Type 0} (source : SourceView) (view : DeviceView D) (line : List ℕ)
     (store : StoreValue D) (left : D) (report : Report) : Type 0 where
-  pub pins : List (Option ℕ)
+  pub state : StateValue
   pub after : StoreValue D
-  pub told : HasTurn source view line (server unpinned store) (server pins after)
+  pub told : HasTurn source view line (server fresh store) (server state after)
       (λ turn. Tells report turn.outcome)
   pub left_so : left ≡ after.disk
+
+-- the line was answered so, or memory ran out for the line itself
+abbrev pub AnswersLine : {D : Type 0} → SourceView → DeviceView D → List ℕ → D → Report
+    → StoreValue D → Type 0
+AnswersLine source view line left report store = IsLineTold source view line store left report
+    ⊎ (Tells report (Err (Store OutOfMemory)) × (left ≡ store.disk))
 
 -- the task was done on the store; or it was told why there is none, and the device was left as the
 -- opening left it
@@ -74,8 +80,7 @@ import_line name = codes "0 IMPORT " ++ name
 abbrev pub Imports : {D : Type 0} → SourceView → DeviceView D → List ℕ → D → Report → StoreValue D
     → Type 0
 Imports source view name left report store =
-    IsLineTold source view (import_line name) store left report
-    ⊎ (Tells report (Err (Store OutOfMemory)) × (left ≡ store.disk))
+    AnswersLine source view (import_line name) left report store
 
 -- the store was opened from this device, and the release was imported into it
 abbrev pub IsImport : {D : Type 0} → SourceView → DeviceView D → List ℕ → D → D → Report → Type 0

@@ -1,5 +1,5 @@
 -- What the words of the command line ask for. They are read as clap reads words by these commands.
-use Rattle.std.specs.Prelude.{◌≡◌, ◌↔◌, true, List, codes, Option, Some, None}
+use Rattle.std.specs.Prelude.{◌≡◌, ◌↔◌, ℕ, Bool, true, List, codes, Option, Some, None}
 use Rattle.clap.specs.Walk.{Text, Row, Rule, first_of}
 use Rattle.clap.specs.Simple.{App, new_rule, new_app, with_rule, with_subcommand, subcommand_of}
 use Rattle.clap.specs.Kinds.{IsAmong}
@@ -52,8 +52,8 @@ serve_command = with_rule (with_rule (new_app (codes "serve")) (option (codes "s
 
 abbrev pub import_command : App
 import_command = with_rule (with_rule
-    (with_rule (with_rule (new_app (codes "import")) (option (codes "store")))
-    (optional (codes "releases"))) (flag (codes "quiet")))
+    (with_rule (with_rule (with_rule (new_app (codes "import")) (option (codes "store")))
+    (optional (codes "releases"))) (flag (codes "check"))) (flag (codes "quiet")))
     (wanted (codes "name"))
 
 abbrev pub status_command : App
@@ -71,6 +71,22 @@ abbrev pub merge_command : App
 merge_command =
     with_rule (with_rule (new_app (codes "merge")) (option (codes "store"))) segments_option
 
+-- the option `--imports`: a number of imports
+abbrev pub imports_option : Rule
+imports_option = record (option (codes "imports")) {
+  parser = Some (Unsigned 0 4294967295);
+  required = false;
+}
+
+abbrev pub copy_command : App
+copy_command = with_rule
+    (with_rule (with_rule (new_app (codes "copy")) (option (codes "store"))) (option (codes "to")))
+    imports_option
+
+abbrev pub digest_command : App
+digest_command =
+    with_rule (with_rule (new_app (codes "digest")) (option (codes "store"))) imports_option
+
 abbrev pub upgrade_command : App
 upgrade_command = with_rule (new_app (codes "upgrade")) (option (codes "store"))
 
@@ -87,8 +103,9 @@ empty_program = record {
 abbrev pub program : App
 program =
     with_subcommand (with_subcommand (with_subcommand (with_subcommand (with_subcommand
-    (with_subcommand (with_subcommand empty_program init_command.top) import_command.top)
-    serve_command.top) status_command.top) merge_command.top) upgrade_command.top) demo_command.top
+    (with_subcommand (with_subcommand (with_subcommand (with_subcommand empty_program
+    init_command.top) import_command.top) serve_command.top) status_command.top) merge_command.top)
+    copy_command.top) digest_command.top) upgrade_command.top) demo_command.top
 
 -- ---- what is asked for
 
@@ -100,14 +117,44 @@ IsInitOf rows (tasks.Init store layout) =
     × (number_of layout ≡ digits_value 10 (without_leading_plus text))
 IsInitOf rows task = ⊥
 
--- the values of this import were read
+-- the flag was given
+abbrev pub IsGivenFlag : Text → List Row → Type 0
+IsGivenFlag id rows = first_of id rows ≡ Some (codes "true")
+
+-- the store, the release and whether people are told little were read
+abbrev pub NamesRelease : List Row → (store folder name : List ℕ) → Bool → Type 0
+NamesRelease rows store folder name quiet =
+    (first_of (codes "store") rows ≡ Some store)
+    × ((word : Text) × (first_of (codes "name") rows ≡ Some word)
+    × IsNamed (first_of (codes "releases") rows) word folder name)
+    × ((quiet ≡ true) ↔ IsGivenFlag (codes "quiet") rows)
+
+-- the values of this import were read, or of this check of a release, for which there is a flag
 abbrev pub IsImportOf : List Row → Task → Type 0
 IsImportOf rows (tasks.Import store folder name quiet) =
-    (first_of (codes "store") rows ≡ Some store.now)
-    × ((word : Text) × (first_of (codes "name") rows ≡ Some word)
-    × IsNamed (first_of (codes "releases") rows) word folder.now name.now)
-    × ((quiet ≡ true) ↔ (first_of (codes "quiet") rows ≡ Some (codes "true")))
+    NamesRelease rows store.now folder.now name.now quiet
+    × (IsGivenFlag (codes "check") rows → ⊥)
+IsImportOf rows (tasks.Check store folder name quiet) =
+    NamesRelease rows store.now folder.now name.now quiet × IsGivenFlag (codes "check") rows
 IsImportOf rows task = ⊥
+
+-- so many imports were read, or the option wasn't given
+abbrev pub AreImports : List Row → Option ℕ → Type 0
+AreImports rows None = first_of (codes "imports") rows ≡ None
+AreImports rows (Some imports) = (text : Text) × (first_of (codes "imports") rows ≡ Some text)
+    × (imports ≡ digits_value 10 (without_leading_plus text))
+
+-- the values of this copy of a store were read
+abbrev pub IsCopyTaskOf : List Row → Task → Type 0
+IsCopyTaskOf rows (tasks.Copy store to imports) = (first_of (codes "store") rows ≡ Some store.now)
+    × (first_of (codes "to") rows ≡ Some to.now) × AreImports rows imports
+IsCopyTaskOf rows task = ⊥
+
+-- the values of this digest of a store were read
+abbrev pub IsDigestTaskOf : List Row → Task → Type 0
+IsDigestTaskOf rows (tasks.Digest store imports) =
+    (first_of (codes "store") rows ≡ Some store.now) × AreImports rows imports
+IsDigestTaskOf rows task = ⊥
 
 -- a command was read with the values of this task
 abbrev pub Reads : Option (Text × List Row) → Task → Type 0
@@ -116,6 +163,8 @@ Reads (Some read) (tasks.Init store layout) =
     (read.0 ≡ codes "init") × IsInitOf read.1 (tasks.Init store layout)
 Reads (Some read) (tasks.Import store folder name quiet) =
     (read.0 ≡ codes "import") × IsImportOf read.1 (tasks.Import store folder name quiet)
+Reads (Some read) (tasks.Check store folder name quiet) =
+    (read.0 ≡ codes "import") × IsImportOf read.1 (tasks.Check store folder name quiet)
 Reads (Some read) (tasks.Serve store releases) =
     (read.0 ≡ codes "serve") × (first_of (codes "store") read.1 ≡ Some store.now)
     × (first_of (codes "releases") read.1 ≡ Some releases.now)
@@ -125,6 +174,10 @@ Reads (Some read) (tasks.Merge store segments) =
     (read.0 ≡ codes "merge") × (first_of (codes "store") read.1 ≡ Some store.now)
     × (text : Text) × (first_of (codes "segments") read.1 ≡ Some text)
     × (segments ≡ digits_value 10 (without_leading_plus text))
+Reads (Some read) (tasks.Copy store to imports) =
+    (read.0 ≡ codes "copy") × IsCopyTaskOf read.1 (tasks.Copy store to imports)
+Reads (Some read) (tasks.Digest store imports) =
+    (read.0 ≡ codes "digest") × IsDigestTaskOf read.1 (tasks.Digest store imports)
 Reads (Some read) (tasks.Upgrade store) =
     (read.0 ≡ codes "upgrade") × (first_of (codes "store") read.1 ≡ Some store.now)
 Reads (Some read) tasks.Demo = read.0 ≡ codes "demo"

@@ -9,7 +9,7 @@ use crate::endings::{Ending, tell};
 use crate::telling::Told;
 use disk_model::Disk;
 use history_store::Store;
-use line_server::{Pins, ServeFault, Source, answer};
+use line_server::{ServeFault, ServerState, Source, answer};
 use std::alloc::Global;
 use std::io::Write;
 
@@ -27,7 +27,7 @@ pub(crate) fn answer_line<D: Disk + Drop, S: Source, O: Write>(
         line.now store.old store.new.disk
         (report result (O.contents output.old) (O.contents output.new)) }
 {
-    let mut pins = Pins::new();
-    let reply = answer(alloc, line, &mut pins, source, store);
+    let mut state = ServerState::new();
+    let reply = answer(alloc, line, &mut state, source, store);
     tell(output, &reply, told)
 }

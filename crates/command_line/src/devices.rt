@@ -4,9 +4,14 @@ ghost use Rattle.std.specs.Prelude.{◌≡◌, ℕ, List, IfOk, IfErr};
 ghost use Rattle.disk_model.specs.Disk.{raised_by};
 ghost use Rattle.command_line.specs.Devices.{files_asked};
 
+use crate::file_names::{FileName, name_disk};
+use crate::holders::holder_of;
+use crate::named_disk::NamedDisk;
 use disk_model::{Disk, DiskFault, FileDisk, OpenFault};
-use std::fs::{self, File, Files};
+use shown_names::Shown;
+use std::fs::{self, File, Files, OpenOptions};
 use std::io::{self, Write};
+use std::os::unix::fs::OpenOptionsExt;
 
 /// What holds stores, by names. It counts how often it is asked for one.
 pub trait Devices {
@@ -23,11 +28,19 @@ pub trait Devices {
     ghost makes: { Self → List ℕ → Self.Device → Type 0 };
     /// There is no file of this name that can be opened, and none can be created.
     ghost denies: { Self → List ℕ → Type 0 };
+    /// This was made under the name, where nothing stood.
+    ghost creates: { Self → List ℕ → Self.Device → Type 0 };
+    /// Something stands under the name, or nothing can be made there.
+    ghost occupies: { Self → List ℕ → Type 0 };
 
     /// What stands under a name. Where it can't be had, `faults` is told why.
     fn device<E: Write>(&mut self, path: &str, faults: &mut E) -> Result<Self::Device, DiskFault>
         ensures had { IfOk result (stands self.old path.now) }
         ensures missing { IfErr result (λ _. withholds self.old path.now) }
+        // What stands under other names, or can be made there, is as before.
+        ensures creates { (name : List ℕ) (device : Self.Device)
+            → creates self.new name device → creates self.old name device }
+        ensures occupies { (name : List ℕ) → occupies self.new name → occupies self.old name }
         ensures asked { asked self.new ≡ raised_by (asked self.old) 1 };
 
     /// What stands under a name, or a new one where nothing does.
@@ -39,6 +52,17 @@ pub trait Devices {
     ) -> Result<Self::Device, DiskFault>
         ensures had { IfOk result (makes self.old path.now) }
         ensures denied { IfErr result (λ _. denies self.old path.now) }
+        ensures asked { asked self.new ≡ raised_by (asked self.old) 1 };
+
+    /// A new device under a name, under which nothing stands.
+    /// Where something does, or none can be made, `faults` is told why.
+    fn new_device<E: Write>(
+        &mut self,
+        path: &str,
+        faults: &mut E,
+    ) -> Result<Self::Device, DiskFault>
+        ensures had { IfOk result (creates self.old path.now) }
+        ensures occupied { IfErr result (λ _. occupies self.old path.now) }
         ensures asked { asked self.new ≡ raised_by (asked self.old) 1 };
 
     /// What the system said of the device's call that failed last, if one has failed.
@@ -55,7 +79,7 @@ pub struct FileDisks<'a, R: Files<File = File>> {
     asked: u64,
 }
 
-impl<'a, R: Files<File = File>> FileDisks<'a, R> {
+impl<'a, R: Files<File = File> + AllocGlobal> FileDisks<'a, R> {
     /// None was asked for yet.
     pub fn new(rt: &'a R) -> FileDisks<'a, R>
         ensures { files_asked result ≡ 0 }
@@ -64,8 +88,11 @@ impl<'a, R: Files<File = File>> FileDisks<'a, R> {
     }
 }
 
-impl<R: Files<File = File>> Devices for FileDisks<'_, R> {
-    type Device = FileDisk;
+/// A file's disk, under the name of the file.
+type NamedFile<'a, R> = NamedDisk<FileDisk, FileName<'a, R>>;
+
+impl<'a, R: Files<File = File> + AllocGlobal> Devices for FileDisks<'a, R> {
+    type Device = NamedFile<'a, R>;
 
     ghost asked = { files_asked };
 
@@ -77,22 +104,55 @@ impl<R: Files<File = File>> Devices for FileDisks<'_, R> {
 
     ghost denies = { λ _ _. Unit {0} };
 
-    fn device<E: Write>(&mut self, path: &str, faults: &mut E) -> Result<FileDisk, DiskFault> {
+    ghost creates = { λ _ _ _. Unit {0} };
+
+    ghost occupies = { λ _ _. Unit {0} };
+
+    fn device<E: Write>(
+        &mut self,
+        path: &str,
+        faults: &mut E,
+    ) -> Result<NamedFile<'a, R>, DiskFault> {
         self.asked = self.asked.saturating_add(1);
-        device_or_told(FileDisk::open(self.rt, path), path, faults)
+        let name = FileName::of(self.rt, path);
+        let named = name_disk(name, FileDisk::open(self.rt, path));
+        device_or_told(self.rt, named, path, faults)
     }
 
     fn device_or_new<E: Write>(
         &mut self,
         path: &str,
         faults: &mut E,
-    ) -> Result<FileDisk, DiskFault> {
+    ) -> Result<NamedFile<'a, R>, DiskFault> {
         self.asked = self.asked.saturating_add(1);
-        device_or_told(FileDisk::open_or_make(self.rt, path), path, faults)
+        // Where that fails, the opening says why.
+        let _ = make_private(self.rt, path);
+        let name = FileName::of(self.rt, path);
+        let named = name_disk(name, FileDisk::open_or_make(self.rt, path));
+        device_or_told(self.rt, named, path, faults)
     }
 
-    fn last_error(&self, device: &FileDisk) -> Option<io::Error> {
-        device.fault()
+    fn new_device<E: Write>(
+        &mut self,
+        path: &str,
+        faults: &mut E,
+    ) -> Result<NamedFile<'a, R>, DiskFault> {
+        self.asked = self.asked.saturating_add(1);
+        let named = match make_new(self.rt, path) {
+            Ok(()) => {
+                let name = FileName::of(self.rt, path);
+                name_disk(name, FileDisk::open(self.rt, path))
+            }
+            Err(error) => Err(OpenFault::System(error)),
+        };
+        device_or_told(self.rt, named, path, faults)
+    }
+
+    fn last_error(&self, device: &NamedFile<'a, R>) -> Option<io::Error> {
+        match device.missed() {
+            Some(error) => Some(error),
+            None => device.disk().fault(),
+        }
     }
 
     fn size(&self, path: &str) -> Option<u64> {
@@ -103,17 +163,62 @@ impl<R: Files<File = File>> Devices for FileDisks<'_, R> {
     }
 }
 
+/// The rights of a file that its owner alone may read and write.
+const OWNER_ALONE: u32 = 0o600;
+
+/// Makes an empty file with these rights where nothing stands, not even a link.
+fn make_new<R: Files<File = File>>(rt: &R, path: &str) -> io::Result<()> {
+    OpenOptions::new()
+        .read(true)
+        .write(true)
+        .create_new(true)
+        .mode(OWNER_ALONE)
+        .open(rt, path)?;
+    Ok(())
+}
+
+/// Makes an empty file with these rights where there is none. A file that exists keeps its own.
+fn make_private<R: Files<File = File>>(rt: &R, path: &str) -> io::Result<()> {
+    OpenOptions::new()
+        .read(true)
+        .write(true)
+        .create(true)
+        .mode(OWNER_ALONE)
+        .open(rt, path)?;
+    Ok(())
+}
+
 /// A file's disk, or the line that says why there is none.
-fn device_or_told<E: Write>(
-    opened: Result<FileDisk, OpenFault>,
+fn device_or_told<'a, R: Files<File = File> + AllocGlobal, E: Write>(
+    rt: &R,
+    named: Result<NamedFile<'a, R>, OpenFault>,
     path: &str,
     faults: &mut E,
-) -> Result<FileDisk, DiskFault> {
-    match opened {
+) -> Result<NamedFile<'a, R>, DiskFault> {
+    match named {
         Ok(disk) => Ok(disk),
         Err(fault) => {
-            let _ = writeln!(faults, "sctd: {path}: {fault}");
+            let _ = tell_withheld(rt, &fault, path, faults);
             Err(DiskFault)
         }
     }
+}
+
+/// Writes why a file isn't had, and which process has it where that is known.
+fn tell_withheld<R: Files<File = File> + AllocGlobal, E: Write>(
+    rt: &R,
+    fault: &OpenFault,
+    path: &str,
+    faults: &mut E,
+) -> io::Result<()> {
+    let holder = match fault {
+        OpenFault::Busy => holder_of(rt, rt.alloc(), path),
+        _ => None,
+    };
+    let name = Shown(path.as_bytes());
+    write!(faults, "sctd: {name}: {fault}")?;
+    if let Some(holder) = holder {
+        write!(faults, ", whose id is {holder}")?;
+    }
+    writeln!(faults)
 }

@@ -3,7 +3,7 @@
 ghost use Rattle.std.specs.Prelude.{◌≡◌, ◌≤◌, true, false, Result, Ok, Err, IsOk, IsErr, OnOk, []};
 ghost use Rattle.std.specs.Io.KnownBytes.{Appends, Keeps};
 ghost use Rattle.line_server.specs.declared.refusal.LineRefusal.{LineRefusal};
-ghost use Rattle.line_server.specs.declared.refusal.LineRefusal.TheVariants.{Store};
+ghost use Rattle.line_server.specs.declared.refusal.LineRefusal.TheVariants.{Store, NoFolder};
 ghost use Rattle.line_server.specs.ReplyValue.{Answer, Done as AllDone, reply_value};
 ghost use Rattle.command_line.specs.declared.endings.Ending.TheVariants.{Done, Refused};
 ghost use Rattle.command_line.specs.Endings.{IsTold};
@@ -22,6 +22,12 @@ pub enum Ending {
     /// The last line that was written says why.
     Refused,
 }
+
+/// How a task ended, and the device that it was done on, if there is one.
+pub(crate) type Ended<D> = (Result<Ending, ServeFault>, Option<D>);
+
+/// The same, and the device that was made for a copy, if there is one.
+pub(crate) type Performed<D> = (Result<Ending, ServeFault>, Option<D>, Option<D>);
 
 /// Flushes what was written, and answers the status.
 pub(crate) fn finish<O: Write, E: Write>(
@@ -113,6 +119,17 @@ pub(crate) fn refuse<O: Write>(
     );
     told.note_refusal(refusal);
     ended
+}
+
+/// Writes the line that there is no folder.
+pub(crate) fn refuse_folder<O: Write>(
+    alloc: Global,
+    output: &mut O,
+    told: &mut Told,
+) -> Result<Ending, ServeFault>
+    ensures { IsTold result (Err NoFolder) (O.contents output.old) (O.contents output.new) }
+{
+    tell(output, &reply_refusal(alloc, LineRefusal::NoFolder), told)
 }
 
 /// Whether a reply is a refusal.

@@ -1,6 +1,6 @@
 //! Releases in unpacked folders.
 
-ghost use Rattle.std.specs.Prelude.{ℕ, List, IfOk, IfErr};
+ghost use Rattle.std.specs.Prelude.{◌≡◌, ℕ, List, IfOk, IfErr, true, false};
 ghost use Rattle.line_server.specs.Sources.{Releases, IsGiven};
 
 use crate::progress::{Progress, tell_taken};
@@ -10,8 +10,9 @@ use history_store::Refusal;
 use import_check::Release;
 use line_server::{Source, SourceFault};
 use release_folder::{FolderFault, read_release};
+use shown_names::Shown;
 use std::alloc::Global;
-use std::fs::{File, Files};
+use std::fs::{self, File, Files};
 use std::io::{self, Write};
 
 /// The folders that the words name, and those of the files that they name.
@@ -20,15 +21,33 @@ pub trait Folders {
     ghost keeps: { Self → List ℕ → Type 0 };
     /// The folder can't be synced, so the name may be lost in a crash.
     ghost loses: { Self → List ℕ → Type 0 };
+    /// What was made under the name is there no longer.
+    ghost removes: { Self → List ℕ → Type 0 };
+    /// What was made under the name can't be removed.
+    ghost retains: { Self → List ℕ → Type 0 };
     /// The folders have the releases that they are said to have, and they stay.
     ghost is_honest: { Self → Type 0 };
     /// The releases in the folders below one.
     ghost releases: { Self → List ℕ → Releases };
+    /// There is a folder of this name to look for releases in.
+    ghost finds: { Self → List ℕ → Type 0 };
+    /// There is no folder of this name to look for releases in.
+    ghost lacks: { Self → List ℕ → Type 0 };
 
     /// Sees that what was made under a name keeps it. Where that fails, `faults` is told why.
     fn settle<E: Write>(&self, alloc: Global, path: &str, faults: &mut E) -> Result<(), DiskFault>
         ensures kept { IfOk result (λ _. keeps self.now path.now) }
         ensures lost { IfErr result (λ _. loses self.now path.now) };
+
+    /// Removes what was made under a name. Where that fails, `faults` is told why.
+    fn remove<E: Write>(&self, path: &str, faults: &mut E) -> Result<(), DiskFault>
+        ensures removed { IfOk result (λ _. removes self.now path.now) }
+        ensures retained { IfErr result (λ _. retains self.now path.now) };
+
+    /// Whether there is a folder to look for releases in. Where there is none, `faults` is told why.
+    fn has_folder<E: Write>(&self, dir: &str, faults: &mut E) -> bool
+        ensures found { result ≡ true → finds self.now dir.now }
+        ensures missing { result ≡ false → lacks self.now dir.now };
 
     /// The release in a folder below one. Where there is none, `faults` is told why. It is also
     /// told which files are read and passed over; if `quiet`, only of those that may be wrong.
@@ -51,14 +70,23 @@ impl<R: Files<File = File> + AllocGlobal + Clone + Drop> Folders for R {
 
     ghost loses = { λ _ _. Unit {0} };
 
+    ghost removes = { λ _ _. Unit {0} };
+
+    ghost retains = { λ _ _. Unit {0} };
+
     ghost is_honest = { λ _. ⊥ };
 
     ghost releases = { λ _ _ _. None };
+
+    ghost finds = { λ _ _. Unit {0} };
+
+    ghost lacks = { λ _ _. Unit {0} };
 
     fn settle<E: Write>(&self, alloc: Global, path: &str, faults: &mut E) -> Result<(), DiskFault> {
         match sync_folder_of(self, alloc, path) {
             Ok(()) => Ok(()),
             Err(error) => {
+                let path = Shown(path.as_bytes());
                 let _ = writeln!(
                     faults,
                     "sctd: the folder of {path} can't be synced: {error}"
@@ -66,6 +94,28 @@ impl<R: Files<File = File> + AllocGlobal + Clone + Drop> Folders for R {
                 Err(DiskFault)
             }
         }
+    }
+
+    fn remove<E: Write>(&self, path: &str, faults: &mut E) -> Result<(), DiskFault> {
+        match fs::remove_file(self, path) {
+            Ok(()) => Ok(()),
+            Err(error) => {
+                let name = Shown(path.as_bytes());
+                let _ = writeln!(faults, "sctd: {name} can't be removed: {error}");
+                Err(DiskFault)
+            }
+        }
+    }
+
+    fn has_folder<E: Write>(&self, dir: &str, faults: &mut E) -> bool {
+        let found = fs::metadata(self, dir);
+        let name = Shown(dir.as_bytes());
+        let _ = match found {
+            Ok(found) if found.is_dir() => return true,
+            Ok(_) => writeln!(faults, "sctd: {name}: not a folder"),
+            Err(error) => writeln!(faults, "sctd: {name}: {error}"),
+        };
+        false
     }
 
     fn release<E: Write>(
@@ -101,6 +151,8 @@ pub struct FolderSource<'a, F: Folders, E: Write> {
     pub dir: &'a str,
     /// Takes what stood in the way of a release, and what is told while it is imported.
     pub faults: &'a mut E,
+    /// What is done with a release, as people are told.
+    pub doing: &'static str,
     /// People are told of nothing but what may be wrong.
     pub quiet: bool,
 }
@@ -123,7 +175,7 @@ impl<F: Folders, E: Write> Source for FolderSource<'_, F, E> {
             .folders
             .release(alloc, self.dir, name, self.quiet, self.faults);
         if let Ok(release) = &given {
-            tell_taken(release, self.quiet, self.faults);
+            tell_taken(release, self.doing, self.quiet, self.faults);
         }
         given
     }

@@ -17,6 +17,9 @@ The guide tells more: docs/GUIDE.md, \"A store\"";
 pub(crate) const IMPORT: &str = "Examples:
   sctd import --store terms.store --releases releases r1
   sctd import --quiet --store terms.store releases/r1
+  sctd import --check --store terms.store releases/r1
+
+With --check the answer is the one that the import would get, and nothing is written.
 
 The guide tells more: docs/GUIDE.md, \"Importing a release\"";
 
@@ -82,6 +85,24 @@ pub(crate) const MERGE: &str = "Example:
   sctd merge --store terms.store --segments 10
 
 The guide tells more: docs/GUIDE.md, \"Merges\"";
+
+pub(crate) const COPY: &str = "Examples:
+  sctd copy --store terms.store --to backup.store
+  sctd copy --store terms.store --to before.store --imports 12
+
+The copy has the same rows with the same import numbers, and no free blocks between its
+segments. A file that is there already is refused. Where the copy fails, the new file is
+removed.
+
+The guide tells more: docs/GUIDE.md, \"Backup\" and \"A wrong release\"";
+
+pub(crate) const DIGEST: &str = "Examples:
+  sctd digest --store terms.store
+  sctd digest --store terms.store --imports 12
+
+Stores with the same rows have the same digest, however they came to them.
+
+The guide tells more: docs/GUIDE.md, \"The same data as three years ago\"";
 
 pub(crate) const UPGRADE: &str = "Examples:
   sctd upgrade --store terms.store

@@ -2,25 +2,34 @@
 #![tactic(auto)]
 
 mod answering;
+mod checking;
+mod copying;
 mod demonstration;
 mod devices;
 mod differing;
+mod digesting;
 mod endings;
+mod file_names;
 mod folders;
 mod helps;
+mod holders;
 mod importing;
 mod inspecting;
 mod making;
 mod merging;
+mod named_disk;
 mod paths;
 mod progress;
 mod running;
 mod serving;
 mod telling;
+mod told_lines;
 mod upgrading;
 mod words;
 
 pub use demonstration::SCRIPT;
 pub use devices::{Devices, FileDisks};
+pub use file_names::FileName;
 pub use folders::Folders;
-pub use running::run;
+pub use named_disk::{Name, NamedDisk};
+pub use running::{demonstrate, run};

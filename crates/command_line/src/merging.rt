@@ -1,6 +1,7 @@
 //! The segments of a store are merged.
 
-ghost use Rattle.line_server.specs.Pins.{AreWithin, unpinned};
+ghost use Rattle.line_server.specs.Pins.{AreWithin};
+ghost use Rattle.line_server.specs.StateValue.{fresh};
 ghost use Rattle.command_line.specs.Endings.{report};
 ghost use Rattle.store_life.specs.DeviceView.{device_view};
 ghost use Rattle.line_server.specs.Replies.{server};
@@ -13,7 +14,7 @@ use crate::inspecting::{NoReleases, STATUS};
 use crate::telling::{Told, tell_rewritten, tell_segments};
 use disk_model::Disk;
 use history_store::Store;
-use line_server::{Pins, Reply, ServeFault, answer};
+use line_server::{Reply, ServeFault, ServerState, answer};
 use std::alloc::Global;
 use std::io::Write;
 
@@ -31,16 +32,16 @@ const TRIM: &[u8] = b"0 TRIM";
 fn ask<D: Disk>(
     alloc: Global,
     line: &[u8],
-    pins: &mut Pins,
+    state: &mut ServerState,
     store: &mut Store<D>,
 ) -> Result<(), Reply>
-    requires within { AreWithin store.old.history.imports pins.old }
-    ensures within { AreWithin store.new.history.imports pins.new }
+    requires within { AreWithin store.old.history.imports state.old.pins }
+    ensures within { AreWithin store.new.history.imports state.new.pins }
     ensures asked { IsAsked
         (device_view D.is_honest D.moments D.failures D.bytes_read) line.now result
-        (server pins.old store.old) (server pins.new store.new) }
+        (server state.old store.old) (server state.new store.new) }
 {
-    let reply = answer(alloc, line, pins, &mut NoReleases, store);
+    let reply = answer(alloc, line, state, &mut NoReleases, store);
     if is_refusal(&reply) {
         Err(reply)
     } else {
@@ -49,31 +50,31 @@ fn ask<D: Disk>(
 }
 
 /// Takes all rows of the merge that goes on.
-fn take_rows<D: Disk>(alloc: Global, pins: &mut Pins, store: &mut Store<D>) -> Result<(), Reply>
-    requires within { AreWithin store.old.history.imports pins.old }
-    requires merging { IsMerging (server pins.old store.old) }
-    ensures within { AreWithin store.new.history.imports pins.new }
+fn take_rows<D: Disk>(alloc: Global, state: &mut ServerState, store: &mut Store<D>) -> Result<(), Reply>
+    requires within { AreWithin store.old.history.imports state.old.pins }
+    requires merging { IsMerging (server state.old store.old) }
+    ensures within { AreWithin store.new.history.imports state.new.pins }
     ensures taken { MergesRows (device_view D.is_honest D.moments D.failures D.bytes_read) result
-        (server pins.old store.old) (server pins.new store.new) }
+        (server state.old store.old) (server state.new store.new) }
 {
     let left = store.merge_left().unwrap_or(0);
     for _ in 0..left.div_ceil(STEP_ROWS) {
-        ask(alloc, STEP, pins, store)?;
+        ask(alloc, STEP, state, store)?;
     }
     Ok(())
 }
 
 /// Merges the two segments of fewest rows.
-fn merge_two<D: Disk>(alloc: Global, pins: &mut Pins, store: &mut Store<D>) -> Result<(), Reply>
-    requires within { AreWithin store.old.history.imports pins.old }
-    requires at_rest { IsAtRest (server pins.old store.old) }
-    ensures within { AreWithin store.new.history.imports pins.new }
+fn merge_two<D: Disk>(alloc: Global, state: &mut ServerState, store: &mut Store<D>) -> Result<(), Reply>
+    requires within { AreWithin store.old.history.imports state.old.pins }
+    requires at_rest { IsAtRest (server state.old store.old) }
+    ensures within { AreWithin store.new.history.imports state.new.pins }
     ensures merged { IsOneLess (device_view D.is_honest D.moments D.failures D.bytes_read) result
-        (server pins.old store.old) (server pins.new store.new) }
+        (server state.old store.old) (server state.new store.new) }
 {
-    ask(alloc, MERGE, pins, store)?;
-    take_rows(alloc, pins, store)?;
-    ask(alloc, PUBLISH, pins, store)
+    ask(alloc, MERGE, state, store)?;
+    take_rows(alloc, state, store)?;
+    ask(alloc, PUBLISH, state, store)
 }
 
 /// Merges until at most so many segments stand, and trims. `faults` is told of each merge.
@@ -81,22 +82,22 @@ fn merge_to<D: Disk, E: Write>(
     alloc: Global,
     path: &str,
     most: u32,
-    pins: &mut Pins,
+    state: &mut ServerState,
     store: &mut Store<D>,
     faults: &mut E,
 ) -> Result<(), Reply>
-    requires within { AreWithin store.old.history.imports pins.old }
-    requires at_rest { IsAtRest (server pins.old store.old) }
-    ensures within { AreWithin store.new.history.imports pins.new }
+    requires within { AreWithin store.old.history.imports state.old.pins }
+    requires at_rest { IsAtRest (server state.old store.old) }
+    ensures within { AreWithin store.new.history.imports state.new.pins }
     ensures merged { IsTrimmedTo
         (device_view D.is_honest D.moments D.failures D.bytes_read) most result
-        (server pins.old store.old) (server pins.new store.new) }
+        (server state.old store.old) (server state.new store.new) }
 {
     for _ in 0..store.segments().saturating_sub(most) {
-        merge_two(alloc, pins, store)?;
+        merge_two(alloc, state, store)?;
         tell_segments(path, store.segments(), faults);
     }
-    ask(alloc, TRIM, pins, store)
+    ask(alloc, TRIM, state, store)
 }
 
 /// Asks the lines that merge the segments of a store, and tells the last reply.
@@ -109,14 +110,14 @@ fn merge_lines<D: Disk, O: Write, E: Write>(
     told: &mut Told,
     faults: &mut E,
 ) -> Result<Ending, ServeFault>
-    requires at_rest { IsAtRest (server unpinned store.old) }
+    requires at_rest { IsAtRest (server fresh store.old) }
     ensures { TellsLines
         (device_view D.is_honest D.moments D.failures D.bytes_read) most store.new.disk
         (report result (O.contents output.old) (O.contents output.new)) store.old }
 {
-    let mut pins = Pins::new();
-    let reply = match merge_to(alloc, path, most, &mut pins, store, faults) {
-        Ok(()) => answer(alloc, STATUS, &mut pins, &mut NoReleases, store),
+    let mut state = ServerState::new();
+    let reply = match merge_to(alloc, path, most, &mut state, store, faults) {
+        Ok(()) => answer(alloc, STATUS, &mut state, &mut NoReleases, store),
         Err(reply) => reply,
     };
     tell(output, &reply, told)
@@ -133,7 +134,7 @@ fn merge_all<D: Disk, O: Write, E: Write>(
     told: &mut Told,
     faults: &mut E,
 ) -> Result<Ending, ServeFault>
-    requires at_rest { IsAtRest (server unpinned store.old) }
+    requires at_rest { IsAtRest (server fresh store.old) }
     ensures { TellsMerge
         (device_view D.is_honest D.moments D.failures D.bytes_read) most store.new.disk
         (report result (O.contents output.old) (O.contents output.new)) store.old }

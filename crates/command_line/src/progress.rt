@@ -1,8 +1,9 @@
 //! What people are told while a release is imported.
 
 use import_check::{Release, ReleaseFile};
-use release_folder::{Watcher, is_nearly_to_take};
+use release_folder::{Watcher, is_nearly_to_take, kind_to_take, lacks};
 use rf2_values::Kind;
+use shown_names::Shown;
 use std::io::Write;
 
 /// Tells people which files of a release are read, and which are passed over.
@@ -20,24 +21,40 @@ impl<E: Write> Watcher for Progress<'_, E> {
         }
     }
 
-    fn passes_over(&mut self, name: &str) {
-        if is_nearly_to_take(name.as_bytes()) {
+    fn passes_over(&mut self, path: &str) {
+        if is_nearly_to_take(path.as_bytes()) {
             let _ = writeln!(
                 self.faults,
-                "sctd: warning: passed over {name}, whose name is nearly one to take: \
+                "sctd: warning: passed over {path}, whose name is nearly one to take: \
 mind its case, and an x before it"
             );
+        } else if is_out_of_place(path) {
+            let _ = writeln!(
+                self.faults,
+                "sctd: warning: passed over {path}, whose name is one to take: \
+a release has it in Terminology or Refset/Content"
+            );
         } else if !self.quiet {
-            let _ = writeln!(self.faults, "sctd: passed over {name}");
+            let _ = writeln!(self.faults, "sctd: passed over {path}");
         }
     }
 }
 
-/// Tells which files of a release were taken, and that its import begins.
-pub(crate) fn tell_taken<E: Write>(release: &Release, quiet: bool, faults: &mut E) {
+/// Whether a file that was passed over has a name to take. So it stands in a folder that isn't read.
+fn is_out_of_place(path: &str) -> bool {
+    let name = match path.rsplit_once('/') {
+        Some((_, name)) => name,
+        None => path,
+    };
+    kind_to_take(name.as_bytes()).is_some()
+}
+
+/// Tells which files of a release were taken, and what is done with it now.
+pub(crate) fn tell_taken<E: Write>(release: &Release, doing: &str, quiet: bool, faults: &mut E) {
     if !quiet {
         for file in &release.files {
-            let (name, kind, rows) = (&file.name, word_of(file.kind), rows_of(file));
+            let name = Shown(file.name.as_bytes());
+            let (kind, rows) = (word_of(file.kind), rows_of(file));
             let _ = writeln!(faults, "sctd: took {name}: {kind}, rows: {rows}");
         }
     }
@@ -51,8 +68,17 @@ pub(crate) fn tell_taken<E: Write>(release: &Release, quiet: bool, faults: &mut 
             "sctd: warning: no Concept, Description or Relationship file was taken"
         );
     }
+    for kind in [Kind::Description, Kind::Relationship] {
+        if lacks(&release.files, kind) {
+            let word = word_of(kind);
+            let _ = writeln!(
+                faults,
+                "sctd: warning: a Full file of concepts was taken, and no {word} file"
+            );
+        }
+    }
     if !quiet {
-        let _ = writeln!(faults, "sctd: importing");
+        let _ = writeln!(faults, "sctd: {doing}");
     }
 }
 

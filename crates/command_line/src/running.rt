@@ -1,19 +1,25 @@
 //! How what the words ask for is done.
 
-ghost use Rattle.std.specs.Prelude.{◌≡◌, ◌≤◌, ◌⊎◌, IfOk, IfErr, map, string_bytes};
+ghost use Rattle.std.specs.Prelude.{◌≡◌, ◌≤◌, ◌⊎◌, IfOk, IfErr, None, map, string_bytes};
 ghost use Rattle.command_line.specs.Endings.{report};
 ghost use Rattle.line_server.specs.Streams.{streams};
 ghost use Rattle.line_server.specs.Sources.{source_view};
 ghost use Rattle.store_life.specs.DeviceView.{device_view};
-ghost use Rattle.command_line.specs.Tasks.{IsImport, IsStatus, IsServing, IsUpgrade};
+ghost use Rattle.command_line.specs.Tasks.{IsImport, IsStatus, IsUpgrade};
 ghost use Rattle.command_line.specs.Merging.{IsMergedOnDisk};
-ghost use Rattle.command_line.specs.Runs.{IsDoneAt, IsMadeAt, IsMissing, IsDemonstrated, Does};
+ghost use Rattle.command_line.specs.Checking.{IsCheck};
+ghost use Rattle.command_line.specs.Digests.{IsDigest};
+ghost use Rattle.command_line.specs.Runs.{IsDoneAt, IsMadeAt, IsServedAt, IsMissing};
+ghost use Rattle.command_line.specs.Runs.{IsDemonstrated, IsDemonstration, Does};
 ghost use Rattle.command_line.specs.Runs.{IsRun, IsNoTask, IsExplained, AsksFor};
 ghost use Rattle.disk_model.specs.Disk.{raised_by};
 
+use crate::checking::check;
+use crate::copying::copy_at;
 use crate::demonstration::{SCRIPT, Samples};
 use crate::devices::Devices;
-use crate::endings::{Ending, fail, finish, refuse};
+use crate::digesting::digest;
+use crate::endings::{Ended, Ending, Performed, fail, finish, refuse, refuse_folder};
 use crate::folders::{FolderSource, Folders};
 use crate::importing::import;
 use crate::inspecting::status;
@@ -21,6 +27,7 @@ use crate::making::init;
 use crate::merging::merge;
 use crate::serving::{serve_device, serve_new};
 use crate::telling::{Context, Told, tell_figures, tell_why};
+use crate::told_lines::ToldLines;
 use crate::upgrading::upgrade;
 use crate::words::{Refused, Task, task_of};
 use directory::Layout;
@@ -32,7 +39,8 @@ use std::io::{Read, Write};
 
 /// Does what the words ask for, of which the first is the program's name, and answers the status of
 /// the program: 0 where it was done; 1 where it was refused, or a stream or the memory failed; 2
-/// where the words are no command. The device that the task was done on comes back as it was left.
+/// where the words are no command. The device that the task was done on comes back as it was left,
+/// and so does the one that it made for a copy.
 pub fn run<V: Devices, F: Folders, I: Read, O: Write, E: Write>(
     devices: &mut V,
     folders: &F,
@@ -41,7 +49,7 @@ pub fn run<V: Devices, F: Folders, I: Read, O: Write, E: Write>(
     input: &mut I,
     output: &mut O,
     faults: &mut E,
-) -> (u8, Option<V::Device>)
+) -> (u8, Option<V::Device>, Option<V::Device>)
     ensures status { result.0 ≤ 2 }
     // Words that are no command do nothing but to be told.
     ensures no_command { result.0 ≡ 2 → (input.new ≡ input.old) × (output.new ≡ output.old) }
@@ -50,32 +58,37 @@ pub fn run<V: Devices, F: Folders, I: Read, O: Write, E: Write>(
       withholds = V.withholds devices.old;
       makes = V.makes devices.old;
       denies = V.denies devices.old;
+      creates = V.creates devices.old;
+      occupies = V.occupies devices.old;
       keeps = F.keeps folders.now;
       loses = F.loses folders.now;
+      removes = F.removes folders.now;
+      retains = F.retains folders.now;
+      finds = F.finds folders.now;
+      lacks = F.lacks folders.now;
       is_honest = F.is_honest folders.now;
       releases = F.releases folders.now;
       device = device_view V.Device.is_honest V.Device.moments V.Device.failures
           V.Device.bytes_read;
-    }) SCRIPT.now (map string_bytes words.now) result.1 result.0
+    }) SCRIPT.now (map string_bytes words.now) result.1 result.2 result.0
         (streams (I.remaining input.old) (I.remaining input.new)
         (O.contents output.old) (O.contents output.new))
         (V.asked devices.old) (V.asked devices.new)
-        ⊎ IsNoTask (map string_bytes words.now) result.1 result.0
+        ⊎ IsNoTask (map string_bytes words.now) result.1 result.2 result.0
         (streams (I.remaining input.old) (I.remaining input.new)
         (O.contents output.old) (O.contents output.new))
         (V.asked devices.old) (V.asked devices.new) }
 {
     match task_of(alloc, words) {
         Ok(task) => {
-            let (ended, left) = perform(devices, folders, alloc, &task, input, output, faults);
-            (finish(ended, output, faults), left)
+            let (ended, left, made) = perform(
+                devices, folders, alloc, &task, input, output, faults,
+            );
+            (finish(ended, output, faults), left, made)
         }
-        Err(refused) => (explain(&refused, output, faults), None),
+        Err(refused) => (explain(&refused, output, faults), None, None),
     }
 }
-
-/// How a task ended, and the device that it was done on, if there is one.
-type Ended<D> = (Result<Ending, ServeFault>, Option<D>);
 
 /// Does a task. Where it is refused, `faults` is told why.
 fn perform<V: Devices, F: Folders, I: Read, O: Write, E: Write>(
@@ -86,47 +99,72 @@ fn perform<V: Devices, F: Folders, I: Read, O: Write, E: Write>(
     input: &mut I,
     output: &mut O,
     faults: &mut E,
-) -> Ended<V::Device>
+) -> Performed<V::Device>
     ensures does { Does (record {
       stands = V.stands devices.old;
       withholds = V.withholds devices.old;
       makes = V.makes devices.old;
       denies = V.denies devices.old;
+      creates = V.creates devices.old;
+      occupies = V.occupies devices.old;
       keeps = F.keeps folders.now;
       loses = F.loses folders.now;
+      removes = F.removes folders.now;
+      retains = F.retains folders.now;
+      finds = F.finds folders.now;
+      lacks = F.lacks folders.now;
       is_honest = F.is_honest folders.now;
       releases = F.releases folders.now;
       device = device_view V.Device.is_honest V.Device.moments V.Device.failures
           V.Device.bytes_read;
-    }) SCRIPT.now task.now result.1 result.0
+    }) SCRIPT.now task.now result.1 result.2 result.0
         (streams (I.remaining input.old) (I.remaining input.new)
         (O.contents output.old) (O.contents output.new)) }
-    ensures asked { AsksFor task.now (V.asked devices.old) (V.asked devices.new) }
+    ensures asked { AsksFor task.now result.1 (V.asked devices.old) (V.asked devices.new) }
 {
     match task {
         Task::Init { store, layout } => {
-            init_at(devices, folders, alloc, *store, *layout, output, faults)
+            alone(init_at(devices, folders, alloc, *store, *layout, output, faults))
         }
         Task::Import {
             store,
             releases,
             name,
             quiet,
-        } => import_at(
+        } => alone(import_at(
             devices, folders, alloc, *store, *releases, *name, *quiet, output, faults,
-        ),
-        Task::Serve { store, releases } => {
-            serve_at(
-                devices, folders, alloc, *store, *releases, input, output, faults,
-            )
-        }
-        Task::Status { store } => status_at(devices, alloc, *store, output, faults),
+        )),
+        Task::Check {
+            store,
+            releases,
+            name,
+            quiet,
+        } => alone(check_at(
+            devices, folders, alloc, *store, *releases, *name, *quiet, output, faults,
+        )),
+        Task::Serve { store, releases } => alone(serve_at(
+            devices, folders, alloc, *store, *releases, input, output, faults,
+        )),
+        Task::Status { store } => alone(status_at(devices, alloc, *store, output, faults)),
         Task::Merge { store, segments } => {
-            merge_at(devices, alloc, *store, *segments, output, faults)
+            alone(merge_at(devices, alloc, *store, *segments, output, faults))
         }
-        Task::Upgrade { store } => upgrade_at(devices, alloc, *store, output, faults),
-        Task::Demo => (demo(alloc, output), None),
+        Task::Copy { store, to, imports } => copy_at(
+            devices, folders, alloc, *store, *to, *imports, output, faults,
+        ),
+        Task::Digest { store, imports } => {
+            alone(digest_at(devices, alloc, *store, *imports, output, faults))
+        }
+        Task::Upgrade { store } => alone(upgrade_at(devices, alloc, *store, output, faults)),
+        Task::Demo => (demo(alloc, output), None, None),
     }
+}
+
+/// How a task ended that made no copy.
+fn alone<D: Drop>(ended: Ended<D>) -> Performed<D>
+    ensures { result ≡ (ended.0, ended.1, None) }
+{
+    (ended.0, ended.1, None)
 }
 
 /// Makes a store of this version under a name. The name is seen to stay before anything is
@@ -145,8 +183,14 @@ fn init_at<V: Devices, F: Folders, O: Write, E: Write>(
       withholds = V.withholds devices.old;
       makes = V.makes devices.old;
       denies = V.denies devices.old;
+      creates = V.creates devices.old;
+      occupies = V.occupies devices.old;
       keeps = F.keeps folders.now;
       loses = F.loses folders.now;
+      removes = F.removes folders.now;
+      retains = F.retains folders.now;
+      finds = F.finds folders.now;
+      lacks = F.lacks folders.now;
       is_honest = F.is_honest folders.now;
       releases = F.releases folders.now;
       device = device_view V.Device.is_honest V.Device.moments V.Device.failures
@@ -200,6 +244,7 @@ fn import_at<V: Devices, F: Folders, O: Write, E: Write>(
                 folders,
                 dir,
                 faults,
+                doing: "importing",
                 quiet,
             };
             let (ended, left) = import(alloc, device, name, &mut source, output, &mut told);
@@ -210,25 +255,24 @@ fn import_at<V: Devices, F: Folders, O: Write, E: Write>(
     }
 }
 
-/// Answers the lines of the input from the store under a name.
-fn serve_at<V: Devices, F: Folders, I: Read, O: Write, E: Write>(
+/// Checks a release against the store under a name.
+fn check_at<V: Devices, F: Folders, O: Write, E: Write>(
     devices: &mut V,
     folders: &F,
     alloc: Global,
     path: &str,
     dir: &str,
-    input: &mut I,
+    name: &str,
+    quiet: bool,
     output: &mut O,
     faults: &mut E,
 ) -> Ended<V::Device>
     ensures done { IsDoneAt (V.stands devices.old path.now)
-        (λ device after. IsServing
+        (λ device after. IsCheck
         (source_view (F.is_honest folders.now) (F.releases folders.now dir.now))
         (device_view V.Device.is_honest V.Device.moments V.Device.failures V.Device.bytes_read)
-        device after result.0 (streams (I.remaining input.old) (I.remaining input.new)
-        (O.contents output.old) (O.contents output.new)))
+        name.now device after (report result.0 (O.contents output.old) (O.contents output.new)))
         (IsMissing (report result.0 (O.contents output.old) (O.contents output.new))
-        × (I.remaining input.new ≡ I.remaining input.old)
         × V.withholds devices.old path.now) result.1 }
     ensures asked { V.asked devices.new ≡ raised_by (V.asked devices.old) 1 }
 {
@@ -239,6 +283,61 @@ fn serve_at<V: Devices, F: Folders, I: Read, O: Write, E: Write>(
                 folders,
                 dir,
                 faults,
+                doing: "checking",
+                quiet,
+            };
+            let (ended, left) = check(alloc, device, name, &mut source, output, &mut told);
+            source.tell_why(told, path, devices.last_error(&left));
+            (ended, Some(left))
+        }
+        Err(_) => (refuse(alloc, output, Refusal::DiskFault, &mut told), None),
+    }
+}
+
+/// Answers the lines of the input from the store under a name. Where there is no folder to look for
+/// releases in, this is refused before the store is opened: each import would be.
+fn serve_at<V: Devices, F: Folders, I: Read, O: Write, E: Write>(
+    devices: &mut V,
+    folders: &F,
+    alloc: Global,
+    path: &str,
+    dir: &str,
+    input: &mut I,
+    output: &mut O,
+    faults: &mut E,
+) -> Ended<V::Device>
+    ensures done { IsServedAt (record {
+      stands = V.stands devices.old;
+      withholds = V.withholds devices.old;
+      makes = V.makes devices.old;
+      denies = V.denies devices.old;
+      creates = V.creates devices.old;
+      occupies = V.occupies devices.old;
+      keeps = F.keeps folders.now;
+      loses = F.loses folders.now;
+      removes = F.removes folders.now;
+      retains = F.retains folders.now;
+      finds = F.finds folders.now;
+      lacks = F.lacks folders.now;
+      is_honest = F.is_honest folders.now;
+      releases = F.releases folders.now;
+      device = device_view V.Device.is_honest V.Device.moments V.Device.failures
+          V.Device.bytes_read;
+    }) path.now dir.now result.1 result.0 (streams (I.remaining input.old) (I.remaining input.new)
+        (O.contents output.old) (O.contents output.new)) }
+    ensures asked { V.asked devices.new ≡ raised_by (V.asked devices.old) 1 }
+{
+    let mut told = Told::new();
+    match devices.device(path, faults) {
+        Ok(device) => {
+            if !folders.has_folder(dir, faults) {
+                return (refuse_folder(alloc, output, &mut told), Some(device));
+            }
+            let mut source = FolderSource {
+                folders,
+                dir,
+                faults,
+                doing: "importing",
                 quiet: true,
             };
             let (ended, left) = serve_device(alloc, device, &mut source, input, output, &mut told);
@@ -318,6 +417,39 @@ fn merge_at<V: Devices, O: Write, E: Write>(
     }
 }
 
+/// Tells the digest of the store under a name.
+fn digest_at<V: Devices, O: Write, E: Write>(
+    devices: &mut V,
+    alloc: Global,
+    path: &str,
+    imports: Option<u32>,
+    output: &mut O,
+    faults: &mut E,
+) -> Ended<V::Device>
+    ensures done { IsDoneAt (V.stands devices.old path.now)
+        (λ device after. IsDigest
+        (device_view V.Device.is_honest V.Device.moments V.Device.failures V.Device.bytes_read)
+        imports device after
+        (report result.0 (O.contents output.old) (O.contents output.new)))
+        (IsMissing (report result.0 (O.contents output.old) (O.contents output.new))
+        × V.withholds devices.old path.now) result.1 }
+    ensures asked { V.asked devices.new ≡ raised_by (V.asked devices.old) 1 }
+{
+    let mut told = Told::new();
+    match devices.device(path, faults) {
+        Ok(device) => {
+            let (ended, left) = digest(alloc, device, imports, output, &mut told);
+            let context = Context {
+                store: path,
+                last_error: devices.last_error(&left),
+            };
+            tell_why(told, &context, faults);
+            (ended, Some(left))
+        }
+        Err(_) => (refuse(alloc, output, Refusal::DiskFault, &mut told), None),
+    }
+}
+
 /// Brings the store under a name to version 3.
 fn upgrade_at<V: Devices, O: Write, E: Write>(
     devices: &mut V,
@@ -367,6 +499,29 @@ fn demo<O: Write>(alloc: Global, output: &mut O) -> Result<Ending, ServeFault>
         &mut told,
     );
     ended
+}
+
+/// Answers the lines of the script, on a store in memory, and answers the status of the program.
+/// Each line is shown on `faults` before its reply is written, as on a terminal one wants it.
+pub fn demonstrate<O: Write, E: Write>(alloc: Global, output: &mut O, faults: &mut E) -> u8
+    ensures status { result ≤ 1 }
+    ensures done { IsDemonstration SCRIPT.now result
+        (O.contents output.old) (O.contents output.new) }
+{
+    let mut told = Told::new();
+    let mut script = ToldLines {
+        rest: SCRIPT,
+        told: faults,
+    };
+    let (ended, _) = serve_new(
+        alloc,
+        MemDisk::new(alloc),
+        &mut Samples,
+        &mut script,
+        output,
+        &mut told,
+    );
+    finish(ended, output, script.told)
 }
 
 /// Writes why the words give no task. A help that was asked for is no fault.

@@ -5,6 +5,7 @@ use history_store::{Damage, Refusal};
 use import_check::ReleaseFile;
 use line_server::Reply;
 use rf2_values::EffectiveTime;
+use shown_names::Shown;
 use std::io::{self, Write};
 
 /// The number of the refusal of a row that differs from another one of the same id and date.
@@ -89,6 +90,7 @@ reach 4 GiB"
             "a release's name is ASCII letters, digits, _, - and ., in parts with one / between \
 them; no part is . or .., and it has at most 1,024 bytes"
         }
+        44 => "the store has fewer imports",
         _ => "it was refused",
     }
 }
@@ -142,7 +144,8 @@ fn write_figures<E: Write>(
     size: Option<u64>,
     faults: &mut E,
 ) -> io::Result<()> {
-    write!(faults, "sctd: {store}: layout {}", figures.layout)?;
+    let name = Shown(store.as_bytes());
+    write!(faults, "sctd: {name}: layout {}", figures.layout)?;
     if let Some(bytes) = size {
         write!(faults, ", {bytes} bytes")?;
     }
@@ -159,21 +162,23 @@ fn write_figures<E: Write>(
 
 /// Tells how many segments a store has, after a merge.
 pub(crate) fn tell_segments<E: Write>(store: &str, segments: u32, faults: &mut E) {
-    let _ = writeln!(faults, "sctd: {store}: segments left: {segments}");
+    let name = Shown(store.as_bytes());
+    let _ = writeln!(faults, "sctd: {name}: segments left: {segments}");
 }
 
 /// Tells that the only segment of a store was written anew.
 pub(crate) fn tell_rewritten<E: Write>(store: &str, faults: &mut E) {
+    let name = Shown(store.as_bytes());
     let _ = writeln!(
         faults,
-        "sctd: {store}: the segment was written anew, with checksums"
+        "sctd: {name}: the segment was written anew, with checksums"
     );
 }
 
 /// Writes that as a line. What the system said of a failed call is written also where no task was
 /// refused: `serve` goes on after an `ERR 2`.
 fn write_why<E: Write>(told: Told, context: &Context<'_>, faults: &mut E) -> io::Result<()> {
-    let store = context.store;
+    let store = Shown(context.store.as_bytes());
     if let Some(error) = context.last_error {
         return writeln!(faults, "sctd: {store}: {error}");
     }
@@ -257,7 +262,10 @@ fn write_place<E: Write>(
     faults: &mut E,
 ) -> io::Result<()> {
     match files.get(file.wrapping_sub(1)) {
-        Some(found) => write!(faults, "{}, line {line}", found.name),
+        Some(found) => {
+            let name = Shown(found.name.as_bytes());
+            write!(faults, "{name}, line {line}")
+        }
         None => write!(faults, "file {file}, line {line}"),
     }
 }

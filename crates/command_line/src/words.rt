@@ -6,11 +6,13 @@ ghost use Rattle.clap.specs.Matches.{found_of};
 ghost use Rattle.clap.specs.Simple.{new_app, subcommand_rows_of};
 ghost use Rattle.clap.specs.Walk.{first_of, rows_of};
 ghost use Rattle.command_line.specs.Words.{IsImportOf, IsInitOf, Reads, AskFor, AskForNone};
+ghost use Rattle.command_line.specs.Words.{AreImports, IsCopyTaskOf, IsDigestTaskOf, IsGivenFlag};
 ghost use Rattle.command_line.specs.Private.{IsArgument, IsCommand};
 ghost use Rattle.command_line.specs.Words.{wanted, option, optional, flag, segments_option};
 ghost use Rattle.command_line.specs.Words.{init_command, import_command, serve_command};
 ghost use Rattle.command_line.specs.Words.{status_command, merge_command, upgrade_command};
-ghost use Rattle.command_line.specs.Words.{demo_command, layout_option};
+ghost use Rattle.command_line.specs.Words.{demo_command, layout_option, copy_command};
+ghost use Rattle.command_line.specs.Words.{digest_command, imports_option};
 ghost use Rattle.directory.specs.Listings.{number_of};
 ghost use Rattle.command_line.specs.Words.{empty_program, program};
 
@@ -21,6 +23,7 @@ use clap::error::ErrorKind;
 use clap::{Arg, ArgAction, ArgMatches, Command, Error};
 use directory::Layout;
 use std::alloc::{AllocError, Global};
+use std::num::ParseIntError;
 
 /// The version of the program, and the versions of a store's layout that it opens.
 const VERSION: &str = "1.0.0, opens layout versions 1, 2 and 3";
@@ -41,6 +44,14 @@ pub enum Task<'a> {
         name: &'a str,
         quiet: bool,
     },
+    /// Tell what an import of the release in the folder `name` below `releases` would answer.
+    /// If `quiet`, people are told of nothing but what may be wrong.
+    Check {
+        store: &'a str,
+        releases: &'a str,
+        name: &'a str,
+        quiet: bool,
+    },
     /// Answer the lines of the input. Releases are folders below `releases`.
     Serve {
         store: &'a str,
@@ -54,6 +65,17 @@ pub enum Task<'a> {
     Merge {
         store: &'a str,
         segments: u32,
+    },
+    /// Copy the first imports of a store, all where no number is given, into a new file.
+    Copy {
+        store: &'a str,
+        to: &'a str,
+        imports: Option<u32>,
+    },
+    /// Tell the digest of the rows that the first imports brought, all where no number is given.
+    Digest {
+        store: &'a str,
+        imports: Option<u32>,
     },
     /// Bring a store to version 3.
     Upgrade {
@@ -136,6 +158,16 @@ fn releases_if_given<'a>(alloc: Global) -> Arg<'a>
         .action(ArgAction::Set)
 }
 
+/// The option with which a release is tried, and not imported.
+fn check<'a>(alloc: Global) -> Arg<'a>
+    ensures { IsArgument (flag (codes "check")) result }
+{
+    Arg::new(alloc, "check")
+        .long("check")
+        .help("Tells what the import would answer, and leaves the store as it is")
+        .action(ArgAction::SetTrue)
+}
+
 /// The option with which people are told of warnings and refusals alone.
 fn quiet<'a>(alloc: Global) -> Arg<'a>
     ensures { IsArgument (flag (codes "quiet")) result }
@@ -167,6 +199,30 @@ fn segments<'a>(alloc: Global) -> Arg<'a>
         .help("How many segments may stay, 1 to 250")
         .value_parser(ValueParser::Unsigned(1, 250))
         .default_value("1")
+        .action(ArgAction::Set)
+}
+
+/// The option that names the file of a copy.
+fn to<'a>(alloc: Global) -> Arg<'a>
+    ensures { IsArgument (option (codes "to")) result }
+{
+    Arg::new(alloc, "to")
+        .long("to")
+        .value_name("NEW")
+        .help("The file that is made for the copy, which mustn't be there")
+        .required(true)
+        .action(ArgAction::Set)
+}
+
+/// The option that says how many imports count.
+fn imports<'a>(alloc: Global) -> Arg<'a>
+    ensures { IsArgument imports_option result }
+{
+    Arg::new(alloc, "imports")
+        .long("imports")
+        .value_name("N")
+        .help("How many imports count, from the first on; all if it isn't given")
+        .value_parser(ValueParser::Unsigned(0, 4_294_967_295))
         .action(ArgAction::Set)
 }
 
@@ -206,6 +262,7 @@ fn import<'a>(alloc: Global) -> Result<Command<'a>, AllocError>
     new_command(alloc, "import", about, helps::IMPORT)
         .arg(store(alloc))?
         .arg(releases_if_given(alloc))?
+        .arg(check(alloc))?
         .arg(quiet(alloc))?
         .arg(name(alloc))
 }
@@ -234,6 +291,25 @@ fn merge<'a>(alloc: Global) -> Result<Command<'a>, AllocError>
     new_command(alloc, "merge", about, helps::MERGE)
         .arg(store(alloc))?
         .arg(segments(alloc))
+}
+
+fn copy<'a>(alloc: Global) -> Result<Command<'a>, AllocError>
+    ensures { IfOk result (IsCommand copy_command) }
+{
+    let about = "Copies a store into a new file, which checks it, with all imports or the first N";
+    new_command(alloc, "copy", about, helps::COPY)
+        .arg(store(alloc))?
+        .arg(to(alloc))?
+        .arg(imports(alloc))
+}
+
+fn digest<'a>(alloc: Global) -> Result<Command<'a>, AllocError>
+    ensures { IfOk result (IsCommand digest_command) }
+{
+    let about = "Tells the SHA-256 of all rows, or of those that the first N imports brought";
+    new_command(alloc, "digest", about, helps::DIGEST)
+        .arg(store(alloc))?
+        .arg(imports(alloc))
 }
 
 fn upgrade<'a>(alloc: Global) -> Result<Command<'a>, AllocError>
@@ -273,6 +349,8 @@ fn commands<'a>(alloc: Global) -> Result<Command<'a>, AllocError>
         .subcommand(serve(alloc)?)?
         .subcommand(status(alloc)?)?
         .subcommand(merge(alloc)?)?
+        .subcommand(copy(alloc)?)?
+        .subcommand(digest(alloc)?)?
         .subcommand(upgrade(alloc)?)?
         .subcommand(demo(alloc))
 }
@@ -299,6 +377,8 @@ fn task_in<'a>(matches: &ArgMatches<'a>) -> Option<Task<'a>>
                 Err(_) => None,
             }
         }
+        "copy" => copy_of(found),
+        "digest" => digest_of(found),
         "upgrade" => Some(Task::Upgrade {
             store: found.get_str("store")?,
         }),
@@ -332,24 +412,67 @@ fn layout_with(number: u32) -> Option<Layout>
     }
 }
 
-/// The import that the words ask for. A folder that isn't given is the one above the release's.
+/// The import that the words ask for, or the check of a release. A folder that isn't given is the
+/// one above the release's.
 fn import_of<'a>(found: &ArgMatches<'a>) -> Option<Task<'a>>
     ensures { IfSome result (IsImportOf (rows_of (found_of found.now))) }
 {
     let store = found.get_str("store")?;
     let (releases, name) = place_of(found.get_str("releases"), found.get_str("name")?);
-    Some(Task::Import {
-        store,
-        releases,
-        name,
-        quiet: is_set(found, "quiet"),
-    })
+    let quiet = is_set(found, "quiet");
+    if is_set(found, "check") {
+        Some(Task::Check {
+            store,
+            releases,
+            name,
+            quiet,
+        })
+    } else {
+        Some(Task::Import {
+            store,
+            releases,
+            name,
+            quiet,
+        })
+    }
+}
+
+/// The copy that the words ask for.
+fn copy_of<'a>(found: &ArgMatches<'a>) -> Option<Task<'a>>
+    ensures { IfSome result (IsCopyTaskOf (rows_of (found_of found.now))) }
+{
+    let store = found.get_str("store")?;
+    let to = found.get_str("to")?;
+    match imports_of(found) {
+        Ok(imports) => Some(Task::Copy { store, to, imports }),
+        Err(_) => None,
+    }
+}
+
+/// The digest that the words ask for.
+fn digest_of<'a>(found: &ArgMatches<'a>) -> Option<Task<'a>>
+    ensures { IfSome result (IsDigestTaskOf (rows_of (found_of found.now))) }
+{
+    let store = found.get_str("store")?;
+    match imports_of(found) {
+        Ok(imports) => Some(Task::Digest { store, imports }),
+        Err(_) => None,
+    }
+}
+
+/// How many imports the words say, if they do.
+fn imports_of(found: &ArgMatches<'_>) -> Result<Option<u32>, ParseIntError>
+    ensures { IfOk result (AreImports (rows_of (found_of found.now))) }
+{
+    match found.get_str("imports") {
+        Some(text) => Ok(Some(text.parse()?)),
+        None => Ok(None),
+    }
 }
 
 /// Whether a flag was given.
 fn is_set(found: &ArgMatches<'_>, id: &str) -> bool
-    ensures { (result ≡ true)
-        ↔ (first_of id.now (rows_of (found_of found.now)) ≡ Some (codes "true")) }
+    ensures { (result ≡ true) ↔ IsGivenFlag id.now (rows_of (found_of found.now)) }
 {
     match found.get_str(id) {
         Some(text) => text == "true",

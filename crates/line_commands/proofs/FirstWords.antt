@@ -14,8 +14,8 @@ use Rattle.rf2_values.specs.Member.{IsMemberByte}
 use Rattle.rf2_values.proofs.Decimals.{own}
 use Rattle.line_commands.specs.declared.words.QuestionWord.{QuestionWord}
 use Rattle.line_commands.specs.declared.words.QuestionWord.TheVariants as asking
-use Rattle.line_commands.specs.Questions.{Question, Get, History, Children, Ancestors, Descendants, Terms, Search, Replaced, Replaces, About, Timeline, Page, Delta, Dates, Receipt, word_of_question, letter}
-use Rattle.line_commands.specs.Commands.{Command, Ask, At, Import, Pin, Unpin, Merge, Step, Publish, Abandon, Trim, Status, word_of}
+use Rattle.line_commands.specs.Questions.{Question, Get, History, Children, Ancestors, Descendants, Terms, Search, Replaced, Replaces, About, Timeline, Page, Delta, Dates, Digest, Receipt, word_of_question, letter}
+use Rattle.line_commands.specs.Commands.{Command, Ask, At, Import, Check, Pin, Unpin, Merge, Step, Publish, Abandon, Trim, Status, word_of}
 use Rattle.line_commands.specs.Requests.{with_rest, spaced}
 use Rattle.line_commands.specs.Private.{IsWord, IsOther, text_of_question, behind}
 
@@ -61,6 +61,7 @@ question_is_word (Timeline kind id) = from_test (codes "TIMELINE") refl
 question_is_word (Page kind date after limit) = from_test (codes "PAGE") refl
 question_is_word (Delta kind from date after limit) = from_test (codes "DELTA") refl
 question_is_word Dates = from_test (codes "DATES") refl
+question_is_word Digest = from_test (codes "DIGEST") refl
 question_is_word (Receipt number) = from_test (codes "RECEIPT") refl
 
 pub command_is_word : (command : Command) → IsWord (word_of command)
@@ -68,6 +69,7 @@ unfolding test
 command_is_word (Ask question) = question_is_word question
 command_is_word (At number question) = from_test (codes "AT") refl
 command_is_word (Import name) = from_test (codes "IMPORT") refl
+command_is_word (Check name) = from_test (codes "CHECK") refl
 command_is_word (Pin number) = from_test (codes "PIN") refl
 command_is_word Unpin = from_test (codes "UNPIN") refl
 command_is_word Merge = from_test (codes "MERGE") refl
@@ -126,7 +128,7 @@ spaced_is word (t ∷ ts) = refl
 
 -- the words of questions
 question_words : List (List ℕ)
-question_words = codes "GET" ∷ codes "HISTORY" ∷ codes "CHILDREN" ∷ codes "ANCESTORS" ∷ codes "DESCENDANTS" ∷ codes "TERMS" ∷ codes "SEARCH" ∷ codes "REPLACED" ∷ codes "REPLACES" ∷ codes "ABOUT" ∷ codes "TIMELINE" ∷ codes "PAGE" ∷ codes "DELTA" ∷ codes "DATES" ∷ codes "RECEIPT" ∷ []
+question_words = codes "GET" ∷ codes "HISTORY" ∷ codes "CHILDREN" ∷ codes "ANCESTORS" ∷ codes "DESCENDANTS" ∷ codes "TERMS" ∷ codes "SEARCH" ∷ codes "REPLACED" ∷ codes "REPLACES" ∷ codes "ABOUT" ∷ codes "TIMELINE" ∷ codes "PAGE" ∷ codes "DELTA" ∷ codes "DATES" ∷ codes "DIGEST" ∷ codes "RECEIPT" ∷ []
 
 among : List ℕ → List (List ℕ) → Bool
 among word [] = false
@@ -148,6 +150,7 @@ is_among (Timeline kind id) = refl
 is_among (Page kind date after limit) = refl
 is_among (Delta kind from date after limit) = refl
 is_among Dates = refl
+is_among Digest = refl
 is_among (Receipt number) = refl
 
 -- no other command has a question's word
@@ -176,6 +179,7 @@ some_question asking.Timeline = (Timeline kinds.Concept 0, refl)
 some_question asking.Page = (Page kinds.Concept 0 None 0, refl)
 some_question asking.Delta = (Delta kinds.Concept 0 0 None 0, refl)
 some_question asking.Dates = (Dates, refl)
+some_question asking.Digest = (Digest, refl)
 some_question asking.Receipt = (Receipt 0, refl)
 
 pub one_letter : (k l : Kind) → letter k ≡ letter l → k ≡ l

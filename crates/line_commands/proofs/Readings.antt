@@ -11,8 +11,8 @@ use Rattle.rf2_values.specs.Time.{IsTime}
 use Rattle.rf2_values.specs.Row.{IsIdOf, SpellsId, IsConcept, IsComponent}
 use Rattle.rf2_values.proofs.Ids.{same_ids}
 use Rattle.line_commands.specs.declared.unread.Unread.TheVariants as unread
-use Rattle.line_commands.specs.Questions.{Question, Get, History, Children, Ancestors, Descendants, Terms, Search, Replaced, Replaces, About, Timeline, Page, Delta, Dates, Receipt, word_of_question, letter, IsSubjectOf, SpellsQuestion, SpellsAfter}
-use Rattle.line_commands.specs.Commands.{Command, Ask, At, Import, Pin, Unpin, Merge, Step, Publish, Abandon, Trim, Status, word_of, SpellsArguments}
+use Rattle.line_commands.specs.Questions.{Question, Get, History, Children, Ancestors, Descendants, Terms, Search, Replaced, Replaces, About, Timeline, Page, Delta, Dates, Digest, Receipt, word_of_question, letter, IsSubjectOf, SpellsQuestion, SpellsAfter}
+use Rattle.line_commands.specs.Commands.{Command, Ask, At, Import, Check, Pin, Unpin, Merge, Step, Publish, Abandon, Trim, Status, word_of, SpellsArguments}
 use Rattle.line_commands.specs.Requests.{with_rest, sessions, Asks, HasSession, HasCommand}
 use Rattle.line_commands.specs.Private.{IsWord, behind}
 use Rattle.line_commands.specs.Laws.{OneReading, AskedIsRead, OneRefusal}
@@ -175,6 +175,7 @@ one_question (Delta k from date after limit) (Delta l since day last most) xs ys
     let afters = same_after k l after last s.0 t.0 kind fourth.0 s.1 t.1 in
     ap (λ (x : Kind). Delta x from date after limit) kind ∙ ap (λ (x : ℕ). Delta l x date after limit) froms ∙ ap (λ (x : ℕ). Delta l since x after limit) days ∙ ap (λ (x : Option ℕ). Delta l since day x limit) afters ∙ ap (λ (x : ℕ). Delta l since day last x) limits
 one_question Dates Dates xs ys w s t same = refl
+one_question Digest Digest xs ys w s t same = refl
 one_question (Receipt m) (Receipt n) xs ys w s t same =
     let low = s.1 in
     let high = t.1 in
@@ -195,6 +196,7 @@ one_command (At m p) (At n q) xs ys w s t same =
     let questions = one_question p q s.0 t.0 words.0 s.1 t.1 words.1 in
     ap (λ (x : ℕ). At x p) numbers ∙ ap (λ (x : Question). At n x) questions
 one_command (Import name) (Import other) xs ys w s t same = ap (λ (n : List ℕ). Import n) (same_Some _ _ (rest_same xs ys _ _ s.1 t.1 same))
+one_command (Check name) (Check other) xs ys w s t same = ap (λ (n : List ℕ). Check n) (same_Some _ _ (rest_same xs ys _ _ s.1 t.1 same))
 one_command (Pin None) (Pin None) xs ys w s t same = refl
 one_command (Pin None) (Pin (Some n)) xs ys w s t same = let e = rest_same xs ys _ _ s t.1 same in absurd cc
 one_command (Pin (Some n)) (Pin None) xs ys w s t same = let e = rest_same xs ys _ _ s.1 t same in absurd cc

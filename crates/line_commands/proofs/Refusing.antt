@@ -6,7 +6,7 @@ use Rattle.line_commands.specs.declared.words.Word.{Word}
 use Rattle.line_commands.specs.declared.words.Word.TheVariants as words
 use Rattle.line_commands.specs.declared.unread.Unread.TheVariants as unread
 use Rattle.line_commands.specs.Questions.{Dates}
-use Rattle.line_commands.specs.Commands.{Command, Ask, At, Import, Pin, Unpin, Merge, Step, Publish, Abandon, Trim, Status, word_of}
+use Rattle.line_commands.specs.Commands.{Command, Ask, At, Import, Check, Pin, Unpin, Merge, Step, Publish, Abandon, Trim, Status, word_of}
 use Rattle.line_commands.specs.Requests.{with_rest, sessions, request_limit, IsUnread, HasSession, HasCommand}
 use Rattle.line_commands.specs.Private.{IsWord, text_of_word, behind, IsSpelled}
 use Rattle.line_commands.proofs.FirstWords.{command_is_word, one_head, some_question}
@@ -16,6 +16,7 @@ some_command : (w : Word) → (c : Command) × (word_of c ≡ text_of_word w)
 some_command (words.Question w) = let q = some_question w in (Ask q.0, q.1)
 some_command words.At = (At 0 Dates, refl)
 some_command words.Import = (Import [], refl)
+some_command words.Check = (Check [], refl)
 some_command words.Pin = (Pin None, refl)
 some_command words.Unpin = (Unpin, refl)
 some_command words.Merge = (Merge, refl)

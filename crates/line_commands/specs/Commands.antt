@@ -9,6 +9,8 @@ pub data Command : Type 0 where
   -- the question, of the first so many imports
   At : (number : ℕ) (question : Question) → Command
   Import : (name : List ℕ) → Command
+  -- what an import of the release would be answered
+  Check : (name : List ℕ) → Command
   Pin : (number : Option ℕ) → Command
   Unpin : Command
   Merge : Command
@@ -23,6 +25,7 @@ abbrev pub word_of : Command → List ℕ
 word_of (Ask question) = word_of_question question
 word_of (At number question) = codes "AT"
 word_of (Import name) = codes "IMPORT"
+word_of (Check name) = codes "CHECK"
 word_of (Pin number) = codes "PIN"
 word_of Unpin = codes "UNPIN"
 word_of Merge = codes "MERGE"
@@ -39,6 +42,7 @@ SpellsArguments (At number question) texts =
     (arguments : List (List ℕ)) × SpellsQuestion question arguments × (number < 2 ^ 32)
     × (texts ≡ decimal number ∷ word_of_question question ∷ arguments)
 SpellsArguments (Import name) texts = IsName name × (texts ≡ name ∷ [])
+SpellsArguments (Check name) texts = IsName name × (texts ≡ name ∷ [])
 SpellsArguments (Pin None) texts = texts ≡ []
 SpellsArguments (Pin (Some number)) texts = (number < 2 ^ 32) × (texts ≡ decimal number ∷ [])
 SpellsArguments (Step rows) texts = (1 ≤ rows) × (rows ≤ 100000) × (texts ≡ decimal rows ∷ [])

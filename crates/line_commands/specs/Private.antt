@@ -34,12 +34,14 @@ text_of_question asking.Timeline = codes "TIMELINE"
 text_of_question asking.Page = codes "PAGE"
 text_of_question asking.Delta = codes "DELTA"
 text_of_question asking.Dates = codes "DATES"
+text_of_question asking.Digest = codes "DIGEST"
 text_of_question asking.Receipt = codes "RECEIPT"
 
 abbrev pub text_of_word : Word → List ℕ
 text_of_word (words.Question word) = text_of_question word
 text_of_word words.At = codes "AT"
 text_of_word words.Import = codes "IMPORT"
+text_of_word words.Check = codes "CHECK"
 text_of_word words.Pin = codes "PIN"
 text_of_word words.Unpin = codes "UNPIN"
 text_of_word words.Merge = codes "MERGE"

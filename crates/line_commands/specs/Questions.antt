@@ -24,6 +24,7 @@ pub data Question : Type 0 where
   Page : (kind : Kind) (date : ℕ) (after : Option ℕ) (limit : ℕ) → Question
   Delta : (kind : Kind) (from date : ℕ) (after : Option ℕ) (limit : ℕ) → Question
   Dates : Question
+  Digest : Question
   Receipt : (number : ℕ) → Question
 
 -- the word of a question
@@ -42,6 +43,7 @@ word_of_question (Timeline kind id) = codes "TIMELINE"
 word_of_question (Page kind date after limit) = codes "PAGE"
 word_of_question (Delta kind from date after limit) = codes "DELTA"
 word_of_question Dates = codes "DATES"
+word_of_question Digest = codes "DIGEST"
 word_of_question (Receipt number) = codes "RECEIPT"
 
 -- the most rows that one answer may be asked for
@@ -106,5 +108,6 @@ SpellsQuestion (Delta kind from date after limit) texts =
     × (limit ≤ most_rows)
     × (texts ≡ letter kind ∷ decimal from ∷ decimal date ∷ text ∷ decimal limit ∷ [])
 SpellsQuestion Dates texts = texts ≡ []
+SpellsQuestion Digest texts = texts ≡ []
 SpellsQuestion (Receipt number) texts =
     (1 ≤ number) × (number < 2 ^ 32) × (texts ≡ decimal number ∷ [])

@@ -6,7 +6,7 @@ ghost use Rattle.line_commands.specs.Private.{IsReadAs, text_of_question, text_o
 
 use crate::columns::{import_number, limit};
 use crate::command::Command;
-use crate::names::is_name;
+use crate::names::release_name;
 use crate::questions::question;
 use crate::words::{QuestionWord, Word, cut, first_word, question_word};
 
@@ -36,12 +36,18 @@ fn at(text: &[u8]) -> Option<Command<'_>>
 fn import(text: &[u8]) -> Option<Command<'_>>
     ensures { IsReadAs (codes "IMPORT") (Some text.now) result }
 {
-    if !is_name(text) {
-        return None;
+    match release_name(text) {
+        Some(name) => Some(Command::Import { name }),
+        None => None,
     }
-    match str::from_utf8(text) {
-        Ok(name) => Some(Command::Import { name }),
-        Err(_) => None,
+}
+
+fn check(text: &[u8]) -> Option<Command<'_>>
+    ensures { IsReadAs (codes "CHECK") (Some text.now) result }
+{
+    match release_name(text) {
+        Some(name) => Some(Command::Check { name }),
+        None => None,
     }
 }
 
@@ -90,6 +96,7 @@ fn with_arguments(word: Word, text: &[u8]) -> Option<Command<'_>>
         Word::Question(word) => ask(word, Some(text)),
         Word::At => at(text),
         Word::Import => import(text),
+        Word::Check => check(text),
         Word::Pin => pin(text),
         Word::Step => step(text),
         _ => None,

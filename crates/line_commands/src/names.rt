@@ -1,6 +1,6 @@
 //! Names of releases.
 
-ghost use Rattle.std.specs.Prelude.{◌≡◌, ◌↔◌, ◌⊎◌, IsTrue};
+ghost use Rattle.std.specs.Prelude.{◌≡◌, ◌↔◌, ◌⊎◌, IsTrue, MatchOption};
 ghost use Rattle.std.specs.List.{All};
 ghost use Rattle.std.specs.Char.{IsAsciiAlphanumeric};
 ghost use Rattle.line_commands.specs.Names.{IsName, IsNamePart, IsNameByte};
@@ -26,11 +26,25 @@ fn is_name_part(part: &[u8]) -> bool
 }
 
 /// Whether the text is a name of a release.
-pub(crate) fn is_name(text: &[u8]) -> bool
+fn is_name(text: &[u8]) -> bool
     ensures { IsTrue result ↔ IsName text.now }
 {
     if text.len() > 1024 {
         return false;
     }
     text.split(|b| *b == b'/').all(|part| is_name_part(part))
+}
+
+/// The name of a release that the text is.
+pub(crate) fn release_name(text: &[u8]) -> Option<&str>
+    ensures { MatchOption result (IsName text.now → ⊥)
+        (λ name. IsName name.now × (name.now ≡ text.now)) }
+{
+    if !is_name(text) {
+        return None;
+    }
+    match str::from_utf8(text) {
+        Ok(name) => Some(name),
+        Err(_) => None,
+    }
 }

@@ -87,6 +87,8 @@ pub enum Question<'a> {
     },
     /// The effective times of all rows.
     Dates,
+    /// The digest of all rows.
+    Digest,
     /// How many rows an import brought, and the latest date among them.
     Receipt {
         number: u32,

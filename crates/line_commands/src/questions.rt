@@ -194,6 +194,7 @@ fn alone<'a>(word: QuestionWord) -> Option<Question<'a>>
 {
     match word {
         QuestionWord::Dates => Some(Question::Dates),
+        QuestionWord::Digest => Some(Question::Digest),
         _ => None,
     }
 }
@@ -217,7 +218,7 @@ fn with_arguments(word: QuestionWord, text: &[u8]) -> Option<Question<'_>>
         QuestionWord::Page => page(text),
         QuestionWord::Delta => delta(text),
         QuestionWord::Receipt => receipt(text),
-        QuestionWord::Dates => None,
+        QuestionWord::Dates | QuestionWord::Digest => None,
     }
 }
 

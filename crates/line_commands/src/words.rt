@@ -25,6 +25,7 @@ pub(crate) enum QuestionWord {
     Page,
     Delta,
     Dates,
+    Digest,
     Receipt,
 }
 
@@ -34,6 +35,7 @@ pub(crate) enum Word {
     Question(QuestionWord),
     At,
     Import,
+    Check,
     Pin,
     Unpin,
     Merge,
@@ -96,6 +98,7 @@ pub(crate) fn question_word(text: &[u8]) -> Option<QuestionWord>
         b"PAGE" => Some(QuestionWord::Page),
         b"DELTA" => Some(QuestionWord::Delta),
         b"DATES" => Some(QuestionWord::Dates),
+        b"DIGEST" => Some(QuestionWord::Digest),
         b"RECEIPT" => Some(QuestionWord::Receipt),
         _ => None,
     }
@@ -110,6 +113,7 @@ fn other_word(text: &[u8]) -> Option<Word>
     match text {
         b"AT" => Some(Word::At),
         b"IMPORT" => Some(Word::Import),
+        b"CHECK" => Some(Word::Check),
         b"PIN" => Some(Word::Pin),
         b"UNPIN" => Some(Word::Unpin),
         b"MERGE" => Some(Word::Merge),

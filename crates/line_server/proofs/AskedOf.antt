@@ -1,14 +1,14 @@
 -- Questions that are asked of the first so many imports.
-use Rattle.std.proofs.Common.{◌≡◌, ℕ, ◌≤◌, Bool, true, false, Result, Ok, Err, sym, ap, subst, inl, inr, arith}
-use Rattle.std.proofs.lemmas.Bool.{false≢true}
+use Rattle.std.proofs.Common.{◌≡◌, ℕ, ◌≤◌, Bool, Result, Ok, Err, sym, subst, inl, inr, arith}
 use Rattle.store_life.specs.DeviceView.{DeviceView}
 use Rattle.line_commands.specs.Questions.{Question}
-use Rattle.line_commands.specs.Commands.{Command, Ask, At, Import}
+use Rattle.line_commands.specs.Commands.{Command, Ask, At}
 use Rattle.line_server.specs.declared.refusal.LineRefusal.{LineRefusal}
 use Rattle.line_server.specs.declared.refusal.LineRefusal.TheVariants as refusals
 use Rattle.line_server.specs.Sources.{Releases}
 use Rattle.line_server.specs.ReplyValue.{Answer}
 use Rattle.line_server.specs.Replies.{Server, IsAnswerAt, IsRefusalAt, IsUnseen, IsOutcome, IsAskedOf, imports_seen}
+use Rattle.line_server.specs.StateValue.{IsHeldBack, HoldsBack}
 use Rattle.line_server.specs.Turns.{LeavesAsked, LeavesDisk}
 
 -- how a question comes out that is asked of the first `seen` imports
@@ -19,10 +19,6 @@ OutcomeAt honest seen question (Err refusals.PinRange) old new = IsUnseen seen q
 OutcomeAt honest seen question (Err refusals.NoFolder) old new = ⊥
 OutcomeAt honest seen question (Err (refusals.Store refusal)) old new = IsRefusalAt honest seen question refusal old new
 
-abbrev pub is_import : Command → Bool
-is_import (Import name) = true
-is_import _ = false
-
 module _ {D : Type 0} (honest : Type 0) (releases : Releases) (session : ℕ) (question : Question) (old new : Server D) where
   -- a session's question, and one behind AT
 
@@ -30,7 +26,7 @@ module _ {D : Type 0} (honest : Type 0) (releases : Releases) (session : ℕ) (q
   asked (Ok answer) h = h
   asked (Err (refusals.Unread reason)) h = h
   asked (Err refusals.PinRange) h = h
-  asked (Err refusals.NoFolder) h = absurd (false≢true (ap is_import h.1))
+  asked (Err refusals.NoFolder) h = absurd h.1
   asked (Err (refusals.Store refusal)) h = h
 
   asked_at : (pin : ℕ) (outcome : Result Answer LineRefusal) → pin ≤ old.store.history.imports → IsOutcome honest releases session (At pin question) outcome old new → OutcomeAt honest pin question outcome old new
@@ -38,7 +34,7 @@ module _ {D : Type 0} (honest : Type 0) (releases : Releases) (session : ℕ) (q
   asked_at pin (Err (refusals.Unread reason)) within h = h
   asked_at pin (Err refusals.PinRange) within (inl above, same) = absurd (omega (arith, within, above))
   asked_at pin (Err refusals.PinRange) within (inr unseen, same) = (unseen, same)
-  asked_at pin (Err refusals.NoFolder) within h = absurd (false≢true (ap is_import h.1))
+  asked_at pin (Err refusals.NoFolder) within h = absurd h.1
   asked_at pin (Err (refusals.Store refusal)) within h = h.1
 
   comes_out : (outcome : Result Answer LineRefusal) → OutcomeAt honest (imports_seen old session) question outcome old new → IsOutcome honest releases session (Ask question) outcome old new
@@ -56,6 +52,11 @@ module _ {D : Type 0} (honest : Type 0) (releases : Releases) (session : ℕ) (q
   comes_out_at pin (Err (refusals.Store refusal)) within h = (within, h)
 
   module _ (command : Command) (pin : ℕ) (outcome : Result Answer LineRefusal) where
+    -- it is never held back
+    pub asked_freely : (met : Bool) → IsAskedOf old session command question pin → HoldsBack met command → ⊥
+    asked_freely met (inl (is, at)) h = subst IsHeldBack is h.1
+    asked_freely met (inr (is, within)) h = subst IsHeldBack is h.1
+
     pub outcome_at : IsAskedOf old session command question pin → IsOutcome honest releases session command outcome old new → OutcomeAt honest pin question outcome old new
     outcome_at (inl (is, at)) h =
         subst (λ (k : ℕ). OutcomeAt honest k question outcome old new) at (asked outcome (subst (λ (c : Command). IsOutcome honest releases session c outcome old new) is h))

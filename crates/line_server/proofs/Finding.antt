@@ -6,7 +6,7 @@ use Rattle.history_model.specs.History.{rows_at}
 use Rattle.history_model.proofs.Hierarchy.{one_list_of_ancestors, one_list_of_descendants}
 use Rattle.history_store.specs.declared.refusal.Refusal.{Refusal}
 use Rattle.history_store.specs.declared.refusal.Refusal.TheVariants as store
-use Rattle.line_commands.specs.Questions.{Question, Get, History, Children, Ancestors, Descendants, Terms, Search, Replaced, Replaces, About, Timeline, Page, Delta, Dates, Receipt}
+use Rattle.line_commands.specs.Questions.{Question, Get, History, Children, Ancestors, Descendants, Terms, Search, Replaced, Replaces, About, Timeline, Page, Delta, Dates, Digest, Receipt}
 use Rattle.line_server.specs.declared.refusal.LineRefusal.{LineRefusal}
 use Rattle.line_server.specs.declared.refusal.LineRefusal.TheVariants as refusals
 use Rattle.line_server.specs.ReplyValue.{Answer, Ids}
@@ -36,11 +36,12 @@ AsksIndex (Descendants concept date) = Unit {0}
 AsksIndex Dates = Unit {0}
 AsksIndex _ = ⊥
 
--- what rows are read for
+-- what rows are read for, but for a digest of all of them
 abbrev pub AsksRead : Question → Type 0
 AsksRead (Children concept date) = ⊥
 AsksRead (Descendants concept date) = ⊥
 AsksRead Dates = ⊥
+AsksRead Digest = ⊥
 AsksRead (Receipt number) = ⊥
 AsksRead _ = Unit {0}
 
@@ -68,6 +69,7 @@ one_found (Timeline kind id) rows x y h k = h ∙ sym k
 one_found (Page kind date after limit) rows x y h k = h ∙ sym k
 one_found (Delta kind from date after limit) rows x y h k = h ∙ sym k
 one_found Dates rows x y h k = h ∙ sym k
+one_found Digest rows x y h k = h ∙ sym k
 
 -- ---- how a question comes out
 
@@ -96,6 +98,7 @@ module _ {D : Type 0} (honest : Type 0) (up : honest) (seen : ℕ) (old new : Se
   answer_found (Children concept date) answer q a = (a.0, a.1, a.2)
   answer_found (Descendants concept date) answer q a = (a.0, a.1, a.2)
   answer_found Dates answer q a = (a.0, a.1, a.2)
+  answer_found Digest answer q a = (a.0, a.1, a.2.3 up)
   answer_found question answer q a = (a.0, a.1, a.2.2 up)
 
   -- an open store refuses it only for want of memory or the device

@@ -9,23 +9,29 @@ use Rattle.history_model.specs.declared.receipt.Receipt.{Receipt}
 use Rattle.history_store.specs.declared.refusal.Refusal.{Refusal}
 use Rattle.history_store.specs.declared.refusal.Refusal.TheVariants as store
 use Rattle.history_store.specs.Catalog.{Catalog}
+use Rattle.history_store.specs.StoreValue.{StoreValue}
+use Rattle.history_store.specs.Answers.{IsImportOf}
+use Rattle.history_store.specs.Checking.{IsCheckingOf}
 use Rattle.history_store.specs.MergeAnswers.{IsBeginningOf}
 use Rattle.line_commands.specs.declared.unread.Unread.{Unread}
 use Rattle.line_commands.specs.Questions.{Question, Receipt as AskReceipt}
-use Rattle.line_commands.specs.Commands.{Command, Ask, At, Import, Pin, Unpin, Merge, Step, Publish, Abandon, Trim, Status}
+use Rattle.line_commands.specs.Commands.{Command, Ask, At, Import, Check, Pin, Unpin, Merge, Step, Publish, Abandon, Trim, Status}
 use Rattle.line_commands.proofs.Readings.{one_reading, asked_is_read, one_refusal}
 use Rattle.line_server.specs.declared.refusal.LineRefusal.{LineRefusal}
 use Rattle.line_server.specs.declared.refusal.LineRefusal.TheVariants as refusals
 use Rattle.line_server.specs.Pins.{pin_of}
 use Rattle.line_server.specs.Sources.{Releases}
+use Rattle.import_check.specs.declared.release.Release.{Release}
 use Rattle.import_check.specs.Release.{files_of}
 use Rattle.line_server.specs.ReplyValue.{Answer, Done}
-use Rattle.line_server.specs.Replies.{Server, Same, imports_seen, left_of, IsAnswer, IsImported, IsClosed, IsStoreRefusal, IsOutcome, Replies}
+use Rattle.line_server.specs.StateValue.{met_after}
+use Rattle.line_server.specs.Replies.{Server, Same, SameStore, IsChecked, import_words, imports_seen, left_of, IsAnswer, IsImported, IsClosed, IsStoreRefusal, IsOutcome, NamesRelease, Replies}
 use Rattle.store_life.specs.Laws.{IsSureImport}
-use Rattle.line_server.specs.Laws.{OneReply, IsSure}
+use Rattle.line_server.specs.Laws.{OneReply, AreAlike, IsSure}
 use Rattle.store_life.proofs.AlikeReleases.{import_alike}
-use Rattle.line_server.proofs.AskedOf.{OutcomeAt, is_import, outcome_at}
+use Rattle.line_server.proofs.AskedOf.{OutcomeAt, outcome_at}
 use Rattle.line_server.proofs.Finding.{AsksFound, same_from, found_out, one_way}
+use Rattle.line_server.proofs.Pinned.{Settles}
 use Rattle.line_server.proofs.Received.{receipt_out, one_receipt}
 use Rattle.store_life.proofs.OneImports.{one_import}
 use Rattle.line_server.proofs.MergesAlike.{refused, of_store, stepping, publishing, abandoning, catalog_after, Fares, step_fares, no_step_fares, publish_fares, no_publish_fares, abandon_fares, no_abandon_fares, trim_fares, no_trim_fares, one_beginning}
@@ -95,6 +101,7 @@ module _ {D : Type 0} (old new : Server D) (o : Result Answer LineRefusal) where
 -- no import, no question, and no merge begins
 abbrev IsFated : Command → Type 0
 IsFated (Import name) = ⊥
+IsFated (Check name) = ⊥
 IsFated Merge = ⊥
 IsFated (Ask question) = ⊥
 IsFated (At number question) = ⊥
@@ -140,6 +147,7 @@ module _ {D : Type 0} (honest : Type 0) (up : honest) (releases : Releases) (ses
 
   ok_told : (c : Command) (x : Answer) → IsFated c → IsAnswer honest releases session c x old new → Told c session (Ok x) old new
   ok_told (Import name) x f h = absurd f
+  ok_told (Check name) x f h = absurd f
   ok_told Merge x f h = absurd f
   ok_told (Ask question) x f h = absurd f
   ok_told (At number question) x f h = absurd f
@@ -154,6 +162,7 @@ module _ {D : Type 0} (honest : Type 0) (up : honest) (releases : Releases) (ses
 
   store_told : (c : Command) (e : Refusal) → IsFated c → IsSure (refused e) → IsStoreRefusal honest releases session c e old new → Told c session (refused e) old new
   store_told (Import name) e f u h = absurd f
+  store_told (Check name) e f u h = absurd f
   store_told Merge e f u h = absurd f
   store_told (Ask question) e f u h = absurd f
   store_told (At number question) e f u h = absurd f
@@ -165,6 +174,11 @@ module _ {D : Type 0} (honest : Type 0) (up : honest) (releases : Releases) (ses
   store_told Unpin e f u h = absurd h
   store_told Status e f u h = told_pair Status (refused e) refl refl (closed_told old new _ e h)
 
+  unnamed : (name : List ℕ) (c : Command) → IsFated c → NamesRelease c name → ⊥
+  unnamed name (Import other) f n = f
+  unnamed name (Check other) f n = f
+  unnamed name c f n = n
+
   told : (c : Command) (x : Result Answer LineRefusal) → IsFated c → IsSure x → IsOutcome honest releases session c x old new → Told c session x old new
   told c (Ok x) f u h = ok_told c x f h
   told c (Err (refusals.Unread reason)) f u h = absurd h
@@ -172,7 +186,7 @@ module _ {D : Type 0} (honest : Type 0) (up : honest) (releases : Releases) (ses
   told (Ask question) (Err refusals.PinRange) f u h = absurd f
   told (At number question) (Err refusals.PinRange) f u h = absurd f
   told c (Err refusals.PinRange) f u h = absurd h.0
-  told c (Err refusals.NoFolder) f u h = absurd (subst IsFated h.1 f)
+  told c (Err refusals.NoFolder) f u h = absurd (unnamed h.0 c f h.1)
   told c (Err (refusals.Store e)) f u h = store_told c e f u h
 
 -- ---- the beginning of a merge
@@ -191,7 +205,7 @@ merge_told : {D : Type 0} (honest : Type 0) (releases : Releases) (session : ℕ
 merge_told honest releases session (Ok x) old new h = record { result = Ok h.0; begins = h.1; is = ap Ok h.3; pins = h.2 }
 merge_told honest releases session (Err (refusals.Unread reason)) old new h = absurd h
 merge_told honest releases session (Err refusals.PinRange) old new h = absurd h.0
-merge_told honest releases session (Err refusals.NoFolder) old new h = absurd (false≢true (ap is_import h.1))
+merge_told honest releases session (Err refusals.NoFolder) old new h = absurd h.1
 merge_told honest releases session (Err (refusals.Store e)) old new h = record { result = Err e; begins = h.0; is = refl; pins = h.1 }
 
 one_merge : {D : Type 0} (x y : Result Answer LineRefusal) (a b after next : Server D) → Same a b → Begins x a after → Begins y b next → (x ≡ y) × Same after next
@@ -201,8 +215,8 @@ one_merge x y a b after next same h k =
 
 -- ---- imports
 
-abbrev said : Result Receipt Refusal → Result Answer LineRefusal
-said (Ok receipt) = Ok (Done (decimal receipt.number ∷ decimal receipt.new ∷ decimal receipt.repeated ∷ []))
+abbrev pub said : Result Receipt Refusal → Result Answer LineRefusal
+said (Ok receipt) = Ok (Done (import_words receipt))
 said (Err e) = Err (refusals.Store e)
 
 then_same : {D : Type 0} (a b after next : Server D) → Same a b → Same a after → Same b next → Same after next
@@ -212,23 +226,29 @@ then_same a b after next same h k = record {
 }
 
 -- an import without a release, and one with a release
-record NoRelease {D : Type 0} (releases : Releases) (name : List ℕ) (x : Result Answer LineRefusal) (old new : Server D) : Type 0 where
-  is : x ≡ Err refusals.NoFolder
-  none : releases name ≡ None
-  stays : Same old new
+pub record NoRelease {D : Type 0} (releases : Releases) (name : List ℕ) (x : Result Answer LineRefusal) (old new : Server D) : Type 0 where
+  pub is : x ≡ Err refusals.NoFolder
+  pub none : releases name ≡ None
+  pub stays : Same old new
 
-record WithRelease {D : Type 0} (honest : Type 0) (releases : Releases) (name : List ℕ) (x : Result Answer LineRefusal) (old new : Server D) : Type 0 where
-  result : Result Receipt Refusal
-  sure : IsSureImport result
-  imported : IsImported honest releases name result old new
-  is : x ≡ said result
+pub record WithRelease {D : Type 0} (honest : Type 0) (releases : Releases) (name : List ℕ) (x : Result Answer LineRefusal) (old new : Server D) : Type 0 where
+  pub result : Result Receipt Refusal
+  pub sure : IsSureImport result
+  pub imported : IsImported honest releases name result old new
+  pub is : x ≡ said result
 
-named : {D : Type 0} (releases : Releases) (name : List ℕ) (old new : Server D) → (other : List ℕ) × (Import name ≡ Import other) × (releases other ≡ None) × (new ≡ old) → NoRelease releases name (Err refusals.NoFolder) old new
+-- a check with a release
+pub record WithCheck {D : Type 0} (honest : Type 0) (releases : Releases) (name : List ℕ) (x : Result Answer LineRefusal) (old new : Server D) : Type 0 where
+  pub result : Result Receipt Refusal
+  pub sure : IsSureImport result
+  pub checked : IsChecked honest releases name result old new
+  pub is : x ≡ said result
+
+named : {D : Type 0} (releases : Releases) (name : List ℕ) (old new : Server D) → (other : List ℕ) × (other ≡ name) × (releases other ≡ None) × (new ≡ old) → NoRelease releases name (Err refusals.NoFolder) old new
 named releases name old new h =
-    let here : name ≡ h.0 = cc in
-    record { is = refl; none = ap releases here ∙ h.2; stays = same_from old new h.3 }
+    record { is = refl; none = ap releases (sym h.1) ∙ h.2; stays = same_from old new h.3 }
 
-import_told : {D : Type 0} (honest : Type 0) (releases : Releases) (session : ℕ) (name : List ℕ) (x : Result Answer LineRefusal) (old new : Server D) → IsSure x → IsOutcome honest releases session (Import name) x old new
+pub import_told : {D : Type 0} (honest : Type 0) (releases : Releases) (session : ℕ) (name : List ℕ) (x : Result Answer LineRefusal) (old new : Server D) → IsSure x → IsOutcome honest releases session (Import name) x old new
     → NoRelease releases name x old new ⊎ WithRelease honest releases name x old new
 import_told honest releases session name (Ok x) old new u h = inr (record { result = Ok h.0; sure = tt; imported = h.1; is = ap Ok h.2 })
 import_told honest releases session name (Err refusals.NoFolder) old new u h = inl (named releases name old new h)
@@ -249,6 +269,49 @@ module _ {D : Type 0} (releases : Releases) (a b after next : Server D) (honest 
       let other = import_alike k.imported.release h.imported.release files k.result b.store next.store k.sure (k.imported.imported so) in
       let both = one_import D h.imported.release h.result k.result a.store b.store after.store next.store same.store.history same.store.catalog same.store.needs_reopen (h.imported.imported up) other h.sure k.sure in
       (h.is ∙ ap said both.0 ∙ sym k.is, record { pins = k.imported.pins ∙ same.pins ∙ sym h.imported.pins; store = record { history = both.1; catalog = both.2; needs_reopen = both.3 } })
+
+-- ---- checks
+
+pub check_told : {D : Type 0} (honest : Type 0) (releases : Releases) (session : ℕ) (name : List ℕ) (x : Result Answer LineRefusal) (old new : Server D) → IsSure x → IsOutcome honest releases session (Check name) x old new
+    → NoRelease releases name x old new ⊎ WithCheck honest releases name x old new
+check_told honest releases session name (Ok x) old new u h = inr (record { result = Ok h.0; sure = tt; checked = h.1; is = ap Ok h.2 })
+check_told honest releases session name (Err refusals.NoFolder) old new u h = inl (named releases name old new h)
+check_told honest releases session name (Err refusals.PinRange) old new u h = absurd h.0
+check_told honest releases session name (Err (refusals.Unread reason)) old new u h = absurd h
+check_told honest releases session name (Err (refusals.Store store.OutOfMemory)) old new u h = absurd u
+check_told honest releases session name (Err (refusals.Store store.DiskFault)) old new u h = absurd u
+check_told honest releases session name (Err (refusals.Store e)) old new u h = inr (record { result = Err e; sure = tt; checked = h; is = refl })
+
+module _ {D : Type 0} (old new : StoreValue D) (release : Release) where
+  -- an import that answers as the check does
+  pub foreseen : (result : Result Receipt Refusal) → IsSureImport result → IsCheckingOf result old new release → (after : StoreValue D) × IsImportOf result old after release
+  foreseen (Ok receipt) sure c = (record old { history = c.0.0; catalog = c.0.1 }, (c.0.2, c.1.open_before, c.1.open_before))
+  foreseen (Err store.OutOfMemory) sure c = absurd sure
+  foreseen (Err store.DiskFault) sure c = absurd sure
+  foreseen (Err e) sure c = (new, c)
+
+  pub stays_checked : (result : Result Receipt Refusal) → IsSureImport result → IsCheckingOf result old new release → SameStore old new
+  stays_checked (Ok receipt) sure c = record { history = c.1.history; catalog = c.1.catalog; needs_reopen = c.1.open_still ∙ sym c.1.open_before }
+  stays_checked (Err store.DiskFault) sure c = absurd sure
+  stays_checked (Err e) sure c = record { history = c.1.history; catalog = c.1.catalog; needs_reopen = c.1.still (λ is. false≢true (ap is_fault is)) }
+
+module _ {D : Type 0} (releases : Releases) (a b after next : Server D) (honest also : Type 0) (up : honest) (so : also) (same : Same a b) where
+  one_checked : (name : List ℕ) (x y : Result Answer LineRefusal)
+      → NoRelease releases name x a after ⊎ WithCheck honest releases name x a after → NoRelease releases name y b next ⊎ WithCheck also releases name y b next → (x ≡ y) × Same after next
+  one_checked name x y (inl h) (inl k) = (h.is ∙ sym k.is, then_same a b after next same h.stays k.stays)
+  one_checked name x y (inl h) (inr k) = absurd (none-some _ (sym h.none ∙ k.checked.has))
+  one_checked name x y (inr h) (inl k) = absurd (none-some _ (sym k.none ∙ h.checked.has))
+  one_checked name x y (inr h) (inr k) =
+      let files : files_of k.checked.release ≡ files_of h.checked.release = same_Some _ _ (sym k.checked.has ∙ h.checked.has) in
+      let f = foreseen a.store after.store h.checked.release h.result h.sure (h.checked.checked up) in
+      let g = foreseen b.store next.store k.checked.release k.result k.sure (k.checked.checked so) in
+      let other = import_alike k.checked.release h.checked.release files k.result b.store g.0 k.sure g.1 in
+      let both = one_import D h.checked.release h.result k.result a.store b.store f.0 g.0 same.store.history same.store.catalog same.store.needs_reopen f.1 other h.sure k.sure in (
+        h.is ∙ ap said both.0 ∙ sym k.is,
+        then_same a b after next same
+            (record { pins = h.checked.pins; store = stays_checked a.store after.store h.checked.release h.result h.sure (h.checked.checked up) })
+            (record { pins = k.checked.pins; store = stays_checked b.store next.store k.checked.release k.result k.sure (k.checked.checked so) }),
+      )
 
 -- ---- questions
 
@@ -278,7 +341,7 @@ above_all : {D : Type 0} (honest : Type 0) (releases : Releases) (session number
 above_all honest releases session number question (Ok answer) old new above h = let within = h.0 in absurd (omega (arith, above, within))
 above_all honest releases session number question (Err (refusals.Unread reason)) old new above h = absurd h
 above_all honest releases session number question (Err refusals.PinRange) old new above h = (refl, same_from old new h.1)
-above_all honest releases session number question (Err refusals.NoFolder) old new above h = absurd (false≢true (ap is_import h.1))
+above_all honest releases session number question (Err refusals.NoFolder) old new above h = absurd h.1
 above_all honest releases session number question (Err (refusals.Store e)) old new above h = let within = h.0 in absurd (omega (arith, above, within))
 
 -- ---- a line
@@ -300,6 +363,8 @@ module _ {D : Type 0} (releases : Releases) (a b after next : Server D) (honest 
   one_outcome : (session : ℕ) (c : Command) (x y : Result Answer LineRefusal) → IsSure x → IsSure y → IsOutcome honest releases session c x a after → IsOutcome also releases session c y b next → (x ≡ y) × Same after next
   one_outcome session (Import name) x y u v h k =
       one_imported releases a b after next honest also up so same name x y (import_told honest releases session name x a after u h) (import_told also releases session name y b next v k)
+  one_outcome session (Check name) x y u v h k =
+      one_checked releases a b after next honest also up so same name x y (check_told honest releases session name x a after u h) (check_told also releases session name y b next v k)
   one_outcome session Merge x y u v h k = one_merge x y a b after next same (merge_told honest releases session x a after h) (merge_told also releases session y b next k)
   one_outcome session (Ask question) x y u v h k =
       let seen = ap (λ (p : List (Option ℕ)). pin_of p session a.store.history.imports) (sym same.pins) ∙ ap (λ (g : History). pin_of b.pins session g.imports) (sym same.store.history) in
@@ -315,16 +380,31 @@ module _ {D : Type 0} (releases : Releases) (a b after next : Server D) (honest 
   one_outcome session c x y u v h k =
       one_told c session x y a b after next same (told honest up releases session a after c x tt u h) (told also so releases session b next c y tt v k)
 
+module _ {D : Type 0} (releases : Releases) (a b after next : Server D) (honest also : Type 0) (up : honest) (so : also) (same : Same a b) (met : b.met_damage ≡ a.met_damage) where
+  -- at states that are alike a command is held back at both or at none
+  one_settled : (session : ℕ) (c : Command) (x y : Result Answer LineRefusal) → IsSure x → IsSure y → Settles honest releases session c x a after → Settles also releases session c y b next → (x ≡ y) × AreAlike after next
+  one_settled session c x y u v (inl h) (inl k) = (
+    h.refused ∙ sym k.refused,
+    (then_same a b after next same (same_from a after h.unchanged) (same_from b next k.unchanged), ap (λ (d : Server D). d.met_damage) k.unchanged ∙ met ∙ sym (ap (λ (d : Server D). d.met_damage) h.unchanged)),
+  )
+  one_settled session c x y u v (inl h) (inr k) = absurd (k.free (met ∙ h.held_back.0, h.held_back.1))
+  one_settled session c x y u v (inr h) (inl k) = absurd (h.free (sym met ∙ k.held_back.0, k.held_back.1))
+  one_settled session c x y u v (inr h) (inr k) =
+      let one = one_outcome releases a b after next honest also up so same session c x y u v h.comes_out k.comes_out in
+      (one.0, (one.1, k.damage ∙ ap (met_after y) met ∙ ap (λ (o : Result Answer LineRefusal). met_after o a.met_damage) (sym one.0) ∙ sym h.damage))
+
   one_case : (line : List ℕ) (x y : Result Answer LineRefusal) → IsSure x → IsSure y
-      → Replies honest releases line x a after → Replies also releases line y b next → (x ≡ y) × Same after next
+      → Replies honest releases line x a after → Replies also releases line y b next → (x ≡ y) × AreAlike after next
   one_case line x y u v (inl h) (inl k) =
       let read = one_reading line k.0 h.0 k.1 h.1 k.2 h.2 in
-      let other = subst (λ (d : Command). IsOutcome also releases h.0 d y b next) read.1 (subst (λ (s : ℕ). IsOutcome also releases s k.1 y b next) read.0 k.3) in
-      one_outcome h.0 h.1 x y u v h.3 other
+      let other = subst (λ (d : Command). Settles also releases h.0 d y b next) read.1 (subst (λ (s : ℕ). Settles also releases s k.1 y b next) read.0 k.3) in
+      one_settled h.0 h.1 x y u v h.3 other
   one_case line x y u v (inl h) (inr k) = absurd (asked_is_read line h.0 h.1 k.0 h.2 k.1)
   one_case line x y u v (inr h) (inl k) = absurd (asked_is_read line k.0 k.1 h.0 k.2 h.1)
-  one_case line x y u v (inr h) (inr k) =
-      (h.2 ∙ ap (λ (r : Unread). Err (refusals.Unread r)) (one_refusal line h.0 k.0 h.1 k.1) ∙ sym k.2, then_same a b after next same (same_from a after h.3) (same_from b next k.3))
+  one_case line x y u v (inr h) (inr k) = (
+    h.2 ∙ ap (λ (r : Unread). Err (refusals.Unread r)) (one_refusal line h.0 k.0 h.1 k.1) ∙ sym k.2,
+    (then_same a b after next same (same_from a after h.3) (same_from b next k.3), ap (λ (d : Server D). d.met_damage) k.3 ∙ met ∙ sym (ap (λ (d : Server D). d.met_damage) h.3)),
+  )
 
 pub one_reply : (D : Type 0) (honest : D → Type 0) → OneReply D honest
-one_reply D honest releases line x y a b after next up so same h k u v = one_case releases a b after next (honest a.store.disk) (honest b.store.disk) up so same line x y u v h k
+one_reply D honest releases line x y a b after next up so (same, met) h k u v = one_case releases a b after next (honest a.store.disk) (honest b.store.disk) up so same met line x y u v h k

@@ -1,5 +1,5 @@
 -- What a query is answered at a pin.
-use Rattle.std.proofs.Common.{◌≡◌, ℕ, false, List, sym, ap, subst, ◌∙◌, Result, Ok, inl, inr}
+use Rattle.std.proofs.Common.{◌≡◌, ◌⊎◌, ℕ, false, List, sym, ap, subst, ◌∙◌, Result, Ok, inl, inr}
 use Rattle.std.proofs.lemmas.Bool.{false≢true}
 use Rattle.rf2_values.specs.Row.{RowValue}
 use Rattle.history_model.specs.History.{rows_at}
@@ -10,25 +10,32 @@ use Rattle.line_commands.proofs.Readings.{one_reading, asked_is_read}
 use Rattle.line_server.specs.declared.refusal.LineRefusal.{LineRefusal}
 use Rattle.line_server.specs.Sources.{Releases}
 use Rattle.line_server.specs.ReplyValue.{Answer}
-use Rattle.line_server.specs.Replies.{Server, IsFound, IsOutcome, IsAskedOf, Replies}
+use Rattle.line_server.specs.Replies.{Server, IsFound, IsAskedOf, IsRefusedForDamage, IsPerformed, Replies}
 use Rattle.line_server.specs.Laws.{PinnedIsUndisturbed, IsSure}
-use Rattle.line_server.proofs.AskedOf.{OutcomeAt, outcome_at}
+use Rattle.line_server.proofs.AskedOf.{OutcomeAt, asked_freely, outcome_at}
 use Rattle.line_server.proofs.Finding.{AsksFound, ComesOut, one_found, found_out}
+
+-- what a line that asks a command is answered
+abbrev pub Settles : {D : Type 0} → Type 0 → Releases → ℕ → Command → Result Answer LineRefusal → Server D → Server D → Type 0
+Settles honest releases session command outcome old new = IsRefusedForDamage command outcome old new ⊎ IsPerformed honest releases session command outcome old new
 
 -- a line that asks a command is answered as that comes out
 pub asked_outcome : {D : Type 0} (honest : Type 0) (releases : Releases) (old new : Server D) (line : List ℕ) (session : ℕ) (command : Command) (outcome : Result Answer LineRefusal) → Asks line session command → Replies honest releases line outcome old new
-    → IsOutcome honest releases session command outcome old new
+    → Settles honest releases session command outcome old new
 asked_outcome honest releases old new line session command outcome asks (inl r) =
     let one = one_reading line r.0 session r.1 command r.2 asks in
-    let out = subst (λ (s : ℕ). IsOutcome honest releases s r.1 outcome old new) one.0 r.3 in
-    subst (λ (c : Command). IsOutcome honest releases session c outcome old new) one.1 out
+    let out = subst (λ (s : ℕ). Settles honest releases s r.1 outcome old new) one.0 r.3 in
+    subst (λ (c : Command). Settles honest releases session c outcome old new) one.1 out
 asked_outcome honest releases old new line session command outcome asks (inr r) = absurd (asked_is_read line session command r.0 asks r.1)
 
 -- a line that asks a question is answered as that comes out
 pub question_out : {D : Type 0} (honest : Type 0) (releases : Releases) (old new : Server D) (line : List ℕ) (session : ℕ) (command : Command) (question : Question) (pin : ℕ) (outcome : Result Answer LineRefusal)
     → Asks line session command → IsAskedOf old session command question pin → Replies honest releases line outcome old new → OutcomeAt honest pin question outcome old new
 question_out honest releases old new line session command question pin outcome asks at r =
-    outcome_at honest releases session question old new command pin outcome at (asked_outcome honest releases old new line session command outcome asks r)
+    came_out (asked_outcome honest releases old new line session command outcome asks r) where
+      came_out : Settles honest releases session command outcome old new → OutcomeAt honest pin question outcome old new
+      came_out (inl h) = absurd (asked_freely honest releases session question old new command pin outcome old.met_damage at h.held_back)
+      came_out (inr h) = outcome_at honest releases session question old new command pin outcome at h.comes_out
 
 -- what is found isn't a receipt
 found_asked : (question : Question) (rows : List RowValue) (query : Answer) → IsFound question rows query → AsksFound question

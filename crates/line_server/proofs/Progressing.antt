@@ -16,7 +16,7 @@ use Rattle.line_server.specs.declared.serving.ServeFault.{ServeFault}
 use Rattle.line_server.specs.declared.serving.ServeFault.TheVariants as faults
 use Rattle.line_server.specs.Sources.{SourceView}
 use Rattle.line_server.specs.ReplyValue.{Answer, reply_value, bytes_of}
-use Rattle.line_server.specs.Pins.{unpinned}
+use Rattle.line_server.specs.StateValue.{StateValue, fresh}
 use Rattle.line_server.specs.Replies.{Server, server}
 use Rattle.store_life.specs.Life.{Call}
 use Rattle.line_server.specs.Turns.{Turn, Run, IsTurn, lines_asked, replies}
@@ -309,19 +309,19 @@ module _ {D : Type 0} (source : SourceView) (view : DeviceView D) where
 
   module _ (most : ℕ) (input rest old : Option (List ℕ)) (begun made : Option (List Reading)) (before : StoreValue D) where
     abbrev start : Server D
-    start = server unpinned before
+    start = server fresh before
 
     abbrev Out : Result ℕ ServeFault → Option (List ℕ) → StoreValue D → Type 0
     Out result new after = IsServed result most source view (with_reads (streams input rest old new) begun made) before after
 
-    out : (result : Result ℕ ServeFault) (new : Option (List ℕ)) (pins : List (Option ℕ)) (after : StoreValue D) (turns : List Turn)
-        → Run source view start turns (server pins after) → IfSome input (AreLines result (lines_asked turns))
+    out : (result : Result ℕ ServeFault) (new : Option (List ℕ)) (state : StateValue) (after : StoreValue D) (turns : List Turn)
+        → Run source view start turns (server state after) → IfSome input (AreLines result (lines_asked turns))
         → (came : List ℕ) → Consumes input rest came → length came ≤ most * 4096 → IsRead result most came rest (length turns) → IsWritten result old new turns → IsCount result (length turns)
         → (reads : List Reading) → Makes begun made reads → length reads ≤ most → came ≡ all_of reads → AreReads result most reads (length turns)
         → Out result new after
-    out result new pins after turns run lines came consumed few read written count reads makes within all are = record {
+    out result new state after turns run lines came consumed few read written count reads makes within all are = record {
       turns = turns;
-      pins = pins;
+      state = state;
       run = run;
       lines = lines;
       read = (came, consumed, read, few);
@@ -334,19 +334,19 @@ module _ {D : Type 0} (source : SourceView) (view : DeviceView D) where
       rightly = are;
     }
 
-    module _ (mid : Option (List ℕ)) (pins : List (Option ℕ)) (now : StoreValue D) (seen buffer : List ℕ) (served : ℕ) (h : Progress old mid start (server pins now) seen buffer served) (c : Consumes input rest seen) (few : length seen ≤ most * 4096)
+    module _ (mid : Option (List ℕ)) (state : StateValue) (now : StoreValue D) (seen buffer : List ℕ) (served : ℕ) (h : Progress old mid start (server state now) seen buffer served) (c : Consumes input rest seen) (few : length seen ≤ most * 4096)
         (pieces : List Reading) (each : All IsPiece pieces) (all : seen ≡ all_of pieces) where
       fronts : (fault : ServeFault) → IfSome input (AreLines (Err fault) (lines_asked h.turns))
       fronts fault = first_lines input rest seen h.part (lines_asked h.turns) fault c (λ more. cut_front seen (lines_asked h.turns) h.part more h.cut)
 
       -- a read failed
       pub unread : Makes begun made (pieces ++ Failed ∷ []) → length pieces < most → Out (Err faults.Read) mid now
-      unread makes lt = out (Err faults.Read) mid pins now h.turns h.run (fronts faults.Read) seen c few h.ends h.written tt
+      unread makes lt = out (Err faults.Read) mid state now h.turns h.run (fronts faults.Read) seen c few h.ends h.written tt
           (pieces ++ Failed ∷ []) makes (one_more pieces Failed most lt) (came_none pieces Failed seen refl all) (pieces, each, refl)
 
       -- there were too many reads
       pub stopped : most ≤ length seen → Makes begun made pieces → length pieces ≡ most → Out (Err faults.Reads) mid now
-      stopped le makes number = out (Err faults.Reads) mid pins now h.turns h.run (fronts faults.Reads) seen c few (h.ends, le) h.written tt
+      stopped le makes number = out (Err faults.Reads) mid state now h.turns h.run (fronts faults.Reads) seen c few (h.ends, le) h.written tt
           pieces makes (omega (arith, number)) all (each, number)
 
       module _ (end : IsAtEnd rest) (makes : Makes begun made (pieces ++ Gave [] ∷ [])) (lt : length pieces < most) where
@@ -354,17 +354,17 @@ module _ {D : Type 0} (source : SourceView) (view : DeviceView D) where
         pub ended : length buffer ≡ 0 → Out (Ok served) mid now
         ended none =
             let empty : h.part ≡ [] = kept_none h.part (ap length (sym h.buffer_is) ∙ none) in
-            out (Ok served) mid pins now h.turns h.run (all_lines input rest seen (lines_asked h.turns) served c end (cut_end seen (lines_asked h.turns) h.part h.cut empty)) seen c few end h.written h.count
+            out (Ok served) mid state now h.turns h.run (all_lines input rest seen (lines_asked h.turns) served c end (cut_end seen (lines_asked h.turns) h.part h.cut empty)) seen c few end h.written h.count
             (pieces ++ Gave [] ∷ []) makes (one_more pieces (Gave []) most lt) (came_none pieces (Gave []) seen refl all) (pieces, each, refl)
 
         -- it ended within a line, which was answered so
-        module _ (outcome : Result Answer LineRefusal) (call : Call) (new : Option (List ℕ)) (later : List (Option ℕ)) (after : StoreValue D) (some : 0 < length buffer)
-            (g : Gives outcome call (server pins now) (server later after) buffer) where
+        module _ (outcome : Result Answer LineRefusal) (call : Call) (new : Option (List ℕ)) (later : StateValue) (after : StoreValue D) (some : 0 < length buffer)
+            (g : Gives outcome call (server state now) (server later after) buffer) where
           abbrev last : Turn
-          last = turn outcome call (server pins now) (server later after) h.part
+          last = turn outcome call (server state now) (server later after) h.part
 
           last_run : Run source view start (h.turns ++ last ∷ []) (server later after)
-          last_run = run_more start (server pins now) (server later after) h.turns last h.run (gives_unended outcome call (server pins now) (server later after) h.part buffer h.buffer_is g)
+          last_run = run_more start (server state now) (server later after) h.turns last h.run (gives_unended outcome call (server state now) (server later after) h.part buffer h.buffer_is g)
 
           last_lines : IfSome input (AreLines (Ok 0) (lines_asked (h.turns ++ last ∷ [])))
           last_lines =
@@ -388,11 +388,11 @@ module _ {D : Type 0} (source : SourceView) (view : DeviceView D) where
               (pieces ++ Gave [] ∷ []) makes (one_more pieces (Gave []) most lt) (came_none pieces (Gave []) seen refl all) (pieces, [], each, omega arith, refl, later_than)
 
     -- the reply to a line of a piece wasn't written whole
-    pub unwritten : {E : Type 0} (fault : E) (mid new : Option (List ℕ)) (pins later : List (Option ℕ)) (now after : StoreValue D) (seen buffer piece left : List ℕ) (served : ℕ) (h : Progress old mid start (server pins now) seen buffer served)
-        → IsFed (Err fault) source view (intake h.part piece left mid new) (server pins now) (server later after)
+    pub unwritten : {E : Type 0} (fault : E) (mid new : Option (List ℕ)) (state later : StateValue) (now after : StoreValue D) (seen buffer piece left : List ℕ) (served : ℕ) (h : Progress old mid start (server state now) seen buffer served)
+        → IsFed (Err fault) source view (intake h.part piece left mid new) (server state now) (server later after)
         → Consumes input rest (seen ++ piece) → length (seen ++ piece) ≤ most * 4096 → length piece ≤ 4096
         → (pieces : List Reading) → All IsPiece pieces → seen ≡ all_of pieces → Makes begun made (pieces ++ Gave piece ∷ []) → length pieces < most → Out (Err faults.Write) new after
-    unwritten fault mid new pins later now after seen buffer piece left served h f c few short pieces each all makes lt =
+    unwritten fault mid new state later now after seen buffer piece left served h f c few short pieces each all makes lt =
         let turns = h.turns ++ f.turns in
         let cut = subst (λ (ls : List (List ℕ)). AreCut (seen ++ f.taken) ls f.rest) (asked_both h.turns f.turns)
         (cut_more seen f.taken h.part f.rest (lines_asked h.turns) (lines_asked f.turns) h.cut f.lines) in
@@ -400,7 +400,7 @@ module _ {D : Type 0} (source : SourceView) (view : DeviceView D) where
         let w = f.replied in
         let more : ends_in seen < length turns = omega (arith, h.ends, length-append h.turns f.turns, ap (λ (ts : List Turn). length ts) w.3, length-append w.0 (w.1 ∷ [])) in
         out (Err faults.Write) new later after turns
-        (run_both start (server pins now) (server later after) h.turns f.turns h.run f.run)
+        (run_both start (server state now) (server later after) h.turns f.turns h.run f.run)
         (first_lines input rest (seen ++ piece) f.rest (lines_asked turns) faults.Write c
         (λ others. subst (λ (l : List ℕ). IsFront (lines_asked turns) (lines_in l)) (sym (ap (λ (l : List ℕ). l ++ others) whole ∙ append_assoc (seen ++ f.taken) f.front.0 others)) (cut_front (seen ++ f.taken) (lines_asked turns) f.rest (f.front.0 ++ others) cut)))
         (seen ++ piece) c few
@@ -419,7 +419,7 @@ module _ {D : Type 0} (source : SourceView) (view : DeviceView D) where
   -- no memory for the buffer
   pub not_started : (most : ℕ) (input old : Option (List ℕ)) (begun : Option (List Reading)) (before : StoreValue D) → IsServed (Err faults.OutOfMemory) most source view (with_reads (streams input input old old) begun begun) before before
   not_started most input old begun before =
-      out most input input old begun begun before (Err faults.OutOfMemory) old unpinned before [] refl (first_lines input input [] [] [] faults.OutOfMemory (Consumes-nil input) (λ more. (lines_in more, refl)))
+      out most input input old begun begun before (Err faults.OutOfMemory) old fresh before [] refl (first_lines input input [] [] [] faults.OutOfMemory (Consumes-nil input) (λ more. (lines_in more, refl)))
       [] (Consumes-nil input) (omega arith) (refl, refl) (Appends-nil old) tt
       [] (makes_none begun) (omega arith) refl refl
 

@@ -13,23 +13,24 @@ use Rattle.history_store.specs.Queries.{is_listed}
 use Rattle.blocks.proofs.Looked.{none_looks_up}
 use Rattle.history_store.specs.Answers.{CountsRefusal}
 use Rattle.line_commands.specs.declared.unread.Unread.{Unread}
-use Rattle.line_commands.specs.Questions.{Question, Children, Descendants, Dates, Receipt as AskReceipt}
-use Rattle.line_commands.specs.Commands.{Command, At, Pin, Unpin, Status}
+use Rattle.line_commands.specs.Questions.{Question, Children, Descendants, Dates, Digest, Receipt as AskReceipt}
+use Rattle.line_commands.specs.Commands.{Command, At, Import, Check, Pin, Unpin, Merge, Step, Publish, Status}
 use Rattle.line_commands.specs.Requests.{Asks, IsUnread}
-use Rattle.line_commands.proofs.Readings.{asked_is_read}
+use Rattle.line_commands.proofs.Readings.{asked_is_read, one_reading}
 use Rattle.line_server.specs.declared.refusal.LineRefusal.{LineRefusal}
 use Rattle.line_server.specs.declared.refusal.LineRefusal.TheVariants as refusals
 use Rattle.line_server.specs.Pins.{AreWithin, pin_of}
 use Rattle.line_server.specs.Sources.{Releases, SourceView, source_view}
 use Rattle.line_server.specs.ReplyValue.{Answer, Done, ReplyValue, reply_value}
-use Rattle.line_server.specs.Replies.{Server, IsFound, IsAnswer, IsAnswerAt, IsRefusalAt, IsClosed, IsLacking, IsOutOfRange, receipt_of, status_of, server}
+use Rattle.line_server.specs.Replies.{Server, imports_seen, IsFound, IsAnswer, IsAnswerAt, IsRefusalAt, IsClosed, IsLacking, IsOutOfRange, receipt_of, status_of, server}
 use Rattle.store_life.specs.Life.{Other}
-use Rattle.line_server.specs.Turns.{IsAnswered, LeavesAsked}
+use Rattle.line_server.specs.Turns.{GoesBy, IsAnswered, LeavesAsked, LeavesDisk}
+use Rattle.line_server.specs.StateValue.{StateValue, IsHeldBack, HoldsBack}
 use Rattle.line_server.specs.Private.{IsResponse, IsQueried, IsCarriedOut}
 use Rattle.line_server.proofs.Alike.{turn_of}
 use Rattle.store_life.proofs.Made.{unmade}
 use Rattle.line_server.proofs.Finding.{AsksIndex, same_from}
-use Rattle.line_server.proofs.Queried.{responded, queried}
+use Rattle.line_server.proofs.Queried.{responded, queried, refused_by}
 
 abbrev is_fault : Refusal → Bool
 is_fault store.DiskFault = true
@@ -46,19 +47,19 @@ abbrev IsUnlisted : {D : Type 0} → Refusal → StoreValue D → Type 0
 IsUnlisted refusal s = ((refusal ≡ store.ReopenNeeded) × (s.needs_reopen ≡ true)) ⊎ ((refusal ≡ store.OutOfMemory) × (s.needs_reopen ≡ false))
 
 module _ {D : Type 0} (view : DeviceView D) (pin : ℕ) (s : StoreValue D) where
-  index_answer : (question : Question) (answer : Answer) (pins : List (Option ℕ)) → AsksIndex question → s.needs_reopen ≡ false → IsFound question (rows_at pin s.history.rows) answer
-      → IsAnswerAt (view.is_honest s.disk) pin question answer (server pins s) (server pins s)
-  index_answer (Children concept date) answer pins q still f = (still, same_from (server pins s) (server pins s) refl, f)
-  index_answer (Descendants concept date) answer pins q still f = (still, same_from (server pins s) (server pins s) refl, f)
-  index_answer Dates answer pins q still f = (still, same_from (server pins s) (server pins s) refl, f)
-  index_answer question answer pins q still f = absurd q
+  index_answer : (question : Question) (answer : Answer) (state : StateValue) → AsksIndex question → s.needs_reopen ≡ false → IsFound question (rows_at pin s.history.rows) answer
+      → IsAnswerAt (view.is_honest s.disk) pin question answer (server state s) (server state s)
+  index_answer (Children concept date) answer state q still f = (still, same_from (server state s) (server state s) refl, f)
+  index_answer (Descendants concept date) answer state q still f = (still, same_from (server state s) (server state s) refl, f)
+  index_answer Dates answer state q still f = (still, same_from (server state s) (server state s) refl, f)
+  index_answer question answer state q still f = absurd q
 
-  index_refused : (question : Question) (refusal : Refusal) (pins : List (Option ℕ)) → AsksIndex question → IsClosed refusal (server pins s) (server pins s) ⊎ IsLacking refusal (server pins s) (server pins s)
-      → IsRefusalAt (view.is_honest s.disk) pin question refusal (server pins s) (server pins s)
-  index_refused (Children concept date) refusal pins q why = why
-  index_refused (Descendants concept date) refusal pins q why = why
-  index_refused Dates refusal pins q why = why
-  index_refused question refusal pins q why = absurd q
+  index_refused : (question : Question) (refusal : Refusal) (old new : Server D) → AsksIndex question → IsClosed refusal old new ⊎ IsLacking refusal old new
+      → IsRefusalAt (view.is_honest s.disk) pin question refusal old new
+  index_refused (Children concept date) refusal old new q why = why
+  index_refused (Descendants concept date) refusal old new q why = why
+  index_refused Dates refusal old new q why = why
+  index_refused question refusal old new q why = absurd q
 
   index_left : (question : Question) (outcome : Result Answer LineRefusal) → AsksIndex question → LeavesAsked view pin question outcome s s
   index_left (Children concept date) outcome q = refl
@@ -69,16 +70,16 @@ module _ {D : Type 0} (view : DeviceView D) (pin : ℕ) (s : StoreValue D) where
   module _ (question : Question) (asks : AsksIndex question) where
     pub index_found : (answer : Answer) (reply : ReplyValue) → s.needs_reopen ≡ false → IsFound question (rows_at pin s.history.rows) answer → reply ≡ reply_value (Ok answer) → IsQueried (Ok reply) view question pin s s
     index_found answer reply still is told =
-        queried view (Ok reply) question pin (Ok answer) s s told
-        (λ pins. index_answer question answer pins asks still is) (unmade view s) refl (index_left question (Ok answer) asks) (omega arith)
+        queried view (Ok reply) question pin (Ok answer) s s (λ met. refl) told
+        (λ state. index_answer question answer state asks still is) (unmade view s) refl (index_left question (Ok answer) asks) (omega arith)
 
     pub index_unfound : (refusal : Refusal) → IsUnlisted refusal s → IsQueried (Err (refusals.Store refusal)) view question pin s s
     index_unfound refusal why =
-        queried view (Err (refusals.Store refusal)) question pin (Err (refusals.Store refusal)) s s refl
-        (λ pins. index_refused question refusal pins asks (cause pins why)) (unmade view s) (counted refusal why) (index_left question (Err (refusals.Store refusal)) asks) (omega arith) where
-          cause : (pins : List (Option ℕ)) → IsUnlisted refusal s → IsClosed refusal (server pins s) (server pins s) ⊎ IsLacking refusal (server pins s) (server pins s)
-          cause pins (inl w) = inl (w.0, w.1, refl)
-          cause pins (inr w) = inr (w.0, w.1, same_from (server pins s) (server pins s) refl)
+        queried view (Err (refusals.Store refusal)) question pin (Err (refusals.Store refusal)) s s (λ met. refl) refl
+        (λ state. index_refused question refusal (server state s) (server (refused_by refusal state) s) asks (cause state why)) (unmade view s) (counted refusal why) (index_left question (Err (refusals.Store refusal)) asks) (omega arith) where
+          cause : (state : StateValue) → IsUnlisted refusal s → IsClosed refusal (server state s) (server (refused_by refusal state) s) ⊎ IsLacking refusal (server state s) (server (refused_by refusal state) s)
+          cause state (inl w) = inl (w.0, w.1, ap (λ (r : Refusal). server (refused_by r state) s) w.0)
+          cause state (inr w) = inr (w.0, w.1, record { pins = refl; store = record { history = refl; catalog = refl; needs_reopen = refl } })
 
           counted : (e : Refusal) → IsUnlisted e s → CountsRefusal e (view.failures s.disk) (view.failures s.disk)
           counted e (inl w) = subst (λ (r : Refusal). CountsRefusal r (view.failures s.disk) (view.failures s.disk)) (sym w.0) refl
@@ -91,12 +92,12 @@ module _ {D : Type 0} (view : DeviceView D) (pin : ℕ) (s : StoreValue D) where
 
 module _ {D : Type 0} (view : DeviceView D) (s : StoreValue D) where
   pub status_told : (reply : ReplyValue) → s.needs_reopen ≡ false → reply ≡ reply_value (Ok (Done (status_of s))) → IsCarriedOut (Ok reply) view Status s s
-  status_told reply still told has session pins =
-      responded view (Ok reply) has session Status (Ok (Done (status_of s))) (server pins s) (server pins s) told (still, refl, refl) (unmade view s) refl refl (omega arith)
+  status_told reply still told has session state free =
+      responded view (Ok reply) has session Status (Ok (Done (status_of s))) (server state s) (server state s) free refl told (still, refl, refl) (unmade view s) refl refl (omega arith)
 
   pub status_closed : s.needs_reopen ≡ true → IsCarriedOut (Err (refusals.Store store.ReopenNeeded)) view Status s s
-  status_closed needs has session pins =
-      responded view (Err (refusals.Store store.ReopenNeeded)) has session Status (Err (refusals.Store store.ReopenNeeded)) (server pins s) (server pins s) refl
+  status_closed needs has session state free =
+      responded view (Err (refusals.Store store.ReopenNeeded)) has session Status (Err (refusals.Store store.ReopenNeeded)) (server state s) (server state s) free refl refl
       (refl, needs, refl) (unmade view s) refl refl (omega arith)
 
 -- ---- whatever the source has
@@ -112,28 +113,32 @@ any_source source view result session command old new r = record {
 
 -- ---- UNPIN
 
-module _ {D : Type 0} (source : SourceView) (view : DeviceView D) (session : ℕ) (pins : List (Option ℕ)) (s : StoreValue D) where
-  pub unpinned : (reply : ReplyValue) → reply ≡ reply_value (Ok (Done [])) → IsResponse (Ok reply) source view session Unpin (server pins s) (server (slice_set pins session None) s)
-  unpinned reply told = any_source source view (Ok reply) session Unpin (server pins s) (server (slice_set pins session None) s)
-      (responded view (Ok reply) source.releases session Unpin (Ok (Done [])) (server pins s) (server (slice_set pins session None) s) told (refl, refl) (unmade view s) refl refl (omega arith))
+-- what is kept once a session is pinned, or unpinned
+abbrev pub repinned : StateValue → ℕ → Option ℕ → StateValue
+repinned state session pin = record state { pins = slice_set state.pins session pin }
+
+module _ {D : Type 0} (source : SourceView) (view : DeviceView D) (session : ℕ) (state : StateValue) (s : StoreValue D) where
+  pub unpinned : (reply : ReplyValue) → reply ≡ reply_value (Ok (Done [])) → IsResponse (Ok reply) source view session Unpin (server state s) (server (repinned state session None) s)
+  unpinned reply told = any_source source view (Ok reply) session Unpin (server state s) (server (repinned state session None) s)
+      (responded view (Ok reply) source.releases session Unpin (Ok (Done [])) (server state s) (server (repinned state session None) s) (λ h. h.1) refl told (refl, refl) (unmade view s) refl refl (omega arith))
 
 -- ---- PIN
 
-module _ {D : Type 0} (view : DeviceView D) (session : ℕ) (pins : List (Option ℕ)) (s : StoreValue D) (number : Option ℕ) (has : Releases) where
+module _ {D : Type 0} (view : DeviceView D) (session : ℕ) (state : StateValue) (s : StoreValue D) (number : Option ℕ) (has : Releases) where
   pub pinned : (pin : ℕ) (reply : ReplyValue) → (pin ≤ s.history.imports) × (pin ≡ unwrap_or number s.history.imports) → reply ≡ reply_value (Ok (Done (decimal pin ∷ [])))
-      → IsResponse (Ok reply) (source_view (Unit {0}) has) view session (Pin number) (server pins s) (server (slice_set pins session (Some pin)) s)
+      → IsResponse (Ok reply) (source_view (Unit {0}) has) view session (Pin number) (server state s) (server (repinned state session (Some pin)) s)
   pinned pin reply h told =
-      responded view (Ok reply) has session (Pin number) (Ok (Done (decimal pin ∷ []))) (server pins s) (server (slice_set pins session (Some pin)) s) told
+      responded view (Ok reply) has session (Pin number) (Ok (Done (decimal pin ∷ []))) (server state s) (server (repinned state session (Some pin)) s) (λ h. h.1) refl told
       (answered_so number h) (unmade view s) refl refl (omega arith) where
         answered_so : (number : Option ℕ) → (pin ≤ s.history.imports) × (pin ≡ unwrap_or number s.history.imports)
-            → IsAnswer (view.is_honest s.disk) has session (Pin number) (Done (decimal pin ∷ [])) (server pins s) (server (slice_set pins session (Some pin)) s)
-        answered_so None h = (ap (λ (k : ℕ). server (slice_set pins session (Some k)) s) h.1, ap (λ (k : ℕ). Done (decimal k ∷ [])) h.1)
-        answered_so (Some n) h = (subst (λ (k : ℕ). k ≤ s.history.imports) h.1 h.0, ap (λ (k : ℕ). server (slice_set pins session (Some k)) s) h.1, ap (λ (k : ℕ). Done (decimal k ∷ [])) h.1)
+            → IsAnswer (view.is_honest s.disk) has session (Pin number) (Done (decimal pin ∷ [])) (server state s) (server (repinned state session (Some pin)) s)
+        answered_so None h = (ap (λ (k : ℕ). server (repinned state session (Some k)) s) h.1, ap (λ (k : ℕ). Done (decimal k ∷ [])) h.1)
+        answered_so (Some n) h = (subst (λ (k : ℕ). k ≤ s.history.imports) h.1 h.0, ap (λ (k : ℕ). server (repinned state session (Some k)) s) h.1, ap (λ (k : ℕ). Done (decimal k ∷ [])) h.1)
 
-  pub out_of_range : (n : ℕ) × (number ≡ Some n) × (s.history.imports < n) → IsResponse (Err refusals.PinRange) (source_view (Unit {0}) has) view session (Pin number) (server pins s) (server pins s)
+  pub out_of_range : (n : ℕ) × (number ≡ Some n) × (s.history.imports < n) → IsResponse (Err refusals.PinRange) (source_view (Unit {0}) has) view session (Pin number) (server state s) (server state s)
   out_of_range h =
-      responded view (Err refusals.PinRange) has session (Pin number) (Err refusals.PinRange) (server pins s) (server pins s) refl
-      (subst (λ (o : Option ℕ). IsOutOfRange session (Pin o) (server pins s)) (sym h.1) h.2, refl) (unmade view s) refl refl (omega arith)
+      responded view (Err refusals.PinRange) has session (Pin number) (Err refusals.PinRange) (server state s) (server state s) (λ h. h.1) refl refl
+      (subst (λ (o : Option ℕ). IsOutOfRange session (Pin o) (server state s)) (sym h.1) h.2, refl) (unmade view s) refl refl (omega arith)
 
 -- ---- RECEIPT
 
@@ -141,38 +146,39 @@ module _ {D : Type 0} (view : DeviceView D) (number pin : ℕ) (s : StoreValue D
   pub import_told : (brought : ℕ) (latest : Option ℕ) (reply : ReplyValue) → number ≤ pin → s.needs_reopen ≡ false → ImportReceiptOf s.history number brought latest → reply ≡ reply_value (Ok (Done (receipt_of number brought latest)))
       → IsQueried (Ok reply) view (AskReceipt number) pin s s
   import_told brought latest reply within still receipt told =
-      queried view (Ok reply) (AskReceipt number) pin (Ok (Done (receipt_of number brought latest))) s s told
-      (λ pins. record { open_still = still; within = within; brought = brought; latest = latest; receipt = receipt; answer_is = refl; unchanged = refl })
+      queried view (Ok reply) (AskReceipt number) pin (Ok (Done (receipt_of number brought latest))) s s (λ met. refl) told
+      (λ state. record { open_still = still; within = within; brought = brought; latest = latest; receipt = receipt; answer_is = refl; unchanged = refl })
       (unmade view s) refl refl (omega arith)
 
   pub import_closed : (refusal : Refusal) → number ≤ pin → (refusal ≡ store.ReopenNeeded) × (s.needs_reopen ≡ true) → IsQueried (Err (refusals.Store refusal)) view (AskReceipt number) pin s s
   import_closed refusal within why =
-      queried view (Err (refusals.Store refusal)) (AskReceipt number) pin (Err (refusals.Store refusal)) s s refl
-      (λ pins. (within, (why.0, why.1, refl))) (unmade view s)
+      queried view (Err (refusals.Store refusal)) (AskReceipt number) pin (Err (refusals.Store refusal)) s s (λ met. refl) refl
+      (λ state. (within, (why.0, why.1, ap (λ (r : Refusal). server (refused_by r state) s) why.0))) (unmade view s)
       (subst (λ (r : Refusal). CountsRefusal r (view.failures s.disk) (view.failures s.disk)) (sym why.0) refl) refl (omega arith)
 
   pub import_unseen : pin < number → IsQueried (Err refusals.PinRange) view (AskReceipt number) pin s s
   import_unseen above =
-      queried view (Err refusals.PinRange) (AskReceipt number) pin (Err refusals.PinRange) s s refl
-      (λ pins. (above, refl)) (unmade view s) refl refl (omega arith)
+      queried view (Err refusals.PinRange) (AskReceipt number) pin (Err refusals.PinRange) s s (λ met. refl) refl
+      (λ state. (above, refl)) (unmade view s) refl refl (omega arith)
 
 -- ---- AT
 
 module _ {D : Type 0} (view : DeviceView D) (number : ℕ) (question : Question) (old new : StoreValue D) where
   -- as the question is answered that is asked of the first so many imports
   pub asked_behind : (result : Result ReplyValue LineRefusal) → number ≤ old.history.imports → IsQueried result view question number old new → IsCarriedOut result view (At number question) old new
-  asked_behind result within r has session pins = r has session pins (At number question) (inr (refl, within))
+  asked_behind result within r has session state free = r has session state (At number question) (inr (refl, within))
 
   -- there are fewer imports
   pub above_all : old.history.imports < number → IsCarriedOut (Err refusals.PinRange) view (At number question) old old
-  above_all above has session pins =
-      responded view (Err refusals.PinRange) has session (At number question) (Err refusals.PinRange) (server pins old) (server pins old) refl
+  above_all above has session state free =
+      responded view (Err refusals.PinRange) has session (At number question) (Err refusals.PinRange) (server state old) (server state old) free refl refl
       (inl above, refl) (unmade view old) refl (unseen_left question) (omega arith) where
         unseen_left : (question : Question) → LeavesAsked view number question (Err refusals.PinRange) old old
         unseen_left (Children concept date) = refl
         unseen_left (Descendants concept date) = refl
         unseen_left Dates = refl
         unseen_left (AskReceipt other) = refl
+        unseen_left Digest = ((λ h. refl, none_looks_up (is_listed old.catalog.entries) old.cache (view.bytes_read old.disk)), omega arith)
         unseen_left other = ((λ h. refl, none_looks_up (is_listed old.catalog.entries) old.cache (view.bytes_read old.disk)), tt)
 
 -- ---- pins
@@ -221,3 +227,34 @@ module _ {D : Type 0} (source : SourceView) (view : DeviceView D) (line : List �
     },
     told,
   )
+
+  -- the line asks a command that is held back
+  module _ (session : ℕ) (command : Command) (s : Server D) (asks : Asks line session command) (held : HoldsBack s.met_damage command) where
+    -- the store isn't called
+    held_left : (seen : ℕ) (c : Command) → IsHeldBack c → LeavesDisk view seen c (Err (refusals.Store store.Damaged)) s.store s.store
+    held_left seen (Import name) h = λ up. refl
+    held_left seen (Check name) h = (λ up. refl, none_looks_up (is_listed s.store.catalog.entries) s.store.cache (view.bytes_read s.store.disk))
+    held_left seen Merge h = refl
+    held_left seen (Step rows) h = (λ up. refl, (s.store.cache, none_looks_up (is_listed s.store.catalog.entries) s.store.cache (view.bytes_read s.store.disk), inl refl))
+    held_left seen Publish h = (λ up. refl, omega arith)
+    held_left seen c h = absurd h
+
+    goes_held : (releases : Releases) → GoesBy (view.is_honest s.store.disk) releases s (turn_of (Err (refusals.Store store.Damaged)) Other s s line) s
+    goes_held releases = record { replies = inl (session, command, asks, inl (record { held_back = held; refused = refl; unchanged = refl })); asked = tt }
+
+    pub held_back : (reply : ReplyValue) → reply ≡ reply_value (Err (refusals.Store store.Damaged)) → IsAnswered source view line reply s s
+    held_back reply told = (
+      turn_of (Err (refusals.Store store.Damaged)) Other s s line,
+      refl,
+      record {
+        releases = source.releases;
+        goes = goes_held source.releases;
+        own = λ h. goes_held source.releases;
+        call = unmade view s.store;
+        counts = refl;
+        disk = λ other also asked.
+            let one = one_reading line session other command also asks asked in
+            subst (λ (c : Command). LeavesDisk view (imports_seen s other) c (Err (refusals.Store store.Damaged)) s.store s.store) one.1 (held_left (imports_seen s other) command held.1);
+      },
+      told,
+    )

@@ -9,12 +9,13 @@ use Rattle.import_check.specs.declared.release.Release.{Release}
 use Rattle.history_store.specs.declared.refusal.Refusal.TheVariants as store
 use Rattle.history_store.specs.StoreValue.{IsAcknowledged}
 use Rattle.line_commands.specs.Questions.{Question, Receipt as AskReceipt}
-use Rattle.line_commands.specs.Commands.{Command, Ask, Import}
+use Rattle.line_commands.specs.Commands.{Command, Ask, Import, Check}
 use Rattle.line_commands.specs.Requests.{Asks}
 use Rattle.line_server.specs.declared.refusal.LineRefusal.{LineRefusal}
 use Rattle.line_server.specs.declared.refusal.LineRefusal.TheVariants as refusals
 use Rattle.line_server.specs.Sources.{Releases, SourceView, source_view}
 use Rattle.line_server.specs.ReplyValue.{Answer, Done}
+use Rattle.line_server.specs.StateValue.{IsHeldBack}
 use Rattle.line_server.specs.Replies.{Server, Replies, Same, IsFound, IsAskedOf, receipt_of}
 use Rattle.store_life.specs.Life.{Imported, taken, Called, IsLife}
 use Rattle.store_life.specs.Laws.{AgreeUpTo, BroughtAlike}
@@ -63,14 +64,48 @@ LinesAreCalls {D} source view = (old new : Server D) (turns : List Turn)
     → Run source view old turns new
     → IsLife view old.store (map (λ turn. Called turn.call) turns) new.store
 
+-- the servers are alike, but perhaps for the devices of their stores
+abbrev pub AreAlike : {D : Type 0} → Server D → Server D → Type 0
+AreAlike a b = Same a b × (b.met_damage ≡ a.met_damage)
+
 -- A line has one reply at states that are alike, and leaves states that are alike.
 abbrev pub OneReply : (D : Type 0) → (D → Type 0) → Type 0
 OneReply D honest = (releases : Releases) (line : List ℕ) (one two : Result Answer LineRefusal)
     (a b after next : Server D)
-    → honest a.store.disk → honest b.store.disk → Same a b
+    → honest a.store.disk → honest b.store.disk → AreAlike a b
     → Replies (honest a.store.disk) releases line one a after
     → Replies (honest b.store.disk) releases line two b next → IsSure one → IsSure two
-    → (one ≡ two) × Same after next
+    → (one ≡ two) × AreAlike after next
+
+-- Once a line was answered 8, each later one that would import, check, merge or publish is answered
+-- 8 too and changes nothing, whatever the disk does and whatever the source has.
+abbrev pub DamageHoldsBack : (D : Type 0) → DeviceView D → Type 0
+DamageHoldsBack D view =
+    (has : Releases) (before mid late after : Server D) (first turn : Turn) (turns : List Turn)
+    (session : ℕ) (command : Command)
+    → IsTurn (source_view ⊥ has) view before first mid
+    → first.outcome ≡ Err (refusals.Store store.Damaged)
+    → Run (source_view ⊥ has) view mid turns late
+    → IsTurn (source_view ⊥ has) view late turn after
+    → Asks turn.line session command → IsHeldBack command
+    → (turn.outcome ≡ Err (refusals.Store store.Damaged)) × (after ≡ late)
+
+-- on an honest disk no damage is met, so that no line is held back there
+abbrev pub HonestMeetsNoDamage : (D : Type 0) → DeviceView D → Type 0
+HonestMeetsNoDamage D view = (has : Releases) (old new : Server D) (turns : List Turn)
+    → view.is_honest old.store.disk → old.met_damage ≡ false
+    → Run (source_view ⊥ has) view old turns new → new.met_damage ≡ false
+
+-- What CHECK answers an IMPORT of the same name answers next, on an honest disk and where the
+-- source has the same releases still.
+abbrev pub CheckForetells : (D : Type 0) → (D → Type 0) → Type 0
+CheckForetells D honest = (releases : Releases) (line text : List ℕ) (session other : ℕ)
+    (name : List ℕ) (one two : Result Answer LineRefusal) (old checked new : Server D)
+    → honest old.store.disk → honest checked.store.disk
+    → Asks line session (Check name) → Asks text other (Import name)
+    → Replies (honest old.store.disk) releases line one old checked
+    → Replies (honest checked.store.disk) releases text two checked new
+    → IsSure one → IsSure two → two ≡ one
 
 -- an import that was answered OK is the one that its turn imported
 abbrev pub OkIsImported : (D : Type 0) → DeviceView D → Type 0

@@ -1,6 +1,6 @@
 -- Words that private functions and proofs need, of this crate or of one above it.
 -- No public clause cites them.
-use Rattle.std.specs.Prelude.{ℕ, List, Option, Result, ◌≡◌, ◌≤◌, Ok, Err}
+use Rattle.std.specs.Prelude.{ℕ, List, Result, ◌≡◌, ◌≤◌, Ok, Err}
 use Rattle.store_life.specs.DeviceView.{DeviceView}
 use Rattle.history_store.specs.StoreValue.{StoreValue}
 use Rattle.line_commands.specs.Questions.{Question, SpellsQuestion}
@@ -10,6 +10,7 @@ use Rattle.line_server.specs.declared.refusal.LineRefusal.{LineRefusal}
 use Rattle.line_server.specs.Sources.{Releases, SourceView, source_view}
 use Rattle.line_server.specs.ReplyValue.{Answer, reply_value, ReplyValue}
 use Rattle.line_server.specs.Replies.{server, Server, IsAskedOf}
+use Rattle.line_server.specs.StateValue.{StateValue, HoldsBack, noted}
 use Rattle.line_server.specs.Turns.{HasTurn}
 
 -- some line asks the command
@@ -28,13 +29,14 @@ pub record IsResponse {D : Type 0} (result : Result ReplyValue LineRefusal) (sou
       → HasTurn source view line old new (λ turn. IsToldBy result turn.outcome)
   pub grows : old.store.history.imports ≤ new.store.history.imports
 
--- the command was carried out so, whatever releases the source has and whichever session asks
+-- The command was carried out so, whatever releases the source has and whichever session asks. In
+-- the server after it note is taken of what came out.
 abbrev pub IsCarriedOut : {D : Type 0} → Result ReplyValue LineRefusal → DeviceView D → Command
     → StoreValue D → StoreValue D → Type 0
 IsCarriedOut result view command old new =
-    (has : Releases) (session : ℕ) (pins : List (Option ℕ))
-    → IsResponse result (source_view (Unit {0}) has) view session command (server pins old)
-    (server pins new)
+    (has : Releases) (session : ℕ) (state : StateValue) → (HoldsBack state.met_damage command → ⊥)
+    → IsResponse result (source_view (Unit {0}) has) view session command (server state old)
+    (server (noted result state) new)
 
 -- some line asks the question
 abbrev pub QuestionCanBeAsked : Question → Type 0
@@ -44,7 +46,7 @@ QuestionCanBeAsked question = (arguments : List (List ℕ)) × SpellsQuestion qu
 abbrev pub IsQueried : {D : Type 0} → Result ReplyValue LineRefusal → DeviceView D → Question → ℕ
     → StoreValue D → StoreValue D → Type 0
 IsQueried result view question pin old new =
-    (has : Releases) (session : ℕ) (pins : List (Option ℕ)) (command : Command)
-    → IsAskedOf (server pins old) session command question pin
-    → IsResponse result (source_view (Unit {0}) has) view session command (server pins old)
-    (server pins new)
+    (has : Releases) (session : ℕ) (state : StateValue) (command : Command)
+    → IsAskedOf (server state old) session command question pin
+    → IsResponse result (source_view (Unit {0}) has) view session command (server state old)
+    (server (noted result state) new)

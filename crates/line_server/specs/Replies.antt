@@ -1,5 +1,6 @@
 -- When a line has which answer, and what the server is afterwards.
-use Rattle.std.specs.Prelude.{◌≡◌, ◌≢◌, ℕ, ◌≤◌, ◌<◌, ◌⊎◌, true, false, List, [], ◌∷◌, length, codes}
+use Rattle.std.specs.Prelude.{◌≡◌, ◌≢◌, ℕ, ◌≤◌, ◌<◌, ◌⊎◌, Bool, true, false, List, [], ◌∷◌, length}
+use Rattle.std.specs.Prelude.{codes}
 use Rattle.std.specs.Prelude.{decimal, slice_set, option_map, Option, Some, None, Result, Ok, Err}
 use Rattle.std.specs.Prelude.{option_to_list}
 use Rattle.rf2_values.specs.Row.{RowValue}
@@ -15,29 +16,38 @@ use Rattle.history_store.specs.declared.refusal.Refusal.{Refusal}
 use Rattle.history_store.specs.declared.refusal.Refusal.TheVariants as store
 use Rattle.history_store.specs.Catalog.{Merge as CatalogMerge}
 use Rattle.history_store.specs.StoreValue.{StoreValue}
+use Rattle.store_digest.specs.Digest.{digest_of}
 use Rattle.history_store.specs.Answers.{IsImportOf, IsImportOnAnyDisk, IsReadRefusal, IsRefused}
+use Rattle.history_store.specs.Checking.{IsCheckingOf, IsCheckingOnAnyDisk}
 use Rattle.history_store.specs.MergeAnswers.{IsBeginningOf, IsSteppingOf, IsPublishingOf}
 use Rattle.history_store.specs.MergeAnswers.{IsAbandoningOf, IsTrimmingOf}
 use Rattle.line_commands.specs.declared.unread.Unread.{Unread}
 use Rattle.line_commands.specs.Questions.{Question, Get, History, Children, Ancestors, Descendants}
 use Rattle.line_commands.specs.Questions.{Terms, Search, Replaced, Replaces, About, Timeline, Page}
-use Rattle.line_commands.specs.Questions.{Delta, Dates as AskDates, Receipt as AskReceipt}
-use Rattle.line_commands.specs.Commands.{Command, Ask, At, Import, Pin, Unpin, Merge, Step, Publish}
-use Rattle.line_commands.specs.Commands.{Abandon, Trim, Status}
+use Rattle.line_commands.specs.Questions.{Delta, Dates as AskDates, Digest, Receipt as AskReceipt}
+use Rattle.line_commands.specs.Commands.{Command, Ask, At, Import, Check, Pin, Unpin, Merge, Step}
+use Rattle.line_commands.specs.Commands.{Publish, Abandon, Trim, Status}
 use Rattle.line_commands.specs.Requests.{Asks, IsUnread}
 use Rattle.line_server.specs.declared.refusal.LineRefusal.{LineRefusal}
 use Rattle.line_server.specs.declared.refusal.LineRefusal.TheVariants as refusals
 use Rattle.line_server.specs.Pins.{pin_of}
+use Rattle.line_server.specs.StateValue.{StateValue, HoldsBack, met_after}
 use Rattle.line_server.specs.Sources.{Releases}
-use Rattle.line_server.specs.ReplyValue.{Answer, Rows, Ids, Dates, Done}
+use Rattle.line_server.specs.ReplyValue.{Answer, Rows, Ids, Dates, Done, digits_of}
 
--- what a reply rests on: what sessions are pinned to, and the store
+-- what a reply rests on: what sessions are pinned to, the store, and whether a call of it has
+-- answered 8 since it was opened
 pub record Server (D : Type 0) : Type 0 where
   pub pins : List (Option ℕ)
   pub store : StoreValue D
+  pub met_damage : Bool
 
-abbrev pub server : {D : Type 0} → List (Option ℕ) → StoreValue D → Server D
-server pins store = record { pins = pins; store = store }
+abbrev pub server : {D : Type 0} → StateValue → StoreValue D → Server D
+server state store = record {
+  pins = state.pins;
+  store = store;
+  met_damage = state.met_damage;
+}
 
 -- the store is as before, but perhaps for its device
 pub record SameStore {D : Type 0} (old new : StoreValue D) : Type 0 where
@@ -45,6 +55,7 @@ pub record SameStore {D : Type 0} (old new : StoreValue D) : Type 0 where
   pub catalog : new.catalog ≡ old.catalog
   pub needs_reopen : new.needs_reopen ≡ old.needs_reopen
 
+-- sessions are pinned as before, and the store is as before, but perhaps for its device
 pub record Same {D : Type 0} (old new : Server D) : Type 0 where
   pub pins : new.pins ≡ old.pins
   pub store : SameStore old.store new.store
@@ -75,10 +86,12 @@ IsFound (Page kind date after limit) rows answer = answer ≡ Rows (page kind da
 IsFound (Delta kind from date after limit) rows answer =
     answer ≡ Rows (delta kind from date after limit rows)
 IsFound AskDates rows answer = answer ≡ Dates (dates rows)
+IsFound Digest rows answer = answer ≡ digits_of (digest_of rows)
 IsFound (AskReceipt number) rows answer = ⊥
 
 -- The answer is what is found: on every disk where the index alone finds it, and else, where rows
--- are read, on an honest disk. What is answered on any disk are rows, or of ANCESTORS identifiers.
+-- are read, on an honest disk. What is answered on any disk are rows, of ANCESTORS identifiers, and
+-- of DIGEST the digits of 32 bytes.
 abbrev pub IsFinding : Type 0 → Question → List RowValue → Answer → Type 0
 IsFinding honest (Children concept date) rows answer =
     IsFound (Children concept date) rows answer
@@ -88,12 +101,14 @@ IsFinding honest AskDates rows answer = IsFound AskDates rows answer
 IsFinding honest (AskReceipt number) rows answer = ⊥
 IsFinding honest (Ancestors concept date) rows answer =
     (ids : List ℕ) × (answer ≡ Ids ids) × (honest → IsFound (Ancestors concept date) rows answer)
+IsFinding honest Digest rows answer = (digest : List ℕ) × (length digest ≡ 32)
+    × (answer ≡ digits_of digest) × (honest → IsFound Digest rows answer)
 IsFinding honest question rows answer =
     (given : List RowValue) × (answer ≡ Rows given) × (honest → IsFound question rows answer)
 
 -- a session is pinned, or unpinned; the store and its disk are as before
 abbrev pub IsPinned : {D : Type 0} → Server D → Server D → ℕ → Option ℕ → Type 0
-IsPinned old new session pin = new ≡ server (slice_set old.pins session pin) old.store
+IsPinned old new session pin = new ≡ record old { pins = slice_set old.pins session pin }
 
 -- An import answered this, for the release under the name: on every
 -- disk as far as files and counts go, and on an honest disk altogether.
@@ -104,6 +119,22 @@ pub record IsImported {D : Type 0} (honest : Type 0) (releases : Releases) (name
   pub at_all : IsImportOnAnyDisk result old.store new.store release
   pub imported : honest → IsImportOf result old.store new.store release
   pub pins : new.pins ≡ old.pins
+
+-- A check answered this, for the release under the name: the same as of an import. Nothing is
+-- imported by it.
+pub record IsChecked {D : Type 0} (honest : Type 0) (releases : Releases) (name : List ℕ)
+    (result : Result Receipt Refusal) (old new : Server D) : Type 0 where
+  pub release : Release
+  pub has : releases name ≡ Some (files_of release)
+  pub at_all : IsCheckingOnAnyDisk result old.store new.store release
+  pub checked : honest → IsCheckingOf result old.store new.store release
+  pub pins : new.pins ≡ old.pins
+
+-- what is said of an import that is made, or would be: its number, and how many rows are new and
+-- how many are repeated
+abbrev pub import_words : Receipt → List (List ℕ)
+import_words receipt =
+    decimal receipt.number ∷ decimal receipt.new ∷ decimal receipt.repeated ∷ []
 
 abbrev pub number_or_none : Option ℕ → List ℕ
 number_or_none None = codes "-"
@@ -152,7 +183,10 @@ IsAnswer honest releases session (At number question) answer old new =
     (number ≤ old.store.history.imports) × IsAnswerAt honest number question answer old new
 IsAnswer honest releases session (Import name) answer old new =
     (receipt : Receipt) × IsImported honest releases name (Ok receipt) old new
-    × (answer ≡ Done (decimal receipt.number ∷ decimal receipt.new ∷ decimal receipt.repeated ∷ []))
+    × (answer ≡ Done (import_words receipt))
+IsAnswer honest releases session (Check name) answer old new =
+    (receipt : Receipt) × IsChecked honest releases name (Ok receipt) old new
+    × (answer ≡ Done (import_words receipt))
 IsAnswer honest releases session (Pin None) answer old new =
     IsPinned old new session (Some old.store.history.imports)
     × (answer ≡ Done (decimal old.store.history.imports ∷ []))
@@ -212,8 +246,8 @@ IsRefusalAt honest seen AskDates refusal old new =
     IsClosed refusal old new ⊎ IsLacking refusal old new
 IsRefusalAt honest seen question refusal old new = IsUnfound honest refusal old new
 
--- When a command is refused as the store refuses. Of an import the source is asked first, and
--- memory may run out there too. On an honest disk no step of a merge finds damage.
+-- When a command is refused as the store refuses. Of an import or a check the source is asked
+-- first, and memory may run out there too. On an honest disk no step of a merge finds damage.
 abbrev pub IsStoreRefusal : {D : Type 0} → Type 0 → Releases → ℕ → Command → Refusal → Server D
     → Server D → Type 0
 IsStoreRefusal honest releases session (Ask question) refusal old new =
@@ -223,6 +257,9 @@ IsStoreRefusal honest releases session (At number question) refusal old new =
 IsStoreRefusal honest releases session (Import name) store.OutOfMemory old new = Same old new
 IsStoreRefusal honest releases session (Import name) refusal old new =
     IsImported honest releases name (Err refusal) old new
+IsStoreRefusal honest releases session (Check name) store.OutOfMemory old new = Same old new
+IsStoreRefusal honest releases session (Check name) refusal old new =
+    IsChecked honest releases name (Err refusal) old new
 IsStoreRefusal honest releases session (Pin number) refusal old new = ⊥
 IsStoreRefusal honest releases session Unpin refusal old new = ⊥
 IsStoreRefusal honest releases session Merge refusal old new =
@@ -252,6 +289,12 @@ IsOutOfRange session (At number question) old =
     (old.store.history.imports < number) ⊎ IsUnseen number question
 IsOutOfRange session command old = ⊥
 
+-- the release under the name is one that the command asks the source for
+abbrev pub NamesRelease : Command → List ℕ → Type 0
+NamesRelease (Import name) other = other ≡ name
+NamesRelease (Check name) other = other ≡ name
+NamesRelease command other = ⊥
+
 -- when a command is refused, and what comes after
 abbrev pub IsRefusal : {D : Type 0} → Type 0 → Releases → ℕ → Command → LineRefusal → Server D
     → Server D → Type 0
@@ -259,12 +302,12 @@ IsRefusal honest releases session command (refusals.Unread reason) old new = ⊥
 IsRefusal honest releases session command refusals.PinRange old new =
     IsOutOfRange session command old × (new ≡ old)
 IsRefusal honest releases session command refusals.NoFolder old new =
-    (name : List ℕ) × (command ≡ Import name) × (releases name ≡ None) × (new ≡ old)
+    (name : List ℕ) × NamesRelease command name × (releases name ≡ None) × (new ≡ old)
 IsRefusal honest releases session command (refusals.Store refusal) old new =
     IsStoreRefusal honest releases session command refusal old new
 
--- The command has this outcome. `ERR 1` and `ERR 2` show that memory ran out or the device failed;
--- where neither is said, there is one outcome on an honest disk.
+-- The command, carried out, has this outcome. `ERR 1` and `ERR 2` show that memory ran out or the
+-- device failed; where neither is said, there is one outcome on an honest disk.
 abbrev pub IsOutcome : {D : Type 0} → Type 0 → Releases → ℕ → Command → Result Answer LineRefusal
     → Server D → Server D → Type 0
 IsOutcome honest releases session command (Ok answer) old new =
@@ -272,13 +315,28 @@ IsOutcome honest releases session command (Ok answer) old new =
 IsOutcome honest releases session command (Err refusal) old new =
     IsRefusal honest releases session command refusal old new
 
--- A line that asks something is answered by the outcome of its command. Of any other the first
--- reason is said why it asks nothing, and nothing changes.
+-- Damage was met, for which the command is held back: it is refused by 8, and nothing changes.
+pub record IsRefusedForDamage {D : Type 0} (command : Command) (outcome : Result Answer LineRefusal)
+    (old new : Server D) : Type 0 where
+  pub held_back : HoldsBack old.met_damage command
+  pub refused : outcome ≡ Err (refusals.Store store.Damaged)
+  pub unchanged : new ≡ old
+
+-- The command isn't held back. It has this outcome, by which it is known whether damage was met.
+pub record IsPerformed {D : Type 0} (honest : Type 0) (releases : Releases) (session : ℕ)
+    (command : Command) (outcome : Result Answer LineRefusal) (old new : Server D) : Type 0 where
+  pub free : HoldsBack old.met_damage command → ⊥
+  pub comes_out : IsOutcome honest releases session command outcome old new
+  pub damage : new.met_damage ≡ met_after outcome old.met_damage
+
+-- A line that asks something is answered by the outcome of its command, or is refused because
+-- damage was met. Of any other the first reason is said why it asks nothing, and nothing changes.
 abbrev pub Replies : {D : Type 0} → Type 0 → Releases → List ℕ → Result Answer LineRefusal
     → Server D → Server D → Type 0
 Replies honest releases text outcome old new =
     ((session : ℕ) × (command : Command) × Asks text session command
-    × IsOutcome honest releases session command outcome old new)
+    × (IsRefusedForDamage command outcome old new
+    ⊎ IsPerformed honest releases session command outcome old new))
     ⊎
     ((reason : Unread) × IsUnread text reason × (outcome ≡ Err (refusals.Unread reason))
     × (new ≡ old))

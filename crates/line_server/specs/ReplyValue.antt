@@ -2,6 +2,7 @@
 use Rattle.std.specs.Prelude.{ℕ, List, [], ◌∷◌, ◌++◌, length, codes, decimal, Option, Some, None}
 use Rattle.std.specs.Prelude.{Result, Ok, Err}
 use Rattle.std.specs.List.{flat_map}
+use Rattle.hex.specs.Hex.{encode_lower}
 use Rattle.rf2_values.specs.Row.{RowValue, canonical}
 use Rattle.history_store.specs.declared.refusal.Refusal.TheVariants as store
 use Rattle.history_store.specs.Refusals.{refusal_number, refusal_name}
@@ -16,6 +17,10 @@ pub data Answer : Type 0 where
   Dates : List ℕ → Answer
   -- the words after `OK`
   Done : List (List ℕ) → Answer
+
+-- the digits of a digest, two in base 16 for each of its bytes
+abbrev pub digits_of : List ℕ → Answer
+digits_of digest = Done (encode_lower digest ∷ [])
 
 -- the lines of a reply: those of rows, identifiers or dates, and the last one
 pub record ReplyValue : Type 0 where

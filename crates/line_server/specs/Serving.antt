@@ -8,7 +8,7 @@ use Rattle.history_store.specs.StoreValue.{StoreValue}
 use Rattle.line_server.specs.declared.serving.ServeFault.{ServeFault}
 use Rattle.line_server.specs.declared.serving.ServeFault.TheVariants as faults
 use Rattle.line_server.specs.Sources.{SourceView}
-use Rattle.line_server.specs.Pins.{unpinned}
+use Rattle.line_server.specs.StateValue.{StateValue, fresh}
 use Rattle.line_server.specs.Replies.{server}
 use Rattle.line_server.specs.Turns.{Turn, Run, lines_asked, replies}
 use Rattle.line_server.specs.Streams.{Streams, ends_in}
@@ -73,14 +73,14 @@ AreReads (Err faults.Read) most reads answered = PiecesThen Failed reads
 AreReads (Err faults.Write) most reads answered = AreReadToLine answered reads
 AreReads (Err faults.Reads) most reads answered = All IsPiece reads × (length reads ≡ most)
 
--- Lines were answered in order, from sessions that aren't pinned. Where the input is known, they
+-- Lines were answered in order, from the first on with no session pinned and no damage met. Where the input is known, they
 -- are its lines; where the output is known, their replies were written; and where the reads are
 -- known, these were made and no others.
 pub record IsServed {D : Type 0} (result : Result ℕ ServeFault) (most : ℕ) (source : SourceView)
     (view : DeviceView D) (streams : Streams) (before after : StoreValue D) : Type 0 where
   pub turns : List Turn
-  pub pins : List (Option ℕ)
-  pub run : Run source view (server unpinned before) turns (server pins after)
+  pub state : StateValue
+  pub run : Run source view (server fresh before) turns (server state after)
   pub lines : IfSome streams.input (AreLines result (lines_asked turns))
   -- no read is of more than 4,096 bytes
   pub read : (came : List ℕ) × Consumes streams.input streams.rest came

@@ -3,6 +3,9 @@ use Rattle.std.specs.Prelude.{◌≡◌, ⊤, ℕ, List, Option, Some, None, Res
 use Rattle.rf2_values.specs.declared.row.Kind.{Kind}
 use Rattle.import_check.specs.declared.release.Release.{Release}
 use Rattle.import_check.specs.Release.{files_of}
+use Rattle.history_store.specs.declared.refusal.Refusal.TheVariants as store
+use Rattle.line_server.specs.declared.refusal.LineRefusal.{LineRefusal}
+use Rattle.line_server.specs.declared.refusal.LineRefusal.TheVariants as refusals
 use Rattle.line_server.specs.declared.source.SourceFault.{SourceFault}
 use Rattle.line_server.specs.declared.source.SourceFault.TheVariants as faults
 
@@ -27,3 +30,8 @@ abbrev pub IsGiven : Result Release SourceFault → Option (List (Kind × List �
 IsGiven (Ok release) files = files ≡ Some (files_of release)
 IsGiven (Err faults.NoFolder) files = files ≡ None
 IsGiven (Err faults.OutOfMemory) files = Unit {0}
+
+-- why a line is refused for which no release was had
+abbrev pub of_source : SourceFault → LineRefusal
+of_source faults.OutOfMemory = refusals.Store store.OutOfMemory
+of_source faults.NoFolder = refusals.NoFolder

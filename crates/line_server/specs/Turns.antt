@@ -15,8 +15,8 @@ use Rattle.history_store.specs.Auditing.{relationships_cost}
 use Rattle.rf2_values.specs.Row.{RowValue}
 use Rattle.history_model.specs.History.{rows_at}
 use Rattle.line_commands.specs.Questions.{Question, Children, Ancestors, Descendants, Dates}
-use Rattle.line_commands.specs.Questions.{Receipt}
-use Rattle.line_commands.specs.Commands.{Command, Ask, At, Import, Step, Publish, Trim}
+use Rattle.line_commands.specs.Questions.{Digest, Receipt}
+use Rattle.line_commands.specs.Commands.{Command, Ask, At, Import, Check, Step, Publish, Trim}
 use Rattle.line_commands.specs.Requests.{Asks}
 use Rattle.line_server.specs.declared.refusal.LineRefusal.{LineRefusal}
 use Rattle.line_server.specs.declared.refusal.LineRefusal.TheVariants as refusals
@@ -71,8 +71,8 @@ ReadsAbove concept date rows (Ok (Ids ids)) old new =
     new ≤ old + relationships_cost date rows (concept ∷ ids)
 ReadsAbove concept date rows _ old new = Unit {0}
 
--- A question whose answer is read leaves what a stop may leave of an honest disk as it was. On
--- every disk it reads blocks of listed segments alone, and none that is kept in memory.
+-- What is read through the cache leaves what a stop may leave of an honest disk as it was. On
+-- every disk blocks of listed segments alone are read, and none that is kept in memory.
 abbrev pub LeavesQueried : {D : Type 0} → DeviceView D → StoreValue D → StoreValue D → Type 0
 LeavesQueried view old new =
     (view.is_honest old.disk → view.moments new.disk ≡ view.moments old.disk)
@@ -89,6 +89,9 @@ LeavesAsked view seen (Receipt number) outcome old new = new.disk ≡ old.disk
 LeavesAsked view seen (Ancestors concept date) outcome old new = LeavesQueried view old new
     × ReadsAbove concept date (rows_at seen old.history.rows) outcome (view.bytes_read old.disk)
     (view.bytes_read new.disk)
+LeavesAsked view seen Digest outcome old new = LeavesQueried view old new
+    × (view.bytes_read new.disk
+    ≤ view.bytes_read old.disk + sum_by row_cost (rows_at seen old.history.rows))
 LeavesAsked view seen question outcome old new =
     LeavesQueried view old new
     × ReadsFor outcome (view.bytes_read old.disk) (view.bytes_read new.disk)
@@ -96,9 +99,10 @@ LeavesAsked view seen question outcome old new =
 -- What a command leaves of the disk. On an honest one IMPORT, STEP and PUBLISH may change what a
 -- stop leaves, but not where they are refused for another reason than the device. After TRIM a read
 -- gives what it gave before, up to the last block that is listed or reserved, and nothing behind
--- that. STEP looks blocks up as a query does, and may then forget those that the merge has
--- reserved; PUBLISH reads one byte at most, and TRIM none. A question of a session that sees `seen`
--- imports leaves what is said above, and every other command leaves the device as it was.
+-- that. CHECK and STEP look blocks up as a query does, and STEP may then forget those that the
+-- merge has reserved; PUBLISH reads one byte at most, and TRIM none. A question of a session that
+-- sees `seen` imports leaves what is said above, and every other command leaves the device as it
+-- was.
 abbrev pub LeavesDisk : {D : Type 0} → DeviceView D → ℕ → Command → Result Answer LineRefusal
     → StoreValue D → StoreValue D → Type 0
 LeavesDisk view seen (Ask question) outcome old new = LeavesAsked view seen question outcome old new
@@ -106,6 +110,7 @@ LeavesDisk view seen (At number question) outcome old new =
     LeavesAsked view number question outcome old new
 LeavesDisk view seen (Import name) outcome old new =
     view.is_honest old.disk → IfRefused outcome (view.moments new.disk ≡ view.moments old.disk)
+LeavesDisk view seen (Check name) outcome old new = LeavesQueried view old new
 LeavesDisk view seen (Step rows) outcome old new =
     (view.is_honest old.disk → IfRefused outcome (view.moments new.disk ≡ view.moments old.disk))
     × StepsThroughCache view.bytes_read old new

@@ -7,8 +7,8 @@ ghost use Rattle.line_commands.specs.Requests.{question_of};
 ghost use Rattle.line_server.specs.Private.{IsCarriedOut, IsQueried, QuestionCanBeAsked};
 
 use crate::auditing::{
-    answer_ancestors, answer_dates, answer_delta, answer_descendants, answer_replaces,
-    answer_timeline,
+    answer_ancestors, answer_dates, answer_delta, answer_descendants, answer_digest,
+    answer_replaces, answer_timeline,
 };
 use crate::queries::{
     answer_about, answer_children, answer_get, answer_history, answer_page, answer_receipt,
@@ -70,6 +70,7 @@ pub(crate) fn ask<D: Disk>(
             limit,
         } => answer_delta(alloc, kind, from, time, after, limit, pin, store),
         Question::Dates => answer_dates(alloc, pin, store),
+        Question::Digest => answer_digest(alloc, pin, store),
         Question::Receipt { number } => answer_receipt(alloc, number, pin, store),
     }
 }

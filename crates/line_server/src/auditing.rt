@@ -3,16 +3,17 @@
 ghost use Rattle.std.specs.Prelude.{◌≤◌};
 ghost use Rattle.store_life.specs.DeviceView.{device_view};
 ghost use Rattle.line_commands.specs.Questions.{Ancestors, Descendants, Replaces, Timeline, Delta};
-ghost use Rattle.line_commands.specs.Questions.{Dates};
+ghost use Rattle.line_commands.specs.Questions.{Dates, Digest};
 ghost use Rattle.line_server.specs.Private.{IsQueried};
 
 use crate::refusal::LineRefusal;
 use crate::reply::Reply;
-use crate::wording::{reply_dates, reply_ids, reply_rows};
+use crate::wording::{reply_dates, reply_digest, reply_ids, reply_rows};
 use disk_model::Disk;
 use history_store::Store;
 use rf2_rows::{EffectiveTime, Kind, Sctid};
 use std::alloc::Global;
+use store_digest::digest;
 
 /// All concepts above a concept on a date.
 pub(crate) fn answer_ancestors<D: Disk>(
@@ -109,4 +110,18 @@ pub(crate) fn answer_dates<D: Disk>(
 {
     let found = store.dates(pin)?;
     Ok(reply_dates(alloc, &found)?)
+}
+
+/// The digest of all rows.
+pub(crate) fn answer_digest<D: Disk>(
+    alloc: Global,
+    pin: u32,
+    store: &mut Store<D>,
+) -> Result<Reply, LineRefusal>
+    requires { pin ≤ store.old.history.imports }
+    ensures { IsQueried result (device_view D.is_honest D.moments D.failures D.bytes_read)
+        Digest pin store.old store.new }
+{
+    let found = digest(alloc, store, pin)?;
+    Ok(reply_digest(alloc, found)?)
 }

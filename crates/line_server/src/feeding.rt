@@ -14,8 +14,8 @@ ghost use Rattle.line_server.specs.Feeding.{IsUnended, IsFed, intake};
 use crate::answering::answer;
 use crate::buffer::LineBuffer;
 use crate::outgoing::WriteFault;
-use crate::pins::Pins;
 use crate::source::Source;
+use crate::state::ServerState;
 use disk_model::Disk;
 use history_store::Store;
 use std::alloc::Global;
@@ -25,22 +25,22 @@ use std::io::Write;
 pub(crate) fn answer_line<W: Write, S: Source, D: Disk>(
     alloc: Global,
     line: &[u8],
-    pins: &mut Pins,
+    state: &mut ServerState,
     source: &mut S,
     store: &mut Store<D>,
     writer: &mut W,
 ) -> Result<(), WriteFault>
-    requires { AreWithin store.old.history.imports pins.old }
-    ensures pins { AreWithin store.new.history.imports pins.new }
+    requires { AreWithin store.old.history.imports state.old.pins }
+    ensures pins { AreWithin store.new.history.imports state.new.pins }
     ensures served { HasTurn (source_view (S.is_honest source.old) (S.releases source.old))
         (device_view D.is_honest D.moments D.failures D.bytes_read) line.now
-        (server pins.old store.old) (server pins.new store.new)
+        (server state.old store.old) (server state.new store.new)
         (λ turn. IsPut result (W.contents writer.old) (W.contents writer.new)
         (bytes_of (reply_value turn.outcome))) }
     ensures source { S.is_honest source.old → S.is_honest source.new }
     ensures stays { S.is_honest source.old → S.releases source.new ≡ S.releases source.old }
 {
-    let reply = answer(alloc, line, pins, source, store);
+    let reply = answer(alloc, line, state, source, store);
     reply.write_to(writer)
 }
 
@@ -52,26 +52,26 @@ pub fn feed<W: Write, S: Source, D: Disk>(
     alloc: Global,
     piece: &[u8],
     line: &mut LineBuffer,
-    pins: &mut Pins,
+    state: &mut ServerState,
     source: &mut S,
     store: &mut Store<D>,
     writer: &mut W,
 ) -> Result<u64, WriteFault>
-    requires { AreWithin store.old.history.imports pins.old }
-    ensures pins { AreWithin store.new.history.imports pins.new }
+    requires { AreWithin store.old.history.imports state.old.pins }
+    ensures pins { AreWithin store.new.history.imports state.new.pins }
     // It holds whatever had come of a line before, of which the buffer keeps the first bytes.
     ensures fed { (part : List ℕ) → IsUnended part → line.old ≡ kept part → IsFed result
         (source_view (S.is_honest source.old) (S.releases source.old))
         (device_view D.is_honest D.moments D.failures D.bytes_read)
         (intake part piece.now line.new (W.contents writer.old) (W.contents writer.new))
-        (server pins.old store.old) (server pins.new store.new) }
+        (server state.old store.old) (server state.new store.new) }
     ensures source { S.is_honest source.old → S.is_honest source.new }
     ensures stays { S.is_honest source.old → S.releases source.new ≡ S.releases source.old }
 {
     let mut answered = 0u64;
     for &byte in piece {
         if byte == b'\n' {
-            let replied = answer_line(alloc, line.ended(), pins, source, store, writer);
+            let replied = answer_line(alloc, line.ended(), state, source, store, writer);
             line.clear();
             match replied {
                 Ok(()) => {}

@@ -6,6 +6,7 @@ ghost use Rattle.store_life.specs.DeviceView.{device_view};
 ghost use Rattle.line_server.specs.Sources.{source_view};
 ghost use Rattle.line_server.specs.Laws.{OkIsImported, RefusedIsNotImported, ImportedIsOk};
 ghost use Rattle.line_server.specs.Laws.{RunNeedsNoSource};
+ghost use Rattle.line_server.specs.Laws.{CheckForetells, DamageHoldsBack, HonestMeetsNoDamage};
 ghost use Rattle.line_server.specs.Laws.{RunKeepsPin, PinnedSeesItsImports, PinnedSeesItsReceipts};
 ghost use Rattle.line_server.specs.Laws.{PinnedRunsAreUndisturbed, PinnedReceiptsAreUndisturbed};
 
@@ -33,6 +34,22 @@ pub fn lines_are_calls<S: Source, D: Disk>()
 /// A line has one reply, unless memory runs out or the device fails.
 pub fn one_reply<D: Disk>()
     ensures { OneReply D D.is_honest }
+{}
+
+/// What CHECK answers an IMPORT of the same release answers next, unless memory runs out or the
+/// device fails.
+pub fn check_foretells<D: Disk>()
+    ensures { CheckForetells D D.is_honest }
+{}
+
+/// Once a line was answered 8, later imports, checks, merges and publications are answered 8 too.
+pub fn damage_holds_back<D: Disk>()
+    ensures { DamageHoldsBack D (device_view D.is_honest D.moments D.failures D.bytes_read) }
+{}
+
+/// On an honest disk no damage is met.
+pub fn honest_meets_no_damage<D: Disk>()
+    ensures { HonestMeetsNoDamage D (device_view D.is_honest D.moments D.failures D.bytes_read) }
 {}
 
 /// An import that was answered OK is the one that its turn imported.

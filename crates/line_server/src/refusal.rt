@@ -2,6 +2,7 @@
 
 ghost use Rattle.std.specs.Prelude.{◌≡◌, ◌≤◌, Option, length, map, decimal};
 
+use crate::source::SourceFault;
 use history_store::Refusal;
 use line_commands::Unread;
 use std::alloc::AllocError;
@@ -29,6 +30,20 @@ impl From<Refusal> for LineRefusal {
 
     fn from(refusal: Refusal) -> LineRefusal {
         LineRefusal::Store(refusal)
+    }
+}
+
+impl From<SourceFault> for LineRefusal {
+    ghost use Rattle.std.specs.Prelude.{◌≡◌};
+    ghost use Rattle.line_server.specs.Sources.{of_source};
+
+    ghost from_gives = { λ fault e. e ≡ of_source fault };
+
+    fn from(fault: SourceFault) -> LineRefusal {
+        match fault {
+            SourceFault::OutOfMemory => LineRefusal::Store(Refusal::OutOfMemory),
+            SourceFault::NoFolder => LineRefusal::NoFolder,
+        }
     }
 }
 

@@ -10,8 +10,8 @@ ghost use Rattle.line_server.specs.Streams.{streams, with_reads};
 use crate::buffer::LineBuffer;
 use crate::feeding::{answer_line, feed};
 use crate::pieces::PieceReader;
-use crate::pins::Pins;
 use crate::source::Source;
+use crate::state::ServerState;
 use disk_model::Disk;
 use history_store::Store;
 use std::alloc::Global;
@@ -63,7 +63,7 @@ pub fn serve<R: PieceReader, W: Write, S: Source, D: Disk>(
     let Ok(mut line) = LineBuffer::new(alloc) else {
         return Err(ServeFault::OutOfMemory);
     };
-    let mut pins = Pins::new();
+    let mut state = ServerState::new();
     let mut piece = [0u8; 4096];
     let mut served = 0u64;
     for _reads in 0..max_reads {
@@ -75,7 +75,7 @@ pub fn serve<R: PieceReader, W: Write, S: Source, D: Disk>(
             if line.as_bytes().is_empty() {
                 return Ok(served);
             }
-            return match answer_line(alloc, line.as_bytes(), &mut pins, source, store, writer) {
+            return match answer_line(alloc, line.as_bytes(), &mut state, source, store, writer) {
                 Ok(()) => Ok(served.saturating_add(1)),
                 Err(_) => Err(ServeFault::Write),
             };
@@ -84,7 +84,7 @@ pub fn serve<R: PieceReader, W: Write, S: Source, D: Disk>(
             alloc,
             &piece[..n],
             &mut line,
-            &mut pins,
+            &mut state,
             source,
             store,
             writer,

@@ -31,8 +31,8 @@ pub trait Source {
         ensures stays { is_honest self.old → releases self.new ≡ releases self.old }
         ensures given { is_honest self.old → IsGiven result (releases self.old name.now) };
 
-    /// The store has refused the release under a name, which was had from here and is no longer in
-    /// memory: whoever has people to tell may read it once more to tell them why.
+    /// The store has refused the release under a name, for an import or a check. It was had from
+    /// here and is no longer in memory: whoever has people to tell may read it once more to tell them why.
     fn note_refusal(&mut self, alloc: Global, name: &str, refusal: Refusal)
         ensures honesty { is_honest self.old → is_honest self.new }
         ensures stays { is_honest self.old → releases self.new ≡ releases self.old };

@@ -3,8 +3,9 @@
 ghost use Rattle.std.specs.Prelude.{◌≡◌, ◌≤◌, ◌<◌, ◌+◌, ◌++◌, ◌∷◌, [], ℕ, List, Option, Ok, Err};
 ghost use Rattle.std.specs.Prelude.{decimal, IfOk, length, codes};
 ghost use Rattle.arrayvec.specs.ArrayString.{array_string_len};
-ghost use Rattle.line_server.specs.ReplyValue.{Rows, Ids, Dates, Done, reply_value, line};
-ghost use Rattle.line_server.specs.Replies.{number_or_none, receipt_of};
+ghost use Rattle.line_server.specs.ReplyValue.{Rows, Ids, Dates, Done, digits_of};
+ghost use Rattle.line_server.specs.ReplyValue.{reply_value, line};
+ghost use Rattle.line_server.specs.Replies.{import_words, number_or_none, receipt_of};
 
 use crate::refusal::LineRefusal;
 use crate::reply::Reply;
@@ -93,10 +94,9 @@ fn number_of_date(date: Option<EffectiveTime>) -> Option<u64>
     }
 }
 
-/// The reply to an import.
+/// The reply to an import, or to a check.
 pub(crate) fn reply_import(alloc: Global, receipt: Receipt) -> Reply
-    ensures { result ≡ reply_value (Ok (Done (decimal receipt.number ∷ decimal receipt.new ∷ decimal
-        receipt.repeated ∷ []))) }
+    ensures { result ≡ reply_value (Ok (Done (import_words receipt))) }
 {
     let mut last = begin_line("OK");
     put_number(&mut last, u64::from(receipt.number));
@@ -186,6 +186,17 @@ pub(crate) fn reply_ids(alloc: Global, ids: &[u64]) -> Result<Reply, AllocError>
         body.push(b'\n')?;
     }
     Ok(reply(body, end(ids.len())))
+}
+
+/// The reply that says a digest.
+pub(crate) fn reply_digest(alloc: Global, digest: [u8; 32]) -> Result<Reply, AllocError>
+    ensures reply { IfOk result (λ reply. reply ≡ reply_value (Ok (digits_of digest))) }
+    ensures bytes { length digest ≡ 32 }
+{
+    let digits = hex::encode(alloc, digest)?;
+    let mut last = begin_line("OK");
+    put_word(&mut last, digits.as_str());
+    Ok(reply(Vec::new(alloc), last))
 }
 
 /// The reply that lists dates.

@@ -10,8 +10,8 @@ pub type Turn = (&'static str, &'static [&'static str]);
 /// Imports of three releases, one of them while a merge goes on; what two
 /// sessions, of which one is pinned, are then told; lines that are refused;
 /// what is told about a concept, by a search and of an import;
-/// and the questions of an audit.
-pub const SCRIPT: [Turn; 38] = [
+/// the questions of an audit; a check and a digest.
+pub const SCRIPT: [Turn; 40] = [
     ("0 STATUS", &["OK 0 0 0 -"]),
     ("0 GET C 138875005 20230131", &["END 0"]),
     ("0 IMPORT r1", &["OK 1 6 0"]),
@@ -126,6 +126,11 @@ pub const SCRIPT: [Turn; 38] = [
         &["DATE 20200131", "DATE 20200731", "DATE 20210131", "END 3"],
     ),
     ("0 AT 1 DATES", &["DATE 20200131", "END 1"]),
+    ("0 CHECK r2", &["OK 4 0 4"]),
+    (
+        "0 DIGEST",
+        &["OK d5f88cede39c4fe2c1f12d55bb04364285d5bdfad167e9f880f5e80f262d32fb"],
+    ),
 ];
 
 /// The turns of the program's demonstration, `sctd demo`.

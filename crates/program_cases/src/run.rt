@@ -153,7 +153,7 @@ impl Run {
                 goes_out: self.goes_out,
             };
             let mut faults = Vec::new(rt.alloc());
-            let (status, _) = command_line::run(
+            let (status, _, _) = command_line::run(
                 &mut command_line::FileDisks::new(rt),
                 rt,
                 rt.alloc(),

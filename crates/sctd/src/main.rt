@@ -2,9 +2,9 @@
 //! a file, and answers what each component looked like on any past date.
 #![tactic(auto)]
 
-use command_line::{FileDisks, run};
+use command_line::{FileDisks, demonstrate, run};
 use std::fs::{self, File};
-use std::io::ErrorKind;
+use std::io::{ErrorKind, IsTerminal};
 use std::process::ExitCode;
 use std::rt::HostRuntime;
 use std::{env, io};
@@ -19,6 +19,14 @@ fn hold_standard_descriptors(rt: &HostRuntime) -> io::Result<[File; 3]> {
 /// The words of the command line, of which the first is the program's name.
 fn words_of(rt: &HostRuntime) -> io::Result<Vec<String>> {
     Ok(env::args(rt)?.collect(rt.alloc())?)
+}
+
+/// Whether the words ask for the demonstration.
+fn ask_for_demonstration(words: &[String]) -> bool {
+    match words {
+        [_, command] => command.as_str() == "demo",
+        _ => false,
+    }
 }
 
 fn main(rt: HostRuntime) -> ExitCode {
@@ -42,8 +50,11 @@ fn main(rt: HostRuntime) -> ExitCode {
         }
     };
     let (mut input, mut output, mut faults) = (rt.stdin(), rt.stdout(), rt.stderr());
+    if ask_for_demonstration(&words) && output.is_terminal() {
+        return ExitCode::from(demonstrate(rt.alloc(), &mut output, &mut faults));
+    }
     let mut disks = FileDisks::new(&rt);
-    let (status, _) = run(
+    let (status, _, _) = run(
         &mut disks,
         &rt,
         rt.alloc(),

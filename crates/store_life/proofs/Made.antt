@@ -14,10 +14,11 @@ use Rattle.history_store.specs.declared.refusal.Refusal.{Refusal}
 use Rattle.history_store.specs.declared.refusal.Refusal.TheVariants as store
 use Rattle.history_store.specs.StoreValue.{StoreValue, IsAcknowledged}
 use Rattle.history_store.specs.Answers.{IsRefused, IsImportOf, IsImportOnAnyDisk, IsRefusalOnAnyDisk, IsBeforeOrAfter, IsReadingOf}
+use Rattle.history_store.specs.Checking.{IsCheckingOnAnyDisk}
 use Rattle.history_store.specs.MergeAnswers.{IsBeginningOf, IsSteppingOf, IsAbandoningOf, IsTrimmingOf}
 use Rattle.store_life.specs.DeviceView.{DeviceView}
 use Rattle.store_life.specs.Life.{Imported, Failed, Other, RepresentsAround, RepresentsNext, IsCall}
-use Rattle.store_life.specs.Calls.{ImportIsACall, QueryIsACall, UnchangedIsACall, MergeBeginIsACall, MergeStepIsACall, MergePublishIsACall, UpgradeIsACall, RewriteIsACall, MergeAbandonIsACall, TrimIsACall}
+use Rattle.store_life.specs.Calls.{ImportIsACall, CheckIsACall, QueryIsACall, UnchangedIsACall, MergeBeginIsACall, MergeStepIsACall, MergePublishIsACall, UpgradeIsACall, RewriteIsACall, MergeAbandonIsACall, TrimIsACall}
 
 -- ---- calls that leave the history
 
@@ -111,6 +112,15 @@ module _ {D : Type 0} (view : DeviceView D) where
   import_made old new release (Err store.DiskFault) answer at_all any ack same closed honesty = failed view old new release any ack honesty store.DiskFault refl at_all.0 at_all.1
   import_made old new release (Err e) answer at_all any ack same closed honesty =
       still view old new at_all.1.history closed honesty (λ h. same h (λ is. false≢true (ap is_fault is))) ack
+
+  -- ---- checks
+
+  same_checked : (release : Release) (result : Result Receipt Refusal) (old new : StoreValue D) → IsCheckingOnAnyDisk result old new release → new.history ≡ old.history
+  same_checked release (Ok receipt) old new kept = kept.1.history
+  same_checked release (Err e) old new kept = kept.1.history
+
+  pub check_made : (other_calls : D → ℕ) → CheckIsACall D view other_calls
+  check_made other_calls old new release result c = still view old new (same_checked release result old new c.kept) c.closed c.honesty c.moments c.acknowledged
 
   -- ---- questions
 

@@ -11,6 +11,7 @@ use Rattle.history_store.specs.declared.refusal.Refusal.TheVariants as refusals
 use Rattle.history_store.specs.StoreValue.{StoreValue, IsAcknowledged}
 use Rattle.history_store.specs.Answers.{IsImportOf, IsImportOnAnyDisk, IsBeforeOrAfter}
 use Rattle.history_store.specs.Answers.{KeepsMoments}
+use Rattle.history_store.specs.Checking.{IsChecking}
 use Rattle.history_store.specs.MergeAnswers.{IsBeginningOf, IsSteppingOf, IsAbandoningOf}
 use Rattle.history_store.specs.MergeAnswers.{IsTrimmingOf}
 use Rattle.history_store.specs.Queries.{IsQuery}
@@ -38,9 +39,16 @@ ImportIsACall D view =
     → (view.is_honest old.disk ↔ view.is_honest new.disk)
     → IsCall view old (call_of result release) new
 
+-- by `Store::check · answer`: it imports nothing, also where the device fails
+abbrev pub CheckIsACall : (D : Type 0) → DeviceView D → (D → ℕ) → Type 0
+CheckIsACall D view other_calls =
+    (old new : StoreValue D) (release : Release) (result : Result Receipt Refusal)
+    → IsChecking result release view.is_honest view.moments view.failures view.bytes_read
+    other_calls old new → IsCall view old Other new
+
 -- by `query` of the answers of `get`, `history`, `page`, `about`, `search`, `terms`,
 -- `replacements`, `replaces`, `timeline` and `delta` (`IsRowsQuery`), and of `ancestors`
--- (`IsAncestorsQuery`)
+-- (`IsAncestorsQuery`), and of `store_digest::digest` (`IsDigestQuery`)
 abbrev pub QueryIsACall : (T D : Type 0) → DeviceView D → Type 0
 QueryIsACall T D view = (result : Result T Refusal) (old new : StoreValue D)
     → IsQuery result view.is_honest view.moments view.failures old new

@@ -1,7 +1,8 @@
 //! Laws of the definitions, each the contract of a function that does nothing.
 
 ghost use Rattle.store_life.specs.DeviceView.{device_view};
-ghost use Rattle.store_life.specs.Calls.{ImportIsACall, QueryIsACall, UnchangedIsACall};
+ghost use Rattle.store_life.specs.Calls.{ImportIsACall, CheckIsACall, QueryIsACall};
+ghost use Rattle.store_life.specs.Calls.{UnchangedIsACall};
 ghost use Rattle.store_life.specs.Calls.{MergeBeginIsACall, MergeStepIsACall, UpgradeIsACall};
 ghost use Rattle.store_life.specs.Calls.{MergePublishIsACall, MergeAbandonIsACall, TrimIsACall};
 ghost use Rattle.store_life.specs.Calls.{RewriteIsACall};
@@ -16,6 +17,12 @@ use disk_model::Disk;
 /// What `Store::import` ensures makes it a call of a life.
 pub fn import_is_a_call<D: Disk>()
     ensures { ImportIsACall D (device_view D.is_honest D.moments D.failures D.bytes_read) }
+{}
+
+/// What `Store::check` ensures makes it a call that leaves the history.
+pub fn check_is_a_call<D: Disk>()
+    ensures { CheckIsACall D (device_view D.is_honest D.moments D.failures D.bytes_read)
+        D.other_calls }
 {}
 
 /// So does what each question ensures that reads rows.

@@ -5,7 +5,7 @@ ghost use Rattle.line_server.specs.Pins.{AreWithin};
 use crate::means::Means;
 use disk_model::MemDisk;
 use history_store::{Refusal, Store};
-use line_server::{Pins, Reply, answer};
+use line_server::{Reply, ServerState, answer};
 use line_support::{Examples, SCRIPT, Turn, roomy_disk, takes_no_memory};
 use std::alloc::{AllocError, Global};
 use std::test::Fail;
@@ -25,26 +25,26 @@ const RUNS: usize = 10_000;
 const OUT_OF_MEMORY: &[u8] = b"ERR 1 OutOfMemory\n";
 
 /// Answers a line.
-fn reply_to(alloc: Global, line: &str, pins: &mut Pins, store: &mut Store<MemDisk>) -> Reply
-    requires { AreWithin store.old.history.imports pins.old }
-    ensures { AreWithin store.new.history.imports pins.new }
+fn reply_to(alloc: Global, line: &str, state: &mut ServerState, store: &mut Store<MemDisk>) -> Reply
+    requires { AreWithin store.old.history.imports state.old.pins }
+    ensures { AreWithin store.new.history.imports state.new.pins }
 {
     let mut source = Examples;
-    answer(alloc, line.as_bytes(), pins, &mut source, store)
+    answer(alloc, line.as_bytes(), state, &mut source, store)
 }
 
 /// Answers a line with little memory.
 fn reply_with_little(
     means: &mut Means,
     line: &str,
-    pins: &mut Pins,
+    state: &mut ServerState,
     store: &mut Store<MemDisk>,
 ) -> Result<Reply, AllocError>
-    requires { AreWithin store.old.history.imports pins.old }
-    ensures { AreWithin store.new.history.imports pins.new }
+    requires { AreWithin store.old.history.imports state.old.pins }
+    ensures { AreWithin store.new.history.imports state.new.pins }
 {
     means.leave()?;
-    let reply = reply_to(means.alloc(), line, pins, store);
+    let reply = reply_to(means.alloc(), line, state, store);
     means.relax();
     Ok(reply)
 }
@@ -76,30 +76,30 @@ fn is_right(
 fn last_reply(
     means: &mut Means,
     line: &str,
-    pins: &mut Pins,
+    state: &mut ServerState,
     store: &mut Store<MemDisk>,
 ) -> Result<(Reply, bool), AllocError>
-    requires { AreWithin store.old.history.imports pins.old }
-    ensures { AreWithin store.new.history.imports pins.new }
+    requires { AreWithin store.old.history.imports state.old.pins }
+    ensures { AreWithin store.new.history.imports state.new.pins }
 {
-    let first = reply_with_little(means, line, pins, store)?;
+    let first = reply_with_little(means, line, state, store)?;
     if !is_refusal(&first) {
         return Ok((first, false));
     }
-    Ok((reply_to(means.alloc(), line, pins, store), true))
+    Ok((reply_to(means.alloc(), line, state, store), true))
 }
 
 /// Answers a line as its turn of the script has it, and tells if it was refused first.
 fn take_turn(
     means: &mut Means,
     turn: Turn,
-    pins: &mut Pins,
+    state: &mut ServerState,
     store: &mut Store<MemDisk>,
 ) -> Result<bool, Fail>
-    requires { AreWithin store.old.history.imports pins.old }
-    ensures { AreWithin store.new.history.imports pins.new }
+    requires { AreWithin store.old.history.imports state.old.pins }
+    ensures { AreWithin store.new.history.imports state.new.pins }
 {
-    let (reply, is_refused) = last_reply(means, turn.0, pins, store)?;
+    let (reply, is_refused) = last_reply(means, turn.0, state, store)?;
     if !is_right(means.alloc(), turn, &reply, is_refused)? {
         return Err(Fail::new(turn.0));
     }
@@ -110,14 +110,14 @@ fn take_turn(
 fn answer_all(
     means: &mut Means,
     script: &[Turn],
-    pins: &mut Pins,
+    state: &mut ServerState,
     store: &mut Store<MemDisk>,
 ) -> Result<usize, Fail>
-    requires { AreWithin store.old.history.imports pins.old }
+    requires { AreWithin store.old.history.imports state.old.pins }
 {
     let mut refused = 0usize;
     for turn in script {
-        if take_turn(means, *turn, pins, store)? {
+        if take_turn(means, *turn, state, store)? {
             refused = refused.saturating_add(1);
         }
     }
@@ -174,8 +174,8 @@ struct Refused {
 /// Makes a store and answers the script, each with little memory first.
 fn run_script(means: &mut Means) -> Result<Refused, Fail> {
     let (mut store, making) = make_store(means)?;
-    let mut pins = Pins::new();
-    let lines = answer_all(means, &SCRIPT, &mut pins, &mut store)?;
+    let mut state = ServerState::new();
+    let lines = answer_all(means, &SCRIPT, &mut state, &mut store)?;
     Ok(Refused { making, lines })
 }
 

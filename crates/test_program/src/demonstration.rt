@@ -15,7 +15,7 @@ fn the_demonstration_is_the_script(rt: HostRuntime) -> Result<(), Fail> {
     let mut input: &[u8] = b"";
     let mut output = Vec::new(alloc);
     let mut faults = Vec::new(alloc);
-    let (status, _) = run(
+    let (status, _, _) = run(
         &mut FileDisks::new(&rt),
         &rt,
         alloc,

@@ -42,7 +42,7 @@ pub fn run_line(rt: &HostRuntime, line: &str, mut input: &[u8]) -> Result<Shown,
     let words = words_of(rt.alloc(), line)?;
     let mut output = Vec::new(rt.alloc());
     let mut faults = Vec::new(rt.alloc());
-    let (status, _) = run(
+    let (status, _, _) = run(
         &mut FileDisks::new(rt),
         rt,
         rt.alloc(),
@@ -74,7 +74,7 @@ pub fn run_words(
     if let Some(bytes) = room {
         scarcity.leave(bytes)?;
     }
-    let (status, _) = run(
+    let (status, _, _) = run(
         &mut FileDisks::new(rt),
         rt,
         alloc,

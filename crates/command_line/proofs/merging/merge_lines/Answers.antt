@@ -7,15 +7,15 @@ use Rattle.command_line.proofs.merging.merge_lines.Goals as goal
 
 pub returns : goal.returns
 returns g c =
-    let from = ap (λ pins. server pins c.args.store.now) c.new-pins.ensures.none in
+    let from = ap (λ state. server state c.args.store.now) c.new-state.ensures.value in
     elim c.match-merge_to.branch [
       | in-Ok w ↦
           let t = w.answer-reply.ensures.turn in
-          asked_status (device_view g.D.Disk.is_honest g.D.Disk.moments g.D.Disk.failures g.D.Disk.bytes_read) c.args.most _ _ w.answer-reply.new.pins w.answer-reply.new.store c.args.store.now
+          asked_status (device_view g.D.Disk.is_honest g.D.Disk.moments g.D.Disk.failures g.D.Disk.bytes_read) c.args.most _ _ w.answer-reply.new.state w.answer-reply.new.store c.args.store.now
           t.0 _ _ from w.in-Ok.ensures.merged t.1 t.2
           (c.tell.ensures t.0.outcome (w.reply-is ∙ t.3)) (ap (λ s. s.disk) w.store-is)
       | in-Err w ↦
           let h = w.in-Err.ensures.merged in
-          told_refusal (device_view g.D.Disk.is_honest g.D.Disk.moments g.D.Disk.failures g.D.Disk.bytes_read) c.args.most _ c.merge_to.new.pins c.merge_to.new.store c.args.store.now h.0 _ _ from h.2
+          told_refusal (device_view g.D.Disk.is_honest g.D.Disk.moments g.D.Disk.failures g.D.Disk.bytes_read) c.args.most _ c.merge_to.new.state c.merge_to.new.store c.args.store.now h.0 _ _ from h.2
           (c.tell.ensures h.0.outcome (w.reply-is ∙ h.1)) (ap (λ s. s.disk) w.store-is)
     ]

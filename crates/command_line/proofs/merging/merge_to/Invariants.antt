@@ -9,7 +9,7 @@ use Rattle.command_line.proofs.merging.merge_to.Given as goal
 -- each merge so far made one segment of two
 abbrev pub invariant-loop : goal.invariant-loop
 invariant-loop g l =
-    HaveMerged (device_view g.D.Disk.is_honest g.D.Disk.moments g.D.Disk.failures g.D.Disk.bytes_read) (server l.fn.pins l.fn.store) (server l.pins l.store)
-    × (segments_of (server l.pins l.store) + l.counter ≡ segments_of (server l.fn.pins l.fn.store))
-    × AreWithin l.store.history.imports l.pins
-    × IsAtRest (server l.pins l.store)
+    HaveMerged (device_view g.D.Disk.is_honest g.D.Disk.moments g.D.Disk.failures g.D.Disk.bytes_read) (server l.fn.state l.fn.store) (server l.state l.store)
+    × (segments_of (server l.state l.store) + l.counter ≡ segments_of (server l.fn.state l.fn.store))
+    × AreWithin l.store.history.imports l.state.pins
+    × IsAtRest (server l.state l.store)

@@ -23,11 +23,11 @@ returns-in_err-ask-clause-taken g c =
     let same = i.1 in
     let a = c.in_err-ask.ensures.asked in
     let p = err_from_is_err_and c.from_residual.result c.from_residual.ensures.1 in
-    let first = server c.args.pins.now c.args.store.now in
+    let first = server c.args.state.now c.args.store.now in
     let left : c.unwrap_or-left.result ≡ rows_left first = rw (← c.merge_left.ensures) c.unwrap_or-left.ensures in
     let some : 1 ≤ c.unwrap_or-left.result - c.loop.counter * 100000 = some_left c.unwrap_or-left.result c.div_ceil-end.result c.loop.counter c.div_ceil-end.ensures c.loop-test.true in
     let taken = i.4 in
-    let more_left : 1 ≤ rows_left (server c.loop.pins c.loop.store) = omega (arith, left, some, taken) in
+    let more_left : 1 ≤ rows_left (server c.loop.state c.loop.store) = omega (arith, left, some, taken) in
     rw (p.1, p.2) (λ most more. stopped_after (device_view g.D.Disk.is_honest g.D.Disk.moments g.D.Disk.failures g.D.Disk.bytes_read) most _ _ _ _ i.0
     (stopped_first (device_view g.D.Disk.is_honest g.D.Disk.moments g.D.Disk.failures g.D.Disk.bytes_read) most _ _ _ a.0 (inr (inl (a.1, more_left))) (omega (arith, more, same)) a.3.0 a.3.1 a.2 (λ one. step_stops (device_view g.D.Disk.is_honest g.D.Disk.moments g.D.Disk.failures g.D.Disk.bytes_read) _ _ a.0 a.1 a.3.0 i.3 a.2)))
 
@@ -35,11 +35,11 @@ pub loop-preserved : goal.loop-preserved
 loop-preserved g c =
     let i = c.loop.invariant in
     let a = c.in_ok-ask.ensures.asked in
-    let first = server c.args.pins.now c.args.store.now in
+    let first = server c.args.state.now c.args.store.now in
     let left : c.unwrap_or-left.result ≡ rows_left first = rw (← c.merge_left.ensures) c.unwrap_or-left.ensures in
     let some : 1 ≤ c.unwrap_or-left.result - c.loop.counter * 100000 = some_left c.unwrap_or-left.result c.div_ceil-end.result c.loop.counter c.div_ceil-end.ensures c.loop-test.true in
     let before = i.4 in
-    let more_left : 1 ≤ rows_left (server c.loop.pins c.loop.store) = omega (arith, left, some, before) in
+    let more_left : 1 ≤ rows_left (server c.loop.state c.loop.store) = omega (arith, left, some, before) in
     let more = rows_more (device_view g.D.Disk.is_honest g.D.Disk.moments g.D.Disk.failures g.D.Disk.bytes_read) _ _ _ a.0 i.0 i.1 a.1 more_left a.3 a.2 in
     let now = more.3 in
     (more.0, more.1, c.ask.ensures.within, more.2, omega (arith, before, now))
@@ -47,8 +47,8 @@ loop-preserved g c =
 pub returns-clause-taken : goal.returns-clause-taken
 returns-clause-taken g c =
     let i = c.loop.invariant in
-    let state = server c.loop.pins c.loop.store in
-    let first = server c.args.pins.now c.args.store.now in
+    let state = server c.loop.state c.loop.store in
+    let first = server c.args.state.now c.args.store.now in
     let left : c.unwrap_or-left.result ≡ rows_left first = rw (← c.merge_left.ensures) c.unwrap_or-left.ensures in
     let enough : c.unwrap_or-left.result ≤ div_ceil c.unwrap_or-left.result 100000 * 100000 = (div_ceil_times c.unwrap_or-left.result 100000 (omega arith)).0 in
     let taken : rows_left state ≡ rows_left first - c.loop.counter * 100000 = i.4 in

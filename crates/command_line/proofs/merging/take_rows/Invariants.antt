@@ -9,8 +9,8 @@ use Rattle.command_line.proofs.merging.take_rows.Given as goal
 -- lines of the merge were answered, of as many segments, and each took its rows
 abbrev pub invariant-loop : goal.invariant-loop
 invariant-loop g l =
-    HaveMerged (device_view g.D.Disk.is_honest g.D.Disk.moments g.D.Disk.failures g.D.Disk.bytes_read) (server l.fn.pins l.fn.store) (server l.pins l.store)
-    × (segments_of (server l.pins l.store) ≡ segments_of (server l.fn.pins l.fn.store))
-    × AreWithin l.store.history.imports l.pins
-    × IsMerging (server l.pins l.store)
-    × (rows_left (server l.pins l.store) ≡ rows_left (server l.fn.pins l.fn.store) - l.counter * 100000)
+    HaveMerged (device_view g.D.Disk.is_honest g.D.Disk.moments g.D.Disk.failures g.D.Disk.bytes_read) (server l.fn.state l.fn.store) (server l.state l.store)
+    × (segments_of (server l.state l.store) ≡ segments_of (server l.fn.state l.fn.store))
+    × AreWithin l.store.history.imports l.state.pins
+    × IsMerging (server l.state l.store)
+    × (rows_left (server l.state l.store) ≡ rows_left (server l.fn.state l.fn.store) - l.counter * 100000)

@@ -21,5 +21,6 @@ returns-in-Err-clause-done g c = inr (record {
   explained = c.explain.ensures.explained;
   unread = refl;
   none_left = refl;
+  none_made = refl;
   none_asked = refl;
 })

@@ -1,19 +1,40 @@
 use Rattle.std.proofs.Common.{◌∙◌, sym, subst, codes}
+use Rattle.std.proofs.lemmas.Bool.{both_ways}
 use Rattle.clap.specs.Matches.{found_of}
 use Rattle.clap.proofs.WalkLemmas.{first_value-rows}
 use Rattle.command_line.specs.Paths.{IsNamed}
 use Rattle.command_line.proofs.words.import_of.Goals as goal
 
-pub returns : goal.returns
-returns c =
+pub returns-then-is_set : goal.returns-then-is_set
+returns-then-is_set c =
     let found = found_of c.args.found.now in
     let rows = first_value-rows found in
     let word = c.in_ok-get_str.field-0.now in (
-      sym (rows (codes "store")) ∙ sym c.in_ok-store.ensures,
       (
-        word,
-        sym (rows (codes "name")) ∙ sym c.in_ok-get_str.ensures,
-        subst (λ given. IsNamed given word c.place_of.result.0.now c.place_of.result.1.now) (c.get_str-2.ensures ∙ rows (codes "releases")) c.place_of.ensures,
+        sym (rows (codes "store")) ∙ sym c.in_ok-store.ensures,
+        (
+          word,
+          sym (rows (codes "name")) ∙ sym c.in_ok-get_str.ensures,
+          subst (λ given. IsNamed given word c.place_of.result.0.now c.place_of.result.1.now) (c.get_str-2.ensures ∙ rows (codes "releases")) c.place_of.ensures,
+        ),
+        c.is_set-quiet.ensures,
       ),
-      c.is_set.ensures,
+      c.is_set.ensures.0 c.if-is_set.true,
+    )
+
+pub returns-else-is_set : goal.returns-else-is_set
+returns-else-is_set c =
+    let found = found_of c.args.found.now in
+    let rows = first_value-rows found in
+    let word = c.in_ok-get_str.field-0.now in (
+      (
+        sym (rows (codes "store")) ∙ sym c.in_ok-store.ensures,
+        (
+          word,
+          sym (rows (codes "name")) ∙ sym c.in_ok-get_str.ensures,
+          subst (λ given. IsNamed given word c.place_of.result.0.now c.place_of.result.1.now) (c.get_str-2.ensures ∙ rows (codes "releases")) c.place_of.ensures,
+        ),
+        c.is_set-quiet.ensures,
+      ),
+      λ given. both_ways c.is_set.result c.if-is_set.false (c.is_set.ensures.1 given),
     )

@@ -11,7 +11,7 @@ use Rattle.clap.specs.declared.parser.matches.SubCommand.{SubCommand}
 use Rattle.clap.proofs.WalkLemmas.{first_value-rows}
 use Rattle.command_line.specs.declared.words.Task.{Task}
 use Rattle.command_line.specs.declared.words.Task.TheVariants as tasks
-use Rattle.command_line.specs.Words.{IsImportOf, IsInitOf, Reads}
+use Rattle.command_line.specs.Words.{IsImportOf, IsInitOf, IsCopyTaskOf, IsDigestTaskOf, Reads}
 use Rattle.command_line.proofs.words.task_in.Goals as goal
 
 abbrev pair : Text → List Row → Option (Text × List Row)
@@ -45,9 +45,12 @@ init_read : (n : Text) (rows : List Row) (r : Option Task) → n ≡ codes "init
 init_read n rows None is h = tt
 init_read n rows (Some (tasks.Init store layout)) is h = (is, h)
 init_read n rows (Some (tasks.Import store folder name quiet)) is h = absurd h
+init_read n rows (Some (tasks.Check store folder name quiet)) is h = absurd h
 init_read n rows (Some (tasks.Serve store folder)) is h = absurd h
 init_read n rows (Some (tasks.Status store)) is h = absurd h
 init_read n rows (Some (tasks.Merge store segments)) is h = absurd h
+init_read n rows (Some (tasks.Copy store to imports)) is h = absurd h
+init_read n rows (Some (tasks.Digest store imports)) is h = absurd h
 init_read n rows (Some (tasks.Upgrade store)) is h = absurd h
 init_read n rows (Some tasks.Demo) is h = absurd h
 
@@ -57,14 +60,17 @@ returns-in-init c =
     let is = met c.args.matches.now c.in_ok-name.name.now (rows_of found) c.in_ok-name.ensures.name c.in_ok-name.ensures.rows in
     rw is (init_read c.in_ok-name.name.now (rows_of found) c.init_of.result c.in-init.is c.init_of.ensures)
 
--- the import that was read
+-- the import that was read, or the check of a release
 import_read : (n : Text) (rows : List Row) (r : Option Task) → n ≡ codes "import" → IfSome r (IsImportOf rows) → IfSome r (Reads (pair n rows))
 import_read n rows None is h = tt
-import_read n rows (Some (tasks.Import store folder name quiet)) is h = (is, h)
 import_read n rows (Some (tasks.Init store layout)) is h = absurd h
+import_read n rows (Some (tasks.Import store folder name quiet)) is h = (is, h)
+import_read n rows (Some (tasks.Check store folder name quiet)) is h = (is, h)
 import_read n rows (Some (tasks.Serve store folder)) is h = absurd h
 import_read n rows (Some (tasks.Status store)) is h = absurd h
 import_read n rows (Some (tasks.Merge store segments)) is h = absurd h
+import_read n rows (Some (tasks.Copy store to imports)) is h = absurd h
+import_read n rows (Some (tasks.Digest store imports)) is h = absurd h
 import_read n rows (Some (tasks.Upgrade store)) is h = absurd h
 import_read n rows (Some tasks.Demo) is h = absurd h
 
@@ -73,6 +79,46 @@ returns-in-import c =
     let found = found_of c.in_ok-name.found.now in
     let is = met c.args.matches.now c.in_ok-name.name.now (rows_of found) c.in_ok-name.ensures.name c.in_ok-name.ensures.rows in
     rw is (import_read c.in_ok-name.name.now (rows_of found) c.import_of.result c.in-import.is c.import_of.ensures)
+
+-- the copy that was read
+copy_read : (n : Text) (rows : List Row) (r : Option Task) → n ≡ codes "copy" → IfSome r (IsCopyTaskOf rows) → IfSome r (Reads (pair n rows))
+copy_read n rows None is h = tt
+copy_read n rows (Some (tasks.Init store layout)) is h = absurd h
+copy_read n rows (Some (tasks.Import store folder name quiet)) is h = absurd h
+copy_read n rows (Some (tasks.Check store folder name quiet)) is h = absurd h
+copy_read n rows (Some (tasks.Serve store folder)) is h = absurd h
+copy_read n rows (Some (tasks.Status store)) is h = absurd h
+copy_read n rows (Some (tasks.Merge store segments)) is h = absurd h
+copy_read n rows (Some (tasks.Copy store to imports)) is h = (is, h)
+copy_read n rows (Some (tasks.Digest store imports)) is h = absurd h
+copy_read n rows (Some (tasks.Upgrade store)) is h = absurd h
+copy_read n rows (Some tasks.Demo) is h = absurd h
+
+pub returns-in-copy : goal.returns-in-copy
+returns-in-copy c =
+    let found = found_of c.in_ok-name.found.now in
+    let is = met c.args.matches.now c.in_ok-name.name.now (rows_of found) c.in_ok-name.ensures.name c.in_ok-name.ensures.rows in
+    rw is (copy_read c.in_ok-name.name.now (rows_of found) c.copy_of.result c.in-copy.is c.copy_of.ensures)
+
+-- the digest that was read
+digest_read : (n : Text) (rows : List Row) (r : Option Task) → n ≡ codes "digest" → IfSome r (IsDigestTaskOf rows) → IfSome r (Reads (pair n rows))
+digest_read n rows None is h = tt
+digest_read n rows (Some (tasks.Init store layout)) is h = absurd h
+digest_read n rows (Some (tasks.Import store folder name quiet)) is h = absurd h
+digest_read n rows (Some (tasks.Check store folder name quiet)) is h = absurd h
+digest_read n rows (Some (tasks.Serve store folder)) is h = absurd h
+digest_read n rows (Some (tasks.Status store)) is h = absurd h
+digest_read n rows (Some (tasks.Merge store segments)) is h = absurd h
+digest_read n rows (Some (tasks.Copy store to imports)) is h = absurd h
+digest_read n rows (Some (tasks.Digest store imports)) is h = (is, h)
+digest_read n rows (Some (tasks.Upgrade store)) is h = absurd h
+digest_read n rows (Some tasks.Demo) is h = absurd h
+
+pub returns-in-digest : goal.returns-in-digest
+returns-in-digest c =
+    let found = found_of c.in_ok-name.found.now in
+    let is = met c.args.matches.now c.in_ok-name.name.now (rows_of found) c.in_ok-name.ensures.name c.in_ok-name.ensures.rows in
+    rw is (digest_read c.in_ok-name.name.now (rows_of found) c.digest_of.result c.in-digest.is c.digest_of.ensures)
 
 pub returns-in_ok-get_str-in-serve-2 : goal.returns-in_ok-get_str-in-serve-2
 returns-in_ok-get_str-in-serve-2 c =

@@ -9,6 +9,9 @@ returns-in-At c = rw c.in-At.is c.at.ensures
 pub returns-in-Import : goal.returns-in-Import
 returns-in-Import c = rw c.in-Import.is c.import.ensures
 
+pub returns-in-Check : goal.returns-in-Check
+returns-in-Check c = rw c.in-Check.is c.check.ensures
+
 pub returns-in-Pin : goal.returns-in-Pin
 returns-in-Pin c = rw c.in-Pin.is c.pin.ensures
 

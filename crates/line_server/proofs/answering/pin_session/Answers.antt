@@ -7,8 +7,8 @@ use Rattle.line_server.proofs.answering.pin_session.Goals as goal
 
 pub returns-in-Some-clause-response : goal.returns-in-Some-clause-response
 returns-in-Some-clause-response g c has =
-    rw c.set.ensures (pinned (device_view g.D.Disk.is_honest g.D.Disk.moments g.D.Disk.failures g.D.Disk.bytes_read) c.args.session c.args.pins.now c.args.store.now c.args.number has c.in-Some.pin c.reply_number.result (rw c.imports.ensures at c.in-Some.ensures) (c.reply_number.ensures ∙ ap (λ (k : ℕ). reply_value (Ok (Done (decimal k ∷ [])))) c.from.ensures))
+    rw c.pin.ensures (pinned (device_view g.D.Disk.is_honest g.D.Disk.moments g.D.Disk.failures g.D.Disk.bytes_read) c.args.session c.args.state.now c.args.store.now c.args.number has c.in-Some.pin c.reply_number.result (rw c.imports.ensures at c.in-Some.ensures) (c.reply_number.ensures ∙ ap (λ (k : ℕ). reply_value (Ok (Done (decimal k ∷ [])))) c.from.ensures))
 
 pub returns-in-None-clause-response : goal.returns-in-None-clause-response
 returns-in-None-clause-response g c has =
-    out_of_range (device_view g.D.Disk.is_honest g.D.Disk.moments g.D.Disk.failures g.D.Disk.bytes_read) c.args.session c.args.pins.now c.args.store.now c.args.number has (rw c.imports.ensures at c.in-None.ensures)
+    out_of_range (device_view g.D.Disk.is_honest g.D.Disk.moments g.D.Disk.failures g.D.Disk.bytes_read) c.args.session c.args.state.now c.args.store.now c.args.number has (rw c.imports.ensures at c.in-None.ensures)

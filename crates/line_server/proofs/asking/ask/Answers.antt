@@ -42,5 +42,8 @@ returns-in-Delta g c = rw c.in-Delta.is c.answer_delta.ensures
 pub returns-in-Dates : goal.returns-in-Dates
 returns-in-Dates g c = rw c.in-Dates.is c.answer_dates.ensures
 
+pub returns-in-Digest : goal.returns-in-Digest
+returns-in-Digest g c = rw c.in-Digest.is c.answer_digest.ensures
+
 pub returns-in-Receipt : goal.returns-in-Receipt
 returns-in-Receipt g c = rw c.in-Receipt.is c.answer_receipt.ensures

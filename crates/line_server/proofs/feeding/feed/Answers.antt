@@ -49,15 +49,15 @@ loop-byte-preserved g c =
           let line_is = rw w.ended.ensures at step.served.1 in
           let turn = turn_on _ _ _ _ step.served.0 _ line_is step.served.2 in
           let gives = turn_now step.served.0.outcome step.served.0.call _ _ source (device_view g.D.Disk.is_honest g.D.Disk.moments g.D.Disk.failures g.D.Disk.bytes_read) _ _ i.2 turn in (
-            λ part free is. rw (w.writer-is, w.pins-is, w.store-is, w.line-is, w.clear.ensures, w.answered-is, w.saturating_add-answered.ensures, ← next_seen part piece at 10 c.loop-byte-test.true w.if-byte-eq10.true)
+            λ part free is. rw (w.writer-is, w.state-is, w.store-is, w.line-is, w.clear.ensures, w.answered-is, w.saturating_add-answered.ensures, ← next_seen part piece at 10 c.loop-byte-test.true w.if-byte-eq10.true)
                 (line_more source (device_view g.D.Disk.is_honest g.D.Disk.moments g.D.Disk.failures g.D.Disk.bytes_read) step.served.0.outcome step.served.0.call _ _ _ _ _ _ (part ++ take at piece) _ _ (i.0 part free is) gives (rw w.in-Ok.is at step.served.3)),
-            rw (w.pins-is, w.store-is) step.pins,
+            rw (w.state-is, w.store-is) step.pins,
             λ h. rw w.source-is (step.source (i.2 h).0, step.stays (i.2 h).0 ∙ (i.2 h).1),
           )
       | else-byte-eq10 w ↦ (
-        λ part free is. rw (w.writer-is, w.pins-is, w.store-is, w.line-is, w.push.ensures, w.answered-is, ← next_seen part piece at (get_or piece at 0) c.loop-byte-test.true refl)
+        λ part free is. rw (w.writer-is, w.state-is, w.store-is, w.line-is, w.push.ensures, w.answered-is, ← next_seen part piece at (get_or piece at 0) c.loop-byte-test.true refl)
             (byte_more source (device_view g.D.Disk.is_honest g.D.Disk.moments g.D.Disk.failures g.D.Disk.bytes_read) _ _ _ _ (part ++ take at piece) _ _ (get_or piece at 0) (i.0 part free is) (ne_eqb _ 10 w.if-byte-eq10.false)),
-        rw (w.pins-is, w.store-is) i.1,
+        rw (w.state-is, w.store-is) i.1,
         λ h. rw w.source-is (i.2 h),
       )
     ]

@@ -13,7 +13,7 @@ use Rattle.line_server.proofs.serving.serve.Goals as goal
 pub loop-reads-init : goal.loop-reads-init
 loop-reads-init g c =
     let source = source_view (g.S.Source.is_honest c.args.source.now) (g.S.Source.releases c.args.source.now) in
-    ([], [], Consumes-nil _, rw (c.in-Ok.ensures, c.new-pins.ensures.none) (starts source (device_view g.D.Disk.is_honest g.D.Disk.moments g.D.Disk.failures g.D.Disk.bytes_read) _ _), omega arith, omega arith, c.new-pins.ensures.within _, λ h. (h, refl), omega arith, omega arith, makes_none _, All-nil IsPiece, refl, refl)
+    ([], [], Consumes-nil _, rw (c.in-Ok.ensures, c.new-state.ensures.value) (starts source (device_view g.D.Disk.is_honest g.D.Disk.moments g.D.Disk.failures g.D.Disk.bytes_read) _ _), omega arith, omega arith, c.new-state.ensures.within _, λ h. (h, refl), omega arith, omega arith, makes_none _, All-nil IsPiece, refl, refl)
 
 pub returns-in-Err-clause-served : goal.returns-in-Err-clause-served
 returns-in-Err-clause-served g c =

@@ -3,4 +3,4 @@ use Rattle.test_memory.proofs.line_growths.answer_all.Given as goal
 
 -- no pin is above the number of imports
 abbrev pub invariant-loop-turn : goal.invariant-loop-turn
-invariant-loop-turn l = AreWithin l.store.history.imports l.pins
+invariant-loop-turn l = AreWithin l.store.history.imports l.state.pins

@@ -1,0 +1,441 @@
+#!/usr/bin/env python3
+"""Tries what an operator does in a year, and what goes wrong then, with the built program.
+
+try_operators.py PROGRAM [TRIAL ..]
+
+PROGRAM is the built `sctd`, and TRIAL the name of one of the functions below, all if none is given.
+Tried are releases that are checked before they count, a wrong release that is taken back, copies
+that are refused or killed, the digest against examples/digest.py, and damage under a served store.
+What many clients and a year of nights do to the hub, try_hub.py tries; other files in the store's
+place, forged names and locks, try_mistakes.py. A trial that can't be done on this machine says so
+in a line that begins with `skipped`, and one that isn't as it has to be in a line that begins with
+`WRONG`. The last line is `N passed, M failed`, and `, K skipped` where there are any; the status is
+1 where one failed. Standard library alone.
+"""
+
+from __future__ import annotations
+
+import collections
+import contextlib
+import hashlib
+import os
+import random
+import subprocess
+import sys
+import tempfile
+import time
+from pathlib import Path
+from typing import Callable, Iterator, NamedTuple, Optional, Sequence
+
+from operators_harness import BLOCK, FIRST_ROW, RELEASES, SECONDS, Place, Ran, Server, Skipped
+from operators_harness import Wrong, concept, digest_of, flip, put_back, rf2, same
+from operators_harness import write_edition, write_release
+
+KINDS = "CDRAV"
+# How many rows the releases have whose digests are compared, and whose copies are killed.
+DIGEST_ROWS, KILLED_ROWS = 3_000, 10_000
+SEED = 48
+# How many copies are killed, and how many of them at least while they are written.
+KILLS, KILLS_WHILE_WRITTEN = 50, 5
+# A moment is drawn from so much more than the time that a copy takes.
+MARGIN = 1.1
+DATE = "20220131"
+DAMAGED = ["ERR 8 Damaged"]
+# The row of the guide's releases that stands first in the first segment, and another one.
+FIRST_QUESTION = "GET C 1000004 20200131"
+OTHER_QUESTION = "GET C 2000001 20210131"
+PINNED = ["GET C 1000004 20211231", "HISTORY C 1000004", "ABOUT D 1000004 20211231", "DATES",
+          "ANCESTORS 1000004 20200630", "DELTA C 20200131 20211231 - 1000"]
+PINNED += ["PAGE %s 20211231 - 1000" % kind for kind in KINDS]
+NO_ROWS = hashlib.sha256(b"").hexdigest()
+
+
+# ---- A release that is tried before it counts
+
+
+def write_faulty(place: Place) -> None:
+    """Releases that are refused: a column too few, a row that contradicts one of r1, no release."""
+    short = concept(1, DATE).rpartition("\t")[0]
+    write_release(place.releases / "faulty", {"C": [concept(2, DATE), short]}, DATE)
+    other = "1000004\t20200131\t0\t%d\t%d" % (rf2.CORE, rf2.PRIMITIVE)
+    write_release(place.releases / "contradicting", {"C": [concept(3, DATE), other]}, DATE)
+    (place.releases / "empty").mkdir()
+
+
+def check_told(place: Place, store: Path, name: str) -> Ran:
+    """What `import --check` says of a release; it leaves the file as it is."""
+    before = store.read_bytes()
+    words = ["--quiet", "--store", str(store), "--releases", str(place.releases), name]
+    told = place.run("import", "--check", *words)
+    same("the store after a check of %s" % name, store.read_bytes() == before, True)
+    return told
+
+
+def checked_is_imported(place: Place, store: Path, name: str, wanted: str) -> None:
+    """A check, as a command and as a line, is answered as the import that follows."""
+    told = check_told(place, store, name)
+    with Server(place, store, place.releases) as server:
+        before = store.read_bytes()
+        replies = [server.ask("CHECK " + name) for _ in range(2)]
+        same("the store after CHECK %s" % name, store.read_bytes() == before, True)
+        replies.append(server.ask("IMPORT " + name))
+    same("CHECK twice, and IMPORT, of %s" % name, replies, [[wanted]] * 3)
+    status = 0 if wanted.startswith("OK") else 1
+    same("import --check of %s" % name, (told.status, told.output), (status, wanted + "\n"))
+
+
+def checks(place: Place) -> None:
+    """What CHECK answers IMPORT answers next, and CHECK leaves the store as it is."""
+    for name in ("r1", "r2", "r3"):
+        place.link_release(name)
+    write_faulty(place)
+    for layout in (2, 3):
+        store = place.make_store("store%d" % layout, layout)
+        for name, wanted in (
+                ("r1", "OK 1 6 0"), ("r2", "OK 2 4 0"), ("r1", "OK 3 0 6"), ("r3", "OK 4 2 1"),
+                ("faulty", "ERR 23 Columns 1 3"), ("contradicting", "ERR 32 Contradiction 1 3"),
+                ("empty", "ERR 45 NoFolder"), ("absent", "ERR 45 NoFolder"),
+                ("../r1", "ERR 43 Arguments")):
+            checked_is_imported(place, store, name, wanted)
+        same("the store's state", place.status(store), "OK 4 12 3 -")
+
+
+# ---- A wrong release that is taken back
+
+
+def reports(place: Place, store: Path, imports: int) -> list[list[str]]:
+    """What reports say at each pin."""
+    pins = range(1, imports + 1)
+    lines = [line for pin in pins for line in ("PIN %d" % pin, *PINNED, "RECEIPT %d" % pin)]
+    return place.ask(store, lines)
+
+
+def write_wrong_and_right(place: Place) -> tuple[Path, Path]:
+    """A release that shouldn't have been imported, and the one that takes its place: it has the
+    same ids and dates, and says something else of them."""
+    def rows(active: int) -> list[str]:
+        own = [concept(number, DATE, active) for number in range(1, 6)]
+        return [*own, "2000001\t%s\t%d\t%d\t%d" % (DATE, active, rf2.CORE, rf2.PRIMITIVE)]
+    return (write_release(place.releases / "wrong", {"C": rows(0)}, DATE),
+            write_release(place.releases / "right", {"C": rows(1)}, DATE))
+
+
+def wrong_release(place: Place) -> None:
+    """A wrong release is taken back, and the right one imported: what was reported stays true."""
+    wrong, right = write_wrong_and_right(place)
+    small = [RELEASES / name for name in ("r1", "r2", "r3")]
+    for name, layout, segments in (("as it came", 2, 3), ("merged", 2, 1), ("checksums", 3, 3)):
+        here = place.below(name)
+        store = here.small_store(layout)
+        before, digest = reports(here, store, 3), here.digest(store)
+        same("the wrong release", here.import_one(store, wrong), "OK 4 6 0")
+        refused = here.run("import", "--quiet", "--store", store, right)
+        same("the right one beside it", (refused.status, refused.output),
+             (1, "ERR 32 Contradiction 1 2\n"))
+        if segments == 1:
+            here.done("merge", "--store", store)
+        taken_back = here.copy(store, "taken back", imports=3)
+        same("what is left", here.status(taken_back), "OK 3 12 %d -" % segments)
+        os.replace(taken_back, store)
+        same("the right release", here.import_one(store, right), "OK 4 6 0")
+        same("reports on the first imports", reports(here, store, 3), before)
+        same("their digest", here.digest(store, 3), digest)
+        same("the digest of all", here.digest(store), digest_of(*small, right))
+
+
+# ---- Copies
+
+
+def blocks_in_use(place: Place, store: Path) -> int:
+    """How many blocks a store needs, as its status tells people."""
+    words = place.run("status", "--store", store).faults.split()
+    return int(words[words.index("blocks") - 1])
+
+
+def whole_copies(place: Place) -> None:
+    """A copy has the same rows and import numbers, is its owner's alone, and has no free blocks."""
+    store = place.small_store()
+    place.done("merge", "--store", store)
+    place.import_all(store, [write_wrong_and_right(place)[0]])
+    for imports in (None, 4, 3, 2, 1, 0):
+        before = store.read_bytes()
+        copy = place.copy(store, "copy%s" % imports, imports)
+        same("the store after a copy", store.read_bytes() == before, True)
+        same("the rights of a copy", oct(copy.stat().st_mode & 0o777), "0o600")
+        same("the blocks of a copy", -(-copy.stat().st_size // BLOCK), blocks_in_use(place, copy))
+        count = 4 if imports is None else imports
+        words = [count, [0, 6, 10, 12, 18][count], [0, 1, 1, 1, 2][count]]
+        same("the state of a copy", place.status(copy), "OK %d %d %d -" % tuple(words))
+        same("the digest of a copy", place.digest(copy), place.digest(store, count))
+        same("reports on a copy", reports(place, copy, count), reports(place, store, count))
+
+
+class Refusal(NamedTuple):
+    """A copy that is refused: what it is asked for, how it is answered, and what is told."""
+
+    what: str
+    store: str
+    to: str
+    reply: str
+    why: str
+    more: Sequence[str] = ()
+
+
+IS_THERE = "ERR 2 DiskFault", "File exists"
+REFUSED = [
+    Refusal("onto a file", "store", "text", *IS_THERE),
+    Refusal("onto an empty file", "store", "nothing", *IS_THERE),
+    Refusal("onto itself", "store", "store", *IS_THERE),
+    Refusal("onto a link to itself", "store", "link", *IS_THERE),
+    Refusal("onto a link that leads nowhere", "store", "dangling", *IS_THERE),
+    Refusal("onto a folder", "store", "releases", *IS_THERE),
+    Refusal("into no folder", "store", "absent/new", "ERR 2 DiskFault", "No such file"),
+    Refusal("of more imports than there are", "store", "new", "ERR 44 PinRange", "fewer imports",
+            ("--imports", "4")),
+    Refusal("of a file that isn't there", "absent", "new", "ERR 2 DiskFault", "No such file"),
+    Refusal("of a text", "text", "new", "ERR 7 NotAStore", "the file is no store"),
+    Refusal("of a damaged store", "damaged", "new", "ERR 8 Damaged", "segment 1"),
+]
+
+
+def copy_is_refused(place: Place, refusal: Refusal) -> None:
+    """Both files stay as they were."""
+    before = place.contents()
+    words = ["--store", refusal.store, "--to", refusal.to, *refusal.more]
+    ran = place.run("copy", *words)
+    what = "a copy " + refusal.what
+    same(what, (ran.status, ran.output), (1, refusal.reply + "\n"))
+    lines = ran.faults.splitlines()
+    fine = len(lines) == 1 and lines[0].startswith("sctd: ") and refusal.why in lines[0]
+    same("why %s: %r" % (what, ran.faults), fine, True)
+    same("what is there after %s" % what, place.contents() == before, True)
+
+
+def refused_copies(place: Place) -> None:
+    """A copy that is refused says why, and leaves both files as they were."""
+    store = place.small_store()
+    place.path("text").write_text("no store", encoding="ascii")
+    place.path("nothing").touch()
+    place.path("link").symlink_to("store")
+    place.path("dangling").symlink_to("new")
+    place.path("damaged").write_bytes(store.read_bytes())
+    flip(place.path("damaged"), FIRST_ROW)
+    for refusal in REFUSED:
+        copy_is_refused(place, refusal)
+    with Server(place, store) as server:
+        same("its state", server.ask("STATUS"), ["OK 3 12 3 -"])
+        copy_is_refused(place, Refusal(
+            "of a store that is served", "store", "new", "ERR 2 DiskFault", "in use by another"))
+
+
+@contextlib.contextmanager
+def small_disk(path: Path, size: str) -> Iterator[Path]:
+    """A file system of its own, which has little room."""
+    path.mkdir()
+    mounting = ["mount", "-t", "tmpfs", "-o", "size=" + size, "tmpfs", str(path)]
+    done = subprocess.run(
+        mounting, stdout=subprocess.DEVNULL, stderr=subprocess.DEVNULL, check=False)
+    if done.returncode != 0:
+        raise Skipped("no file system can be mounted here")
+    try:
+        yield path
+    finally:
+        subprocess.run(["umount", str(path)], check=False)
+
+
+def full_disk(place: Place) -> None:
+    """A copy that the disk has no room for is refused, and none is left."""
+    full, _ = write_edition(place.path("edition"), DIGEST_ROWS, SEED)
+    store = place.make_store()
+    place.import_all(store, [full])
+    with small_disk(place.path("small"), "64k") as small:
+        copy_is_refused(place, Refusal(
+            "to a full disk", "store", "small/new", "ERR 2 DiskFault", "No space left"))
+        same("what is left on it", list(small.iterdir()), [])
+
+
+# ---- Copies that are killed
+
+
+def kill_at(place: Place, store: Path, copy: Path, moment: float, is_made: bool) -> bool:
+    """Begins a copy, and kills it after so many seconds, from its start on or from when its file is
+    made. Whether it was still running."""
+    words = ["copy", "--store", str(store), "--to", str(copy)]
+    process = subprocess.Popen(
+        [str(place.program), *words], stdin=subprocess.DEVNULL, stdout=subprocess.DEVNULL,
+        stderr=subprocess.DEVNULL)
+    while is_made and not copy.exists() and process.poll() is None:
+        pass
+    try:
+        process.wait(moment)
+        return False
+    except subprocess.TimeoutExpired:
+        process.kill()
+        process.wait(SECONDS)
+        return True
+
+
+def left_of(place: Place, copy: Path, state: str, digest: str) -> str:
+    """What a copy is that was killed: nothing, no store, or whole."""
+    if not copy.exists():
+        return "absent"
+    ran = place.run("status", "--store", copy)
+    if ran.status == 1 and ran.output.split(" ")[:2] == ["ERR", "7"]:
+        return "no store"
+    same("what is left of a copy", (ran.status, ran.output), (0, state + "\n"))
+    same("the digest of what is left", place.digest(copy), digest)
+    return "whole"
+
+
+def killed_copies(place: Place) -> None:
+    """A copy that is killed leaves the store as it is, and no store, or the whole copy."""
+    store = place.make_store()
+    full, delta = write_edition(place.path("edition"), KILLED_ROWS, SEED)
+    place.import_all(store, [full, delta])
+    before, state, digest = store.read_bytes(), place.status(store), place.digest(store)
+    begun = time.monotonic()
+    place.copy(store, "first")
+    took = time.monotonic() - begun
+    chance, left = random.Random(SEED), collections.Counter[str]()
+    for number in range(KILLS):
+        copy = place.path("copy%d" % number)
+        was_running = kill_at(place, store, copy, chance.uniform(0, took * MARGIN), number % 2 == 1)
+        same("the store after a kill", store.read_bytes() == before, True)
+        found = left_of(place, copy, state, digest)
+        if not was_running:
+            same("a copy that wasn't killed", found, "whole")
+        left[found] += 1
+        copy.unlink(missing_ok=True)
+    print("copies that were killed: %s" % dict(left), flush=True)
+    same("kills while copies were written", left["no store"] >= KILLS_WHILE_WRITTEN, True)
+
+
+# ---- Digests
+
+
+def each_digest(place: Place, store: Path, wanted: Sequence[str]) -> None:
+    """The digest of each number of imports is as wanted, as a command and as a line at a pin."""
+    for imports, digest in enumerate(wanted):
+        same("the digest of %d imports" % imports, place.digest(store, imports), digest)
+    same("the digest of all", place.digest(store), wanted[-1])
+    pins = range(1, len(wanted))
+    lines = ["DIGEST", *(line for pin in pins for line in ("PIN %d" % pin, "DIGEST"))]
+    replies = place.ask(store, [*lines, "UNPIN", *("AT %d DIGEST" % pin for pin in pins)])
+    lasts = [reply[-1] for reply in replies]
+    found = [lasts[0], *lasts[2 : len(lines) : 2], *lasts[len(lines) + 1 :]]
+    same("digests as lines", found, ["OK " + one for one in [wanted[-1], *wanted[1:], *wanted[1:]]])
+
+
+def digests(place: Place) -> None:
+    """The digest is the one that is computed from the releases' files, in whatever way a store came
+    to its rows and keeps them."""
+    full, delta = write_edition(place.path("edition"), DIGEST_ROWS, SEED)
+    wanted = [NO_ROWS, digest_of(full), digest_of(full, delta)]
+    store = place.make_store()
+    place.import_all(store, [full, delta])
+    each_digest(place, store, wanted)
+    each_digest(place, place.copy(store, "copy"), wanted)
+    each_digest(place, place.copy(store, "first", imports=1), wanted[:2])
+    place.done("merge", "--store", store)
+    each_digest(place, store, wanted)
+    place.done("upgrade", "--store", store)
+    each_digest(place, store, wanted)
+    place.done("merge", "--store", store)
+    each_digest(place, place.copy(store, "upgraded"), wanted)
+    place.import_all(store, [full, delta])
+    each_digest(place, store, [*wanted, wanted[2], wanted[2]])
+    other = place.make_store("other", layout=3)
+    place.import_all(other, [delta, full])
+    each_digest(place, other, [NO_ROWS, digest_of(delta), wanted[2]])
+
+
+def digest_refused(place: Place) -> None:
+    """A digest of what isn't there is refused, and the store stays as it is."""
+    store = place.small_store()
+    before = store.read_bytes()
+    replies = place.ask(store, ["DIGEST 1", "DIGEST ", "AT 4 DIGEST"])
+    same("digests as lines", [reply[-1].split(" ")[1] for reply in replies], ["43", "43", "44"])
+    ran = place.run("digest", "--store", store, "--imports", "4")
+    same("the digest of a fourth import", (ran.status, ran.output), (1, "ERR 44 PinRange\n"))
+    flip(store, FIRST_ROW)
+    ran = place.run("digest", "--store", store)
+    same("the digest of a damaged store", (ran.status, ran.output), (1, "ERR 8 Damaged\n"))
+    flipped = bytearray(before)
+    flipped[FIRST_ROW] = store.read_bytes()[FIRST_ROW]
+    same("the store", store.read_bytes() == bytes(flipped), True)
+
+
+# ---- Damage
+
+
+def damage_is_met(place: Place, layout: int, meets: str) -> None:
+    """After a line has met damage nothing is confirmed until the store is opened again."""
+    store = place.small_store(layout)
+    before, digest = store.read_bytes(), place.digest(store)
+    with Server(place, store, place.releases) as server:
+        # (Of the two smallest segments, which aren't the damaged one.)
+        same("a merge", [server.ask(line)[-1] for line in ("MERGE", "STEP 100")], ["OK 6", "OK 0"])
+        byte = flip(store, FIRST_ROW)
+        same(meets, server.ask(meets), DAMAGED)
+        for line in ("IMPORT new", "CHECK new", "PUBLISH", "MERGE", "STEP 1", "IMPORT r1"):
+            same("%s after damage" % line, server.ask(line), DAMAGED)
+        same("a question", server.ask(OTHER_QUESTION)[-1], "END 1")
+        same("a receipt", server.ask("RECEIPT 1"), ["OK 1 6 20200131"])
+        same("the end of the server", server.end(), 0)
+    ran = place.run("status", "--store", store)
+    same("an opening", (ran.status, ran.output), (1, "ERR 8 Damaged\n"))
+    put_back(store, FIRST_ROW, byte)
+    same("what was imported", (place.status(store), place.digest(store)), ("OK 3 12 3 -", digest))
+    # A merge may have written behind what the store needs.
+    same("what the store had", store.read_bytes()[: len(before)] == before, True)
+    same("an import", place.import_one(store, place.releases / "new"), "OK 4 1 0")
+
+
+def damage(place: Place) -> None:
+    """Damage under a served store, which a question meets, an import or a check."""
+    for layout in (2, 3):
+        for meets in (FIRST_QUESTION, "IMPORT r1", "CHECK r1", "DIGEST"):
+            here = place.below("%s %d" % (meets.split(" ", maxsplit=1)[0], layout))
+            here.link_release("r1")
+            write_release(here.releases / "new", {"C": [concept(1, DATE)]}, DATE)
+            damage_is_met(here, layout, meets)
+
+
+TRIALS: list[Callable[[Place], None]] = [
+    checks, wrong_release, whole_copies, refused_copies, full_disk,
+    killed_copies, digests, digest_refused, damage]
+
+
+def said_of(trial: Callable[[Place], None], place: Place) -> str:
+    """What is said of a trial; nothing where it passed."""
+    try:
+        trial(place)
+    except Skipped as why:
+        return "skipped: %s: %s" % (trial.__name__, why)
+    except (Wrong, OSError, subprocess.SubprocessError, UnicodeError) as why:
+        return "WRONG: %s: %s" % (trial.__name__, why)
+    return ""
+
+
+def main(words: Sequence[str]) -> int:
+    assert __doc__
+    if not words or words[0].startswith("-"):
+        print(__doc__.strip(), file=sys.stderr)
+        return 2
+    program = Path(words[0]).resolve()
+    wanted: Optional[Sequence[str]] = words[1:] or None
+    counts = collections.Counter[str]()
+    with tempfile.TemporaryDirectory() as folder:
+        for trial in TRIALS:
+            if wanted is None or trial.__name__ in wanted:
+                said = said_of(trial, Place(program, Path(folder)).below(trial.__name__))
+                counts[said.partition(":")[0]] += 1
+                if said:
+                    print(said, flush=True)
+    more = ", %d skipped" % counts["skipped"] if counts["skipped"] else ""
+    print("%d passed, %d failed%s" % (counts[""], counts["WRONG"], more))
+    return 0 if counts[""] and not counts["WRONG"] else 1
+
+
+if __name__ == "__main__":
+    sys.exit(main(sys.argv[1:]))

@@ -1,0 +1,91 @@
+-- What copying a store does.
+use Rattle.std.specs.Prelude.{◌≡◌, ◌⊎◌, ◌↔◌, ℕ, [], Option, Some, None, Result, Ok, Err}
+use Rattle.std.specs.Prelude.{IfOk, IfErr, OnOk, length}
+use Rattle.disk_model.specs.Disk.{IsImage, LeavesOnly}
+use Rattle.fault_counts.specs.Counting.{Counts}
+use Rattle.store_life.specs.DeviceView.{DeviceView}
+use Rattle.directory.specs.Listings.{DirectoryValue}
+use Rattle.store_image.specs.Answers.{synced}
+use Rattle.store_image.specs.Images.{IsStore}
+use Rattle.store_copy.specs.declared.fault.CopyFault.{CopyFault}
+use Rattle.store_copy.specs.declared.fault.CopyFault.TheVariants as faults
+use Rattle.store_copy.specs.Answers.{CountsSource, CountsTarget, HasCopy, IsCopyOf, IsNotCopied}
+use Rattle.store_copy.specs.Answers.{StaysUnlessFailed}
+use Rattle.history_store.specs.declared.refusal.Refusal.TheVariants as store
+use Rattle.line_server.specs.declared.refusal.LineRefusal.{LineRefusal}
+use Rattle.line_server.specs.declared.refusal.LineRefusal.TheVariants.{PinRange, Store}
+use Rattle.line_server.specs.ReplyValue.{Answer, Done as AllDone}
+use Rattle.command_line.specs.Endings.{Report, Tells}
+
+-- why a store isn't copied, as it is told
+abbrev pub copy_refusal : CopyFault → LineRefusal
+copy_refusal faults.OutOfMemory = Store store.OutOfMemory
+copy_refusal faults.SourceFailed = Store store.DiskFault
+copy_refusal faults.NotAStore = Store store.NotAStore
+copy_refusal (faults.Damaged damage) = Store (store.Unreadable damage)
+copy_refusal faults.NoSuchImport = PinRange
+copy_refusal faults.NotEmpty = Store store.NotEmpty
+copy_refusal faults.NoRoom = Store store.Full
+copy_refusal faults.TargetFailed = Store store.DiskFault
+
+-- what is told of a copy: that it was made, or why not
+abbrev pub copy_told : Result DirectoryValue CopyFault → Result Answer LineRefusal
+copy_told (Ok copy) = Ok (AllDone [])
+copy_told (Err e) = Err (copy_refusal e)
+
+-- The first imports of the store on one device, or all of them, were copied to another one, or it
+-- is said why not.
+pub record IsCopied {D : Type 0} (view : DeviceView D) (imports : Option ℕ)
+    (result : Result DirectoryValue CopyFault) (source source_left target target_left : D)
+    : Type 0 where
+  -- whatever a stop leaves from now on is the copy
+  pub copied : view.is_honest source → view.is_honest target → IfOk result
+      (λ copy. HasCopy imports (view.moments source).state.now copy
+      (view.moments target_left).state)
+  -- a stop at any moment leaves what it might have left before, no store, or the whole copy
+  pub any_moment : view.is_honest source → view.is_honest target
+      → LeavesOnly (view.moments target) (view.moments target_left)
+      (λ c. IsImage (view.moments target).state c ⊎ (IsStore c → ⊥)
+      ⊎ IsCopyOf imports (view.moments source).state.now c)
+  pub empty : view.is_honest target → OnOk result (length (view.moments target).state.now ≡ 0)
+  pub refused : view.is_honest source → view.is_honest target → IfErr result
+      (λ e. IsNotCopied e imports (view.moments source).state.now
+      (view.moments target).state.now)
+  pub stays : view.is_honest source → view.is_honest target
+      → StaysUnlessFailed result (view.moments target) (view.moments target_left)
+  -- the store that is copied is synced, and changes in nothing else
+  pub source_stays : view.is_honest source → (view.moments source_left ≡ view.moments source)
+      ⊎ (view.moments source_left ≡ synced (view.moments source))
+  pub source_any_moment : view.is_honest source
+      → LeavesOnly (view.moments source) (view.moments source_left)
+      (IsImage (view.moments source).state)
+  pub source_honesty : view.is_honest source ↔ view.is_honest source_left
+  pub target_honesty : view.is_honest target ↔ view.is_honest target_left
+  pub source_failures : Counts CountsSource result (view.failures source)
+      (view.failures source_left)
+  pub target_failures : Counts CountsTarget result (view.failures target)
+      (view.failures target_left)
+
+-- what was made for a copy was removed, or that can't be done and it was left so
+abbrev pub IsRemoved : {D : Type 0} → (removes retains : Type 0) → D → Option D → Type 0
+IsRemoved removes retains made left =
+    (removes × (left ≡ None)) ⊎ (retains × (left ≡ Some made))
+
+-- the copy stays, and what was made for one that failed is removed
+abbrev pub IsKept : {D : Type 0} → (removes retains : Type 0) → Result DirectoryValue CopyFault → D
+    → Option D → Type 0
+IsKept removes retains (Ok copy) made left = left ≡ Some made
+IsKept removes retains (Err e) made left = IsRemoved removes retains made left
+
+-- A copy was made of the store on one device onto another one, or it is said why not. That was
+-- told, and each device was left as it then was, but for one that was made for a copy that failed.
+pub record IsCopyMade {D : Type 0} (view : DeviceView D) (removes retains : Type 0)
+    (imports : Option ℕ) (source target : D) (left made : Option D) (report : Report)
+    : Type 0 where
+  pub result : Result DirectoryValue CopyFault
+  pub source_left : D
+  pub target_left : D
+  pub copied : IsCopied view imports result source source_left target target_left
+  pub told : Tells report (copy_told result)
+  pub left_so : left ≡ Some source_left
+  pub made_so : IsKept removes retains result target_left made

@@ -1,0 +1,142 @@
+//! A disk that was had under a name, and on which nothing is written once the name leads elsewhere.
+
+ghost use Rattle.std.specs.Prelude.{◌≡◌, ◌↔◌, ◌+◌, ◌≤◌, ℕ, length, IfOk, IfErr, OnOk, OnErr};
+ghost use Rattle.disk_model.specs.Disk.{Fails, followed_by, after_write, raised_by};
+ghost use Rattle.fault_counts.specs.Counting.{CountsEach};
+
+use disk_model::{Disk, DiskFault, MAX_END};
+use fault_counts::raised;
+use std::io;
+
+/// The name that something was had by. It may come to lead elsewhere.
+pub trait Name {
+    /// It leads to what was had by it, and so many bytes or more are there.
+    ghost leads: { Self → ℕ → Type 0 };
+    /// It leads elsewhere, or to fewer bytes, or that can't be seen.
+    ghost misses: { Self → ℕ → Type 0 };
+
+    /// Whether it still leads to what was had by it, and to no fewer bytes than these; or why not.
+    fn look(&self, length: u64) -> io::Result<()>
+        ensures leads { IfOk result (λ _. leads self.now length) }
+        ensures misses { IfErr result (λ _. misses self.now length) };
+}
+
+/// A disk, and the name that it was had by. Before each write it is looked whether the name still
+/// leads to the disk, and the disk is no shorter than the calls have left it. Where it isn't so, the
+/// write fails and changes nothing: so nothing is published where nobody would find it. All else
+/// goes to the disk.
+#[derive(Drop)]
+pub struct NamedDisk<D, N> {
+    disk: D,
+    name: N,
+    /// The length that the disk had at first, or that later calls gave it.
+    length: u64,
+    failures: u64,
+    other_calls: u64,
+    /// Why a write was refused, if one was.
+    missed: Option<io::Error>,
+}
+
+impl<D, N> NamedDisk<D, N> {
+    /// A disk of this length, and its name.
+    pub fn new(disk: D, name: N, length: u64) -> NamedDisk<D, N>
+        ensures disk { result.disk ≡ disk }
+        ensures name { result.name ≡ name }
+    {
+        NamedDisk {
+            disk,
+            name,
+            length,
+            failures: 0,
+            other_calls: 0,
+            missed: None,
+        }
+    }
+
+    /// The disk itself.
+    pub fn disk(&self) -> &D
+        ensures { result.now ≡ self.now.disk }
+    {
+        &self.disk
+    }
+
+    /// Why a write was refused, if one was.
+    pub fn missed(&self) -> Option<io::Error> {
+        self.missed
+    }
+}
+
+/// Counts a failure.
+fn counted<T: Drop>(answer: Result<T, DiskFault>, failures: &mut u64) -> Result<T, DiskFault>
+    ensures same { result ≡ answer }
+    ensures failures { CountsEach result failures.old failures.new }
+{
+    if answer.is_err() {
+        *failures = raised(*failures);
+    }
+    answer
+}
+
+impl<D: Disk, N: Name> Disk for NamedDisk<D, N> {
+    ghost use Rattle.command_line.specs.NamedDisks.{WritesNamed};
+
+    ghost moments = { λ d. D.moments d.disk };
+
+    ghost failures = { λ d. d.failures };
+
+    ghost bytes_read = { λ d. D.bytes_read d.disk };
+
+    ghost other_calls = { λ d. d.other_calls };
+
+    ghost is_honest = { λ d. D.is_honest d.disk };
+
+    ghost now_is_image = { λ d honest. D.now_is_image d.disk honest };
+
+    fn len(&mut self) -> Result<u64, DiskFault> {
+        self.other_calls = self.other_calls.saturating_add(1);
+        counted(self.disk.len(), &mut self.failures)
+    }
+
+    fn read_at(&mut self, at: u64, into: &mut [u8]) -> Result<usize, DiskFault> {
+        counted(self.disk.read_at(at, into), &mut self.failures)
+    }
+
+    fn write_at(&mut self, at: u64, bytes: &[u8]) -> Result<(), DiskFault>
+        requires { at + length bytes.now ≤ MAX_END }
+        ensures made { D.is_honest self.old.disk → OnOk result (D.moments self.new.disk
+            ≡ followed_by (D.moments self.old.disk)
+            (after_write (D.moments self.old.disk).state at bytes.now)) }
+        ensures failed { D.is_honest self.old.disk → OnErr result (Fails (D.moments self.old.disk)
+            (after_write (D.moments self.old.disk).state at bytes.now)
+            (D.moments self.new.disk)) }
+        ensures honesty { D.is_honest self.old.disk ↔ D.is_honest self.new.disk }
+        ensures failures { CountsEach result self.old.failures self.new.failures }
+        ensures bytes_read { D.bytes_read self.new.disk ≡ D.bytes_read self.old.disk }
+        ensures other_calls { self.new.other_calls ≡ raised_by self.old.other_calls 1 }
+        // Nothing is written where the name leads elsewhere.
+        ensures named { WritesNamed N.leads N.misses D.other_calls result self.old self.new }
+    {
+        self.other_calls = self.other_calls.saturating_add(1);
+        if let Err(error) = self.name.look(self.length) {
+            self.missed = Some(error);
+            self.failures = raised(self.failures);
+            return Err(DiskFault);
+        }
+        counted(self.disk.write_at(at, bytes), &mut self.failures)?;
+        if !bytes.is_empty() {
+            self.length = self.length.max(at + bytes.len() as u64);
+        }
+        Ok(())
+    }
+
+    fn cut(&mut self, len: u64) -> Result<(), DiskFault> {
+        self.other_calls = self.other_calls.saturating_add(1);
+        self.length = self.length.min(len);
+        counted(self.disk.cut(len), &mut self.failures)
+    }
+
+    fn sync(&mut self) -> Result<(), DiskFault> {
+        self.other_calls = self.other_calls.saturating_add(1);
+        counted(self.disk.sync(), &mut self.failures)
+    }
+}

@@ -1,5 +1,0 @@
-use Rattle.line_commands.proofs.NameTexts.{name_utf8}
-use Rattle.line_commands.proofs.arguments.import.Goals as goal
-
-pub returns-in-Err : goal.returns-in-Err
-returns-in-Err c = λ command s. c.in-Err.ensures.cases.0 (name_utf8 c.args.text.now (c.is_name.ensures.0 c.if-not-is_name.false))

@@ -1,0 +1,43 @@
+-- What CHECK answers, IMPORT answers next.
+use Rattle.std.proofs.Common.{◌≡◌, ◌⊎◌, ℕ, true, List, Result, sym, ap, ◌∙◌, inl, inr}
+use Rattle.std.proofs.lemmas.Option.{none-some, same_Some}
+use Rattle.import_check.specs.Release.{files_of}
+use Rattle.line_commands.specs.Commands.{Import, Check}
+use Rattle.line_server.specs.declared.refusal.LineRefusal.{LineRefusal}
+use Rattle.line_server.specs.Sources.{Releases}
+use Rattle.line_server.specs.ReplyValue.{Answer}
+use Rattle.line_server.specs.Replies.{Server}
+use Rattle.line_server.specs.Laws.{CheckForetells, IsSure}
+use Rattle.store_life.proofs.OneImports.{one_import}
+use Rattle.store_life.proofs.AlikeReleases.{import_alike}
+use Rattle.line_server.proofs.Damage.{outcome_undamaged}
+use Rattle.line_server.proofs.OneReplies.{said, NoRelease, WithRelease, WithCheck, foreseen, stays_checked, import_told, check_told}
+use Rattle.line_server.proofs.Pinned.{Settles, asked_outcome}
+
+module _ {D : Type 0} (releases : Releases) (name : List ℕ) (one two : Result Answer LineRefusal) (old checked new : Server D) (honest also : Type 0) (up : honest) (so : also) where
+  with_release : NoRelease releases name one old checked ⊎ WithCheck honest releases name one old checked → NoRelease releases name two checked new ⊎ WithRelease also releases name two checked new → two ≡ one
+  with_release (inl h) (inl k) = k.is ∙ sym h.is
+  with_release (inl h) (inr k) = absurd (none-some _ (sym h.none ∙ k.imported.has))
+  with_release (inr h) (inl k) = absurd (none-some _ (sym k.none ∙ h.checked.has))
+  with_release (inr h) (inr k) =
+      let files : files_of k.imported.release ≡ files_of h.checked.release = same_Some _ _ (sym k.imported.has ∙ h.checked.has) in
+      let other = import_alike k.imported.release h.checked.release files k.result checked.store new.store k.sure (k.imported.imported so) in
+      let f = foreseen old.store checked.store h.checked.release h.result h.sure (h.checked.checked up) in
+      let s = stays_checked old.store checked.store h.checked.release h.result h.sure (h.checked.checked up) in
+      let both = one_import D h.checked.release h.result k.result old.store checked.store f.0 new.store s.history s.catalog s.needs_reopen f.1 other h.sure k.sure in
+      k.is ∙ sym (ap said both.0) ∙ sym h.is
+
+  settled : (session other : ℕ) → IsSure one → IsSure two → Settles honest releases session (Check name) one old checked → Settles also releases other (Import name) two checked new → two ≡ one
+  settled session other u v (inl h) (inl k) = k.refused ∙ sym h.refused
+  settled session other u v (inl h) (inr k) = absurd (k.free (ap (λ (s : Server D). s.met_damage) h.unchanged ∙ h.held_back.0, tt))
+  settled session other u v (inr h) (inl k) =
+      let met : old.met_damage ≡ true = sym (outcome_undamaged honest up releases old checked session (Check name) one h.comes_out) ∙ sym h.damage ∙ k.held_back.0 in
+      absurd (h.free (met, tt))
+  settled session other u v (inr h) (inr k) =
+      with_release (check_told honest releases session name one old checked u h.comes_out) (import_told also releases other name two checked new v k.comes_out)
+
+pub check_foretells : (D : Type 0) (honest : D → Type 0) → CheckForetells D honest
+check_foretells D honest releases line text session other name one two old checked new up so asks also r s u v =
+    settled releases name one two old checked new (honest old.store.disk) (honest checked.store.disk) up so session other u v
+    (asked_outcome (honest old.store.disk) releases old checked line session (Check name) one asks r)
+    (asked_outcome (honest checked.store.disk) releases checked new text other (Import name) two also s)

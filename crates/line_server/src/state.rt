@@ -1,0 +1,86 @@
+//! What a server keeps from line to line, beside its store.
+
+ghost use Rattle.std.specs.Prelude.{◌≡◌, ◌<◌, ℕ, IsTrue, ◌↔◌, slice_set};
+ghost use Rattle.line_commands.specs.Requests.{command_of, sessions};
+ghost use Rattle.line_server.specs.Pins.{AreWithin, pin_of};
+ghost use Rattle.line_server.specs.StateValue.{fresh, met_by, HoldsBack};
+
+use crate::refusal::LineRefusal;
+use history_store::Refusal;
+use line_commands::{Command, SESSIONS};
+use std::marker::Model;
+
+/// What each of the sessions is pinned to, if anything, and whether damage was met. It stands for
+/// one opening of a store: who opens the store again makes a new one.
+#[derive(Drop)]
+pub struct ServerState {
+    pins: [Option<u32>; SESSIONS],
+    met_damage: bool,
+}
+
+impl Model for ServerState {
+    ghost use Rattle.std.specs.Prelude.{length, ◌≡◌};
+    ghost use Rattle.line_commands.specs.Requests.{sessions};
+    ghost use Rattle.line_server.specs.StateValue.{StateValue};
+
+    ghost Value = { StateValue };
+
+    ghost view = { λ s. record { pins = s.pins; met_damage = s.met_damage } };
+
+    ghost invariant = { λ s. length s.pins ≡ sessions };
+}
+
+impl ServerState {
+    /// No session is pinned, and no damage was met.
+    pub fn new() -> ServerState
+        ensures value { result ≡ fresh }
+        ensures within { (imports : ℕ) → AreWithin imports result.pins }
+    {
+        ServerState {
+            pins: [None; SESSIONS],
+            met_damage: false,
+        }
+    }
+
+    /// The number of imports that a session looks at: its pin, or else all.
+    pub fn pin_of(&self, session: u16, imports: u32) -> u32
+        requires { session < sessions }
+        ensures { result ≡ pin_of self.now.pins session imports }
+    {
+        match self.pins[session as usize] {
+            Some(number) => number,
+            None => imports,
+        }
+    }
+
+    /// Pins a session, or unpins it.
+    pub fn pin(&mut self, session: u16, pin: Option<u32>)
+        requires { session < sessions }
+        ensures { self.new ≡ record self.old { pins = slice_set self.old.pins session pin } }
+    {
+        self.pins[session as usize] = pin;
+    }
+
+    /// Whether the command is refused without a call of the store, because damage was met.
+    pub(crate) fn holds_back(&self, command: &Command<'_>) -> bool
+        ensures { IsTrue result ↔ HoldsBack self.now.met_damage (command_of command.now) }
+    {
+        match command {
+            Command::Import { .. }
+            | Command::Check { .. }
+            | Command::Merge
+            | Command::Step { .. }
+            | Command::Publish => self.met_damage,
+            _ => false,
+        }
+    }
+
+    /// Takes note of why a line was refused.
+    pub(crate) fn note(&mut self, refusal: LineRefusal)
+        ensures { self.new ≡ record self.old { met_damage = met_by refusal self.old.met_damage } }
+    {
+        if refusal == LineRefusal::Store(Refusal::Damaged) {
+            self.met_damage = true;
+        }
+    }
+}
