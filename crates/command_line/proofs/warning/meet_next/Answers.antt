@@ -8,5 +8,5 @@ returns-in_err-rows g c = queried (device_view g.D.Disk.is_honest g.D.Disk.momen
 pub returns-in-Some : goal.returns-in-Some
 returns-in-Some g c = queried (device_view g.D.Disk.is_honest g.D.Disk.moments g.D.Disk.failures g.D.Disk.bytes_read) _ _ _ c.in_ok-rows.ensures.answer.query
 
-pub returns-in-None : goal.returns-in-None
-returns-in-None g c = queried (device_view g.D.Disk.is_honest g.D.Disk.moments g.D.Disk.failures g.D.Disk.bytes_read) _ _ _ c.in_ok-rows.ensures.answer.query
+pub returns : goal.returns
+returns g c = queried (device_view g.D.Disk.is_honest g.D.Disk.moments g.D.Disk.failures g.D.Disk.bytes_read) _ _ _ c.in_ok-rows.ensures.answer.query
