@@ -10,8 +10,12 @@ use Rattle.line_server.specs.declared.refusal.LineRefusal.{LineRefusal}
 use Rattle.line_server.specs.Sources.{Releases, SourceView, source_view}
 use Rattle.line_server.specs.ReplyValue.{Answer, reply_value, ReplyValue}
 use Rattle.line_server.specs.Replies.{server, Server, IsAskedOf}
-use Rattle.line_server.specs.StateValue.{StateValue, HoldsBack, noted}
+use Rattle.line_server.specs.StateValue.{StateValue, HoldsBack, met_after}
 use Rattle.line_server.specs.Turns.{HasTurn}
+
+-- what is kept once a line came out so
+abbrev pub noted : {T : Type 0} → Result T LineRefusal → StateValue → StateValue
+noted result state = record state { met_damage = met_after result state.met_damage }
 
 -- some line asks the command
 abbrev pub CanBeAsked : Command → Type 0

@@ -26,10 +26,6 @@ abbrev pub met_after : {T : Type 0} → Result T LineRefusal → Bool → Bool
 met_after (Ok x) met = met
 met_after (Err refusal) met = met_by refusal met
 
--- what is kept once a line came out so
-abbrev pub noted : {T : Type 0} → Result T LineRefusal → StateValue → StateValue
-noted result state = record state { met_damage = met_after result state.met_damage }
-
 -- The commands that are held back once damage was met: each goes on from rows of the store, and
 -- would confirm what rests on bytes of which it isn't known whether they are what was written.
 -- ABANDON and TRIM aren't held back, since they confirm nothing about rows: ABANDON writes nothing,

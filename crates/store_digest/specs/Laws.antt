@@ -3,6 +3,7 @@ use Rattle.std.specs.Prelude.{◌≡◌, ◌≤◌, ℕ, List}
 use Rattle.std.specs.List.{AllByRecursion}
 use Rattle.rf2_values.specs.Row.{RowValue, IsVersion}
 use Rattle.history_model.specs.History.{History, IsHistory, rows_at, after_release}
+use Rattle.store_copy.specs.Copying.{first_imports}
 use Rattle.store_digest.specs.Digest.{text_of, digest_of}
 
 -- Rows with one text are the same rows: the digests of others are those of other texts.
@@ -14,3 +15,9 @@ OneTextOneList = (rows others : List RowValue) → AllByRecursion IsVersion rows
 abbrev pub DigestStays : Type 0
 DigestStays = (h : History) (release : List RowValue) (pin : ℕ) → IsHistory h → pin ≤ h.imports
     → digest_of (rows_at pin (after_release h release).rows) ≡ digest_of (rows_at pin h.rows)
+
+-- A copy of the first imports has, at each pin that isn't above them, the digest that the store has
+-- there: at its last one that of all its rows.
+abbrev pub CopiesHaveTheDigest : Type 0
+CopiesHaveTheDigest = (h : History) (n pin : ℕ) → pin ≤ n
+    → digest_of (rows_at pin (first_imports n h).rows) ≡ digest_of (rows_at pin h.rows)

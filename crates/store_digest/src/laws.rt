@@ -1,6 +1,6 @@
 //! Laws of the definitions. The functions do nothing: each has its law for a contract.
 
-ghost use Rattle.store_digest.specs.Laws.{OneTextOneList, DigestStays};
+ghost use Rattle.store_digest.specs.Laws.{OneTextOneList, DigestStays, CopiesHaveTheDigest};
 
 /// Rows with one text are the same rows.
 pub fn one_text_one_list()
@@ -10,4 +10,9 @@ pub fn one_text_one_list()
 /// The digest of what a pin shows is unchanged by later imports.
 pub fn digest_stays()
     ensures { DigestStays }
+{}
+
+/// A copy of the first imports of a store has the digest that the store has at that pin.
+pub fn copies_have_the_digest()
+    ensures { CopiesHaveTheDigest }
 {}

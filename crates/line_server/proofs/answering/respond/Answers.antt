@@ -5,7 +5,7 @@ use Rattle.line_commands.specs.Requests.{question_of}
 use Rattle.line_commands.specs.Commands.{Ask, At, Pin, Merge, Step, Publish, Abandon, Trim, Status}
 use Rattle.line_server.specs.Pins.{pin_of}
 use Rattle.line_server.specs.Replies.{server}
-use Rattle.line_server.specs.StateValue.{noted}
+use Rattle.line_server.specs.Private.{noted}
 use Rattle.line_server.proofs.Responding.{any_source, within_more, unpinned}
 use Rattle.line_server.proofs.answering.respond.Goals as goal
 
