@@ -6,10 +6,12 @@ check_edits.py
 An edit is a wrong change of a crate that the prover has to refuse, a file in must-fail/ or edits/:
 a line `file: PATH`, and behind it pairs of lines `old: TEXT` and `new: TEXT`. An old text has to
 stand just once in its file. CI tries the edits of must-fail/; those of edits/ are tried before a
-commit by try_edits.py, which writes the record edits/tried: the day, how many edits there were, and
-a checksum of the crate's src/, specs/, proofs/ and edits. Here a crate that has edits in edits/ has
-to have this record, and what it says has to be so. What isn't so is said in a line of its own on
-standard error, and the status is 1 then. Nothing is built. Standard library alone.
+commit by try_edits.py, which writes the record edits/tried: the day, a checksum of the crate's
+src/, specs/ and proofs/, and a line for each edit that was refused there, with the checksum of its
+file. Here a crate that has edits in edits/ has to have this record, of its sources as they stand
+and with a line for each of them as it stands, and no line may name what is no edit. What isn't so
+is said in a line of its own on standard error, and the status is 1 then. Nothing is built. Standard
+library alone.
 """
 
 from __future__ import annotations
@@ -28,7 +30,7 @@ TOP = os.path.dirname(os.path.dirname(os.path.dirname(os.path.abspath(__file__))
 MUST_FAIL, EDITS = "must-fail", "edits"
 FOLDERS = (MUST_FAIL, EDITS)
 ENDING = ".edit"
-# What edits change, and so what says whether they were tried as the crate stands.
+# What edits change, and what refuses them.
 SOURCES = ("src", "specs", "proofs")
 RECORD = f"{EDITS}/tried"
 
@@ -61,14 +63,16 @@ class Misfit(Exception):
 
 @dataclass(frozen=True)
 class Record:
-    """What was tried, and when."""
+    """Which edits were refused: the day of the last of them, the checksum of the crate's sources,
+    and the checksum of each edit by its name."""
 
     day: str
-    edits: int
-    checksum: str
+    sources: str
+    edits: dict[str, str]
 
     def text(self) -> str:
-        return f"date: {self.day}\nedits: {self.edits}\nchecksum: {self.checksum}\n"
+        lines = [f"edit {name}: {checksum}" for name, checksum in sorted(self.edits.items())]
+        return "\n".join([f"date: {self.day}", f"sources: {self.sources}", *lines]) + "\n"
 
 
 def read(path: str) -> str:
@@ -117,46 +121,42 @@ def texts_with(edits: list[Edit]) -> dict[str, str]:
     return texts
 
 
-def files_that_count(crate: str) -> Iterator[str]:
-    """The files that a record stands on, by their paths in the crate."""
+def checksum_of_file(path: str) -> str:
+    with open(path, "rb") as file:
+        return hashlib.sha256(file.read()).hexdigest()
+
+
+def checksum_of_sources(crate: str) -> str:
+    """A checksum of all files of a crate that say whether its edits are refused."""
     folder = folder_of(crate)
-    for part in SOURCES:
-        for at, _, names in os.walk(os.path.join(folder, part)):
-            yield from (os.path.relpath(os.path.join(at, name), folder) for name in names)
-    for part in FOLDERS:
-        yield from (f"{part}/{edit.name}{ENDING}" for edit in edits_of(crate, part))
-
-
-def checksum_of(crate: str) -> str:
-    """A checksum of all that a crate's record stands on."""
+    places = (place for part in SOURCES for place in os.walk(os.path.join(folder, part)))
+    files = [os.path.relpath(os.path.join(at, name), folder)
+             for at, _, names in places for name in names]
     total = hashlib.sha256()
-    for path in sorted(files_that_count(crate)):
-        with open(os.path.join(folder_of(crate), path), "rb") as file:
-            own = hashlib.sha256(file.read())
-        total.update(f"{path} {own.hexdigest()}\n".encode())
+    for path in sorted(files):
+        total.update(f"{path} {checksum_of_file(os.path.join(folder, path))}\n".encode())
     return total.hexdigest()
 
 
-def write_record(crate: str, day: str) -> None:
-    """Writes that all edits of edits/ were tried on this day."""
-    record = Record(day, len(edits_of(crate, EDITS)), checksum_of(crate))
+def checksum_of(edit: Edit) -> str:
+    """The checksum of an edit's file, which is the same in both folders."""
+    path = os.path.join(folder_of(edit.crate), edit.folder, edit.name + ENDING)
+    return checksum_of_file(path)
+
+
+def write_record(crate: str, record: Record) -> None:
     with open(os.path.join(folder_of(crate), RECORD), "w", encoding="utf-8") as file:
         file.write(record.text())
-
-
-def remove_record(crate: str) -> None:
-    path = os.path.join(folder_of(crate), RECORD)
-    if os.path.exists(path):
-        os.remove(path)
 
 
 def record_of(crate: str) -> Record | None:
     """What a crate's record says; None where there is none that can be read."""
     path = os.path.join(folder_of(crate), RECORD)
     text = read(path) if os.path.isfile(path) else ""
-    form = r"date: (\d{4}-\d\d-\d\d)\nedits: (\d+)\nchecksum: ([0-9a-f]{64})\n"
+    line = r"edit (\w+): ([0-9a-f]{64})\n"
+    form = rf"date: (\d{{4}}-\d\d-\d\d)\nsources: ([0-9a-f]{{64}})\n(?:{line})*"
     found = re.fullmatch(form, text)
-    return Record(found[1], int(found[2]), found[3]) if found else None
+    return Record(found[1], found[2], dict(re.findall(line, text))) if found else None
 
 
 def faults_of_edits(edits: list[Edit]) -> Iterator[str]:
@@ -185,17 +185,29 @@ def faults_of_files(crate: str) -> Iterator[str]:
         yield f"there is {RECORD}, and no edit beside it"
 
 
-def faults_of_record(crate: str) -> Iterator[str]:
-    """What isn't so of a crate's record."""
-    count, record = len(edits_of(crate, EDITS)), record_of(crate)
-    if not count:
+def faults_of_record(crate: str, edits: list[Edit]) -> Iterator[str]:
+    """What isn't so of a crate's record, where it has to have one."""
+    if not any(edit.folder == EDITS for edit in edits):
         return
+    record = record_of(crate)
     if record is None:
-        yield f"there is no {RECORD} that says that the edits in {EDITS}/ were tried"
-    elif record.edits != count:
-        yield f"{record.edits} edits in {EDITS}/ were tried, and there are {count}"
-    elif record.checksum != checksum_of(crate):
-        yield "something has changed since its edits were tried"
+        yield f"there is no {RECORD} that says which of its edits were refused"
+    elif record.sources != checksum_of_sources(crate):
+        yield "its sources have changed since its edits were tried"
+    else:
+        yield from faults_of_lines(record, edits)
+
+
+def faults_of_lines(record: Record, edits: list[Edit]) -> Iterator[str]:
+    """What isn't so of the lines of a record, which is of the crate's sources as they stand."""
+    for edit in edits:
+        if edit.name not in record.edits:
+            if edit.folder == EDITS:
+                yield f"{edit.name} has no line in {RECORD}"
+        elif record.edits[edit.name] != checksum_of(edit):
+            yield f"{edit.name} has changed since it was tried"
+    for name in sorted(record.edits.keys() - {edit.name for edit in edits}):
+        yield f"{RECORD} has a line for {name}, which is no edit"
 
 
 def main(words: list[str]) -> int:
@@ -206,7 +218,7 @@ def main(words: list[str]) -> int:
     for crate in sorted(os.listdir(os.path.join(TOP, "crates"))):
         edits = [edit for folder in FOLDERS for edit in edits_of(crate, folder)]
         stale = [f"{fault}: run python3 bench/faults/try_edits.py {crate}"
-                 for fault in faults_of_record(crate)]
+                 for fault in faults_of_record(crate, edits)]
         for fault in [*faults_of_files(crate), *faults_of_edits(edits), *stale]:
             wrong += 1
             print(f"{crate}: {fault}", file=sys.stderr)

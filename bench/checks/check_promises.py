@@ -8,11 +8,11 @@ it, and `Shown by:` what shows that they do. A clause is named as `function · c
 has to stand in the sources of the crates that the heading names, or of the crate that the name
 begins with, and has to have that clause. What shows it are edits as `crate/edit`, of the crate's
 `must-fail/` or `edits/`, tests as `crate::test`, cases of the files in a crate's data/cases as
-`crate: case`, or the word `law`, which is enough for a promise that names a law: a law's body is
-empty, and so no edit can change it. Where a promise names edits alone, one of them has to stand in
-`must-fail/`, whose edits CI tries. A promise that has none of these, or names what isn't there, is
-said in a line of its own on standard error, and the status is 1 then. Nothing is built. Standard
-library alone.
+`crate: case`, what a trial of bench/trials/ that CI makes says or tries as `script: text`, or the
+word `law`, which is enough for a promise that names a law: a law's body is empty, and so no edit
+can change it. Where a promise names edits alone, one of them has to stand in `must-fail/`, whose
+edits CI tries. A promise that has none of these, or names what isn't there, is said in a line of
+its own on standard error, and the status is 1 then. Nothing is built. Standard library alone.
 """
 
 import glob
@@ -26,6 +26,9 @@ PARTS = ("- ", "  - Clause: ", "  - Shown by: ")
 # The folders of a crate that hold edits, and the one of them whose edits CI tries.
 TRIED_BY_CI = "must-fail"
 EDIT_FOLDERS = (TRIED_BY_CI, "edits")
+# The trials, and the one that has the list of those that CI makes.
+TRIALS = os.path.join(ROOT, "bench", "trials")
+LIST_OF_TRIALS = "try_program.py"
 
 OWNER = re.compile(
     r"(?:pub(?:\(crate\))? )?(?:trait (?P<made>\w+)"
@@ -52,7 +55,8 @@ class Function:
 
 
 class Sources:
-    """The functions, types, impls, definitions, edits, tests and cases of all crates."""
+    """The functions, types, impls, definitions, edits, tests and cases of all crates, and the
+    texts of the trials that CI makes."""
 
     def __init__(self):
         self.functions, self.types, self.impls = [], set(), set()
@@ -70,6 +74,15 @@ class Sources:
             for path in glob.glob(folder + "/data/cases/*"):
                 cases = re.findall("^case (.+)$", text_of(path), re.MULTILINE)
                 self.cases.update(crate + ": " + case for case in cases)
+
+        listed = text_of(os.path.join(TRIALS, LIST_OF_TRIALS))
+        self.trials = {script: text_of(os.path.join(TRIALS, script + ".py"))
+                       for script in re.findall(r'\("trials/(\w+)\.py"', listed)}
+
+    def is_trial(self, name):
+        """Whether it is a text in a trial, as `try_mistakes: a full disk`."""
+        script, _, text = name.partition(": ")
+        return len(text) > 0 and text in self.trials.get(script, "")
 
     def is_edit(self, name):
         return any(name in names for names in self.edits.values())
@@ -213,7 +226,7 @@ def faults_of_shown(names, laws, sources):
             yield "there is no edit %s" % name
         elif "::" in name and name not in sources.tests:
             yield "there is no test %s" % name
-        elif ": " in name and name not in sources.cases:
+        elif ": " in name and not (name in sources.cases or sources.is_trial(name)):
             yield "there is no case %s" % name
         elif not any(mark in name for mark in ("/", "::", ": ")):
             yield "%s is no edit, no test, no case and no law" % name

@@ -16,14 +16,16 @@ edit, which has to be proved: otherwise a refusal would say nothing, the control
 crate fails.
 
 A line for each edit says why it was refused. The last line counts the edits and those that were
-not; the status is 1 where there are any. When all edits of a crate's edits/ were refused, the
-record edits/tried is written, which check_edits.py compares with the crate; else it is removed.
+not; the status is 1 where there are any. An edit that was refused gets a line in the crate's record
+edits/tried, which check_edits.py compares with the crate. It isn't tried again as long as it and
+the crate's src/, specs/ and proofs/ stay as they are, but with --anew: so an edit that is new, or
+that comes from must-fail/, is tried alone. (A change of a crate below isn't seen.) With --anew the
+lines of the edits that are tried go first, and where a control is lost all that the run has added.
 
-The crate has to be proved and its work kept, as `rt check` leaves it in out/. There is also written
-which edits were refused: they aren't tried again as long as nothing changes in the crate and those
-below, but with --anew. N checks go on at once: 1 where none is given. What each check printed is
-written to FOLDER. This is for the time before a commit: `rt ci` tries the edits of must-fail/, each
-from nothing. It reads the kit's own scripts. Standard library alone.
+The crate has to be proved and its work kept, as `rt check` leaves it in out/. N checks go on at
+once: 1 where none is given. What each check printed is written to FOLDER. This is for the time
+before a commit: `rt ci` tries the edits of must-fail/, each from nothing. It reads the kit's own
+scripts. Standard library alone.
 """
 
 from __future__ import annotations
@@ -31,7 +33,6 @@ from __future__ import annotations
 import argparse
 import datetime
 import enum
-import hashlib
 import importlib.util
 import itertools
 import os
@@ -49,7 +50,7 @@ from typing import Any
 sys.path.append(os.path.join(os.path.dirname(os.path.dirname(os.path.abspath(__file__))), "checks"))
 import check_edits  # noqa: E402
 from check_edits import EDITS, FOLDERS, MUST_FAIL, TOP, Change, Edit  # noqa: E402
-from check_edits import Misfit, read, texts_with  # noqa: E402
+from check_edits import Misfit, Record, read, texts_with  # noqa: E402
 
 # The statement that does nothing, and in how many functions it is tried before the edits.
 PLANTED = " let planted = 0u8; let _ = planted;"
@@ -128,6 +129,26 @@ def kit() -> Any:
     sys.path.insert(0, os.path.dirname(path))
     loader.exec_module(module)
     return module
+
+
+def crates_of(rt: Any) -> dict[str, Any]:
+    """The crates of the repository, by their names, as `rt ci` has them. (Its own `crates_of` puts
+    aside what was kept.)"""
+    rt.rtlib.Crate = rt.Crate
+    return {crate.name: crate for crate in rt.rtlib.crates_below(TOP)}
+
+
+def link_or_copy(path: str, to: str) -> None:
+    try:
+        os.link(path, to)
+    except OSError:
+        shutil.copy2(path, to)
+
+
+def link_folder(folder: str, to: str) -> None:
+    """Makes a copy of a folder of links to its files, which the prover replaces, and doesn't
+    change."""
+    shutil.copytree(folder, to, copy_function=link_or_copy)
 
 
 def end_of(text: str, at: int) -> int:
@@ -323,7 +344,7 @@ class Trial:
         self.rt, self.crate, self.folder, self.name = rt, crate, crate.folder, crate.name
         self.logs, self.count = logs, itertools.count(1)
         self.seed = os.path.join(room, crate.name)
-        self.rt.linked(os.path.join(self.folder, "out", "incremental"), self.seed)
+        link_folder(os.path.join(self.folder, "out", "incremental"), self.seed)
         unedited = self.check({}, [], self.seed)
         self.is_proved, self.names = unedited.status == 0, unedited.proved()
         self.sources, self.calls = dict(self.functions_of_sources()), Calls(self.name, self.seed)
@@ -346,7 +367,7 @@ class Trial:
     def over_copy(self, texts: dict[str, str], only: Iterable[str]) -> Report:
         """A check over a copy of what was kept."""
         with tempfile.TemporaryDirectory(dir=os.path.dirname(self.seed)) as room:
-            self.rt.linked(self.seed, f"{room}/kept")
+            link_folder(self.seed, f"{room}/kept")
             return self.check(texts, only, f"{room}/kept")
 
     def functions_of(self, edit: Edit) -> frozenset[str]:
@@ -504,28 +525,46 @@ def edits_asked(crate: str, wanted: set[str], has_must_fail: bool) -> list[Edit]
 
 
 class Refusals:
-    """The edits that were refused in earlier tries of a crate and of all below it as they stand,
-    each by a checksum of these and the edit, with its reason. They are kept in the crate's out/."""
+    """The edits of a crate that were refused with its sources as they stand, as its record has
+    them. What is there of other sources, or of an edit that has changed, goes."""
 
-    def __init__(self, rt: Any, crate: Any) -> None:
-        self.path = os.path.join(crate.folder, "out", "refused_edits")
-        self.stamp = rt.stamp_of(crate, {})
-        lines = read(self.path).splitlines() if os.path.isfile(self.path) else []
-        self.reasons = {key: why for key, _, why in (line.partition(" ") for line in lines)}
+    def __init__(self, crate: str, forgotten: list[Edit]) -> None:
+        every = [edit for folder in FOLDERS for edit in check_edits.edits_of(crate, folder)]
+        self.crate, self.sources = crate, check_edits.checksum_of_sources(crate)
+        self.checksums = {edit.name: check_edits.checksum_of(edit) for edit in every}
+        self.has_folder = any(edit.folder == EDITS for edit in every)
+        record = check_edits.record_of(crate)
+        if record is None or record.sources != self.sources:
+            record = Record("", self.sources, {})
+        names = self.checksums.keys() - {edit.name for edit in forgotten}
+        self.day, self.added = record.day, dict[str, str]()
+        self.found = {name: checksum for name, checksum in record.edits.items()
+                      if name in names and checksum == self.checksums[name]}
+        self.write()
 
-    def key(self, edit: Edit) -> str:
-        return hashlib.sha256(repr((self.stamp, edit.changes)).encode()).hexdigest()
+    def has(self, edit: Edit) -> bool:
+        return edit.name in self.found
 
-    def reason(self, edit: Edit) -> str | None:
-        return self.reasons.get(self.key(edit))
+    def add(self, edit: Edit) -> None:
+        self.added[edit.name] = self.checksums[edit.name]
+        self.write()
 
-    def add(self, edit: Edit, why: str) -> None:
-        with open(self.path, "a", encoding="utf-8") as file:
-            file.write(f"{self.key(edit)} {why}\n")
+    def take_back(self) -> None:
+        """Takes away what was added."""
+        self.added.clear()
+        self.write()
 
-    def forget(self) -> None:
-        if os.path.exists(self.path):
-            os.remove(self.path)
+    def are_of_sources(self) -> bool:
+        return self.sources == check_edits.checksum_of_sources(self.crate)
+
+    def write(self) -> None:
+        """Writes the record, or removes it where it has no line, or the crate no edits/."""
+        day = datetime.date.today().isoformat() if self.added else self.day
+        lines = self.found | self.added
+        if lines and self.has_folder:
+            check_edits.write_record(self.crate, Record(day, self.sources, lines))
+        else:
+            check_edits.remove_record(self.crate)
 
 
 def try_crate(trial: Trial, edits: list[Edit], kept: Refusals,
@@ -541,11 +580,11 @@ def try_crate(trial: Trial, edits: list[Edit], kept: Refusals,
             print(verdict, flush=True)
             seen.append(verdict.edit)
             if verdict.outcome is Outcome.REFUSED:
-                kept.add(verdict.edit, verdict.why)
+                kept.add(verdict.edit)
             else:
                 missed.append(str(verdict.edit))
     except LostControl as why:
-        kept.forget()
+        kept.take_back()
         print(f"{trial.name}: LOST CONTROL: {why}")
         return [trial.name]
     if sorted(map(str, seen)) != sorted(map(str, edits)):
@@ -554,32 +593,20 @@ def try_crate(trial: Trial, edits: list[Edit], kept: Refusals,
     return missed
 
 
-def keep_record(crate: str, is_refused: bool) -> None:
-    """Writes that all edits of a crate's edits/ were refused, or removes what an earlier try
-    wrote."""
-    if is_refused and check_edits.edits_of(crate, EDITS):
-        check_edits.write_record(crate, datetime.date.today().isoformat())
-    else:
-        check_edits.remove_record(crate)
-
-
 def try_rest(rt: Any, crate: Any, edits: list[Edit], given: argparse.Namespace) -> list[str]:
     """Tries those edits of a crate that an earlier try didn't refuse, and returns those that aren't
     refused now either."""
-    kept, before = Refusals(rt, crate), check_edits.checksum_of(crate.name)
-    if given.anew:
-        kept.reasons.clear()
-    known = {edit: why for edit in edits if (why := kept.reason(edit))}
-    for edit, why in known.items():
-        print(Verdict(edit, Outcome.REFUSED, f"{why} (by an earlier try)"))
-    left = [edit for edit in edits if edit not in known]
+    kept = Refusals(crate.name, edits if given.anew else [])
+    left = [edit for edit in edits if not kept.has(edit)]
+    if len(left) < len(edits):
+        print(f"{crate.name}: {len(edits) - len(left)} edits were refused before, by {kept.day}")
     if not left:
         return []
     with tempfile.TemporaryDirectory(prefix="try-edits-") as room:
         with ThreadPoolExecutor(given.jobs) as pool:
             missed = try_crate(Trial(rt, crate, room, given.logs), left, kept, pool)
-    if before != check_edits.checksum_of(crate.name):
-        kept.forget()
+    if not kept.are_of_sources():
+        kept.take_back()
         print(f"{crate.name}: it was changed meanwhile")
         return [crate.name]
     return missed
@@ -603,15 +630,13 @@ def main() -> int:
     os.chdir(TOP)
     rt = kit()
     rt.rtlib.guarded()
-    crates = {it.name: it for it in rt.crates_of(TOP)}
+    crates = crates_of(rt)
     tried = 0
     missed: list[str] = []
     for name in dict.fromkeys(it.partition("/")[0] for it in given.names):
         wanted = {it.partition("/")[2] for it in given.names if it.startswith(f"{name}/")}
         edits = edits_asked(name, wanted, given.must_fail)
         lost = try_rest(rt, crates[name], edits, given)
-        if not wanted:
-            keep_record(name, not lost)
         tried, missed = tried + len(edits), missed + lost
     print(f"{tried} edits tried, {len(missed)} not refused{''.join(f' {it}' for it in missed)}")
     return 1 if missed else 0
