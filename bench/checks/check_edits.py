@@ -149,6 +149,12 @@ def write_record(crate: str, record: Record) -> None:
         file.write(record.text())
 
 
+def remove_record(crate: str) -> None:
+    path = os.path.join(folder_of(crate), RECORD)
+    if os.path.exists(path):
+        os.remove(path)
+
+
 def record_of(crate: str) -> Record | None:
     """What a crate's record says; None where there is none that can be read."""
     path = os.path.join(folder_of(crate), RECORD)
