@@ -54,19 +54,32 @@ def reckoned(command, sum_of):
     return "n=$(%s) && echo $(( %s ))" % (command, sum_of.replace("n", "${n:?}"))
 
 
-STOPS, FAULTS = "test_crashes/src/script_stops.rt", "test_crashes/src/script_faults.rt"
-CHANGED = "test_crashes/src/changed_images.rt"
-SCRIPT_CALLS = number_in(STOPS, "const CALLS: u64 = ")
-BREAKS = number_in(FAULTS, "runs\\(rt.alloc\\(\\), Fault::Change\\(0\\)\\)\\?, Some\\(")
-ALL_BREAKS = number_in(FAULTS, "runs\\(rt.alloc\\(\\), Fault::All\\)\\?, Some\\(")
-READS = number_in(FAULTS, "runs\\(rt.alloc\\(\\), Fault::Read\\)\\?, Some\\(")
-OPENINGS = number_in(FAULTS, "assert_eq!\\(rt; reads, Some\\(")
-IMAGES = ("grep -oE 'count, [0-9_]+' crates/%s | tr -dc '0-9\\n'"
-          " | awk '{s += $1} END {print s}'" % CHANGED)
-OLD_STOPS = ("grep -oE 'each_stop\\(Old::[A-Za-z]+, First::[A-Za-z]+, rt.alloc\\(\\), [0-9]+'"
-             " crates/test_crashes/src/old_stops.rt | awk '{s += $NF + 1} END {print s}'")
-ALL_OPENINGS = number_in(FAULTS, "assert_eq!\\(rt; calls, Some\\(")
-MEMORY, RUNS = "test_memory/src/call_growths.rt", "test_memory/src/run_growths.rt"
+# Where the cases of crashes, of damage and of version 1 stand.
+CRASHES = "store_cases/data/cases/crashes.txt"
+DAMAGE = "store_cases/data/cases/damage.txt"
+OLD = "store_cases/data/cases/old.txt"
+
+
+def failures_in(asked):
+    """A command that prints how many failures the first case has that asks this."""
+    return number_in(CRASHES, "^fails %s -> " % asked)
+
+
+# The last stop of the script is behind all its calls, and behind the one of an opening.
+SCRIPT_CALLS = "n=$(sed -nE 's/^= [0-9]+ to ([0-9]+): 3, yes, none, done, yes$/\\1/p' crates/%s" \
+    " | head -n 1) && echo $(( ${n:?} - 1 ))" % CRASHES
+BREAKS = failures_in("change script shut held")
+ALL_BREAKS = failures_in("all script-and-questions shut held")
+READS = failures_in("read script-and-questions shut held")
+OPENINGS = failures_in("read - shut held")
+ALL_OPENINGS = failures_in("all - shut held")
+IMAGES = "awk '/^byte / {s += $NF} END {print s}' crates/%s" % DAMAGE
+# The last stop that is counted where nothing is left of what wasn't synced, and stop 0.
+OLD_STOPS = ("awk '/^stops lost / {asked = 1; next}"
+             " asked && /^= / {n = $2 ~ /:$/ ? $2 : $4; sub(\":\", \"\", n); last = n; next}"
+             " asked {s += last + 1; asked = 0} END {print s}' crates/%s" % OLD)
+FIELDS = ("sed -n '/^case a field that is changed/,/^asked/p' crates/%s | grep -c '^with '" % DAMAGE)
+MEMORY, RUNS = "test_program/src/call_growths.rt", "test_program/src/run_growths.rt"
 MEMORY_CALLS = number_in(MEMORY, "const CALLS: \\[\\(Call, Wanted, u32\\); ")
 # The last number of each call stands behind the other two, or in a line of its own.
 MEMORY_REFUSALS = ("sed -n '/^const CALLS/,/^];/p' crates/%s"
@@ -115,14 +128,14 @@ FIGURES = [
     Figure(RELIABILITY, "| {} calls, one by one", CALLS),
     Figure(RELIABILITY, "makes each of {} public calls", CALLS),
     Figure(RELIABILITY, "| {} lengths",
-           reckoned(number_in(CHANGED, "assert_eq!\\(rt; bytes.len\\(\\), "), "n + 1")),
+           reckoned("sed -nE 's/^= ([0-9]+): 1$/\\1/p' crates/%s" % DAMAGE, "n + 1")),
     Figure(RELIABILITY, "| A field changed | {}, and one",
-           reckoned(number_in(
-               CHANGED, "let cases: \\[\\(usize, &\\[u8\\], Result<u32, Refusal>\\); "), "n - 1")),
+           reckoned(FIELDS, "n - 1")),
     Figure(RELIABILITY, "| {} images | all", IMAGES),
     Figure(RELIABILITY, "Of {} changed images", IMAGES),
     Figure(RELIABILITY, "all {} bytes of a disk",
-           number_in(CHANGED, "assert_eq!\\(rt; disk.bytes\\(\\).len\\(\\), ")),
+           "sed -n '/^case each byte of the slots/,/^asked/p' crates/%s"
+           " | sed -nE 's/^keep -> //p'" % DAMAGE),
 ]
 
 # A document, and a command that prints rows of a table in it: what is counted, and its numbers.

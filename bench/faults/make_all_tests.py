@@ -1,21 +1,22 @@
 #!/usr/bin/env python3
-"""Tries the tests of section 6 of seen.md with a fault put in.
+"""Tries the tests of memory in section 6 of seen.md with a fault put in.
 
 make_all_tests.py write REPOSITORY FOLDER     writes the crate FOLDER/crates/all_tests
 make_all_tests.py build FOLDER [LEVEL]        builds it without a proof, as FOLDER/program
 make_all_tests.py run PROGRAM [FAULT ..]      runs its tests with each fault on, or with all
 
-The crate has the modules of that section's tests. A byte of the built program, the one behind
-`THE-FAULT-THAT-IS-ON:`, says which fault is on, so one build does for all; 0 is no fault, and with
-`c` the tests of memory ask for a million refusals, so that they say how many there were. The byte
-stands in a C file: a constant of Rattle is folded into the code.
+The crate has the modules of those tests, of test_program. The section's other tests are cases of
+store_cases now. A byte of the built program, the one behind `THE-FAULT-THAT-IS-ON:`, says which fault
+is on, so one build does for all; 0 is no fault, and with `c` the tests ask for a million refusals, so
+that they say how many there were. The byte stands in a C file: a constant of Rattle is folded into the
+code.
 
 The program is the one that `rt try --test` builds, of a kit of links in FOLDER/kit, whose clang
 passes over -fsanitize=address and takes LEVEL (-O2) for -O0, and whose linker leaves out the
 sanitizer's library and keeps the program. The tests of memory can't run with the sanitizer. With -O2
 clang took 11 minutes, and all tests 15 seconds; with -O1 the build took 90 seconds, and all tests
-passed; with -O0 clang took 20 seconds, but those of an opening and of lines one by one in
-test_memory didn't pass.
+passed; with -O0 clang took 20 seconds, but those of an opening and of lines one by one
+didn't pass.
 """
 
 import os
@@ -25,7 +26,7 @@ import sys
 
 KIT = "/opt/rattle"
 MARK = b"THE-FAULT-THAT-IS-ON:"
-FAULTS = "0 1 2 3 4 5 6 7 8 9 a c".split()
+FAULTS = "0 1 2 4 c".split()
 
 CLANG = """#!/usr/bin/env python3
 import os, sys
@@ -139,30 +140,20 @@ unsigned char fault_that_is_on(void) { return name[sizeof name - 2]; }
 ''')
 on=lambda c: "fault_switch::is_on(b'%s')"%c
 sub("test_support/src/scarcity.rt","        fill(self.alloc, &mut self.small, SIZES);\n        drop(room);","        if !%s {\n            fill(self.alloc, &mut self.small, SIZES);\n        }\n        drop(room);"%on("1"))
-sub("line_server/src/answering.rt","        Err(refusal) => reply_refusal(alloc, refusal),\n    }\n}","        Err(refusal) => {\n            if %s && matches!(refusal, LineRefusal::Store(Refusal::OutOfMemory)) {\n                pins.set(0, Some(0));\n            }\n            reply_refusal(alloc, refusal)\n        }\n    }\n}"%on("2"))
-sub("test_crashes/src/faults.rt","        match self {\n            Fault::Change(part) => disk.set_break","        if %s {\n            return;\n        }\n        match self {\n            Fault::Change(part) => disk.set_break"%on("3"))
+sub("line_server/src/answering.rt","            state.note(refusal);\n","            state.note(refusal);\n            if %s && matches!(refusal, LineRefusal::Store(Refusal::OutOfMemory)) {\n                state.pin(0, Some(0));\n            }\n"%on("2"))
 sub("test_support/src/text.rt","        write_row(alloc, row, &mut text)?;\n        text.push(b'\\n')?;\n    }\n    Ok(text)","        write_row(alloc, row, &mut text)?;\n        text.push(b'\\n')?;\n    }\n    if %s {\n        text.pop();\n    }\n    Ok(text)"%on("4"))
-B="test_store/src/"
-sub(B+"merge_beside.rt","answers(rt.alloc(), &mut store, 3)?)?;","answers(rt.alloc(), &mut store, if %s { 4 } else { 3 })?)?;"%on("5"))
-sub(B+"repeated_lookups.rt","store.line_at(Kind::Concept, 138_875_005, 20_200_131, 3)","store.line_at(Kind::Concept, 138_875_005, 20_200_131, if %s { 9 } else { 3 })"%on("5"))
-sub("history_store/src/queries.rt","        let read = self.index.places().history(&mut reader, kind, id, pin);\n        self.answered(read)","        let mut read = self.index.places().history(&mut reader, kind, id, pin);\n        if %s {\n            if let Ok(rows) = &mut read {\n                rows.pop();\n            }\n        }\n        self.answered(read)"%on("6"))
-sub("blocks/src/publication.rt","    let filled = closed.fill(disk, content)?;\n    filled.open_other(disk)","    if %s {\n        let filled = Filled {\n            current: closed.current,\n            epoch: epoch_in(content),\n        };\n        let opened = filled.open_other(disk)?;\n        write_and_sync(disk, opened.slot.content(), content)?;\n        return Ok(opened);\n    }\n    let filled = closed.fill(disk, content)?;\n    filled.open_other(disk)"%on("7"))
-sub("store_image/src/reading.rt","    if row.import > imports {","    if row.import > imports && !(%s && row.import < 256) {"%on("8"))
-sub("test_support/src/disks.rt","            *old = *new;","            if !%s {\n                *old = *new;\n            }"%on("9"))
-sub("import_check/src/union.rt","    let lines = parse(alloc, release)?;\n    unite(alloc, lines, known)","    let lines = parse(alloc, release)?;\n    let mut fresh = unite(alloc, lines, known)?;\n    if %s && fresh.rows.len() > 1 {\n        fresh.rows.pop();\n    }\n    Ok(fresh)"%on("a"))
 # c: what the tests of memory count is asked for a million times over, so that they say the counts
-sub("test_memory/src/call_growths.rt","refused >= 5_000","refused >= if %s { 1_000_000 } else { 5_000 }"%on("c"))
-sub("test_memory/src/call_growths.rt","refused >= 2_500","refused >= if %s { 1_000_000 } else { 2_500 }"%on("c"))
-sub("test_memory/src/line_growths.rt","sizes >= 500","sizes >= if %s { 1_000_000 } else { 500 }"%on("c"))
-sub("test_memory/src/run_growths.rt","runs.not_begun >= 250","runs.not_begun >= if %s { 1_000_000 } else { 250 }"%on("c"))
-keep={"test_store":"both_ways merge_beside merge_devices repeated_lookups","test_crashes":"changed_images faults openings script script_faults script_stops",
- "test_memory":"call_growths calls run_growths without line_growths means"}
+sub("test_program/src/call_growths.rt","refused >= 5_000","refused >= if %s { 1_000_000 } else { 5_000 }"%on("c"))
+sub("test_program/src/call_growths.rt","refused >= 2_500","refused >= if %s { 1_000_000 } else { 2_500 }"%on("c"))
+sub("test_program/src/line_growths.rt","sizes >= 500","sizes >= if %s { 1_000_000 } else { 500 }"%on("c"))
+sub("test_program/src/run_growths.rt","runs.not_begun >= 250","runs.not_begun >= if %s { 1_000_000 } else { 250 }"%on("c"))
+keep={"test_program":"call_growths calls run_growths without line_growths means"}
 deps=set(); lines=[]
 for l in open(TOP+"/crates.txt"):
     if l.startswith("#") or ":" not in l: lines.append(l.rstrip("\n")); continue
     n,d=l.rstrip("\n").split(":"); d=d.split()
     if n in keep: deps|=set(d)
-    if n in ("test_support","line_server","history_store","blocks","store_image","import_check"): d.append("fault_switch")
+    if n in ("test_support","line_server"): d.append("fault_switch")
     lines.append("%s: %s"%(n," ".join(d)))
 lines+=["fault_switch:","all_tests: "+" ".join(sorted(deps|{"fault_switch"}))]
 open(TOP+"/crates.txt","w").write("\n".join(lines)+"\n")

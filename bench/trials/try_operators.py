@@ -20,6 +20,7 @@ import contextlib
 import hashlib
 import os
 import random
+import re
 import subprocess
 import sys
 import tempfile
@@ -28,7 +29,7 @@ from pathlib import Path
 from typing import Callable, Iterator, NamedTuple, Optional, Sequence
 
 from operators_harness import BLOCK, FIRST_ROW, RELEASES, SECONDS, Place, Ran, Server, Skipped
-from operators_harness import Wrong, concept, digest_of, flip, put_back, rf2, same
+from operators_harness import Wrong, concept, concept_id, digest_of, flip, put_back, rf2, same
 from operators_harness import write_edition, write_release
 
 KINDS = "CDRAV"
@@ -39,7 +40,13 @@ SEED = 48
 KILLS, KILLS_WHILE_WRITTEN = 50, 5
 # A moment is drawn from so much more than the time that a copy takes.
 MARGIN = 1.1
-DATE = "20220131"
+# How many contradictions of a release are told, and modules that are new to a store.
+MOST_TOLD, MODULES_TOLD = 1_000, 10
+# How many rows a store has before that of another module, more than are read at once.
+KNOWN_ROWS = 5_000
+DATE, LATER = "20220131", "20220731"
+# More than a year after all others.
+FAR = "20300131"
 DAMAGED = ["ERR 8 Damaged"]
 # The row of the guide's releases that stands first in the first segment, and another one.
 FIRST_QUESTION = "GET C 1000004 20200131"
@@ -98,6 +105,90 @@ def checks(place: Place) -> None:
                 ("../r1", "ERR 43 Arguments")):
             checked_is_imported(place, store, name, wanted)
         same("the store's state", place.status(store), "OK 4 12 3 -")
+
+
+def store_of_halves(place: Place, first: range, second: range) -> Path:
+    """A store into which concepts of these numbers were imported, and then others."""
+    store = place.make_store()
+    for name, half in (("half1", first), ("half2", second)):
+        folder = place.releases / name
+        write_release(folder, {"C": [concept(one, DATE) for one in half]}, DATE)
+        place.import_one(store, folder)
+    return store
+
+
+def contradictions_told(place: Place, store: Path, numbers: range) -> tuple[list[str], list[str]]:
+    """What is told of a release with a new row, in line 2, and then rows of known concepts that say
+    something else: the lines with a place, from line 3 on, and the others."""
+    what = "of%d" % len(numbers)
+    rows = [concept(0, DATE), *(concept(one, DATE, active=0) for one in numbers)]
+    write_release(place.releases / what, {"C": rows}, DATE)
+    told = check_told(place, store, what)
+    same("a check of %d contradictions" % len(numbers), (told.status, told.output),
+         (1, "ERR 32 Contradiction 1 3\n"))
+    name = rf2.NAMES["C"].format("Delta", DATE).rpartition("/")[2]
+    lines = told.faults.splitlines()
+    places = [line for line in lines if line.startswith("sctd: %s, line " % name)]
+    starts = ["sctd: %s, line %d: " % (name, number) for number in range(3, len(places) + 3)]
+    same("the places of contradictions", [
+        line for line, start in zip(places, starts) if not line.startswith(start)], [])
+    return places, [line for line in lines if line not in places]
+
+
+def contradictions(place: Place) -> None:
+    """Each contradiction is told with its file and line, and the import that brought the other row;
+    where there are too many, how many more there are."""
+    first, second = range(1, 4), range(4, MOST_TOLD + 6)
+    store = store_of_halves(place, first, second)
+    places, more = contradictions_told(place, store, range(1, 7))
+    others = [line.partition(" of the same id and date: ")[2] for line in places]
+    same("the other rows", others, [
+        "import %d brought %s" % (number, concept(one, DATE).replace("\t", "\\t"))
+        for number, half in ((1, first), (2, range(4, 7))) for one in half])
+    same("what else is told", more, [])
+    places, more = contradictions_told(place, store, range(1, MOST_TOLD + 6))
+    same("how many contradictions are told", len(places), MOST_TOLD)
+    same("how many more are, in %r" % more, len(more) == 1 and " 5 " in more[0], True)
+
+
+def write_odd_releases(place: Place, late: int, strange: Sequence[int]) -> None:
+    """A release of many rows, of which the first is of a module that is its own concept and the
+    last of another module, and releases to check."""
+    more, own = KNOWN_ROWS + 1, concept_id(0)
+    made = {
+        "known": [concept(0, DATE, module=own),
+                  *(concept(number, DATE) for number in range(1, KNOWN_ROWS)),
+                  concept(KNOWN_ROWS, DATE, module=late)],
+        "plain": [concept(more, LATER), concept(more + 1, LATER, module=late),
+                  concept(more + 2, LATER, module=own)],
+        "far": [concept(more, LATER), concept(more + 1, FAR)],
+        "strange": [concept(more + number, LATER, module=one)
+                    for number, one in enumerate(reversed(strange))]}
+    for name, rows in made.items():
+        write_release(place.releases / name, {"C": rows, "D": [], "R": []}, LATER)
+
+
+def warnings(place: Place) -> None:
+    """A check warns of times that are far off, and of modules that the store hasn't met."""
+    # The concepts of the strange ones are known, as such of another module.
+    late, strange = concept_id(2 * KNOWN_ROWS), [concept_id(1 + n) for n in range(MODULES_TOLD + 2)]
+    write_odd_releases(place, late, strange)
+    store, empty = place.make_store(), place.make_store("empty")
+    place.import_all(store, [place.releases / "known"])
+    names = ("known", "plain", "far", "strange")
+    same("warnings where the store has no rows", [
+        check_told(place, empty, name).faults for name in names], [""] * len(names))
+    told = {name: check_told(place, store, name).faults.splitlines() for name in names}
+    same("warnings of known rows", told["known"], [])
+    same("warnings of a plain release", told["plain"], [])
+    warned = [len(told[name]) == 1 and told[name][0].startswith("sctd: warning: ")
+              for name in ("far", "strange")]
+    same("one warning each in %r" % told, warned, [True] * 2)
+    same("the times in %r" % told["far"], [time in told["far"][0] for time in (FAR, DATE)],
+         [True] * 2)
+    found = re.findall("[0-9]+", told["strange"][0])
+    same("the modules, and how many more there are", found, [
+        *map(str, strange[:MODULES_TOLD]), str(len(strange) - MODULES_TOLD)])
 
 
 # ---- A wrong release that is taken back
@@ -402,7 +493,7 @@ def damage(place: Place) -> None:
 
 
 TRIALS: list[Callable[[Place], None]] = [
-    checks, wrong_release, whole_copies, refused_copies, full_disk,
+    checks, contradictions, warnings, wrong_release, whole_copies, refused_copies, full_disk,
     killed_copies, digests, digest_refused, damage]
 
 

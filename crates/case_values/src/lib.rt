@@ -1,10 +1,15 @@
-//! How values stand in cases: numbers, days, kinds and rows. Nothing here has a clause.
+//! How values stand in cases: numbers, days, kinds, rows and bytes; and what is tried in turn.
+//! Nothing here has a clause.
 #![tactic(auto)]
 
+mod groups;
+mod hex;
 mod questions;
 mod texts;
 mod words;
 
+pub use groups::Groups;
+pub use hex::{read_hex, spell_hex};
 pub use questions::{Question, read_question};
 pub use texts::{line_of, read_row, row_bytes, row_text, spell_id, spell_text};
 pub use words::{day_of, first_word, kind_of, number, sctid_of, split_prefix};

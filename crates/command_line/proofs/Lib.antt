@@ -1,3 +1,4 @@
 mod Commands
 mod Merged
 mod Checked
+mod OnlyRead

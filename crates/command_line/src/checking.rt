@@ -7,11 +7,13 @@ ghost use Rattle.store_life.specs.DeviceView.{device_view};
 ghost use Rattle.command_line.specs.Checking.{Checks, IsCheck, check_line};
 
 use crate::answering::answer_line;
+use crate::check_source::CheckSource;
 use crate::endings::{Ending, refuse};
+use crate::folders::Folders;
 use crate::telling::Told;
 use disk_model::Disk;
 use history_store::{Refusal, Store};
-use line_server::{ServeFault, Source};
+use line_server::ServeFault;
 use std::alloc::{AllocError, Global};
 use std::io::Write;
 
@@ -22,35 +24,40 @@ fn line_of_check(alloc: Global, name: &str) -> Result<String, AllocError>
     format!(in alloc; "0 CHECK {name}")
 }
 
-/// Answers the line that checks a release, as a session of its own, and tells the reply.
-fn check_in<D: Disk + Drop, S: Source, O: Write>(
+/// Answers the line that checks a release, as a session of its own, and tells the reply. Then people
+/// are told more.
+fn check_in<D: Disk + Drop, F: Folders, E: Write, O: Write>(
     alloc: Global,
     name: &str,
-    source: &mut S,
+    source: &mut CheckSource<'_, F, E>,
     store: &mut Store<D>,
     output: &mut O,
     told: &mut Told,
 ) -> Result<Ending, ServeFault>
-    ensures { Checks (source_view (S.is_honest source.old) (S.releases source.old))
+    ensures { Checks (source_view (F.is_honest source.old.folder.folders.now)
+        (F.releases source.old.folder.folders.now source.old.folder.dir.now))
         (device_view D.is_honest D.moments D.failures D.bytes_read) name.now store.new.disk
         (report result (O.contents output.old) (O.contents output.new)) store.old }
 {
     let Ok(line) = line_of_check(alloc, name) else {
         return refuse(alloc, output, Refusal::OutOfMemory, told);
     };
-    answer_line(alloc, line.as_bytes(), source, store, output, told)
+    let ended = answer_line(alloc, line.as_bytes(), source, store, output, told);
+    source.tell_more(alloc, name, ended, store);
+    ended
 }
 
 /// Checks a release against the store of a device, and tells the reply. The device comes back.
-pub(crate) fn check<D: Disk + Drop, S: Source, O: Write>(
+pub(crate) fn check<D: Disk + Drop, F: Folders, E: Write, O: Write>(
     alloc: Global,
     device: D,
     name: &str,
-    source: &mut S,
+    source: &mut CheckSource<'_, F, E>,
     output: &mut O,
     told: &mut Told,
 ) -> (Result<Ending, ServeFault>, D)
-    ensures { IsCheck (source_view (S.is_honest source.old) (S.releases source.old))
+    ensures { IsCheck (source_view (F.is_honest source.old.folder.folders.now)
+        (F.releases source.old.folder.folders.now source.old.folder.dir.now))
         (device_view D.is_honest D.moments D.failures D.bytes_read) name.now device result.1
         (report result.0 (O.contents output.old) (O.contents output.new)) }
 {

@@ -2,7 +2,9 @@
 #![tactic(auto)]
 
 mod answering;
+mod check_source;
 mod checking;
+mod contradicting;
 mod copying;
 mod demonstration;
 mod devices;
@@ -25,6 +27,7 @@ mod serving;
 mod telling;
 mod told_lines;
 mod upgrading;
+mod warning;
 mod words;
 
 pub use demonstration::SCRIPT;

@@ -14,6 +14,7 @@ ghost use Rattle.command_line.specs.Runs.{IsDemonstrated, IsDemonstration, Does}
 ghost use Rattle.command_line.specs.Runs.{IsRun, IsNoTask, IsExplained, AsksFor};
 ghost use Rattle.disk_model.specs.Disk.{raised_by};
 
+use crate::check_source::CheckSource;
 use crate::checking::check;
 use crate::copying::copy_at;
 use crate::demonstration::{SCRIPT, Samples};
@@ -279,15 +280,19 @@ fn check_at<V: Devices, F: Folders, O: Write, E: Write>(
     let mut told = Told::new();
     match devices.device(path, faults) {
         Ok(device) => {
-            let mut source = FolderSource {
+            let folder = FolderSource {
                 folders,
                 dir,
                 faults,
                 doing: "checking",
                 quiet,
             };
+            let mut source = CheckSource {
+                folder,
+                refused: None,
+            };
             let (ended, left) = check(alloc, device, name, &mut source, output, &mut told);
-            source.tell_why(told, path, devices.last_error(&left));
+            source.folder.tell_why(told, path, devices.last_error(&left));
             (ended, Some(left))
         }
         Err(_) => (refuse(alloc, output, Refusal::DiskFault, &mut told), None),

@@ -1,5 +1,6 @@
 //! Why, for people: a line on standard error beside the ERR line that programs read.
 
+use crate::contradicting::CONTRADICTION;
 use crate::differing::find_other;
 use history_store::{Damage, Refusal};
 use import_check::ReleaseFile;
@@ -7,9 +8,6 @@ use line_server::Reply;
 use rf2_values::EffectiveTime;
 use shown_names::Shown;
 use std::io::{self, Write};
-
-/// The number of the refusal of a row that differs from another one of the same id and date.
-const CONTRADICTION: usize = 32;
 
 /// The refusal that was told last.
 #[derive(Clone, Copy, Debug, PartialEq, Eq)]
@@ -255,7 +253,7 @@ fn write_contradiction<E: Write>(
 
 /// Writes a line's number, and the name of its file, or that one's number from 1 where the name is
 /// no longer known.
-fn write_place<E: Write>(
+pub(crate) fn write_place<E: Write>(
     files: &[ReleaseFile],
     file: usize,
     line: usize,

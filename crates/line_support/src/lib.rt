@@ -8,6 +8,6 @@ mod server;
 mod streams;
 
 pub use releases::Examples;
-pub use script::{SCRIPT, Turn, demonstration, input_of, publication, replies_of, takes_no_memory};
+pub use script::{SCRIPT, Turn, demonstration, input_of, replies_of, takes_no_memory};
 pub use server::{Server, after, roomy_disk};
 pub use streams::{Narrow, Pieces};

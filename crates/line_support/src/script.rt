@@ -138,11 +138,6 @@ pub fn demonstration() -> &'static [Turn] {
     &SCRIPT[..20]
 }
 
-/// The turns up to the publication of the merge.
-pub fn publication() -> &'static [Turn] {
-    &SCRIPT[..10]
-}
-
 /// Whether a line of the script is never refused because memory ran out.
 pub fn takes_no_memory(line: &str) -> bool {
     let commands = [

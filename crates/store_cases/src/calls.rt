@@ -1,22 +1,26 @@
 //! Calls of a store, and what it shows.
 //!
-//! - `begin`, `step ROWS`, `publish`, `abandon`, `upgrade`, `rewrite` and `trim` answer what the call
-//!   does: a number, `done`, or `nothing`;
+//! - `begin`, `step ROWS`, `publish`, `abandon`, `upgrade`, `rewrite` and `trim` answer what the
+//!   call does: a number, `done`, or `nothing`;
 //! - `imports`, `rows`, `segments`, `version`, `plain`, `blocks`, `left`, `closed` and `latest`
-//!   answer what the store shows: `version` is that of its layout, `plain` how many segments have no
-//!   checksums, `blocks` how many blocks of the disk it needs, `left` how many rows of a merge are
-//!   left, `closed` whether it has to be opened again, and `latest` its latest day;
+//!   answer what the store shows: `version` is that of its layout, `plain` how many segments have
+//!   no checksums, `blocks` how many blocks of the disk it needs, `left` how many rows of a merge
+//!   are left, `closed` whether it has to be opened again, and `latest` its latest day;
+//! - `holds` answers whether the store has exactly the rows of the first samples, as many as it has
+//!   imports, each with the number of its import, and `complete` imports those that it lacks;
 //! - `receipt NUMBER` answers what an import brought, and `digest PIN` in base 16 the digest of the
 //!   rows that a pin shows.
 //!
 //! A refusal is answered by its number and by what Rust prints of it.
 
-use crate::devices::spell_bytes;
 use case_files::{Answer, NoAnswer};
-use case_values::number;
+use case_values::{number, spell_hex};
 use history_store::{ImportReceipt, Receipt, Refusal};
 use std::alloc::Global;
-use test_support::Example;
+use test_support::{Example, holds};
+
+/// The samples, in the order in which cases import them.
+const SAMPLES: [&str; 3] = ["r1", "r2", "r3"];
 
 /// A store, where it is made or opened.
 pub fn store_of(made: Result<Example, Refusal>) -> Result<Example, NoAnswer> {
@@ -109,6 +113,26 @@ fn show(alloc: Global, store: &Example, word: &str) -> Answer {
     spell_some(alloc, number)
 }
 
+/// Whether the store has exactly the rows of the first samples.
+fn spell_held(alloc: Global, store: &mut Example) -> Answer {
+    let imports = store.imports();
+    match holds(alloc, store, imports) {
+        Ok(is_so) => Ok(String::from_str(alloc, if is_so { "yes" } else { "no" })?),
+        Err(refusal) => spell_refusal(alloc, refusal),
+    }
+}
+
+/// Imports the samples that the store lacks.
+fn complete(store: &mut Example) -> Result<(), Refusal> {
+    let imports = store.imports() as usize;
+    for (number, name) in SAMPLES.iter().enumerate() {
+        if number >= imports {
+            store.import_sample(*name)?;
+        }
+    }
+    Ok(())
+}
+
 /// Makes a call, or says what the store shows.
 pub fn call(alloc: Global, store: &mut Example, word: &str, words: &str) -> Answer {
     match (word, words) {
@@ -118,7 +142,7 @@ pub fn call(alloc: Global, store: &mut Example, word: &str, words: &str) -> Answ
             Err(refusal) => spell_refusal(alloc, refusal),
         },
         ("digest", pin) => match store.digest(number(pin)?) {
-            Ok(digest) => spell_bytes(alloc, &digest),
+            Ok(digest) => spell_hex(alloc, &digest),
             Err(refusal) => spell_refusal(alloc, refusal),
         },
         ("begin", "") => spell_count(alloc, store.merge_begin()),
@@ -127,6 +151,8 @@ pub fn call(alloc: Global, store: &mut Example, word: &str, words: &str) -> Answ
         ("upgrade", "") => spell_done(alloc, store.upgrade()),
         ("rewrite", "") => spell_rewritten(alloc, store.rewrite()),
         ("trim", "") => spell_count(alloc, store.trim()),
+        ("holds", "") => spell_held(alloc, store),
+        ("complete", "") => spell_done(alloc, complete(store)),
         (_, "") => show(alloc, store, word),
         _ => Err(NoAnswer::NoQuestion),
     }

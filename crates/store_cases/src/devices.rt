@@ -3,8 +3,9 @@
 //! Each of these closes the store and opens it again:
 //! - `open` answers `done`, `length` how many bytes the disk has, and `lists` and words of
 //!   `contents.rt` whether the disk's newer content block is as they say;
-//! - `patch FROM TO BYTE` puts a byte at all places from one up to another, and `break CALLS` lets
-//!   the changing call behind so many fail, before the store is opened.
+//! - `patch FROM TO BYTE` puts a byte at all places from one up to another; `break CALLS` lets the
+//!   changing call behind so many fail, before the store is opened, and `torn CALLS` does the same
+//!   with one byte of that call written.
 //!
 //! - `bytes FROM TO` answers the bytes of the disk from one place up to another, in base 16;
 //! - `turned FROM TO BITS` answers how many bytes from one place up to another, each turned over by
@@ -15,7 +16,7 @@
 
 use crate::contents::lists;
 use case_files::{Answer, NoAnswer};
-use case_values::{first_word, number};
+use case_values::{first_word, number, spell_hex};
 use disk_model::MemDisk;
 use history_store::Refusal;
 use std::alloc::Global;
@@ -25,18 +26,8 @@ use test_support::{Example, patch};
 pub fn reopens(word: &str) -> bool {
     matches!(
         word,
-        "open" | "length" | "lists" | "bytes" | "turned" | "patch" | "break"
+        "open" | "length" | "lists" | "bytes" | "turned" | "patch" | "break" | "torn"
     )
-}
-
-/// Bytes in base 16.
-pub fn spell_bytes(alloc: Global, bytes: &[u8]) -> Answer {
-    let mut text = String::new(alloc);
-    for byte in bytes {
-        let digits = format!(in alloc; "{byte:02x}")?;
-        text.push_str(digits.as_str())?;
-    }
-    Ok(text)
 }
 
 /// Whether the bytes are those of a damaged store.
@@ -85,7 +76,7 @@ pub fn ask_disk(alloc: Global, bytes: &[u8], word: &str, words: &str) -> Answer 
         ("bytes", words) => {
             let (from, to) = first_word(words)?;
             let bytes = bytes.get(number(from)?..number(to)?);
-            spell_bytes(alloc, bytes.ok_or(NoAnswer::NoQuestion)?)
+            spell_hex(alloc, bytes.ok_or(NoAnswer::NoQuestion)?)
         }
         _ => Ok(String::from_str(alloc, "done")?),
     }
@@ -114,8 +105,8 @@ pub fn changed(
 ) -> Result<MemDisk, NoAnswer> {
     match word {
         "patch" => patched(alloc, &disk, words),
-        "break" => {
-            disk.set_break(number(words)?, 0);
+        "break" | "torn" => {
+            disk.set_break(number(words)?, u64::from(word == "torn"));
             Ok(disk)
         }
         _ => Ok(disk),

@@ -1,24 +1,29 @@
 //! The store of a case, which is new at its first question, and which function answers that.
 //!
-//! `import RELEASE` and `check RELEASE` answer the receipt of what `releases.rt` finds: a check adds
-//! nothing.
+//! `import RELEASE` and `check RELEASE` answer the receipt of what `releases.rt` finds: a check
+//! adds nothing.
 
 use crate::calls::{call, spell_receipt, store_of};
 use crate::contradicting::ask_contradictions;
 use crate::devices::{ask_disk, changed, reopens};
+use crate::plain::{Plain, refuse, spell_sample};
 use crate::questions::ask_at;
 use crate::releases::Releases;
-use case_files::{Answer, Answers, NoAnswer};
+use case_files::{Answer, NoAnswer, two_words};
 use case_values::{first_word, number};
 use disk_model::MemDisk;
 use std::alloc::Global;
 use test_support::Example;
+
+/// How many imports, segments and rows a store has, and the version of its layout.
+pub type Counts = (u32, u32, u64, u32);
 
 /// The releases of a file of cases, and the store of one of them.
 #[derive(Drop)]
 pub struct Examples {
     alloc: Global,
     releases: Releases,
+    plain: Plain,
     store: Option<Example>,
 }
 
@@ -28,6 +33,7 @@ impl Examples {
         Examples {
             alloc,
             releases: Releases::new(alloc),
+            plain: Plain::new(alloc),
             store: None,
         }
     }
@@ -61,8 +67,28 @@ impl Examples {
         ask_contradictions(self.alloc, self.store()?, number(limit)?, release)
     }
 
+    /// Puts a store in the place of the present one.
+    pub fn put(&mut self, store: Example) {
+        self.store = Some(store);
+    }
+
+    /// The counts of the store, if there is one.
+    pub fn counts(&self) -> Option<Counts> {
+        let store = self.store.as_ref()?;
+        let counts = (store.imports(), store.segments());
+        Some((counts.0, counts.1, store.row_count(), store.version()))
+    }
+
+    /// The version of the store's layout, and 0 without a store.
+    pub fn version(&self) -> u32 {
+        match &self.store {
+            Some(store) => store.version(),
+            None => 0,
+        }
+    }
+
     /// Closes the store, and gives its disk.
-    fn close(&mut self) -> Result<MemDisk, NoAnswer> {
+    pub fn close(&mut self) -> Result<MemDisk, NoAnswer> {
         self.store()?;
         match self.store.take() {
             Some(store) => Ok(store.close()),
@@ -78,22 +104,50 @@ impl Examples {
         self.store = Some(store_of(Example::opened(self.alloc, disk))?);
         Ok(answer)
     }
-}
 
-impl Answers for Examples {
-    fn begin(&mut self) {
+    /// Forgets the store, and the rows that are known without one.
+    pub fn begin(&mut self) {
         self.store = None;
+        self.plain.begin();
     }
 
-    fn give(&mut self, part: &str, word: &str, rest: &str) -> Result<(), NoAnswer> {
+    /// What becomes of a release without a store.
+    fn ask_plain(&mut self, word: &str, words: &str) -> Answer {
+        match word {
+            "fresh" => {
+                let release = self.releases.find(words)?;
+                self.plain.fresh(release)
+            }
+            "order" => {
+                let release = self.releases.find(words)?;
+                self.plain.order(release)
+            }
+            "lost" => {
+                let (fault, words) = first_word(words)?;
+                refuse(self.alloc, fault, self.releases.find(words)?)
+            }
+            _ => spell_sample(self.alloc, words),
+        }
+    }
+
+    /// Takes a line of a release.
+    pub fn give(&mut self, part: &str, word: &str, rest: &str) -> Result<(), NoAnswer> {
         self.releases.give(part, word, rest)
     }
 
-    fn answer(&mut self, word: &str, rest: &str) -> Answer {
+    /// Asks what a line says.
+    pub fn ask_line(&mut self, line: &str) -> Answer {
+        let (word, rest) = two_words(line);
+        self.ask(word, rest)
+    }
+
+    /// Answers a question: its first word, and what stands behind that.
+    pub fn ask(&mut self, word: &str, rest: &str) -> Answer {
         let alloc = self.alloc;
         match word {
             "check" => self.check(rest),
             "contradictions" => self.contradictions(rest),
+            "fresh" | "order" | "lost" | "sample" => self.ask_plain(word, rest),
             "import" => self.import(rest),
             "new" => {
                 self.store = None;

@@ -1,20 +1,28 @@
 //! Calls of a store by worked examples, which are cases in files: imports, and which of them are
-//! refused; questions; merges beside both, and trims.
+//! refused; questions; merges beside both, and trims; and what stops, failures and damage leave.
 #![tactic(auto)]
 
 mod calls;
 mod contents;
 mod contradicting;
+mod copies;
 mod devices;
 mod examples;
+mod failures;
+mod kept;
+mod lost;
+mod plain;
 mod questions;
+mod refusals;
 mod releases;
+mod scripts;
+mod trials;
 
 use case_files::Asked;
-use examples::Examples;
 use std::process::ExitCode;
+use trials::Trials;
 
 fn main(rt: HostRuntime) -> ExitCode {
-    let mut asked = Asked::new(rt.alloc(), Examples::new(rt.alloc()));
+    let mut asked = Asked::new(rt.alloc(), Trials::new(rt.alloc()));
     case_files::run(&rt, "cases", &mut asked)
 }

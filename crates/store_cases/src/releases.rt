@@ -2,7 +2,8 @@
 //!
 //! A part is a release: its lines, each behind the kind of the file that it stands in, as in
 //! `concept 138875005|20200131|1|CORE|PRIM`. A file has the lines of one kind that follow each
-//! other. Besides there are
+//! other, and a kind without a line begins another file. Besides there are
+//! - `nothing`, without a file;
 //! - `r1`, `r2` and `r3`, the samples, and `cut BYTES`, the first file of `r1` without so many
 //!   bytes at its end;
 //! - `years FIRST COUNT`, of the versions of the root concept of so many years, and `term BYTES`,
@@ -50,8 +51,11 @@ fn put_line(alloc: Global, files: &mut Vec<ReleaseFile>, given: &Given) -> Resul
         Some(file) => file.kind == given.kind,
         None => false,
     };
-    if !is_next {
+    if !is_next || given.line.is_empty() {
         files.push(empty_file(alloc, given.kind)?)?;
+    }
+    if given.line.is_empty() {
+        return Ok(());
     }
     if let Some(file) = files.last_mut() {
         file.bytes.extend_from_slice(given.line.as_bytes())?;
@@ -154,7 +158,7 @@ impl Releases {
             return described(self.alloc, word, words);
         }
         let files = self.files_of(words)?;
-        if files.is_empty() {
+        if files.is_empty() && words != "nothing" {
             return known(sample_named(self.alloc, words));
         }
         Ok(Release { files })

@@ -12,15 +12,6 @@ pub const CHOICES: [Choice; 4] = [
     Choice::Filled(165),
 ];
 
-/// With at least so many of the seven changing calls of a publication still to come at a stop, it
-/// isn't published: the sixth call opens the gate, and the last one syncs it.
-pub const UNPUBLISHED: [(Choice, u64); 4] = [
-    (Choice::Lost, 1),
-    (Choice::Filled(0), 1),
-    (Choice::Kept, 2),
-    (Choice::Filled(165), 2),
-];
-
 /// What a stop leaves right after so many of the disk's
 /// changing calls, or after all where it made fewer.
 pub fn image_after(disk: &MemDisk, calls: u64, choice: Choice) -> Result<Vec<u8>, AllocError> {

@@ -1,6 +1,6 @@
 //! A store whose calls have no clauses.
 
-use crate::releases::{copy_of, root_release, sample_named};
+use crate::releases::sample_named;
 use disk_model::MemDisk;
 use history_store::{Layout, Receipt, Refusal, Store};
 use import_check::{Contradictions, Release};
@@ -97,12 +97,6 @@ impl Example {
         Ok(example)
     }
 
-    /// Adds a release, which the test may use again: the store is given a copy.
-    pub fn import(&mut self, release: &Release) -> Result<Receipt, Refusal> {
-        let copy = copy_of(self.alloc, release)?;
-        self.store.import(copy)
-    }
-
     /// Adds a release that is given away.
     pub fn take(&mut self, release: Release) -> Result<Receipt, Refusal> {
         self.store.import(release)
@@ -185,12 +179,5 @@ pub fn merged_disk(alloc: Global) -> Result<MemDisk, Refusal> {
     example.import_sample("r3")?;
     example.merge_step(100)?;
     example.merge_publish()?;
-    Ok(example.close())
-}
-
-/// The disk of a new store after a release of the root concept's first row.
-pub fn root_disk(alloc: Global) -> Result<MemDisk, Refusal> {
-    let mut example = Example::new(alloc)?;
-    example.import(&root_release(alloc)?)?;
     Ok(example.close())
 }

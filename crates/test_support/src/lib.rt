@@ -12,11 +12,9 @@ mod sample_rows;
 mod scarcity;
 mod text;
 
-pub use disks::{CHOICES, UNPUBLISHED, image_after, image_before_end, patch, put};
-pub use example::{Example, merged_disk, root_disk};
-pub use releases::{
-    MISUSED, copy_of, of_bytes, of_files, one_file, root_release, root_years, sample_named,
-};
+pub use disks::{CHOICES, image_after, image_before_end, patch, put};
+pub use example::{Example, merged_disk};
+pub use releases::{MISUSED, copy_of, of_bytes, one_file, root_years, sample_named};
 pub use sample_rows::holds;
 pub use scarcity::Scarcity;
 pub use text::{line, line_of, lines, lines_of};

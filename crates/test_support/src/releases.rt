@@ -54,21 +54,6 @@ pub fn one_file(alloc: Global, kind: Kind, lines: &[&str]) -> Result<Release, Al
     of_bytes(alloc, kind, text.as_slice())
 }
 
-/// A release of such files, in this order.
-pub fn of_files(alloc: Global, files: &[(Kind, &[&str])]) -> Result<Release, AllocError> {
-    let mut made = Vec::new(alloc);
-    for (kind, lines) in files {
-        let text = file_text(alloc, *kind, *lines)?;
-        made.push(file(alloc, *kind, text.as_slice())?)?;
-    }
-    Ok(Release { files: made })
-}
-
-/// A release of the root concept's first row.
-pub fn root_release(alloc: Global) -> Result<Release, AllocError> {
-    one_file(alloc, Kind::Concept, &["138875005|20200131|1|CORE|PRIM"])
-}
-
 /// A release of so many versions of the root concept, each on the last day of January, one a year
 /// from this one on.
 pub fn root_years(alloc: Global, first: u32, count: u32) -> Result<Release, AllocError> {

@@ -1,0 +1,32 @@
+//! Bytes in base 16.
+
+use case_files::{Answer, NoAnswer};
+use std::alloc::Global;
+
+/// The bytes that are written with two digits each.
+pub fn read_hex(alloc: Global, digits: &str) -> Result<Vec<u8>, NoAnswer> {
+    let mut bytes = Vec::new(alloc);
+    let mut rest = digits;
+    for _ in 0..digits.len() / 2 {
+        let (pair, behind) = rest.split_at_checked(2).ok_or(NoAnswer::NoQuestion)?;
+        let Ok(byte) = u8::from_str_radix(pair, 16) else {
+            return Err(NoAnswer::NoQuestion);
+        };
+        bytes.push(byte)?;
+        rest = behind;
+    }
+    if !rest.is_empty() {
+        return Err(NoAnswer::NoQuestion);
+    }
+    Ok(bytes)
+}
+
+/// Bytes with two digits each.
+pub fn spell_hex(alloc: Global, bytes: &[u8]) -> Answer {
+    let mut text = String::new(alloc);
+    for byte in bytes {
+        let digits = format!(in alloc; "{byte:02x}")?;
+        text.push_str(digits.as_str())?;
+    }
+    Ok(text)
+}

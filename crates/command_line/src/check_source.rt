@@ -1,0 +1,128 @@
+//! The source of a release that is checked, and what more is told of it than of an import.
+
+ghost use Rattle.store_life.specs.DeviceView.{device_view};
+ghost use Rattle.command_line.specs.Checking.{IsOnlyRead};
+
+use crate::contradicting::{MOST_TOLD, files_without_bytes, tell_contradictions};
+use crate::endings::Ending;
+use crate::folders::{FolderSource, Folders};
+use crate::warning::{outline_of, tell_uncompared, tell_warnings};
+use disk_model::Disk;
+use history_store::{Refusal, Store};
+use import_check::Release;
+use line_server::{ServeFault, Source, SourceFault};
+use std::alloc::Global;
+use std::io::{self, Write};
+
+/// The folder of a release that is checked. The contradiction for which it is refused isn't told
+/// at once: it is told among all others, once the reply has been written.
+#[derive(Drop)]
+pub(crate) struct CheckSource<'a, F: Folders, E: Write> {
+    pub folder: FolderSource<'a, F, E>,
+    /// The contradiction for which the release was refused, if it was for one.
+    pub refused: Option<Refusal>,
+}
+
+impl<F: Folders, E: Write> Source for CheckSource<'_, F, E> {
+    ghost is_honest = { λ s. F.is_honest s.folder.folders.now };
+
+    ghost releases = { λ s. F.releases s.folder.folders.now s.folder.dir.now };
+
+    fn release(&mut self, alloc: Global, name: &str) -> Result<Release, SourceFault> {
+        self.folder.release(alloc, name)
+    }
+
+    fn note_refusal(&mut self, alloc: Global, name: &str, refusal: Refusal) {
+        if matches!(refusal, Refusal::Contradiction { .. }) {
+            self.refused = Some(refusal);
+        } else {
+            self.folder.note_refusal(alloc, name, refusal);
+        }
+    }
+}
+
+impl<F: Folders, E: Write> CheckSource<'_, F, E> {
+    /// Tells all contradictions of a release, where the check was refused for one, and what else
+    /// may be wrong with it, where it was read. The release is had from its folder once more.
+    pub(crate) fn tell_more<D: Disk>(
+        &mut self,
+        alloc: Global,
+        name: &str,
+        ended: Result<Ending, ServeFault>,
+        store: &mut Store<D>,
+    )
+        ensures { IsOnlyRead (device_view D.is_honest D.moments D.failures D.bytes_read)
+            store.old.disk store.new.disk }
+    {
+        if self.refused.is_none() && !matches!(ended, Ok(Ending::Done)) {
+            return;
+        }
+        // What there is to say of the folder was said when it was read first.
+        let again = self
+            .folder
+            .folders
+            .release(alloc, self.folder.dir, name, true, &mut io::sink());
+        match again {
+            Ok(release) => self.tell_of(alloc, name, release, store),
+            Err(_) => {
+                self.tell_one(alloc, name);
+                tell_uncompared(self.folder.faults);
+            }
+        }
+    }
+
+    /// Tells the contradictions of a release, and what else may be wrong with it.
+    fn tell_of<D: Disk>(
+        &mut self,
+        alloc: Global,
+        name: &str,
+        release: Release,
+        store: &mut Store<D>,
+    )
+        ensures { IsOnlyRead (device_view D.is_honest D.moments D.failures D.bytes_read)
+            store.old.disk store.new.disk }
+    {
+        let outline = outline_of(alloc, &release.files);
+        self.tell_contradicting(alloc, name, release, store);
+        match outline {
+            Ok(outline) => tell_warnings(alloc, &outline, store, self.folder.faults),
+            Err(_) => tell_uncompared(self.folder.faults),
+        }
+    }
+
+    /// Tells the contradictions of a release, if it was refused for one.
+    fn tell_contradicting<D: Disk>(
+        &mut self,
+        alloc: Global,
+        name: &str,
+        release: Release,
+        store: &mut Store<D>,
+    )
+        ensures { IsOnlyRead (device_view D.is_honest D.moments D.failures D.bytes_read)
+            store.old.disk store.new.disk }
+    {
+        if self.refused.is_none() {
+            return;
+        }
+        let Ok(files) = files_without_bytes(alloc, &release.files) else {
+            self.tell_one(alloc, name);
+            return;
+        };
+        match store.contradictions(release, MOST_TOLD) {
+            Ok(found) => tell_contradictions(alloc, &files, &found, store, self.folder.faults),
+            Err(_) => self.tell_one(alloc, name),
+        }
+    }
+
+    /// Tells the contradiction for which the release was refused,
+    /// as an import does. Whether it is the only one isn't known.
+    fn tell_one(&mut self, alloc: Global, name: &str) {
+        if let Some(refused) = self.refused {
+            self.folder.note_refusal(alloc, name, refused);
+            let _ = writeln!(
+                self.folder.faults,
+                "sctd: there may be more contradictions, which couldn't be looked for"
+            );
+        }
+    }
+}

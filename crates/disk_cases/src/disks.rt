@@ -1,0 +1,144 @@
+//! Calls on a disk, and what it shows.
+//!
+//! - `write AT BYTES`, in base 16, `fill AT COUNT BYTE`, `cut LENGTH` and `sync` answer `done` or
+//!   `failed`, `len` a number, and `read AT COUNT` how many bytes are read, and the buffer, in
+//!   which each byte was 7 before;
+//! - `break CALLS PART`, `read-break CALLS` and `fuse CALLS` let a changing call, a call that
+//!   reads, or all calls fail behind so many, and `reserve BYTES CALLS` makes room;
+//! - `changes`, `bytes-read` and `other-calls` answer what the disk counted, `bytes FROM TO` bytes
+//!   of it, and `images CALLS` the images behind so many changing calls: what is kept, what is left
+//!   where all is lost, and what is kept with 170 at each place that isn't sure. `images now` are
+//!   those of the present moment.
+
+use case_files::{Answer, NoAnswer};
+use case_values::{first_word, number, read_hex, spell_hex};
+use disk_model::{Choice, Disk, DiskFault, MAX_END, MemDisk};
+use std::alloc::Global;
+
+/// That a call is done, or failed.
+pub fn spell_done(alloc: Global, done: Result<(), DiskFault>) -> Answer {
+    let told = if done.is_ok() { "done" } else { "failed" };
+    Ok(String::from_str(alloc, told)?)
+}
+
+/// A number.
+fn spell_number(alloc: Global, number: u64) -> Answer {
+    Ok(format!(in alloc; "{number}")?)
+}
+
+/// Writes bytes.
+fn write(alloc: Global, disk: &mut MemDisk, at: u64, bytes: &[u8]) -> Answer {
+    let Some(end) = at.checked_add(bytes.len() as u64) else {
+        return Err(NoAnswer::NoQuestion);
+    };
+    if end > MAX_END {
+        return Err(NoAnswer::NoQuestion);
+    }
+    spell_done(alloc, disk.write_at(at, bytes))
+}
+
+/// Writes one byte so often.
+fn fill(alloc: Global, disk: &mut MemDisk, at: u64, words: &str) -> Answer {
+    let (count, byte) = first_word(words)?;
+    let bytes = vec![in alloc; number(byte)?; number(count)?]?;
+    write(alloc, disk, at, &bytes)
+}
+
+/// Reads bytes.
+fn read(alloc: Global, disk: &mut MemDisk, words: &str) -> Answer {
+    let (at, count) = first_word(words)?;
+    let mut into = vec![in alloc; 7; number(count)?]?;
+    let Ok(count) = disk.read_at(number(at)?, &mut into) else {
+        return Ok(String::from_str(alloc, "failed")?);
+    };
+    let into = spell_hex(alloc, &into)?;
+    Ok(format!(in alloc; "{count} {into}")?)
+}
+
+/// The image behind so many changing calls, or at the present moment.
+pub fn image(disk: &MemDisk, calls: &str, choice: Choice) -> Result<Vec<u8>, NoAnswer> {
+    if calls == "now" {
+        return Ok(disk.image_now(choice)?);
+    }
+    let calls = number(calls)?;
+    if calls > disk.changes() {
+        return Err(NoAnswer::NoQuestion);
+    }
+    Ok(disk.image(calls, choice)?)
+}
+
+/// The bytes of an image.
+fn spell_image(alloc: Global, disk: &MemDisk, calls: &str, choice: Choice) -> Answer {
+    spell_hex(alloc, &image(disk, calls, choice)?)
+}
+
+/// All three images.
+fn images(alloc: Global, disk: &MemDisk, calls: &str) -> Answer {
+    let kept = spell_image(alloc, disk, calls, Choice::Kept)?;
+    let lost = spell_image(alloc, disk, calls, Choice::Lost)?;
+    let filled = spell_image(alloc, disk, calls, Choice::Filled(170))?;
+    Ok(format!(in alloc; "{kept} {lost} {filled}")?)
+}
+
+/// Lets calls fail, or makes room.
+fn prepare(disk: &mut MemDisk, word: &str, words: &str) -> Result<(), NoAnswer> {
+    match word {
+        "break" => {
+            let (calls, part) = first_word(words)?;
+            disk.set_break(number(calls)?, number(part)?);
+        }
+        "reserve" => {
+            let (bytes, calls) = first_word(words)?;
+            disk.reserve(number(bytes)?, number(calls)?)?;
+        }
+        "read-break" => disk.set_read_break(number(words)?),
+        _ => disk.set_fuse(number(words)?),
+    }
+    Ok(())
+}
+
+/// Makes a call that changes the disk, or asks it for bytes.
+fn change(alloc: Global, disk: &mut MemDisk, word: &str, words: &str) -> Answer {
+    match word {
+        "write" => {
+            let (at, digits) = first_word(words)?;
+            write(alloc, disk, number(at)?, &read_hex(alloc, digits)?)
+        }
+        "fill" => {
+            let (at, words) = first_word(words)?;
+            fill(alloc, disk, number(at)?, words)
+        }
+        "read" => read(alloc, disk, words),
+        "cut" => spell_done(alloc, disk.cut(number(words)?)),
+        "sync" => spell_done(alloc, disk.sync()),
+        _ => {
+            prepare(disk, word, words)?;
+            Ok(String::from_str(alloc, "done")?)
+        }
+    }
+}
+
+/// Bytes of the disk.
+fn bytes(alloc: Global, disk: &MemDisk, words: &str) -> Answer {
+    let (from, to) = first_word(words)?;
+    let bytes = disk.bytes().get(number(from)?..number(to)?);
+    spell_hex(alloc, bytes.ok_or(NoAnswer::NoQuestion)?)
+}
+
+/// Makes a call on a disk, or answers what it shows.
+pub fn ask_disk(alloc: Global, disk: &mut MemDisk, word: &str, words: &str) -> Answer {
+    match word {
+        "len" => match disk.len() {
+            Ok(length) => spell_number(alloc, length),
+            Err(_) => Ok(String::from_str(alloc, "failed")?),
+        },
+        "changes" => spell_number(alloc, disk.changes()),
+        "bytes-read" => spell_number(alloc, disk.bytes_read()),
+        "other-calls" => spell_number(alloc, disk.other_calls()),
+        "bytes" => bytes(alloc, disk, words),
+        "images" => images(alloc, disk, words),
+        "write" | "fill" | "read" | "cut" | "sync" | "break" | "reserve" | "read-break" | "fuse" =>
+            change(alloc, disk, word, words),
+        _ => Err(NoAnswer::NoQuestion),
+    }
+}

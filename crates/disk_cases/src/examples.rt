@@ -1,0 +1,110 @@
+//! The disk of a case, which is empty at first, and which function answers a question.
+//!
+//! `disk BYTES`, in base 16, begins with another one, and `stop CALLS CHOICE` with what a stop
+//! leaves of the present one (`slots.rt`). The current slot and the cache stay as they are.
+
+use crate::caches::{ask_cache, make_cache, spell_extent, spell_slot, write_extent};
+use crate::disks::{ask_disk, image};
+use crate::slots::{
+    change_slots, choice_of, spell_changed, spell_current, spell_other, spell_stops,
+};
+use blocks::{BlockCache, Current};
+use case_files::{Answer, Answers, NoAnswer};
+use case_values::{first_word, number, read_hex};
+use disk_model::MemDisk;
+use std::alloc::Global;
+
+/// A disk, the slot of it that is current, and a cache of its blocks.
+#[derive(Drop)]
+pub struct Examples {
+    alloc: Global,
+    disk: MemDisk,
+    current: Option<Current>,
+    cache: Option<BlockCache>,
+}
+
+impl Examples {
+    /// With an empty disk.
+    pub fn new(alloc: Global) -> Examples {
+        Examples {
+            alloc,
+            disk: MemDisk::new(alloc),
+            current: None,
+            cache: None,
+        }
+    }
+
+    /// Puts a disk of these bytes in the place of the present one.
+    fn put(&mut self, bytes: Vec<u8>) -> Answer {
+        self.disk = MemDisk::from_bytes(self.alloc, bytes);
+        Ok(String::from_str(self.alloc, "done")?)
+    }
+
+    /// Puts what a stop leaves in the place of the disk.
+    fn stop(&mut self, words: &str) -> Answer {
+        let (calls, choice) = first_word(words)?;
+        let left = image(&self.disk, calls, choice_of(choice)?)?;
+        self.put(left)
+    }
+
+    /// Changes the slots.
+    fn change(&mut self, word: &str, byte: &str) -> Answer {
+        let changed = change_slots(&mut self.disk, self.current, word, byte)?;
+        if let Ok(current) = changed {
+            self.current = Some(current);
+        }
+        spell_changed(self.alloc, changed)
+    }
+
+    /// What stops leave.
+    fn stops(&self, words: &str) -> Answer {
+        let (choice, first) = first_word(words)?;
+        spell_stops(self.alloc, &self.disk, choice_of(choice)?, number(first)?)
+    }
+
+    /// Begins with a cache, or asks it.
+    fn ask_cache(&mut self, word: &str, words: &str) -> Answer {
+        if word == "cache" {
+            self.cache = Some(make_cache(self.alloc, words)?);
+            return Ok(String::from_str(self.alloc, "done")?);
+        }
+        match &mut self.cache {
+            Some(cache) => ask_cache(self.alloc, &mut self.disk, cache, word, words),
+            None => Err(NoAnswer::NoQuestion),
+        }
+    }
+}
+
+impl Answers for Examples {
+    fn begin(&mut self) {
+        self.disk = MemDisk::new(self.alloc);
+        self.current = None;
+        self.cache = None;
+    }
+
+    fn give(&mut self, _part: &str, _word: &str, _rest: &str) -> Result<(), NoAnswer> {
+        Err(NoAnswer::NoQuestion)
+    }
+
+    fn answer(&mut self, word: &str, rest: &str) -> Answer {
+        let alloc = self.alloc;
+        match word {
+            "disk" => {
+                let bytes = read_hex(alloc, rest)?;
+                self.put(bytes)
+            }
+            "stop" => self.stop(rest),
+            "stops" => self.stops(rest),
+            "current" => spell_current(alloc, &mut self.disk),
+            "other" => spell_other(alloc, &mut self.disk, rest),
+            "extent" => spell_extent(alloc, rest),
+            "slot" => spell_slot(alloc, rest),
+            "write-part" => write_extent(alloc, &mut self.disk, rest),
+            "format" | "publish" | "publish-in-steps" | "fill-other" | "close" => {
+                self.change(word, rest)
+            }
+            "cache" | "cached" | "through" | "forget" | "forget-from" => self.ask_cache(word, rest),
+            _ => ask_disk(alloc, &mut self.disk, word, rest),
+        }
+    }
+}

@@ -1,0 +1,203 @@
+//! Copies of the kept disk (`trials.rt`), which has to stay as it is: of its first so many imports,
+//! or of `all`.
+//!
+//! - `copy LENGTH IMPORTS` makes one on a disk of so many zeros, and then it is the store;
+//! - `copy-from FAILURE CALLS IMPORTS` lets a call of the kept disk fail behind so many others, and
+//!   `copy-reads IMPORTS` each of its reads in turn: a copy of all is then refused, and no store is
+//!   left, or it has as many imports;
+//! - `copy-stops IMPORTS` answers how many stores a stop leaves of a copy, over all its moments and
+//!   the four choices of each, and `copy-fails FAILURE IMPORTS` the most of them where each call of
+//!   the copy's disk fails in turn. Each has to have as many imports.
+//!
+//! A refusal is followed by the number of changing calls of the copy's disk.
+
+use crate::failures::Failure;
+use case_files::{Answer, NoAnswer};
+use case_values::{first_word, number};
+use disk_model::MemDisk;
+use std::alloc::Global;
+use store_copy::{CopyFault, copy};
+use test_support::{CHOICES, Example, image_after};
+
+/// The most calls behind which one fails.
+const CALLS: u64 = 100;
+
+/// The imports that a word asks for.
+fn imports_of(word: &str) -> Result<Option<u32>, NoAnswer> {
+    match word {
+        "all" => Ok(None),
+        _ => Ok(Some(number(word)?)),
+    }
+}
+
+/// A disk of these bytes.
+fn disk_of(alloc: Global, bytes: &[u8]) -> Result<MemDisk, NoAnswer> {
+    Ok(MemDisk::from_bytes(alloc, bytes.to_vec(alloc)?))
+}
+
+/// Copies a disk. Why it is refused, if it is.
+fn refusal(
+    alloc: Global,
+    source: &mut MemDisk,
+    target: &mut MemDisk,
+    imports: Option<u32>,
+) -> Option<CopyFault> {
+    copy(alloc, source, target, imports).err()
+}
+
+/// What a copy is answered that is refused, or whose source changed.
+fn spell(
+    alloc: Global,
+    refused: Option<CopyFault>,
+    is_same: bool,
+    target: &MemDisk,
+) -> Result<Option<String>, NoAnswer> {
+    let changes = target.changes();
+    match refused {
+        _ if !is_same => Ok(Some(String::from_str(alloc, "the copied disk changed")?)),
+        Some(fault) => Ok(Some(format!(in alloc; "refused {fault:?}, {changes} changes")?)),
+        None => Ok(None),
+    }
+}
+
+/// Copies a disk of these bytes onto one of zeros: the copy, or what is answered.
+pub fn copy_kept(
+    alloc: Global,
+    kept: &[u8],
+    words: &str,
+) -> Result<Result<MemDisk, String>, NoAnswer> {
+    let (length, imports) = first_word(words)?;
+    let imports = imports_of(imports)?;
+    let mut source = disk_of(alloc, kept)?;
+    let mut target = MemDisk::from_bytes(alloc, vec![in alloc; 0; number(length)?]?);
+    let refused = refusal(alloc, &mut source, &mut target, imports);
+    match spell(alloc, refused, source.bytes() == kept, &target)? {
+        Some(answer) => Ok(Err(answer)),
+        None => Ok(Ok(target)),
+    }
+}
+
+/// Copies a disk of which a call fails.
+fn copy_from(alloc: Global, kept: &[u8], words: &str) -> Answer {
+    let (failure, words) = first_word(words)?;
+    let (calls, imports) = first_word(words)?;
+    let imports = imports_of(imports)?;
+    let mut source = disk_of(alloc, kept)?;
+    Failure::of(failure)?.strike(&mut source, number(calls)?);
+    let mut target = MemDisk::new(alloc);
+    let refused = refusal(alloc, &mut source, &mut target, imports);
+    match spell(alloc, refused, source.bytes() == kept, &target)? {
+        Some(answer) => Ok(answer),
+        None => Ok(String::from_str(alloc, "done")?),
+    }
+}
+
+/// How many imports the disk of these bytes is opened with, if it has a store.
+fn imports_in(alloc: Global, bytes: &[u8]) -> Option<u32> {
+    match Example::of_bytes(alloc, bytes) {
+        Ok(store) => Some(store.imports()),
+        Err(_) => None,
+    }
+}
+
+/// Whether a copy of a disk one of whose reads fails is whole, and not refused; none where it is
+/// neither.
+fn copy_with_a_read(
+    alloc: Global,
+    kept: &[u8],
+    calls: u64,
+    imports: u32,
+) -> Result<Option<bool>, NoAnswer> {
+    let mut source = disk_of(alloc, kept)?;
+    source.set_read_break(calls);
+    let mut target = MemDisk::new(alloc);
+    let refused = refusal(alloc, &mut source, &mut target, None);
+    let left = imports_in(alloc, target.bytes());
+    match (refused, left) {
+        _ if source.bytes() != kept => Ok(None),
+        (None, Some(left)) if left == imports => Ok(Some(true)),
+        (Some(CopyFault::SourceFailed), None) => Ok(Some(false)),
+        _ => Ok(None),
+    }
+}
+
+/// Lets each read of the disk fail in turn.
+fn copy_reads(alloc: Global, kept: &[u8], words: &str) -> Answer {
+    let imports = number(words)?;
+    for calls in 0..CALLS {
+        match copy_with_a_read(alloc, kept, calls, imports)? {
+            Some(false) => {}
+            Some(true) if calls > 0 => return Ok(String::from_str(alloc, "done")?),
+            _ => return Ok(format!(in alloc; "neither, behind {calls} reads")?),
+        }
+    }
+    Err(NoAnswer::NoQuestion)
+}
+
+/// How many stores the stops of a copy leave; none where one of them has other imports.
+fn count_stores(alloc: Global, target: &MemDisk, imports: u32) -> Result<Option<u32>, NoAnswer> {
+    let mut stores = 0u32;
+    for calls in 0..=target.changes() {
+        for choice in CHOICES {
+            match imports_in(alloc, &image_after(target, calls, choice)?) {
+                None => {}
+                Some(found) if found == imports => stores = stores.saturating_add(1),
+                Some(_) => return Ok(None),
+            }
+        }
+    }
+    Ok(Some(stores))
+}
+
+/// How many stores stops leave of a copy onto a disk, and whether it is refused, since that disk
+/// failed; none where anything else is so.
+fn copy_onto(
+    alloc: Global,
+    kept: &[u8],
+    target: &mut MemDisk,
+    imports: u32,
+) -> Result<Option<(u32, bool)>, NoAnswer> {
+    let refused = refusal(alloc, &mut disk_of(alloc, kept)?, target, Some(imports));
+    match (refused, count_stores(alloc, target, imports)?) {
+        (None, Some(stores)) => Ok(Some((stores, false))),
+        (Some(CopyFault::TargetFailed), Some(stores)) => Ok(Some((stores, true))),
+        _ => Ok(None),
+    }
+}
+
+/// How many stores stops leave of a copy.
+fn copy_stops(alloc: Global, kept: &[u8], words: &str) -> Answer {
+    let mut target = MemDisk::new(alloc);
+    match copy_onto(alloc, kept, &mut target, number(words)?)? {
+        Some((stores, false)) => Ok(format!(in alloc; "{stores}")?),
+        _ => Ok(String::from_str(alloc, "another copy")?),
+    }
+}
+
+/// Lets each call of the copy's disk fail in turn.
+fn copy_fails(alloc: Global, kept: &[u8], words: &str) -> Answer {
+    let (failure, imports) = first_word(words)?;
+    let (failure, imports) = (Failure::of(failure)?, number(imports)?);
+    let mut most = 0u32;
+    for calls in 0..CALLS {
+        let mut target = MemDisk::new(alloc);
+        failure.strike(&mut target, calls);
+        match copy_onto(alloc, kept, &mut target, imports)? {
+            Some((stores, true)) => most = most.max(stores),
+            Some((_, false)) => return Ok(format!(in alloc; "{most}")?),
+            None => return Ok(format!(in alloc; "another copy, behind {calls} calls")?),
+        }
+    }
+    Err(NoAnswer::NoQuestion)
+}
+
+/// Copies a disk of these bytes, and answers what comes of failures and stops.
+pub fn try_copies(alloc: Global, kept: &[u8], word: &str, words: &str) -> Answer {
+    match word {
+        "copy-from" => copy_from(alloc, kept, words),
+        "copy-reads" => copy_reads(alloc, kept, words),
+        "copy-stops" => copy_stops(alloc, kept, words),
+        "copy-fails" => copy_fails(alloc, kept, words),
+        _ => Err(NoAnswer::NoQuestion),
+    }
+}

@@ -1,0 +1,131 @@
+//! The disk of a closed store, and other bytes on it.
+//!
+//! - `cut` answers what a disk is opened as that has only so many bytes of this one, for each
+//!   number;
+//! - `with PLACE BYTES` answers the same where these bytes stand from a place on, in base 16;
+//! - `byte BYTE ANSWERS LENGTH PLACES` puts a byte at each of so many places behind each of these
+//!   places, one at a time, and answers how many disks were opened so; each has to be answered as
+//!   one of the answers, with a comma between two. `damaged` is any damage. Where the byte stands
+//!   already, nothing is tried.
+//!
+//! A disk is opened as a number of imports, or refused, with the damaged part if it is damaged.
+
+use crate::calls::spell_refusal;
+use case_files::{Answer, NoAnswer};
+use case_values::{Groups, first_word, number, read_hex};
+use disk_model::MemDisk;
+use history_store::Refusal;
+use std::alloc::Global;
+use test_support::{Example, put};
+
+/// Puts bytes on a disk, at the place that words begin with, and makes it long enough.
+pub fn put_at(alloc: Global, disk: &mut Vec<u8>, words: &str) -> Result<(), NoAnswer> {
+    let (place, digits) = first_word(words)?;
+    let place: usize = number(place)?;
+    let bytes = read_hex(alloc, digits)?;
+    let end = place.saturating_add(bytes.len());
+    if disk.len() < end {
+        disk.resize(end, 0)?;
+    }
+    put(disk, place, bytes.as_slice());
+    Ok(())
+}
+
+/// What a disk of these bytes is opened as.
+fn opened(alloc: Global, bytes: Vec<u8>) -> Answer {
+    match Example::opened(alloc, MemDisk::from_bytes(alloc, bytes)) {
+        Ok(store) => {
+            let imports = store.imports();
+            Ok(format!(in alloc; "{imports}")?)
+        }
+        Err(Refusal::Unreadable(part)) => Ok(format!(in alloc; "{part:?}")?),
+        Err(refusal) => spell_refusal(alloc, refusal),
+    }
+}
+
+/// What the disk is opened as with each number of its bytes.
+pub fn cut(alloc: Global, disk: &[u8]) -> Answer {
+    let mut groups = Groups::new(alloc);
+    for length in 0..=disk.len() {
+        let left = disk.get(..length).unwrap_or_default();
+        groups.put(opened(alloc, left.to_vec(alloc)?)?)?;
+    }
+    groups.end()
+}
+
+/// What the disk is opened as with other bytes at a place.
+pub fn with(alloc: Global, disk: &[u8], words: &str) -> Answer {
+    let mut bytes = disk.to_vec(alloc)?;
+    put_at(alloc, &mut bytes, words)?;
+    opened(alloc, bytes)
+}
+
+/// Whether an answer is one of some, with a comma between two.
+fn is_among(answer: &str, answers: &str) -> bool {
+    let is_damaged = !answer.starts_with("refused") && answer.parse::<u32>().is_err();
+    for wanted in answers.split(',') {
+        if answer == wanted || (is_damaged && wanted == "damaged") {
+            return true;
+        }
+    }
+    false
+}
+
+/// A byte, what a disk may be opened as with it, and how many places are tried behind another one.
+#[derive(Clone, Copy)]
+struct Change<'a> {
+    byte: u8,
+    answers: &'a str,
+    length: usize,
+}
+
+/// What a disk is opened as with a byte at a place, where another one stands there.
+fn changed(alloc: Global, disk: &[u8], place: usize, byte: u8) -> Result<Option<String>, NoAnswer> {
+    let mut bytes = disk.to_vec(alloc)?;
+    match bytes.get_mut(place) {
+        Some(old) if *old != byte => *old = byte,
+        Some(_) => return Ok(None),
+        None => return Err(NoAnswer::NoQuestion),
+    }
+    Ok(Some(opened(alloc, bytes)?))
+}
+
+/// How many disks with the byte at a place behind this one are opened as they may be, or what the
+/// first other one is opened as.
+fn try_places(
+    alloc: Global,
+    disk: &[u8],
+    first: usize,
+    change: Change<'_>,
+) -> Result<Result<u64, String>, NoAnswer> {
+    let mut count = 0u64;
+    for place in first..first.saturating_add(change.length) {
+        if let Some(answer) = changed(alloc, disk, place, change.byte)? {
+            if !is_among(&answer, change.answers) {
+                return Ok(Err(format!(in alloc; "{answer} with it at {place}")?));
+            }
+            count = count.saturating_add(1);
+        }
+    }
+    Ok(Ok(count))
+}
+
+/// The same for some places.
+pub fn try_byte(alloc: Global, disk: &[u8], words: &str) -> Answer {
+    let (byte, words) = first_word(words)?;
+    let (answers, words) = first_word(words)?;
+    let (length, places) = first_word(words)?;
+    let change = Change {
+        byte: number(byte)?,
+        answers,
+        length: number(length)?,
+    };
+    let mut count = 0u64;
+    for first in places.split(' ') {
+        match try_places(alloc, disk, number(first)?, change)? {
+            Ok(tried) => count = count.saturating_add(tried),
+            Err(other) => return Ok(other),
+        }
+    }
+    Ok(format!(in alloc; "{count}")?)
+}

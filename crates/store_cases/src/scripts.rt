@@ -1,0 +1,147 @@
+//! Parts whose lines are calls, each behind the word `call`, or bytes of a disk, each behind `at`
+//! and the place of the first, as in `at 4096 53435448`. A call is a question of this program, and
+//! in a *look*, whose answers stand one behind the other, also
+//! - `known PIN PART`, the number of the answers that were remembered of the part and are those of
+//!   the store, in which `PIN` stands for the pin;
+//! - `in-1 CALL`, a call that is made, and answered, by a store of version 1 alone.
+
+use crate::examples::Examples;
+use case_files::{Answer, NoAnswer, two_words};
+use case_values::first_word;
+use std::alloc::Global;
+
+/// What a call of a store is answered that has to be opened again.
+const SHUT: &str = "refused 3 ReopenNeeded";
+
+/// A line of a part.
+#[derive(Drop)]
+struct Line {
+    part: String,
+    text: String,
+}
+
+/// The lines of all such parts, and the answers that were remembered.
+#[derive(Drop)]
+pub struct Scripts {
+    alloc: Global,
+    lines: Vec<Line>,
+    remembered: Vec<String>,
+}
+
+/// Whether a call is refused, since the store has to be opened again.
+fn is_shut(examples: &mut Examples, call: &str) -> Result<bool, NoAnswer> {
+    Ok(examples.ask_line(call)?.as_str() == SHUT)
+}
+
+impl Scripts {
+    /// None.
+    pub fn new(alloc: Global) -> Scripts {
+        Scripts {
+            alloc,
+            lines: Vec::new(alloc),
+            remembered: Vec::new(alloc),
+        }
+    }
+
+    /// Forgets the answers that were remembered.
+    pub fn begin(&mut self) {
+        self.remembered.clear();
+    }
+
+    /// Takes a line of a part.
+    pub fn give(&mut self, part: &str, text: &str) -> Result<(), NoAnswer> {
+        let part = String::from_str(self.alloc, part)?;
+        let text = String::from_str(self.alloc, text)?;
+        self.lines.push(Line { part, text })?;
+        Ok(())
+    }
+
+    /// The lines of the part with this name; of `-` there are none.
+    pub fn lines_of(&self, name: &str) -> Result<Vec<String>, NoAnswer> {
+        let mut found = Vec::new(self.alloc);
+        for line in &self.lines {
+            if line.part.as_str() == name {
+                found.push(String::from_str(self.alloc, line.text.as_str())?)?;
+            }
+        }
+        if found.is_empty() && name != "-" {
+            return Err(NoAnswer::NoQuestion);
+        }
+        Ok(found)
+    }
+
+    /// What a store answers to the calls of a part, a line for each, where `PIN` stands for a pin.
+    fn answers(&self, examples: &mut Examples, pin: &str, part: &str) -> Answer {
+        let mut text = String::new(self.alloc);
+        for line in &self.lines {
+            if line.part.as_str() == part {
+                let call = line.text.replace(self.alloc, "PIN", pin)?;
+                let answer = examples.ask_line(call.as_str())?;
+                text.push_str(answer.as_str())?;
+                text.push('\n')?;
+            }
+        }
+        Ok(text)
+    }
+
+    /// Remembers what a store answers to the calls of a part, and tells how many answers of parts
+    /// are remembered.
+    pub fn remember(&mut self, examples: &mut Examples, words: &str) -> Answer {
+        let (pin, part) = first_word(words)?;
+        let answers = self.answers(examples, pin, part)?;
+        self.remembered.push(answers)?;
+        let count = self.remembered.len();
+        Ok(format!(in self.alloc; "{count}")?)
+    }
+
+    /// The number of the first answers that were remembered and are those of a store.
+    pub fn known(&self, examples: &mut Examples, words: &str) -> Answer {
+        let (pin, part) = first_word(words)?;
+        let answers = self.answers(examples, pin, part)?;
+        for (place, remembered) in self.remembered.iter().enumerate() {
+            if *remembered == answers {
+                let number = place.saturating_add(1);
+                return Ok(format!(in self.alloc; "{number}")?);
+            }
+        }
+        Ok(String::from_str(self.alloc, "other answers")?)
+    }
+
+    /// What a line of a look is answered, if it asks anything.
+    fn look_line(&self, examples: &mut Examples, line: &str) -> Result<Option<String>, NoAnswer> {
+        let (word, rest) = two_words(line);
+        match word {
+            "known" => Ok(Some(self.known(examples, rest)?)),
+            "in-1" if examples.version() != 1 => Ok(None),
+            "in-1" => Ok(Some(examples.ask_line(rest)?)),
+            _ => Ok(Some(examples.ask(word, rest)?)),
+        }
+    }
+
+    /// What a store answers to the calls of a look.
+    pub fn look(&self, examples: &mut Examples, part: &str) -> Answer {
+        let mut text = String::new(self.alloc);
+        for line in &self.lines {
+            if line.part.as_str() != part {
+                continue;
+            }
+            if let Some(answer) = self.look_line(examples, line.text.as_str())? {
+                if !text.is_empty() {
+                    text.push_str(", ")?;
+                }
+                text.push_str(answer.as_str())?;
+            }
+        }
+        Ok(text)
+    }
+
+    /// Whether each call of a part is refused, since the store has to be opened again.
+    pub fn are_shut(&self, examples: &mut Examples, part: &str) -> Result<bool, NoAnswer> {
+        for line in &self.lines {
+            if line.part.as_str() == part && !is_shut(examples, line.text.as_str())? {
+                return Ok(false);
+            }
+        }
+        Ok(true)
+    }
+}

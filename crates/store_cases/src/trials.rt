@@ -1,0 +1,401 @@
+//! Stores that are stopped at each moment, and on whose disks each call fails in turn.
+//!
+//! A trial begins with a disk that is kept, and opens its store, or with none, and makes a store.
+//! It then makes the calls of a part, the *script* (`scripts.rt`).
+//! - `keep` closes the store and keeps its disk, `disk PART` keeps one of the bytes of a part, with
+//!   zeros between them, and `put PLACE BYTES` puts bytes on it; each answers its length. `store`
+//!   opens what is kept, and `same` answers whether the disk of the store, which is closed and
+//!   opened again, is the kept one, byte for byte. `create` makes a store on the disk of the
+//!   present one.
+//! - `remember PIN PART` and `known PIN PART` ask the store what `scripts.rt` says.
+//! - `stops CHOICE SCRIPT LOOK` answers what a look shows of the store that each stop leaves, where
+//!   the choice says what of that which wasn't synced: `kept`, `lost` or a byte in its place. The
+//!   stops are counted by the changing calls before them.
+//! - `fails FAILURE SCRIPT SHUT LOOK` lets one call of the disk fail, each in turn: one that
+//!   changes it, with none (`change`) or one (`torn`) of its bytes written, one that reads
+//!   (`read`), or all from one on (`all`). It answers how many runs met a failure, if in each of
+//!   them the call of the script is refused with 2, the store has the counts from before and
+//!   refuses each call of the part SHUT, and what may be left of its disk looks as before the call
+//!   or as behind it.
+//! - `cut`, `with` and `byte` are asked of what is kept (`kept.rt`), and of its copies what
+//!   `copies.rt` says.
+
+use crate::calls::{spell_refusal, store_of};
+use crate::copies::{copy_kept, try_copies};
+use crate::examples::Examples;
+use crate::failures::Failure;
+use crate::kept::{cut, put_at, try_byte, with};
+use crate::refusals::all_refusals;
+use crate::scripts::Scripts;
+use case_files::{Answer, Answers, NoAnswer};
+use case_values::{Groups, first_word, number};
+use disk_model::{Choice, MemDisk};
+use history_store::Refusal;
+use std::alloc::Global;
+use test_support::{CHOICES, Example, image_after};
+
+/// What is kept of what wasn't synced: all, nothing, or this byte in its place.
+fn choice_of(word: &str) -> Result<Choice, NoAnswer> {
+    match word {
+        "kept" => Ok(Choice::Kept),
+        "lost" => Ok(Choice::Lost),
+        _ => Ok(Choice::Filled(number(word)?)),
+    }
+}
+
+/// The names of the parts that are refused behind a failure, and that what is left is asked.
+#[derive(Clone, Copy)]
+struct Wanted<'a> {
+    shut: &'a str,
+    look: &'a str,
+}
+
+/// What came of a run.
+#[derive(Clone, Copy)]
+enum Outcome {
+    /// No call failed.
+    Whole,
+    /// A call failed, and all was as it has to be.
+    Failed,
+    /// A call failed, and this was not.
+    Wrong(&'static str),
+}
+
+/// The disk that trials begin with, and the store of a case.
+#[derive(Drop)]
+pub struct Trials {
+    alloc: Global,
+    kept: Vec<u8>,
+    scripts: Scripts,
+    examples: Examples,
+}
+
+impl Trials {
+    /// Without a disk.
+    pub fn new(alloc: Global) -> Trials {
+        Trials {
+            alloc,
+            kept: Vec::new(alloc),
+            scripts: Scripts::new(alloc),
+            examples: Examples::new(alloc),
+        }
+    }
+
+    /// Tells that something is done.
+    fn done(&self) -> Answer {
+        Ok(String::from_str(self.alloc, "done")?)
+    }
+
+    /// The length of the kept disk.
+    fn length(&self) -> Answer {
+        let length = self.kept.len();
+        Ok(format!(in self.alloc; "{length}")?)
+    }
+
+    /// Keeps the disk of the store.
+    fn keep(&mut self) -> Answer {
+        let disk = self.examples.close()?;
+        self.kept = disk.bytes().to_vec(self.alloc)?;
+        self.length()
+    }
+
+    /// Keeps a disk of the bytes of a part.
+    fn keep_part(&mut self, part: &str) -> Answer {
+        let mut bytes = Vec::new(self.alloc);
+        for line in &self.scripts.lines_of(part)? {
+            put_at(self.alloc, &mut bytes, line)?;
+        }
+        self.kept = bytes;
+        self.length()
+    }
+
+    /// Puts bytes on the kept disk.
+    fn put(&mut self, words: &str) -> Answer {
+        put_at(self.alloc, &mut self.kept, words)?;
+        self.length()
+    }
+
+    /// The kept disk.
+    fn disk(&self) -> Result<MemDisk, NoAnswer> {
+        Ok(MemDisk::from_bytes(self.alloc, self.kept.to_vec(self.alloc)?))
+    }
+
+    /// Opens a store in the place of the present one, or says why it is refused.
+    fn open(&mut self, disk: MemDisk) -> Result<Option<Refusal>, NoAnswer> {
+        match Example::opened(self.alloc, disk) {
+            Ok(store) => {
+                self.examples.put(store);
+                Ok(None)
+            }
+            Err(Refusal::OutOfMemory) => Err(NoAnswer::OutOfMemory),
+            Err(refusal) => Ok(Some(refusal)),
+        }
+    }
+
+    /// Opens the store of the kept disk.
+    fn open_kept(&mut self) -> Answer {
+        let disk = self.disk()?;
+        match self.open(disk)? {
+            None => self.done(),
+            Some(refusal) => spell_refusal(self.alloc, refusal),
+        }
+    }
+
+    /// Whether the disk of the store is the kept one.
+    fn is_same(&mut self) -> Answer {
+        let disk = self.examples.close()?;
+        let is_same = disk.bytes() == self.kept.as_slice();
+        self.open(disk)?;
+        Ok(String::from_str(self.alloc, if is_same { "yes" } else { "no" })?)
+    }
+
+    /// Makes a store on the disk of the present one, and opens it again where that is refused and
+    /// leaves it as it was.
+    fn create(&mut self) -> Answer {
+        let disk = self.examples.close()?;
+        let before = disk.changes();
+        self.kept = disk.bytes().to_vec(self.alloc)?;
+        let Err((refusal, disk)) = Example::create(self.alloc, disk) else {
+            return self.done();
+        };
+        if disk.changes() != before || disk.bytes() != self.kept.as_slice() {
+            return Ok(String::from_str(self.alloc, "the disk is another one")?);
+        }
+        self.open(disk)?;
+        spell_refusal(self.alloc, refusal)
+    }
+
+    /// Makes or opens the store that a trial begins with.
+    fn begin_trial(&mut self) -> Result<(), NoAnswer> {
+        let store = if self.kept.is_empty() {
+            store_of(Example::new(self.alloc))?
+        } else {
+            store_of(Example::opened(self.alloc, self.disk()?))?
+        };
+        self.examples.put(store);
+        Ok(())
+    }
+
+    /// What a look shows of the store that a disk of these bytes represents.
+    fn look_at(&mut self, bytes: Vec<u8>, look: &str) -> Answer {
+        match self.open(MemDisk::from_bytes(self.alloc, bytes))? {
+            None => self.scripts.look(&mut self.examples, look),
+            Some(refusal) => spell_refusal(self.alloc, refusal),
+        }
+    }
+
+    /// The disk behind calls, none of which may be refused.
+    fn disk_behind(&mut self, script: &[String]) -> Result<MemDisk, NoAnswer> {
+        self.begin_trial()?;
+        for call in script {
+            if self.examples.ask_line(call)?.starts_with("refused") {
+                return Err(NoAnswer::NoQuestion);
+            }
+        }
+        self.examples.close()
+    }
+
+    /// What a look shows of the disk behind none of a script's calls, behind the first, and so on.
+    fn looks(&mut self, script: &[String], look: &str) -> Result<Vec<String>, NoAnswer> {
+        let mut looks = Vec::new(self.alloc);
+        for count in 0..=script.len() {
+            let disk = self.disk_behind(script.get(..count).unwrap_or_default())?;
+            let bytes = disk.bytes().to_vec(self.alloc)?;
+            looks.push(self.look_at(bytes, look)?)?;
+        }
+        Ok(looks)
+    }
+
+    /// What each stop leaves.
+    fn stops(&mut self, words: &str) -> Answer {
+        let (choice, words) = first_word(words)?;
+        let (script, look) = first_word(words)?;
+        let choice = choice_of(choice)?;
+        let script = self.scripts.lines_of(script)?;
+        let disk = self.disk_behind(&script)?;
+        let mut groups = Groups::new(self.alloc);
+        for calls in 0..=disk.changes() {
+            let image = image_after(&disk, calls, choice)?;
+            groups.put(self.look_at(image, look)?)?;
+        }
+        groups.end()
+    }
+
+    /// Whether each image of a disk is the kept one, if one is kept.
+    fn is_as_kept(&self, disk: &MemDisk) -> Result<bool, NoAnswer> {
+        for choice in CHOICES {
+            if !self.kept.is_empty() && disk.image_now(choice)? != self.kept {
+                return Ok(false);
+            }
+        }
+        Ok(true)
+    }
+
+    /// Whether each image of a disk shows one of some looks.
+    fn shows(
+        &mut self,
+        disk: &MemDisk,
+        look: &str,
+        looks: Option<&[String]>,
+    ) -> Result<bool, NoAnswer> {
+        let Some(looks) = looks else {
+            return Ok(false);
+        };
+        for choice in CHOICES {
+            let image = disk.image_now(choice)?;
+            if !looks.contains(&self.look_at(image, look)?) {
+                return Ok(false);
+            }
+        }
+        Ok(true)
+    }
+
+    /// What became of a store one of whose calls was refused.
+    fn fall(&mut self, wanted: Wanted<'_>, looks: Option<&[String]>) -> Result<Outcome, NoAnswer> {
+        let is_shut = self.scripts.are_shut(&mut self.examples, wanted.shut)?;
+        if !is_shut || self.examples.ask("closed", "")?.as_str() != "1" {
+            return Ok(Outcome::Wrong("a call isn't refused"));
+        }
+        let disk = self.examples.close()?;
+        if !self.shows(&disk, wanted.look, looks)? {
+            return Ok(Outcome::Wrong("another store is left"));
+        }
+        Ok(Outcome::Failed)
+    }
+
+    /// Makes the calls of a script up to one that is refused.
+    fn go_on(
+        &mut self,
+        script: &[String],
+        wanted: Wanted<'_>,
+        looks: &[String],
+    ) -> Result<Outcome, NoAnswer> {
+        for (number, call) in script.iter().enumerate() {
+            let before = self.examples.counts();
+            let answer = self.examples.ask_line(call)?;
+            if answer.as_str() == "refused 2 DiskFault" {
+                if self.examples.counts() != before {
+                    return Ok(Outcome::Wrong("the counts changed"));
+                }
+                return self.fall(wanted, looks.get(number..number.saturating_add(2)));
+            }
+            if answer.starts_with("refused") {
+                return Ok(Outcome::Wrong("another refusal"));
+            }
+        }
+        Ok(Outcome::Whole)
+    }
+
+    /// What became of an opening that is refused, and gave this disk back.
+    fn refused(&self, refusal: Refusal, disk: &MemDisk) -> Result<Outcome, NoAnswer> {
+        if refusal == Refusal::DiskFault && self.is_as_kept(disk)? {
+            Ok(Outcome::Failed)
+        } else {
+            Ok(Outcome::Wrong("an opening"))
+        }
+    }
+
+    /// Makes or opens the store on a disk.
+    fn opened_on(&self, disk: MemDisk) -> Result<Example, (Refusal, MemDisk)> {
+        if self.kept.is_empty() {
+            Example::create(self.alloc, disk)
+        } else {
+            Example::open(self.alloc, disk)
+        }
+    }
+
+    /// A run in which a call fails behind so many others.
+    fn run(
+        &mut self,
+        (failure, calls): (Failure, u64),
+        script: &[String],
+        wanted: Wanted<'_>,
+        looks: &[String],
+    ) -> Result<Outcome, NoAnswer> {
+        let mut disk = self.disk()?;
+        failure.strike(&mut disk, calls);
+        match self.opened_on(disk) {
+            Ok(store) => {
+                self.examples.put(store);
+                self.go_on(script, wanted, looks)
+            }
+            Err((refusal, disk)) => self.refused(refusal, &disk),
+        }
+    }
+
+    /// Lets each call fail in turn.
+    fn fails(&mut self, words: &str) -> Answer {
+        let (failure, words) = first_word(words)?;
+        let (script, words) = first_word(words)?;
+        let (shut, look) = first_word(words)?;
+        let failure = Failure::of(failure)?;
+        let script = self.scripts.lines_of(script)?;
+        let looks = self.looks(&script, look)?;
+        for calls in 0..10_000u64 {
+            match self.run((failure, calls), &script, Wanted { shut, look }, &looks)? {
+                Outcome::Failed => {}
+                Outcome::Whole => return Ok(format!(in self.alloc; "{calls} failures")?),
+                Outcome::Wrong(why) => return Ok(format!(in self.alloc; "{why}, behind {calls}")?),
+            }
+        }
+        Err(NoAnswer::NoQuestion)
+    }
+
+    /// Copies the kept disk. The copy is the store then.
+    fn copy(&mut self, words: &str) -> Answer {
+        match copy_kept(self.alloc, &self.kept, words)? {
+            Ok(disk) => match self.open(disk)? {
+                None => self.done(),
+                Some(refusal) => spell_refusal(self.alloc, refusal),
+            },
+            Err(answer) => Ok(answer),
+        }
+    }
+
+    /// Asks what is kept.
+    fn ask_kept(&mut self, word: &str, rest: &str) -> Answer {
+        match word {
+            "keep" => self.keep(),
+            "disk" => self.keep_part(rest),
+            "put" => self.put(rest),
+            "store" => self.open_kept(),
+            "same" => self.is_same(),
+            "create" => self.create(),
+            "cut" => cut(self.alloc, &self.kept),
+            "with" => with(self.alloc, &self.kept, rest),
+            "byte" => try_byte(self.alloc, &self.kept, rest),
+            "copy" => self.copy(rest),
+            _ => try_copies(self.alloc, &self.kept, word, rest),
+        }
+    }
+}
+
+impl Answers for Trials {
+    fn begin(&mut self) {
+        self.kept.clear();
+        self.scripts.begin();
+        self.examples.begin();
+    }
+
+    fn give(&mut self, part: &str, word: &str, rest: &str) -> Result<(), NoAnswer> {
+        match word {
+            "call" | "at" => self.scripts.give(part, rest),
+            _ => self.examples.give(part, word, rest),
+        }
+    }
+
+    fn answer(&mut self, word: &str, rest: &str) -> Answer {
+        match word {
+            "stops" => self.stops(rest),
+            "fails" => self.fails(rest),
+            "refusals" => all_refusals(self.alloc),
+            "remember" => self.scripts.remember(&mut self.examples, rest),
+            "known" => self.scripts.known(&mut self.examples, rest),
+            "keep" | "disk" | "put" | "store" | "same" | "create" | "cut" | "with" | "byte" => {
+                self.ask_kept(word, rest)
+            }
+            _ if word.starts_with("copy") => self.ask_kept(word, rest),
+            _ => self.examples.ask(word, rest),
+        }
+    }
+}
