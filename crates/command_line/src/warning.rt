@@ -191,10 +191,11 @@ fn warn_of_modules<E: Write>(modules: &BTreeSet<u64>, faults: &mut E) -> io::Res
 
 /// Writes the first of some modules, with commas between them.
 fn write_first<E: Write>(modules: &BTreeSet<u64>, faults: &mut E) -> io::Result<()> {
-    let mut comma = "";
-    for module in modules.iter().take(MOST_NAMED) {
-        write!(faults, "{comma}{module}")?;
-        comma = ", ";
+    for (i, module) in modules.iter().take(MOST_NAMED).enumerate() {
+        if i > 0 {
+            write!(faults, ", ")?;
+        }
+        write!(faults, "{module}")?;
     }
     Ok(())
 }

@@ -2,8 +2,8 @@ use Rattle.store_life.specs.DeviceView.{device_view}
 use Rattle.command_line.proofs.OnlyRead.{read_then}
 use Rattle.command_line.proofs.warning.unmet_modules.Goals as goal
 
-pub returns-in_err-meet_next : goal.returns-in_err-meet_next
-returns-in_err-meet_next g c = read_then (device_view g.D.Disk.is_honest g.D.Disk.moments g.D.Disk.failures g.D.Disk.bytes_read) _ _ _ c.loop.invariant c.meet_next.ensures
+pub returns-in_err-last : goal.returns-in_err-last
+returns-in_err-last g c = read_then (device_view g.D.Disk.is_honest g.D.Disk.moments g.D.Disk.failures g.D.Disk.bytes_read) _ _ _ c.loop.invariant c.meet_next.ensures
 
 pub loop-preserved : goal.loop-preserved
 loop-preserved g c = read_then (device_view g.D.Disk.is_honest g.D.Disk.moments g.D.Disk.failures g.D.Disk.bytes_read) _ _ _ c.loop.invariant c.meet_next.ensures
