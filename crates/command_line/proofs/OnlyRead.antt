@@ -1,5 +1,5 @@
 -- Devices on which calls were made that only read.
-use Rattle.std.proofs.Common.{◌≡◌, ◌∙◌, ◌≤◌, ℕ, Result, Ok, Err, refl, arith}
+use Rattle.std.proofs.Common.{◌∙◌, ◌≤◌, ℕ, Result, Ok, Err, refl, arith}
 use Rattle.import_check.specs.declared.release.Release.{Release}
 use Rattle.import_check.specs.declared.contradicting.Contradictions.{Contradictions}
 use Rattle.history_store.specs.declared.refusal.Refusal.{Refusal}

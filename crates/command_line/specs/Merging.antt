@@ -1,6 +1,6 @@
 -- What merging the segments of a store does.
 use Rattle.std.specs.Prelude.{◌≡◌, ◌⊎◌, ℕ, ◌<◌, ◌≤◌, List, [], ◌∷◌, length, min, codes}
-use Rattle.std.specs.Prelude.{Option, None, Result, Ok, Err, Bool, IsOk, IsErr, unwrap_or}
+use Rattle.std.specs.Prelude.{None, Result, Ok, Err, Bool, IsOk, IsErr, unwrap_or}
 use Rattle.std.specs.Prelude.{option_map}
 use Rattle.line_server.specs.Sources.{no_releases}
 use Rattle.store_life.specs.DeviceView.{DeviceView}

@@ -50,7 +50,11 @@ fn ask<D: Disk>(
 }
 
 /// Takes all rows of the merge that goes on.
-fn take_rows<D: Disk>(alloc: Global, state: &mut ServerState, store: &mut Store<D>) -> Result<(), Reply>
+fn take_rows<D: Disk>(
+    alloc: Global,
+    state: &mut ServerState,
+    store: &mut Store<D>,
+) -> Result<(), Reply>
     requires within { AreWithin store.old.history.imports state.old.pins }
     requires merging { IsMerging (server state.old store.old) }
     ensures within { AreWithin store.new.history.imports state.new.pins }
@@ -65,7 +69,11 @@ fn take_rows<D: Disk>(alloc: Global, state: &mut ServerState, store: &mut Store<
 }
 
 /// Merges the two segments of fewest rows.
-fn merge_two<D: Disk>(alloc: Global, state: &mut ServerState, store: &mut Store<D>) -> Result<(), Reply>
+fn merge_two<D: Disk>(
+    alloc: Global,
+    state: &mut ServerState,
+    store: &mut Store<D>,
+) -> Result<(), Reply>
     requires within { AreWithin store.old.history.imports state.old.pins }
     requires at_rest { IsAtRest (server state.old store.old) }
     ensures within { AreWithin store.new.history.imports state.new.pins }

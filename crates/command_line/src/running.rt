@@ -292,7 +292,9 @@ fn check_at<V: Devices, F: Folders, O: Write, E: Write>(
                 refused: None,
             };
             let (ended, left) = check(alloc, device, name, &mut source, output, &mut told);
-            source.folder.tell_why(told, path, devices.last_error(&left));
+            source
+                .folder
+                .tell_why(told, path, devices.last_error(&left));
             (ended, Some(left))
         }
         Err(_) => (refuse(alloc, output, Refusal::DiskFault, &mut told), None),

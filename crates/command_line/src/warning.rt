@@ -30,7 +30,10 @@ pub(crate) struct Outline {
 }
 
 /// The outline of a release.
-pub(crate) fn outline_of(alloc: Global, files: &[ReleaseFile]) -> Result<Outline, AllocFailed<u64>> {
+pub(crate) fn outline_of(
+    alloc: Global,
+    files: &[ReleaseFile],
+) -> Result<Outline, AllocFailed<u64>> {
     let mut outline = Outline {
         latest: 0,
         modules: BTreeSet::new(alloc),
@@ -180,7 +183,10 @@ fn warn_of_modules<E: Write>(modules: &BTreeSet<u64>, faults: &mut E) -> io::Res
     if modules.is_empty() {
         return Ok(());
     }
-    write!(faults, "sctd: warning: modules of which the store has no row: ")?;
+    write!(
+        faults,
+        "sctd: warning: modules of which the store has no row: "
+    )?;
     write_first(modules, faults)?;
     let more = modules.len().saturating_sub(MOST_NAMED);
     if more > 0 {

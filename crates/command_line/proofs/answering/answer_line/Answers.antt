@@ -21,7 +21,11 @@ returns g c =
     record {
       state = c.answer-reply.new.state;
       after = c.answer-reply.new.store;
-      told = (t.0, t.1, from_fresh _ _ _ _ _ _ c.new-state.ensures.value t.2,
-          c.tell.ensures t.0.outcome t.3);
+      told = (
+        t.0,
+        t.1,
+        from_fresh _ _ _ _ _ _ c.new-state.ensures.value t.2,
+        c.tell.ensures t.0.outcome t.3,
+      );
       left_so = refl;
     }

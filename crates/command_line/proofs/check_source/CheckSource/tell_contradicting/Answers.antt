@@ -1,5 +1,5 @@
 use Rattle.store_life.specs.DeviceView.{device_view}
-use Rattle.command_line.proofs.OnlyRead.{not_read, listed}
+use Rattle.command_line.proofs.OnlyRead.{listed}
 use Rattle.command_line.proofs.check_source.CheckSource.tell_contradicting.Goals as goal
 
 pub returns : goal.returns
