@@ -27,7 +27,10 @@ import tempfile
 # How long a call may take.
 SECONDS = 10
 ROOT = os.path.dirname(os.path.dirname(os.path.dirname(os.path.abspath(__file__))))
-CONCEPTS = "sct2_Concept_Full_INT_20200131.txt"
+CONCEPTS = "sct2_Concept_Delta_INT_20200131.txt"
+FULL_CONCEPTS = "sct2_Concept_Full_INT_20200131.txt"
+# What is told of a file that stands in a folder which isn't read.
+OUT_OF_PLACE = "sctd: warning: passed over %s, whose name is one to take: "
 COLUMNS = "id\teffectiveTime\tactive\tmoduleId\tdefinitionStatusId\n"
 ROOT_ROW = "138875005\t%s\t1\t900000000000207008\t900000000000074008\n"
 # What tells the process that holds a store's lock.
@@ -68,16 +71,19 @@ class Tries:
             self.wrong += 1
             print("wrong: %s: %r" % (what, got))
 
-    def refused(self, what, words, reply, why):
-        """A try that has to be refused by this reply, with this in the line of standard error."""
+    def refused(self, what, words, reply, why, warnings=()):
+        """A try that has to be refused by this reply, with this in the last line of standard error,
+        and before it a line for each warning, which it begins with."""
         before = self.bytes_of_store()
         got = self.run(words)
-        fine = got[0] == 1 and got[1] == reply + "\n" and why in got[2] and got[2].count("\n") == 1
+        *warned, last = got[2].splitlines() or [""]
+        fine = got[0] == 1 and got[1] == reply + "\n" and why in last + "\n"
+        fine = fine and len(warned) == len(warnings) and all(map(str.startswith, warned, warnings))
         self.check(what, fine and self.bytes_of_store() == before, got)
 
-    def import_refused(self, what, name, reply, why):
+    def import_refused(self, what, name, reply, why, warnings=()):
         words = ["import", "--quiet", "--store", "store", "--releases", "releases", name]
-        self.refused(what, words, reply, why)
+        self.refused(what, words, reply, why, warnings)
 
     def bytes_of_store(self):
         """The bytes of the store; None where there is no such file."""
@@ -97,9 +103,9 @@ def write(path, text):
         file.write(text)
 
 
-def write_release(tries, name, date):
-    """A release of one row."""
-    path = tries.path("releases", name, "Terminology", CONCEPTS)
+def write_release(tries, name, date, concepts=CONCEPTS):
+    """A release of one row, in a file of this name."""
+    path = tries.path("releases", name, "Terminology", concepts)
     write(path, COLUMNS + ROOT_ROW % date)
 
 
@@ -110,12 +116,14 @@ def try_folders(tries):
     for inner in ("Full", "Delta"):
         write_release(tries, "package-" + inner + "/" + inner, "20200131")
         tries.import_refused("a package's top folder", "package-" + inner, missing,
-                             PARTS + "; its folder " + inner)
+                             PARTS + "; its folder " + inner,
+                             [OUT_OF_PLACE % "/".join((inner, "Terminology", CONCEPTS))])
     write(tries.path("releases", "packed.zip"), "PK")
     tries.import_refused("a zip", "packed.zip", missing, "unpack the release")
     tries.import_refused("a slash before it", "/package-Full", "ERR 43 Arguments", "one / between")
     write(tries.path("releases", "small", "terminology", CONCEPTS), COLUMNS)
-    tries.import_refused("a lower-case folder", "small", missing, "releases/small: " + PARTS)
+    tries.import_refused("a lower-case folder", "small", missing, "releases/small: " + PARTS,
+                         [OUT_OF_PLACE % ("terminology/" + CONCEPTS)])
     write(tries.path("releases", "none", "Terminology", "readme.txt"), "")
     tries.import_refused("no file to take", "none", missing, "no file to take")
     write(tries.path("releases", "faulty", "Terminology", CONCEPTS), COLUMNS + "?\n")
@@ -178,11 +186,11 @@ def try_telling(tries):
 
 def try_lacking(tries):
     """A Full release with concepts and no descriptions, and files that stand in other folders."""
-    write_release(tries, "lacking/Full", "20200131")
+    write_release(tries, "lacking/Full", "20200131", FULL_CONCEPTS)
     stray = tries.path("releases", "lacking", "Full", "terminology", CONCEPTS)
     write(stray, COLUMNS)
     got = tries.run(["import", "--quiet", "--store", "named", "releases/lacking/Full"])
-    wanted = "sctd: warning: passed over terminology/%s, whose name is one to take: " % CONCEPTS
+    wanted = OUT_OF_PLACE % ("terminology/" + CONCEPTS)
     wanted += "a release has it in Terminology or Refset/Content\n"
     for kind in ("Description", "Relationship"):
         wanted += "sctd: warning: a Full file of concepts was taken, and no %s file\n" % kind
