@@ -12,7 +12,8 @@ that what a refusal made the program forget shows. In the Nth
 run the Nth call of malloc, calloc or realloc gets no memory, for N = 1, 2, .. until a run makes
 fewer calls. What has to hold of each run: the program refuses to start with `ERR 1 OutOfMemory` (on
 standard error as long as its words aren't read, and then as its reply, with a line that names the
-store), or each line is answered as the model of soak.py answers it, but for lines that say
+store), or with `ERR 2 DiskFault` and a line that says so where the file's name was to be kept while
+the file was opened, or each line is answered as the model of soak.py answers it, but for lines that say
 `ERR 1 OutOfMemory` and change nothing, of which there is at most one; and afterwards the store is
 opened with what the model then holds. Some runs have to be refused at their start, and some in a
 line: else nothing was tried, and the status is 1.
@@ -77,8 +78,11 @@ def replies_in(output):
 def is_refused_start(done, store):
     """Whether a program has ended as one that is refused before its first line."""
     refused = b"ERR 1 OutOfMemory\n"
-    told = b"sctd: %s: memory ran out\n" % os.fsencode(store)
-    return done.returncode == 1 and (done.stdout, done.stderr) in ((b"", refused), (refused, told))
+    name = os.fsencode(store)
+    told = b"sctd: %s: memory ran out\n" % name
+    unopened = (b"ERR 2 DiskFault\n", b"sctd: %s: out of memory\n" % name)
+    ways = ((b"", refused), (refused, told), unopened)
+    return done.returncode == 1 and (done.stdout, done.stderr) in ways
 
 
 def built_library(folder):
