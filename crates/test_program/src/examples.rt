@@ -1,6 +1,7 @@
 //! The examples in a help.
 
 use crate::shown::{Shown, run_line};
+use std::fs;
 use std::test::Fail;
 
 /// Runs the program on the words of a line and an input, and answers what it writes. A refusal is
@@ -39,7 +40,8 @@ fn the_lines_in_the_help_are_requests(rt: HostRuntime) -> Result<(), Fail> {
     assert_eq!(rt; examples.lines().count(), 27);
     let made = run_whole(&rt, "sctd init --store helps-store", b"")?;
     assert!(rt; made.as_str() == "OK\n");
-    let serve = "sctd serve --store helps-store --releases none";
+    fs::create_dir_all(&rt, "helps-releases")?;
+    let serve = "sctd serve --store helps-store --releases helps-releases";
     let replies = run_whole(&rt, serve, examples.as_bytes())?;
     for refusal in ["ERR 40", "ERR 41", "ERR 42", "ERR 43"] {
         assert!(rt; !replies.contains(refusal), "{replies}");

@@ -113,7 +113,8 @@ fn each_growth_of_a_task(rt: HostRuntime) -> Result<(), Fail> {
             "sctd import --quiet --store scarce/store --releases scarce r1",
             "",
             "OK 1 1 0\n",
-            "",
+            "sctd: warning: a Full file of concepts was taken, and no Description file\n\
+                 sctd: warning: a Full file of concepts was taken, and no Relationship file\n",
         ),
         (
             "sctd status --store scarce/store",

@@ -24,7 +24,7 @@ type Variant = (
 
 /// The replies that aren't those of the script. The third release brings a row that the
 /// first one has as well.
-const VARIANTS: [Variant; 65] = [
+const VARIANTS: [Variant; 79] = [
     // 1 PIN
     (3, &[], &[FIRST], &["OK 0"]),
     // 0 IMPORT r2
@@ -232,6 +232,57 @@ const VARIANTS: [Variant; 65] = [
         &["DATE 20200131", "DATE 20200731", "END 2"],
     ),
     (37, &[], &[FIRST, SECOND, THIRD], &["ERR 44 PinRange"]),
+    // 0 CHECK r2
+    (38, &[FIRST, SECOND], &[THIRD], &["OK 3 0 4"]),
+    (38, &[FIRST, THIRD], &[SECOND], &["OK 3 4 0"]),
+    (38, &[FIRST], &[SECOND, THIRD], &["OK 2 4 0"]),
+    (38, &[SECOND, THIRD], &[FIRST], &["OK 3 0 4"]),
+    (38, &[SECOND], &[FIRST, THIRD], &["OK 2 0 4"]),
+    (38, &[THIRD], &[FIRST, SECOND], &["OK 2 4 0"]),
+    (38, &[], &[FIRST, SECOND, THIRD], &["OK 1 4 0"]),
+    // 0 DIGEST: what examples/digest.py computes from the releases that came
+    (
+        39,
+        &[FIRST, SECOND],
+        &[THIRD],
+        &["OK c90a8f82de0dccf7f92d4d999bde82dad4914097938c58c11ff3ea917dfec364"],
+    ),
+    (
+        39,
+        &[FIRST, THIRD],
+        &[SECOND],
+        &["OK 9338640b1614cb0c55ff3f485c695efe6037b8abce5305374257aa3303649395"],
+    ),
+    (
+        39,
+        &[FIRST],
+        &[SECOND, THIRD],
+        &["OK f7a233c7191872b693ccbfd82de00044fc814d77d323e51e5fbafb5e06671b5b"],
+    ),
+    (
+        39,
+        &[SECOND, THIRD],
+        &[FIRST],
+        &["OK 66dd8070869587ec88096686dcaaf04ec3ca498344e9bfb393de5121c177a7e9"],
+    ),
+    (
+        39,
+        &[SECOND],
+        &[FIRST, THIRD],
+        &["OK 4920e1743a0a9bc8f7d0a64e807602aabb83049be5489172bcceb7bbcc6c1841"],
+    ),
+    (
+        39,
+        &[THIRD],
+        &[FIRST, SECOND],
+        &["OK 59952bb78e6f80f314225251bf7bd0b1aec5df9292abc7188a9ff80dcdec1cf2"],
+    ),
+    (
+        39,
+        &[],
+        &[FIRST, SECOND, THIRD],
+        &["OK e3b0c44298fc1c149afbf4c8996fb92427ae41e4649b934ca495991b7852b855"],
+    ),
 ];
 
 /// Whether the line at a place of the script wasn't refused because memory ran out.
