@@ -150,8 +150,9 @@ impl Plain {
 /// Why a release is refused where what is known can't be had.
 pub fn refuse(alloc: Global, fault: &str, release: Release) -> Answer {
     let mut lost = Lost::of(fault)?;
-    match new_rows(alloc, release, &mut lost) {
-        Ok(_) => Ok(String::from_str(alloc, "accepted")?),
+    let found = new_rows(alloc, release, &mut lost);
+    match found {
+        Ok(_fresh) => Ok(String::from_str(alloc, "accepted")?),
         Err(fault) => {
             let (disk_faults, damages) = lost.counts();
             Ok(format!(in alloc; "{fault:?}, {disk_faults}, {damages}")?)
