@@ -50,10 +50,12 @@ Questions of an audit:
   0 TIMELINE D 1000004               all versions of what was ever about it (D, R, V, A)
   0 DELTA C 20200131 20210131 - 100  what changed after the one date, up to the other
   0 DATES                            the dates that have rows
+  0 DIGEST                           the SHA-256 of all rows that the session sees
   0 AT 1 GET C 1000004 20210131      a question, of what the first import brought
 
 Imports and pins:
   0 IMPORT r3                    imports the release in this folder below DIR
+  0 CHECK r3                     answers what IMPORT would, and changes nothing
   0 RECEIPT 1                    how many rows import 1 brought, up to which date
   0 PIN                          the session sees the present imports from now on
   0 PIN 1                        it sees the first import alone
