@@ -61,8 +61,8 @@ class Run(NamedTuple):
 RUN = re.compile(r"^\| (\d{4}-\d{2}-\d{2})" + r" \| (\d+)" * 8 + r" \|$", re.MULTILINE)
 PLAN = """\
 First come the checks of the documents, which take seconds. Then `rt ci` proves each crate and its
-tests, tries the must-fail edits, and runs the tests and the programs; what it proved before on this
-machine, and what hasn't changed since, it doesn't prove again. Last come the trials of the built
+tests, tries the must-fail edits, and runs the tests and the programs; some kits keep on the machine
+what passed, and then only what has changed since is proved again. Last come the trials of the built
 program. (python3 bench/quick.py runs all tests and trials without a proof, in ten minutes.)"""
 LAST = """\
 CI's last run that began with nothing kept (docs/PERFORMANCE.md), on {date}, took {wall} minutes by
