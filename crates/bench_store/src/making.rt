@@ -4,7 +4,7 @@ use as_of_index::{Index, MAX_LISTS, PlaceList, RowPlace};
 use history_model::StampedRow;
 use index_support::{may_add, may_list};
 use links::Links;
-use rf2_rows::{EffectiveTime, Kind, Sctid, parse_line};
+use rf2_rows::{EffectiveTime, Kind, Sctid, Shape, parse_line};
 use rf2_values::Key;
 use std::alloc::Global;
 use term_prefix::Terms;
@@ -78,7 +78,7 @@ fn numbered(item: u64, partition: u64) -> Option<u64> {
 
 /// The row of a line, at the first import.
 fn row(alloc: Global, kind: Kind, line: &str) -> Option<StampedRow> {
-    let row = parse_line(alloc, kind, line.as_bytes()).ok()?;
+    let row = parse_line(alloc, Shape::of(kind), line.as_bytes()).ok()?;
     Some(StampedRow { row, import: 1 })
 }
 

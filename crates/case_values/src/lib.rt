@@ -12,4 +12,4 @@ pub use groups::Groups;
 pub use hex::{read_hex, spell_hex};
 pub use questions::{Question, read_question};
 pub use texts::{line_of, read_row, row_bytes, row_text, spell_id, spell_text};
-pub use words::{day_of, first_word, kind_of, number, sctid_of, split_prefix};
+pub use words::{day_of, first_word, kind_of, number, sctid_of, shape_of, split_prefix};

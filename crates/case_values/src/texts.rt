@@ -1,7 +1,7 @@
 //! Rows as text. A bar stands for a TAB, and a name in capitals for an identifier.
 
 use case_files::{Answer, NoAnswer, unquoted};
-use rf2_rows::{Kind, Row, RowFault, parse_line, write_row};
+use rf2_rows::{Kind, Row, RowFault, Shape, parse_line, write_row};
 use std::alloc::{AllocError, Global};
 
 /// What names in capitals, and a bar, stand for in the text of a row.
@@ -45,7 +45,7 @@ pub fn spell_text(alloc: Global, bytes: &[u8]) -> Answer {
 /// The number of a component, that of a member in base 16.
 pub fn spell_id(alloc: Global, kind: Kind, id: u128) -> Result<String, AllocError> {
     match kind {
-        Kind::Association => format!(in alloc; "{id:032x}"),
+        Kind::Association | Kind::Member => format!(in alloc; "{id:032x}"),
         _ => format!(in alloc; "{id}"),
     }
 }
@@ -57,9 +57,16 @@ pub fn line_of(alloc: Global, row: &Row) -> Answer {
     spell_text(alloc, line.as_slice())
 }
 
-/// The row that a line spells.
+/// How many columns a line has behind its first six.
+fn count_further(line: &[u8]) -> usize {
+    let tabs = line.iter().filter(|byte| **byte == b'\t').count();
+    tabs.saturating_sub(5)
+}
+
+/// The row that a line spells. A member may have any further columns.
 pub fn read_row(alloc: Global, kind: Kind, line: &[u8]) -> Result<Row, NoAnswer> {
-    match parse_line(alloc, kind, line) {
+    let further = count_further(line);
+    match parse_line(alloc, Shape { kind, further }, line) {
         Ok(row) => Ok(row),
         Err(RowFault::Line(_)) => Err(NoAnswer::NoQuestion),
         Err(RowFault::OutOfMemory) => Err(NoAnswer::OutOfMemory),

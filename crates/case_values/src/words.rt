@@ -1,7 +1,7 @@
 //! The words of questions.
 
 use case_files::NoAnswer;
-use rf2_rows::{EffectiveTime, Kind, Sctid};
+use rf2_rows::{EffectiveTime, Kind, Sctid, Shape};
 use std::str::FromStr;
 
 /// A word, and the words behind it.
@@ -28,7 +28,20 @@ pub fn kind_of(word: &str) -> Result<Kind, NoAnswer> {
         "relationship" => Ok(Kind::Relationship),
         "association" => Ok(Kind::Association),
         "concrete" => Ok(Kind::Concrete),
+        "member" => Ok(Kind::Member),
         _ => Err(NoAnswer::NoQuestion),
+    }
+}
+
+/// The shape that a word names: a kind, and behind a plus sign how many further columns a member
+/// has.
+pub fn shape_of(word: &str) -> Result<Shape, NoAnswer> {
+    match word.split_once('+') {
+        Some((kind, further)) => Ok(Shape {
+            kind: kind_of(kind)?,
+            further: number(further)?,
+        }),
+        None => Ok(Shape::of(kind_of(word)?)),
     }
 }
 

@@ -95,7 +95,7 @@ fn rows_of(file: &ReleaseFile) -> usize {
 fn is_of_terminology(kind: Kind) -> bool {
     match kind {
         Kind::Concept | Kind::Description | Kind::Relationship => true,
-        Kind::Association | Kind::Concrete => false,
+        Kind::Association | Kind::Concrete | Kind::Member => false,
     }
 }
 
@@ -107,5 +107,6 @@ fn word_of(kind: Kind) -> &'static str {
         Kind::Relationship => "Relationship",
         Kind::Association => "Association",
         Kind::Concrete => "RelationshipConcreteValues",
+        Kind::Member => "Refset",
     }
 }

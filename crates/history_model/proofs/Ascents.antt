@@ -86,6 +86,7 @@ term_kind prefix (body.Description d) e = refl
 term_kind prefix (body.Relationship r) e = cc
 term_kind prefix (body.Association a) e = cc
 term_kind prefix (body.Concrete c) e = cc
+term_kind prefix (body.Member m) e = cc
 
 terms_ascend : (rows : List RowValue) → IsAscending row_cmp rows → (prefix : List ℕ) (date limit : ℕ) → IsAscending by_id (terms prefix date limit rows)
 unfolding terms
@@ -138,6 +139,7 @@ association_kind id (body.Description d) e = cc
 association_kind id (body.Relationship r) e = cc
 association_kind id (body.Association a) e = refl
 association_kind id (body.Concrete c) e = cc
+association_kind id (body.Member m) e = cc
 
 pub replacements_are_all : ReplacementsAreAll
 unfolding replacements
@@ -204,6 +206,7 @@ has_subject (body.Description d) other = (d.concept, refl)
 has_subject (body.Relationship r) other = (r.source, refl)
 has_subject (body.Association a) other = (a.referenced, refl)
 has_subject (body.Concrete c) other = (c.source, refl)
+has_subject (body.Member m) other = (m.referenced, refl)
 
 same_some : (m n : ℕ) → Some m ≡ Some n → m ≡ n
 same_some m n e = cc

@@ -309,6 +309,7 @@ association_kind id (body.Description d) e = cc
 association_kind id (body.Relationship r) e = cc
 association_kind id (body.Association a) e = refl
 association_kind id (body.Concrete c) e = cc
+association_kind id (body.Member m) e = cc
 
 pub replaces_are_all : ReplacesAreAll
 unfolding replaces
@@ -333,6 +334,7 @@ other_end id target (body.Description d) e f = absurd (cc)
 other_end id target (body.Relationship r) e f = absurd (cc)
 other_end id target (body.Association a) e f = (number_test a.target target f, same_number a.referenced id e)
 other_end id target (body.Concrete c) e f = absurd (cc)
+other_end id target (body.Member m) e f = absurd (cc)
 
 first_end : (id target : ℕ) (b : Body) → has_target target b ≡ true → referenced_of b ≡ id → (refers_to id b ≡ true) × (target_of b ≡ target)
 first_end id target (body.Concept c) e f = absurd (cc)
@@ -340,6 +342,7 @@ first_end id target (body.Description d) e f = absurd (cc)
 first_end id target (body.Relationship r) e f = absurd (cc)
 first_end id target (body.Association a) e f = (number_test a.referenced id f, same_number a.target target e)
 first_end id target (body.Concrete c) e f = absurd (cc)
+first_end id target (body.Member m) e f = absurd (cc)
 
 pub both_ends_are_one : BothEndsAreOne
 both_ends_are_one id target date rows row up = (

@@ -54,6 +54,7 @@ parent_is parent child (body.Relationship r) e f =
     (both_true (r.source == child) (r.type_id == is_a) (number_test r.source child f) p.1, same_number r.destination parent p.0)
 parent_is parent child (body.Association a) e f = absurd (cc)
 parent_is parent child (body.Concrete c) e f = absurd (cc)
+parent_is parent child (body.Member m) e f = absurd (cc)
 
 child_is : (parent child : ℕ) (b : Body) → says_is_kind child b ≡ true → destination_of b ≡ parent → (says_is_a parent b ≡ true) × (source_of b ≡ child)
 child_is parent child (body.Concept c) e f = absurd (cc)
@@ -63,6 +64,7 @@ child_is parent child (body.Relationship r) e f =
     (both_true (r.destination == parent) (r.type_id == is_a) (number_test r.destination parent f) p.1, same_number r.source child p.0)
 child_is parent child (body.Association a) e f = absurd (cc)
 child_is parent child (body.Concrete c) e f = absurd (cc)
+child_is parent child (body.Member m) e f = absurd (cc)
 
 pub parents_have_children : ParentsHaveChildren
 unfolding children parents

@@ -18,5 +18,6 @@ pub fn subject_of(row: &Row) -> Option<Sctid>
         Body::Relationship(relationship) => Some(relationship.source),
         Body::Association(association) => Some(association.referenced),
         Body::Concrete(concrete) => Some(concrete.source),
+        Body::Member(member) => Some(member.referenced),
     }
 }

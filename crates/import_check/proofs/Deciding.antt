@@ -41,6 +41,7 @@ of_body (body.Description d) = (d.concept ∷ d.type_id ∷ d.case_significance 
 of_body (body.Relationship r) = (r.source ∷ r.destination ∷ r.group ∷ r.type_id ∷ r.characteristic_type ∷ r.modifier ∷ []) ∷ []
 of_body (body.Association a) = (a.refset ∷ a.referenced ∷ a.target ∷ []) ∷ []
 of_body (body.Concrete c) = (c.source ∷ c.group ∷ c.type_id ∷ c.characteristic_type ∷ c.modifier ∷ []) ∷ c.value ∷ []
+of_body (body.Member m) = (m.refset ∷ m.referenced ∷ []) ∷ m.further ∷ []
 
 to_body : List (List ℕ) → Body
 to_body ((status ∷ []) ∷ []) = body.Concept (record { definition_status = status })
@@ -48,6 +49,7 @@ to_body ((concept ∷ type_id ∷ significance ∷ []) ∷ code ∷ term ∷ [])
 to_body ((source ∷ destination ∷ group ∷ type_id ∷ characteristic ∷ modifier ∷ []) ∷ []) = body.Relationship (record { source = source; destination = destination; group = group; type_id = type_id; characteristic_type = characteristic; modifier = modifier })
 to_body ((refset ∷ referenced ∷ target ∷ []) ∷ []) = body.Association (record { refset = refset; referenced = referenced; target = target })
 to_body ((source ∷ group ∷ type_id ∷ characteristic ∷ modifier ∷ []) ∷ value ∷ []) = body.Concrete (record { source = source; value = value; group = group; type_id = type_id; characteristic_type = characteristic; modifier = modifier })
+to_body ((refset ∷ referenced ∷ []) ∷ further ∷ []) = body.Member (record { refset = refset; referenced = referenced; further = further })
 to_body _ = body.Concept (record { definition_status = 0 })
 
 body_back : (b : Body) → to_body (of_body b) ≡ b
@@ -57,6 +59,7 @@ body_back (body.Description d) = refl
 body_back (body.Relationship r) = refl
 body_back (body.Association a) = refl
 body_back (body.Concrete c) = refl
+body_back (body.Member m) = refl
 
 of_flag : Bool → List ℕ
 of_flag true = 0 ∷ []

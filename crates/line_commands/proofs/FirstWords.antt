@@ -44,6 +44,7 @@ letter_word kinds.Description = from_test (codes "D") refl
 letter_word kinds.Relationship = from_test (codes "R") refl
 letter_word kinds.Association = from_test (codes "A") refl
 letter_word kinds.Concrete = from_test (codes "V") refl
+letter_word kinds.Member = from_test (codes "M") refl
 
 pub question_is_word : (question : Question) → IsWord (word_of_question question)
 unfolding test
@@ -92,6 +93,7 @@ id_word kinds.Concept id text h s = let high = h.sctid.high in subst IsWord (sym
 id_word kinds.Description id text h s = let high = h.sctid.high in subst IsWord (sym s) (decimal_word id (omega arith))
 id_word kinds.Relationship id text h s = let high = h.sctid.high in subst IsWord (sym s) (decimal_word id (omega arith))
 id_word kinds.Association id text h s = λ k d l. member_byte (get_or text k d) (s.plain k d l)
+id_word kinds.Member id text h s = λ k d l. member_byte (get_or text k d) (s.plain k d l)
 id_word kinds.Concrete id text h s = let high = h.sctid.high in subst IsWord (sym s) (decimal_word id (omega arith))
 
 -- ---- what words begin
@@ -188,6 +190,7 @@ one_letter kinds.Description kinds.Description e = refl
 one_letter kinds.Relationship kinds.Relationship e = refl
 one_letter kinds.Association kinds.Association e = refl
 one_letter kinds.Concrete kinds.Concrete e = refl
+one_letter kinds.Member kinds.Member e = refl
 one_letter k l e = absurd (false≢true (sym (ap (bytes_eq (letter k)) e)))
 
 -- `-` is no number, and no identifier
@@ -203,4 +206,5 @@ not_dash kinds.Concept id t e h s = let high = h.sctid.high in no_dash_number id
 not_dash kinds.Description id t e h s = let high = h.sctid.high in no_dash_number id t (omega arith) e s
 not_dash kinds.Relationship id t e h s = let high = h.sctid.high in no_dash_number id t (omega arith) e s
 not_dash kinds.Association id t e h s = let long = s.long in let short : length t ≡ 1 = ap length e in omega arith
+not_dash kinds.Member id t e h s = let long = s.long in let short : length t ≡ 1 = ap length e in omega arith
 not_dash kinds.Concrete id t e h s = let high = h.sctid.high in no_dash_number id t (omega arith) e s

@@ -1,5 +1,5 @@
 -- What the text behind a question's word is, where it spells the question's arguments.
-use Rattle.std.proofs.Common.{◌≡◌, ◌≢◌, ℕ, ◌<◌, ◌≤◌, ◌^◌, Option, Some, None, List, [], ◌∷◌, ◌++◌, length, refl, sym, ap, subst, ◌∙◌, arith}
+use Rattle.std.proofs.Common.{◌≡◌, ◌≢◌, ℕ, ◌<◌, ◌≤◌, ◌^◌, Option, Some, None, List, [], ◌∷◌, ◌++◌, length, refl, sym, ap, subst, ◌∙◌, arith, ◌⊎◌, inl, inr}
 use Rattle.std.specs.Prelude.{decimal, codes, MatchOption}
 use Rattle.std.specs.Str.{IsUtf8, bytes_eq}
 use Rattle.std.proofs.lemmas.Bool.{false≢true}
@@ -466,11 +466,14 @@ delta_found text a b x u v y k from date after limit e g f since first time day 
       ∙ ap (λ (t : List ℕ). Some (a ++ 32 ∷ (b ++ 32 ∷ t))) (sym g) ∙ ap (λ (t : List ℕ). Some t) (sym e);
 }
 
-pub member_is_id : (k : Kind) (text : List ℕ) (o : Option ℕ) → k ≡ kinds.Association → MatchOption o ((n : ℕ) → SpellsMember n text → ⊥) (λ n. (n < 2 ^ 128) × SpellsMember n text)
+pub member_is_id : (k : Kind) (text : List ℕ) (o : Option ℕ) → (k ≡ kinds.Association) ⊎ (k ≡ kinds.Member) → MatchOption o ((n : ℕ) → SpellsMember n text → ⊥) (λ n. (n < 2 ^ 128) × SpellsMember n text)
     → MatchOption o ((n : ℕ) → IsIdOf k n → SpellsId k n text → ⊥) (λ n. IsIdOf k n × SpellsId k n text)
 member_is_id kinds.Association text None e h = λ n is spells. h n spells
 member_is_id kinds.Association text (Some n) e h = h
-member_is_id k text o e h = absurd cc
+member_is_id kinds.Member text None e h = λ n is spells. h n spells
+member_is_id kinds.Member text (Some n) e h = h
+member_is_id k text o (inl e) h = absurd (cc)
+member_is_id k text o (inr e) h = absurd (cc)
 
 -- a text is no two words
 pub uncut_twice : (text : List ℕ) → IsWord text → (a b x : List ℕ) → IsWord a → IsWord b → text ≡ a ++ 32 ∷ (b ++ 32 ∷ x) → ⊥

@@ -74,6 +74,7 @@ subject_below kinds.Description id h = let high = h.sctid.high in omega arith
 subject_below kinds.Relationship id h = let high = h.sctid.high in omega arith
 subject_below kinds.Association id h = let high = h.sctid.high in omega arith
 subject_below kinds.Concrete id h = let high = h.sctid.high in omega arith
+subject_below kinds.Member id h = let high = h.sctid.high in omega arith
 
 -- ---- one question
 

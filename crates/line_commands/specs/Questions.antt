@@ -57,15 +57,17 @@ letter kinds.Description = codes "D"
 letter kinds.Relationship = codes "R"
 letter kinds.Association = codes "A"
 letter kinds.Concrete = codes "V"
+letter kinds.Member = codes "M"
 
--- what a row of the kind can be about: any component where it
--- is an association, and else a concept; a concept is about nothing
+-- what a row of the kind can be about: any component where it is a member of a reference set, of
+-- associations or of another one, and else a concept; a concept is about nothing
 abbrev pub IsSubjectOf : Kind → ℕ → Type 0
 IsSubjectOf kinds.Concept id = ⊥
 IsSubjectOf kinds.Description id = IsConcept id
 IsSubjectOf kinds.Relationship id = IsConcept id
 IsSubjectOf kinds.Association id = IsComponent id
 IsSubjectOf kinds.Concrete id = IsConcept id
+IsSubjectOf kinds.Member id = IsComponent id
 
 -- an identifier of the kind, or `-` for none
 abbrev pub SpellsAfter : Kind → Option ℕ → List ℕ → Type 0

@@ -34,6 +34,7 @@ pub(crate) fn kind(text: &[u8]) -> Option<Kind>
         b"R" => Some(Kind::Relationship),
         b"A" => Some(Kind::Association),
         b"V" => Some(Kind::Concrete),
+        b"M" => Some(Kind::Member),
         _ => None,
     }
 }
@@ -112,7 +113,7 @@ pub(crate) fn identifier(kind: Kind, text: &[u8]) -> Option<u128>
         Kind::Relationship | Kind::Concrete => {
             Some(u128::from(sctid_of(text, Class::Relationship)?.value()))
         }
-        Kind::Association => member(text),
+        Kind::Association | Kind::Member => member(text),
     }
 }
 
@@ -124,7 +125,7 @@ pub(crate) fn subject(kind: Kind, text: &[u8]) -> Option<Sctid>
     match kind {
         Kind::Concept => None,
         Kind::Description | Kind::Relationship | Kind::Concrete => sctid_of(text, Class::Concept),
-        Kind::Association => component(text),
+        Kind::Association | Kind::Member => component(text),
     }
 }
 

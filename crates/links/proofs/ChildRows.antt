@@ -37,6 +37,7 @@ says_dest c d (body.Description x) e f = absurd (cc)
 says_dest c d (body.Relationship r) e f = sym (eq_of r.destination c (both (r.destination == c) (r.type_id == is_a) e).0) ∙ eq_of r.destination d (both (r.destination == d) (r.type_id == is_a) f).0
 says_dest c d (body.Association x) e f = absurd (cc)
 says_dest c d (body.Concrete x) e f = absurd (cc)
+says_dest c d (body.Member m) e f = absurd (cc)
 
 dest_of : (c d : ℕ) (row : RowValue) → is_child_of c row ≡ true → is_child_of d row ≡ true → c ≡ d
 dest_of c d row e f = says_dest c d row.body (both row.active (says_is_a c row.body) e).1 (both row.active (says_is_a d row.body) f).1

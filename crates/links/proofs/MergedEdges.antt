@@ -27,6 +27,7 @@ link_body_few (body.Description d) i = omega arith
 link_body_few (body.Relationship r) i = elim (r.type_id == is_a) as (λ b. length {A = Link} (if b then link r i ∷ [] else []) ≤ 1) [ true ↦ omega arith | false ↦ omega arith ]
 link_body_few (body.Association a) i = omega arith
 link_body_few (body.Concrete c) i = omega arith
+link_body_few (body.Member m) i = omega arith
 
 reference_body_few : (b : Body) (i : ℕ) → length (reference_of_body b i) ≤ 1
 reference_body_few (body.Concept c) i = omega arith
@@ -34,6 +35,7 @@ reference_body_few (body.Description d) i = omega arith
 reference_body_few (body.Relationship r) i = omega arith
 reference_body_few (body.Association a) i = omega arith
 reference_body_few (body.Concrete c) i = omega arith
+reference_body_few (body.Member m) i = omega arith
 
 target_body_few : (b : Body) (i : ℕ) → length (target_of_body b i) ≤ 1
 target_body_few (body.Concept c) i = omega arith
@@ -41,6 +43,7 @@ target_body_few (body.Description d) i = omega arith
 target_body_few (body.Relationship r) i = omega arith
 target_body_few (body.Association a) i = omega arith
 target_body_few (body.Concrete c) i = omega arith
+target_body_few (body.Member m) i = omega arith
 
 subject_at_few : (o : Option ℕ) (kind : Kind) (i : ℕ) → length (subject_at o kind i) ≤ 1
 subject_at_few None kind i = omega arith
@@ -81,6 +84,7 @@ link_body_moved f (body.Relationship r) i =
     elim (r.type_id == is_a) as (λ b. map (moved link_kind f) (if b then link r i ∷ [] else []) ≡ (if b then link r (f i) ∷ [] else [])) [ true ↦ refl | false ↦ refl ]
 link_body_moved f (body.Association a) i = refl
 link_body_moved f (body.Concrete c) i = refl
+link_body_moved f (body.Member m) i = refl
 
 reference_body_moved : (f : ℕ → ℕ) (b : Body) (i : ℕ) → map (moved reference_kind f) (reference_of_body b i) ≡ reference_of_body b (f i)
 reference_body_moved f (body.Concept c) i = refl
@@ -88,6 +92,7 @@ reference_body_moved f (body.Description d) i = refl
 reference_body_moved f (body.Relationship r) i = refl
 reference_body_moved f (body.Association a) i = refl
 reference_body_moved f (body.Concrete c) i = refl
+reference_body_moved f (body.Member m) i = refl
 
 target_body_moved : (f : ℕ → ℕ) (b : Body) (i : ℕ) → map (moved target_kind f) (target_of_body b i) ≡ target_of_body b (f i)
 target_body_moved f (body.Concept c) i = refl
@@ -95,6 +100,7 @@ target_body_moved f (body.Description d) i = refl
 target_body_moved f (body.Relationship r) i = refl
 target_body_moved f (body.Association a) i = refl
 target_body_moved f (body.Concrete c) i = refl
+target_body_moved f (body.Member m) i = refl
 
 subject_at_moved : (f : ℕ → ℕ) (o : Option ℕ) (kind : Kind) (i : ℕ) → map (moved subject_kind f) (subject_at o kind i) ≡ subject_at o kind (f i)
 subject_at_moved f None kind i = refl

@@ -24,6 +24,7 @@ says_from c (body.Description x) e f = absurd (cc)
 says_from c (body.Relationship r) e f = both_true (r.source == c) (r.type_id == is_a) e f
 says_from c (body.Association x) e f = absurd (cc)
 says_from c (body.Concrete x) e f = absurd (cc)
+says_from c (body.Member m) e f = absurd (cc)
 
 record IsLinkFrom (c : ℕ) (b : Body) : Type 0 where
   kind_is : (kind_place (kind_of_body b) == kind_place Relationship) ≡ true
@@ -36,6 +37,7 @@ says_parts c (body.Description x) e = absurd (cc)
 says_parts c (body.Relationship r) e = let p = both (r.source == c) (r.type_id == is_a) e in record { kind_is = refl; subject_is = p.0; link = p.1 }
 says_parts c (body.Association x) e = absurd (cc)
 says_parts c (body.Concrete x) e = absurd (cc)
+says_parts c (body.Member m) e = absurd (cc)
 
 pub parents_from_about : (concept date : ℕ) (rows : List RowValue) (ids : List ℕ) → AreOnce nat_cmp (parents_told (about Relationship concept date rows)) ids → ids ≡ parents concept date rows
 unfolding parents about

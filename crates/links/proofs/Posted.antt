@@ -77,6 +77,7 @@ link_body row i (body.Relationship r) l a e h =
     ] refl h
 link_body row i (body.Association x) l a e h = absurd h
 link_body row i (body.Concrete x) l a e h = absurd h
+link_body row i (body.Member m) l a e h = absurd h
 
 link_row : (row : RowValue) (i : ℕ) (l : Link) → Has (posted_link row i) l → IsLinkOf l row × (l.row ≡ i)
 link_row row i l h =
@@ -108,6 +109,7 @@ reference_body row i (body.Association x) r a e h = elim h [
   | inr f ↦ absurd f
 ]
 reference_body row i (body.Concrete x) r a e h = absurd h
+reference_body row i (body.Member m) r a e h = absurd h
 
 reference_row : (row : RowValue) (i : ℕ) (r : Reference) → Has (posted_reference row i) r → IsReferenceOf r row × (r.row ≡ i)
 reference_row row i r h =
@@ -139,6 +141,7 @@ target_body row i (body.Association x) t a e h = elim h [
   | inr f ↦ absurd f
 ]
 target_body row i (body.Concrete x) t a e h = absurd h
+target_body row i (body.Member m) t a e h = absurd h
 
 target_row : (row : RowValue) (i : ℕ) (t : Target) → Has (posted_target row i) t → IsTargetOf t row × (t.row ≡ i)
 target_row row i t h =
@@ -186,6 +189,7 @@ all_link_body concept i (body.Relationship r) e =
     (l, subst (λ b. Has (if b then l ∷ [] else []) l) (sym (both (r.destination == concept) (r.type_id == is_a) e).1) (inl refl), refl)
 all_link_body concept i (body.Association a) e = absurd (cc)
 all_link_body concept i (body.Concrete c) e = absurd (cc)
+all_link_body concept i (body.Member m) e = absurd (cc)
 
 all_link : (concept : ℕ) (row : RowValue) (i : ℕ) → is_child_of concept row ≡ true → (l : Link) × Has (posted_link row i) l × (l.row ≡ i)
 all_link concept row i e =
@@ -199,6 +203,7 @@ all_reference_body d i (body.Description x) e = absurd (cc)
 all_reference_body d i (body.Relationship r) e = absurd (cc)
 all_reference_body d i (body.Association a) e = (record { referenced = a.referenced; refset = a.refset; target = a.target; row = i }, inl refl, refl)
 all_reference_body d i (body.Concrete c) e = absurd (cc)
+all_reference_body d i (body.Member m) e = absurd (cc)
 
 all_reference : (d : ℕ) (row : RowValue) (i : ℕ) → is_replacement_of d row ≡ true → (r : Reference) × Has (posted_reference row i) r × (r.row ≡ i)
 all_reference d row i e =

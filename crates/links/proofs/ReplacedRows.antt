@@ -47,6 +47,7 @@ target_body target i (body.Description d) e = absurd (cc)
 target_body target i (body.Relationship r) e = absurd (cc)
 target_body target i (body.Association a) e = (record { target = a.target; refset = a.refset; referenced = a.referenced; row = i }, inl refl, same_number a.target target e, refl)
 target_body target i (body.Concrete c) e = absurd (cc)
+target_body target i (body.Member m) e = absurd (cc)
 
 target_of_row : (target : ℕ) (row : RowValue) (i : ℕ) → is_replaced_by target row ≡ true → (t : Target) × IsPostedTarget row target i t
 target_of_row target row i e =

@@ -45,6 +45,7 @@ refers_dest c d (body.Description x) e f = absurd (cc)
 refers_dest c d (body.Relationship x) e f = absurd (cc)
 refers_dest c d (body.Association a) e f = sym (eq_of a.referenced c e) ∙ eq_of a.referenced d f
 refers_dest c d (body.Concrete x) e f = absurd (cc)
+refers_dest c d (body.Member m) e f = absurd (cc)
 
 associated : (d : ℕ) (row : RowValue) (b : Body) → row.body ≡ b → refers_to d b ≡ true → kind_of row ≡ kinds.Association
 associated d row (body.Concept x) e f = absurd (cc)
@@ -52,6 +53,7 @@ associated d row (body.Description x) e f = absurd (cc)
 associated d row (body.Relationship x) e f = absurd (cc)
 associated d row (body.Association a) e f = ap (λ (x : Body). kind_of_body x) e
 associated d row (body.Concrete x) e f = absurd (cc)
+associated d row (body.Member m) e f = absurd (cc)
 
 module _ (lists : List (List StampedRow)) (are : ArePlaces (map places_of lists)) (edges : List Edges) (posts : EachPosted lists edges) (d date pin : ℕ) where
   abbrev at_date : List RowValue

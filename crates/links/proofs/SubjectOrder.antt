@@ -11,12 +11,13 @@ use Rattle.rf2_values.specs.Key.{kind_place}
 use Rattle.history_model.proofs.Keys.{same_kind}
 use Rattle.links.specs.Edges.{subject_rank}
 
-kind_below : (k : Kind) → kind_place k < 5
+kind_below : (k : Kind) → kind_place k < 6
 kind_below kind.Concept = omega arith
 kind_below kind.Description = omega arith
 kind_below kind.Relationship = omega arith
 kind_below kind.Association = omega arith
 kind_below kind.Concrete = omega arith
+kind_below kind.Member = omega arith
 
 module _ (a b : ℕ) (k l : Kind) where
   pub rank_cmp : ordering_then (nat_cmp a b) (nat_cmp (kind_place k) (kind_place l)) ≡ nat_cmp (subject_rank a k) (subject_rank b l)

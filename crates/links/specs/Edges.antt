@@ -63,9 +63,9 @@ pub record AreSameEdges (a b : Edges) : Type 0 where
   pub subjects : IsPermutation a.subjects b.subjects
 
 -- the place of a component's rows of a kind in the order of subjects: by the component, and then by
--- the kind, of which there are five
+-- the kind, of which there are six
 abbrev pub subject_rank : ℕ → Kind → ℕ
-subject_rank id kind = 5 * id + kind_place kind
+subject_rank id kind = 6 * id + kind_place kind
 
 -- the links ascend by destination, the references by what they refer to, the targets by themselves,
 -- and the subjects by what the rows are about, and then by kind
@@ -93,6 +93,7 @@ link_of_body (body.Description d) i = []
 link_of_body (body.Relationship r) i = if r.type_id == is_a then link r i ∷ [] else []
 link_of_body (body.Association a) i = []
 link_of_body (body.Concrete c) i = []
+link_of_body (body.Member m) i = []
 
 -- what the body of row i says: an association is a reference
 abbrev pub reference_of_body : Body → ℕ → List Reference
@@ -101,6 +102,7 @@ reference_of_body (body.Description d) i = []
 reference_of_body (body.Relationship r) i = []
 reference_of_body (body.Association a) i = reference a i ∷ []
 reference_of_body (body.Concrete c) i = []
+reference_of_body (body.Member m) i = []
 
 -- what the body of row i says: an association has a target
 abbrev pub target_of_body : Body → ℕ → List Target
@@ -109,6 +111,7 @@ target_of_body (body.Description d) i = []
 target_of_body (body.Relationship r) i = []
 target_of_body (body.Association a) i = target_at a i ∷ []
 target_of_body (body.Concrete c) i = []
+target_of_body (body.Member m) i = []
 
 -- what row i is about, if it is about something, with its kind
 abbrev pub subject_at : Option ℕ → Kind → ℕ → List Subject

@@ -156,6 +156,7 @@ is_link (body.Description d) = false
 is_link (body.Relationship r) = r.type_id == is_a
 is_link (body.Association a) = false
 is_link (body.Concrete c) = false
+is_link (body.Member m) = false
 
 -- the destinations of the "is a" relationships among the rows
 abbrev pub parents_told : List RowValue → List ℕ

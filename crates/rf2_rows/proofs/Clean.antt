@@ -14,7 +14,7 @@ use Rattle.rf2_values.specs.declared.row.Kind.TheVariants as kind
 use Rattle.rf2_values.specs.Time.{IsTime}
 use Rattle.rf2_values.specs.Row.{line_of}
 use Rattle.rf2_values.specs.Member.{IsMemberByte}
-use Rattle.rf2_rows.specs.Line.{Column, Identifier, Time, Active, ConceptReference, ComponentReference, Number, Text, MayStand}
+use Rattle.rf2_rows.specs.Line.{Column, Identifier, Time, Active, ConceptReference, ComponentReference, Number, Text, Any, MayStand}
 use Rattle.rf2_rows.specs.Private.{AllStand}
 use Rattle.rf2_values.proofs.Decimals.{own, decimal_is_utf8}
 use Rattle.rf2_rows.proofs.Splits.{IsFree}
@@ -68,6 +68,7 @@ stands_clean (Identifier kind.Concept) text h = let high = h.1.sctid.high in dec
 stands_clean (Identifier kind.Description) text h = let high = h.1.sctid.high in decimal_is_clean h.0 text (omega arith) h.2
 stands_clean (Identifier kind.Relationship) text h = let high = h.1.sctid.high in decimal_is_clean h.0 text (omega arith) h.2
 stands_clean (Identifier kind.Association) text h = member_is_clean text h.2.plain
+stands_clean (Identifier kind.Member) text h = member_is_clean text h.2.plain
 stands_clean (Identifier kind.Concrete) text h = let high = h.1.sctid.high in decimal_is_clean h.0 text (omega arith) h.2
 stands_clean Time text h = decimal_is_clean h.0 text (time_below h.0 h.1) h.2
 stands_clean Active text (false, e) = subst IsClean (sym e) (digit_is_clean 48 (omega arith) (omega arith))
@@ -76,6 +77,7 @@ stands_clean ConceptReference text h = let high = h.1.sctid.high in decimal_is_c
 stands_clean ComponentReference text h = let high = h.1.sctid.high in decimal_is_clean h.0 text (omega arith) h.2
 stands_clean Number text h = let high = h.1 in decimal_is_clean h.0 text (omega arith) h.2
 stands_clean Text text h = record { no_tab = free_from 9 text h.no_tab; no_lf = free_from 10 text h.no_lf; utf8 = h.utf8 }
+stands_clean Any text h = record { no_tab = free_from 9 text h.no_tab; no_lf = free_from 10 text h.no_lf; utf8 = h.utf8 }
 
 pub all_clean : (columns : List Column) (texts : List (List ℕ)) → AllStand columns texts → AllByRecursion IsClean texts
 all_clean [] [] h = tt

@@ -1,12 +1,13 @@
 -- Each column's text may stand there or has a fault, each line spells a row or has a fault, and each file is a release file or has a fault.
-use Rattle.std.proofs.Common.{◌≡◌, ◌≢◌, ℕ, zero, suc, ◌+◌, ◌*◌, ◌/◌, ◌%◌, ◌<◌, ◌≤◌, ◌^◌, ◌⊎◌, Bool, true, false, List, [], ◌∷◌, length, get_or, Option, Some, None, refl, sym, ap, subst, ◌∙◌, arith, inl, inr, All}
-use Rattle.std.specs.Prelude.{decimal, cond, is_some, slice_index}
-use Rattle.std.specs.List.{list_all}
+use Rattle.std.proofs.Common.{◌≡◌, ◌≢◌, ℕ, zero, suc, ◌+◌, ◌*◌, ◌/◌, ◌%◌, ◌<◌, ◌≤◌, ◌^◌, ◌⊎◌, Bool, true, false, List, [], ◌∷◌, length, get_or, Option, Some, None, refl, sym, ap, subst, ◌∙◌, arith, inl, inr, All, take, drop, ◌++◌, take-append-drop}
+use Rattle.std.specs.Prelude.{decimal, cond, is_some, slice_index, replicate}
+use Rattle.std.specs.List.{list_all, AllByRecursion}
 use Rattle.std.specs.Str.{IsUtf8, is_utf8, all_ascii_digits}
 use Rattle.std.specs.Str.Parse.{digits_value}
 use Rattle.std.specs.Int.{from_be_bytes, w128}
 use Rattle.std.proofs.lemmas.Bool.{both_ways, cases_Bool, cases_eq, cases_lt}
 use Rattle.std.proofs.lemmas.Bool.Decides.{nat_tests}
+use Rattle.std.proofs.lemmas.List.{take_at}
 use Rattle.std.proofs.lemmas.List.Elements.{All-cons}
 use Rattle.std.proofs.lemmas.List.Splits.{join_with_byte-slice_split}
 use Rattle.std.proofs.lemmas.Str.{IsUtf8-from_is_utf8, is_utf8-from_IsUtf8}
@@ -22,18 +23,23 @@ use Rattle.rf2_values.specs.declared.row.Body.{Body}
 use Rattle.rf2_values.specs.declared.row.Body.TheVariants as body
 use Rattle.rf2_values.specs.Sctid.{IsSctid, check_digits, class_of}
 use Rattle.rf2_values.specs.Time.{IsTime}
-use Rattle.rf2_values.specs.Text.{IsText}
+use Rattle.rf2_values.specs.Text.{IsText, IsColumn, IsFurther, further_columns}
+use Rattle.rf2_values.specs.Private.{tabbed}
 use Rattle.rf2_values.specs.Member.{IsMemberByte}
 use Rattle.rf2_values.specs.Row.{RowValue, version, IsVersion, IsOfClass, IsConcept, IsComponent, IsIdOf, IsBody, Spells, SpellsColumns, SpellsId, kind_of, kind_of_body, id_text, later_columns, body_columns, flag, line_limit, line_of}
 use Rattle.rf2_values.proofs.Decimals.{decimal_is_plain}
+use Rattle.rf2_values.proofs.FurtherColumns.{columns_are_further, further_tabbed}
 use Rattle.rf2_values.proofs.Lengths.{length-line}
 use Rattle.rf2_rows.specs.declared.fault.LineFault.{LineFault}
 use Rattle.rf2_rows.specs.declared.fault.LineFault.TheVariants as fault
-use Rattle.rf2_rows.specs.Line.{Column, Identifier, Time, Active, ConceptReference, ComponentReference, Number, Text, SpellsSome, MayStand, HasClassFault, HasFault, FirstFault, columns, columns_in, own_layout, columns_of, header, IsFaultOf}
+use Rattle.rf2_rows.specs.declared.shape.Shape.{Shape}
+use Rattle.rf2_rows.specs.Line.{Column, Identifier, Time, Active, ConceptReference, ComponentReference, Number, Text, Any, SpellsSome, MayStand, HasClassFault, HasFault, FirstFault, columns, own_columns, columns_of, header, HasShape, IsFaultOf}
 use Rattle.rf2_rows.specs.Private.{AllStand}
-use Rattle.rf2_rows.specs.File.{SpellsEach, IsReleaseFile, IsFirstLineFault, IsFaultOfRows, IsFaultOfLines, IsFaultOfFile, lines_in, without_mark}
+use Rattle.rf2_rows.specs.File.{IsHeader, SpellsEach, shape_with, IsReleaseFile, IsFirstLineFault, IsFaultOfRows, IsFaultOfLines, IsFaultOfFile, lines_in, without_mark}
 use Rattle.rf2_rows.proofs.Faults.{id_length}
 use Rattle.rf2_rows.proofs.Files.{is_release_file}
+use Rattle.rf2_rows.proofs.RowLaws.{columns_len}
+use Rattle.rf2_rows.proofs.FileLaws.{same_rest}
 
 -- ---- facts that hold or don't
 
@@ -213,6 +219,13 @@ is_text text =
       | inr wrong ↦ inr (λ h. wrong ((h.some, h.utf8), (h.no_tab, h.no_lf)))
     ]
 
+is_column : (text : List ℕ) → Decided (IsColumn text)
+is_column text =
+    elim (both (utf8 text) (both (all_decided (λ b. b ≢ 9) (other_than 9) text) (all_decided (λ b. b ≢ 10) (other_than 10) text))) [
+      | inl h ↦ inl (record { utf8 = h.0; no_tab = h.1.0; no_lf = h.1.1 })
+      | inr wrong ↦ inr (λ h. wrong (h.utf8, (h.no_tab, h.no_lf)))
+    ]
+
 -- ---- member ids
 
 is_member_byte : (b : ℕ) → Decided (IsMemberByte b)
@@ -300,14 +313,16 @@ column (Identifier kind.Description) text = of_class class.Description text
 column (Identifier kind.Relationship) text = of_class class.Relationship text
 column (Identifier kind.Association) text = faulty fault.MemberId (is_member text)
 column (Identifier kind.Concrete) text = of_class class.Relationship text
+column (Identifier kind.Member) text = faulty fault.MemberId (is_member text)
 column Time text = faulty fault.Time (spelled IsTime time_small is_time text)
 column Active text = faulty fault.Active (is_flag text)
 column ConceptReference text = faulty fault.Reference (spelled IsConcept (class_small class.Concept) (is_of_class class.Concept) text)
 column ComponentReference text = faulty fault.Reference (spelled IsComponent component_small is_component text)
 column Number text = faulty fault.Number (spelled (λ n. n < 2 ^ 32) (λ n lt. omega arith) (λ n. below n (2 ^ 32)) text)
 column Text text = faulty fault.EmptyText (is_text text)
+column Any text = faulty fault.EmptyText (is_column text)
 
-each_column : (cs : List Column) (ts : List (List ℕ)) → length ts ≡ length cs → AllStand cs ts ⊎ ((f : LineFault) × FirstFault cs ts f)
+pub each_column : (cs : List Column) (ts : List (List ℕ)) → length ts ≡ length cs → AllStand cs ts ⊎ ((f : LineFault) × FirstFault cs ts f)
 unfolding FirstFault
 each_column [] [] e = inl tt
 each_column [] (t ∷ ts) e = absurd (omega arith)
@@ -336,11 +351,18 @@ no_more (t ∷ ts) h = absurd h
 consed : (ts rest ds : List (List ℕ)) (t d : List ℕ) → ts ≡ t ∷ rest → t ≡ d → rest ≡ ds → ts ≡ d ∷ ds
 consed ts rest ds t d whole head tail = whole ∙ ap (λ (x : List ℕ). x ∷ rest) head ∙ ap (λ (xs : List (List ℕ)). d ∷ xs) tail
 
-own : (k : Kind) (ts : List (List ℕ)) → AllStand (columns_in (own_layout k)) ts → (b : Body) × (kind_of_body b ≡ k) × IsBody b × (ts ≡ body_columns b)
-own kind.Concept ts h =
+-- texts that may stand in columns of any meaning are columns
+pub any_columns : (n : ℕ) (ts : List (List ℕ)) → AllStand (replicate n Any) ts → AllByRecursion IsColumn ts
+any_columns zero [] h = tt
+any_columns zero (t ∷ ts) h = absurd h
+any_columns (suc n) [] h = absurd h
+any_columns (suc n) (t ∷ ts) h = (h.0, any_columns n ts h.1)
+
+own : (k : Kind) (n : ℕ) (ts : List (List ℕ)) → AllStand (own_columns (shape_with k n)) ts → (b : Body) × (kind_of_body b ≡ k) × IsBody b × (ts ≡ body_columns b)
+own kind.Concept n ts h =
     let a = first ConceptReference [] ts h in
     (body.Concept (record { definition_status = a.3.0 }), refl, a.3.1, consed _ _ _ _ _ a.2 a.3.2 (no_more a.1 a.4))
-own kind.Description ts h =
+own kind.Description n ts h =
     let a = first ConceptReference (Text ∷ ConceptReference ∷ Text ∷ ConceptReference ∷ []) ts h in
     let b = first Text (ConceptReference ∷ Text ∷ ConceptReference ∷ []) a.1 a.4 in
     let c = first ConceptReference (Text ∷ ConceptReference ∷ []) b.1 b.4 in
@@ -351,7 +373,7 @@ own kind.Description ts h =
       (a.3.1, b.3, c.3.1, d.3, e.3.1),
       consed _ _ _ _ _ a.2 a.3.2 (consed _ _ _ _ _ b.2 refl (consed _ _ _ _ _ c.2 c.3.2 (consed _ _ _ _ _ d.2 refl (consed _ _ _ _ _ e.2 e.3.2 (no_more e.1 e.4))))),
     )
-own kind.Relationship ts h =
+own kind.Relationship n ts h =
     let a = first ConceptReference (ConceptReference ∷ Number ∷ ConceptReference ∷ ConceptReference ∷ ConceptReference ∷ []) ts h in
     let b = first ConceptReference (Number ∷ ConceptReference ∷ ConceptReference ∷ ConceptReference ∷ []) a.1 a.4 in
     let c = first Number (ConceptReference ∷ ConceptReference ∷ ConceptReference ∷ []) b.1 b.4 in
@@ -363,7 +385,7 @@ own kind.Relationship ts h =
       (a.3.1, b.3.1, c.3.1, d.3.1, e.3.1, f.3.1),
       consed _ _ _ _ _ a.2 a.3.2 (consed _ _ _ _ _ b.2 b.3.2 (consed _ _ _ _ _ c.2 c.3.2 (consed _ _ _ _ _ d.2 d.3.2 (consed _ _ _ _ _ e.2 e.3.2 (consed _ _ _ _ _ f.2 f.3.2 (no_more f.1 f.4)))))),
     )
-own kind.Association ts h =
+own kind.Association n ts h =
     let a = first ConceptReference (ComponentReference ∷ ComponentReference ∷ []) ts h in
     let b = first ComponentReference (ComponentReference ∷ []) a.1 a.4 in
     let c = first ComponentReference [] b.1 b.4 in (
@@ -372,7 +394,7 @@ own kind.Association ts h =
       (a.3.1, b.3.1, c.3.1),
       consed _ _ _ _ _ a.2 a.3.2 (consed _ _ _ _ _ b.2 b.3.2 (consed _ _ _ _ _ c.2 c.3.2 (no_more c.1 c.4))),
     )
-own kind.Concrete ts h =
+own kind.Concrete n ts h =
     let a = first ConceptReference (Text ∷ Number ∷ ConceptReference ∷ ConceptReference ∷ ConceptReference ∷ []) ts h in
     let b = first Text (Number ∷ ConceptReference ∷ ConceptReference ∷ ConceptReference ∷ []) a.1 a.4 in
     let c = first Number (ConceptReference ∷ ConceptReference ∷ ConceptReference ∷ []) b.1 b.4 in
@@ -384,20 +406,31 @@ own kind.Concrete ts h =
       (a.3.1, b.3, c.3.1, d.3.1, e.3.1, f.3.1),
       consed _ _ _ _ _ a.2 a.3.2 (consed _ _ _ _ _ b.2 refl (consed _ _ _ _ _ c.2 c.3.2 (consed _ _ _ _ _ d.2 d.3.2 (consed _ _ _ _ _ e.2 e.3.2 (consed _ _ _ _ _ f.2 f.3.2 (no_more f.1 f.4)))))),
     )
+own kind.Member n ts h =
+    let a = first ConceptReference (ComponentReference ∷ replicate n Any) ts h in
+    let b = first ComponentReference (replicate n Any) a.1 a.4 in
+    let each = any_columns n b.1 b.4 in (
+      body.Member (record { refset = a.3.0; referenced = b.3.0; further = tabbed b.1 }),
+      refl,
+      (a.3.1, b.3.1, columns_are_further b.1 each),
+      consed _ _ _ _ _ a.2 a.3.2 (consed _ _ _ _ _ b.2 b.3.2 (sym (further_tabbed b.1 each))),
+    )
 
-row_of : (k : Kind) (ts : List (List ℕ)) → AllStand (columns k) ts → length (line_of ts) ≤ line_limit → (v : RowValue) × (kind_of v ≡ k) × IsVersion v × SpellsColumns v ts
-row_of k ts h short =
-    let a = first (Identifier k) (Time ∷ Active ∷ ConceptReference ∷ columns_in (own_layout k)) ts h in
-    let t = first Time (Active ∷ ConceptReference ∷ columns_in (own_layout k)) a.1 a.4 in
-    let s = first Active (ConceptReference ∷ columns_in (own_layout k)) t.1 t.4 in
-    let m = first ConceptReference (columns_in (own_layout k)) s.1 s.4 in
-    let b = own k m.1 m.4 in
+row_of : (shape : Shape) (ts : List (List ℕ)) → AllStand (columns shape) ts → length (line_of ts) ≤ line_limit → (v : RowValue) × HasShape shape v × IsVersion v × SpellsColumns v ts
+row_of shape ts h short =
+    let k = shape.kind in
+    let a = first (Identifier k) (Time ∷ Active ∷ ConceptReference ∷ own_columns shape) ts h in
+    let t = first Time (Active ∷ ConceptReference ∷ own_columns shape) a.1 a.4 in
+    let s = first Active (ConceptReference ∷ own_columns shape) t.1 t.4 in
+    let m = first ConceptReference (own_columns shape) s.1 s.4 in
+    let b = own k shape.further m.1 m.4 in
     let v = version a.3.0 t.3.0 s.3.0 m.3.0 b.0 in
     let all : ts ≡ a.0 ∷ later_columns v = consed _ _ _ _ _ a.2 refl (consed _ _ _ _ _ t.2 t.3.2 (consed _ _ _ _ _ s.2 s.3.1 (consed _ _ _ _ _ m.2 m.3.2 b.3))) in
     let long : length (line_of (a.0 ∷ later_columns v)) ≤ line_limit = subst (λ (xs : List (List ℕ)). length (line_of xs) ≤ line_limit) all short in
-    let same : length (id_text (kind_of_body b.0) a.3.0) ≡ length a.0 = ap (λ (x : Kind). length (id_text x a.3.0)) b.1 ∙ id_length k a.3.0 a.0 a.3.2 in (
+    let same : length (id_text (kind_of_body b.0) a.3.0) ≡ length a.0 = ap (λ (x : Kind). length (id_text x a.3.0)) b.1 ∙ id_length k a.3.0 a.0 a.3.2 in
+    let many : length (body_columns b.0) ≡ length (own_columns shape) = sym (ap length b.3) ∙ columns_len (own_columns shape) m.1 m.4 in (
       v,
-      b.1,
+      (b.1, many),
       record {
         id = subst (λ (x : Kind). IsIdOf x a.3.0) (sym b.1) a.3.1;
         time = t.3.1;
@@ -410,46 +443,93 @@ row_of k ts h short =
 
 -- ---- lines and files
 
-pub each_line : (k : Kind) (text : List ℕ) → ((v : RowValue) × (kind_of v ≡ k) × Spells v text) ⊎ ((f : LineFault) × IsFaultOf k text f)
-each_line k text =
+pub each_line : (shape : Shape) (text : List ℕ) → ((v : RowValue) × HasShape shape v × Spells v text) ⊎ ((f : LineFault) × IsFaultOf shape text f)
+each_line shape text =
     elim (cases_lt line_limit (length text)) [
       | inl long ↦ inr (fault.LineLength, inl (long, refl))
       | inr short ↦
           elim (utf8 text) [
             | inr bad ↦ inr (fault.NotUtf8, inr (short, inl (bad, refl)))
             | inl good ↦
-                elim (cases_eq (length (columns_of text)) (length (columns k))) [
+                elim (cases_eq (length (columns_of text)) (length (columns shape))) [
                   | inr count ↦ inr (fault.Columns, inr (short, inr (good, inl (count, refl))))
                   | inl same ↦
-                      elim (each_column (columns k) (columns_of text) same) [
+                      elim (each_column (columns shape) (columns_of text) same) [
                         | inr bad ↦ inr (bad.0, inr (short, inr (good, inr (same, bad.1))))
                         | inl stand ↦
                             let whole : line_of (columns_of text) ≡ text = join_with_byte-slice_split 9 text in
-                            let row = row_of k (columns_of text) stand (subst (λ (t : List ℕ). length t ≤ line_limit) (sym whole) short) in
+                            let row = row_of shape (columns_of text) stand (subst (λ (t : List ℕ). length t ≤ line_limit) (sym whole) short) in
                             inl (row.0, row.1, record { is_row = row.2; columns = (columns_of text, row.3, sym whole); short = short })
                       ]
                 ]
           ]
     ]
 
-first_line : (k : Kind) (text : List ℕ) → (text ≡ header k) ⊎ ((f : LineFault) × IsFirstLineFault k text f)
+-- what is behind a front, if the text begins with it
+behind : (front text : List ℕ) → ((rest : List ℕ) × (text ≡ front ++ rest)) ⊎ ((rest : List ℕ) → text ≡ front ++ rest → ⊥)
+behind front text =
+    elim (same_list (take (length front) text) front) [
+      | inl begins ↦ inl (drop (length front) text, sym (ap (λ (x : List ℕ). x ++ drop (length front) text) (sym begins) ∙ take-append-drop (length front) text))
+      | inr other ↦ inr (λ rest e. other (ap (λ (x : List ℕ). take (length front) x) e ∙ take_at front rest (length front) refl))
+    ]
+
+tab_first : (text : List ℕ) → Decided ((text ≡ []) ⊎ ((rest : List ℕ) × (text ≡ 9 ∷ rest)))
+tab_first [] = inl (inl refl)
+tab_first (b ∷ bs) =
+    elim (cases_eq b 9) [
+      | inl tab ↦ inl (inr (bs, ap (λ (x : ℕ). x ∷ bs) tab))
+      | inr other ↦ inr (λ h. elim h [ inl none ↦ absurd (cc) | inr found ↦ other (cc) ])
+    ]
+
+is_further : (text : List ℕ) → Decided (IsFurther text)
+is_further text =
+    elim (both (tab_first text) (both (utf8 text) (all_decided (λ b. b ≢ 10) (other_than 10) text))) [
+      | inl h ↦ inl (record { front = h.0; utf8 = h.1.0; no_lf = h.1.1 })
+      | inr wrong ↦ inr (λ h. wrong (h.front, (h.utf8, h.no_lf)))
+    ]
+
+-- the column names of a kind that has no others
+abbrev Names : Kind → List ℕ → ℕ → Type 0
+Names k text n = (n ≡ 0) × (text ≡ header k)
+
+named : (k : Kind) (text : List ℕ) → Decided (text ≡ header k) → ((n : ℕ) × Names k text n) ⊎ ((n : ℕ) → Names k text n → ⊥)
+named k text (inl is) = inl (0, (refl, is))
+named k text (inr other) = inr (λ n h. other h.1)
+
+column_names : (k : Kind) (text : List ℕ) → length text ≤ line_limit → ((n : ℕ) × IsHeader k n text) ⊎ ((n : ℕ) → IsHeader k n text → ⊥)
+column_names kind.Concept text short = named kind.Concept text (same_list text (header kind.Concept))
+column_names kind.Description text short = named kind.Description text (same_list text (header kind.Description))
+column_names kind.Relationship text short = named kind.Relationship text (same_list text (header kind.Relationship))
+column_names kind.Association text short = named kind.Association text (same_list text (header kind.Association))
+column_names kind.Concrete text short = named kind.Concrete text (same_list text (header kind.Concrete))
+column_names kind.Member text short =
+    elim (behind (header kind.Member) text) [
+      | inr none ↦ inr (λ n h. none h.0 h.3)
+      | inl found ↦
+          elim (is_further found.0) [
+            | inl is ↦ inl (length (further_columns found.0), (found.0, is, refl, found.1, short))
+            | inr wrong ↦ inr (λ n h. wrong (subst IsFurther (same_rest (header kind.Member) h.0 found.0 (sym h.3 ∙ found.1)) h.1))
+          ]
+    ]
+
+first_line : (k : Kind) (text : List ℕ) → ((n : ℕ) × IsHeader k n text) ⊎ ((f : LineFault) × IsFirstLineFault k text f)
 first_line k text =
     elim (cases_lt line_limit (length text)) [
       | inl long ↦ inr (fault.LineLength, inl (long, refl))
       | inr short ↦
           elim (utf8 text) [
             | inr bad ↦ inr (fault.NotUtf8, inr (short, inl (bad, refl)))
-            | inl good ↦ elim (same_list text (header k)) [ inl is ↦ inl is | inr other ↦ inr (fault.Header, inr (short, inr (good, other, refl))) ]
+            | inl good ↦ elim (column_names k text short) [ inl names ↦ inl names | inr none ↦ inr (fault.Header, inr (short, inr (good, none, refl))) ]
           ]
     ]
 
-each_row : (k : Kind) (lines : List (List ℕ)) → ((rows : List RowValue) × SpellsEach k rows lines) ⊎ ((n : ℕ) × (f : LineFault) × IsFaultOfRows k lines n f)
-each_row k [] = inl ([], tt)
-each_row k (t ∷ ts) =
-    elim (each_line k t) [
+each_row : (shape : Shape) (lines : List (List ℕ)) → ((rows : List RowValue) × SpellsEach shape rows lines) ⊎ ((n : ℕ) × (f : LineFault) × IsFaultOfRows shape lines n f)
+each_row shape [] = inl ([], tt)
+each_row shape (t ∷ ts) =
+    elim (each_line shape t) [
       | inr bad ↦ inr (2, bad.0, ([], [], t, ts, refl, tt, bad.1, refl))
       | inl row ↦
-          elim (each_row k ts) [
+          elim (each_row shape ts) [
             | inl later ↦ inl (row.0 ∷ later.0, ((row.1, row.2), later.1))
             | inr h ↦
                 let found = h.2 in
@@ -462,10 +542,10 @@ from_lines k bytes [] cut = inr (1, fault.Header, (refl, refl))
 from_lines k bytes (t ∷ ts) cut =
     elim (first_line k t) [
       | inr bad ↦ inr (1, bad.0, inl (refl, bad.1))
-      | inl is ↦
-          elim (each_row k ts) [
-            | inl read ↦ inl (read.0, is_release_file k read.0 bytes t ts cut is read.1)
-            | inr bad ↦ inr (bad.0, bad.1, inr (is, bad.2))
+      | inl names ↦
+          elim (each_row (shape_with k names.0) ts) [
+            | inl read ↦ inl (read.0, is_release_file k names.0 read.0 bytes t ts cut names.1 read.1)
+            | inr bad ↦ inr (bad.0, bad.1, inr (names.0, names.1, bad.2))
           ]
     ]
 

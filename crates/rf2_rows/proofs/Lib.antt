@@ -1,11 +1,14 @@
+pub mod AnyColumns
 pub mod Clean
 pub mod Decided
 pub mod Faults
 pub mod FileLaws
 pub mod Files
+pub mod Headers
 pub mod Lines
 pub mod Moves
 pub mod RowLaws
 pub mod Splits
 pub mod Texts
 pub mod Unique
+pub mod Written

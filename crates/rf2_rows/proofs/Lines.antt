@@ -48,21 +48,23 @@ pub no_feed : (xs : List ℕ) → IsFree 10 xs → without_terminator xs ≡ xs
 no_feed [] free = refl
 no_feed (x ∷ xs) free = cond-false _ _ _ (and_right _ _ (ne_eqb _ 10 (free_at 10 (x ∷ xs) (length (x ∷ xs) - 1) free (omega arith))))
 
+-- a text from which no CR is taken doesn't end in one
+not_return : (xs : List ℕ) → (ltb 0 (length xs) && eqb (get_or xs (length xs - 1) 0) 13) ≡ false → NoCr xs
+not_return [] isnt = λ (e : 0 ≡ 13). absurd (omega arith)
+not_return (x ∷ xs) isnt = λ is. false≢true (sym isnt ∙ and_from _ _ (lt-ltb 0 (length (x ∷ xs)) (omega arith)) (eq-eqb _ 13 is))
+
 -- a text before LF is its line's text with a line end
-ended : (xs : List ℕ) → (end : List ℕ) × IsLineEnd end × (xs ++ 10 ∷ [] ≡ no_cr xs ++ end)
+ended : (xs : List ℕ) → (end : List ℕ) × IsLineEnd (no_cr xs) end × (xs ++ 10 ∷ [] ≡ no_cr xs ++ end)
 ended xs =
     elim (cases_Bool (ltb 0 (length xs) && eqb (get_or xs (length xs - 1) 0) 13)) [
       | inl is ↦
           let both = and_parts (ltb 0 (length xs)) (eqb (get_or xs (length xs - 1) 0) 13) is in
           let cut : xs ≡ no_cr xs ++ 13 ∷ [] = last_split xs (ltb-true 0 (length xs) both.0) ∙ ap (λ (b : ℕ). take (length xs - 1) xs ++ b ∷ []) (eqb-true _ 13 both.1) ∙ ap (λ (ys : List ℕ). ys ++ 13 ∷ []) (sym (cond-true _ _ _ is)) in
           (13 ∷ 10 ∷ [], inr refl, ap (λ (ys : List ℕ). ys ++ 10 ∷ []) cut ∙ append_assoc (no_cr xs) (13 ∷ []) (10 ∷ []))
-      | inr isnt ↦ (10 ∷ [], inl refl, ap (λ (ys : List ℕ). ys ++ 10 ∷ []) (sym (cond-false _ _ _ isnt)))
+      | inr isnt ↦
+          let same : no_cr xs ≡ xs = cond-false _ _ _ isnt in
+          (10 ∷ [], inl (refl, subst NoCr (sym same) (not_return xs isnt)), ap (λ (ys : List ℕ). ys ++ 10 ∷ []) (sym same))
     ]
-
-text_of_ended : (t end : List ℕ) → NoCr t → IsLineEnd end → without_terminator (t ++ end) ≡ t
-text_of_ended t end other (inl e) = ap (λ (x : List ℕ). without_terminator (t ++ x)) e ∙ feed_off t ∙ no_return t other
-text_of_ended t end other (inr e) =
-    ap (λ (x : List ℕ). without_terminator (t ++ x)) e ∙ ap without_terminator (sym (append_assoc t (13 ∷ []) (10 ∷ []))) ∙ feed_off (t ++ 13 ∷ []) ∙ return_off t
 
 -- ---- the first LF
 
@@ -91,7 +93,7 @@ lines_unended bs some free = lines-one bs some (λ k lt. free_at 10 bs k free (o
 
 -- ---- the lines are lines with ends
 
-with_more : (t end rest : List ℕ) (ts : List (List ℕ)) → IsLineEnd end → InLines ts rest → InLines (t ∷ ts) (t ++ (end ++ rest))
+with_more : (t end rest : List ℕ) (ts : List (List ℕ)) → IsLineEnd t end → InLines ts rest → InLines (t ∷ ts) (t ++ (end ++ rest))
 with_more t end rest [] is h = inr (end, is, ap (λ (x : List ℕ). t ++ (end ++ x)) h ∙ ap (λ (x : List ℕ). t ++ x) (append-nil end))
 with_more t end rest (u ∷ us) is h = (end, rest, is, refl, h)
 
@@ -124,11 +126,10 @@ in_lines bs = in_lines_from (length bs) bs (omega arith)
 pub record IsPlainLine (t : List ℕ) : Type 0 where
   pub some : 0 < length t
   pub no_lf : IsFree 10 t
-  pub no_cr : NoCr t
 
-lines_with_end : (t end rest : List ℕ) → IsPlainLine t → IsLineEnd end → lines_in (t ++ (end ++ rest)) ≡ t ∷ lines_in rest
+lines_with_end : (t end rest : List ℕ) → IsPlainLine t → IsLineEnd t end → lines_in (t ++ (end ++ rest)) ≡ t ∷ lines_in rest
 lines_with_end t end rest is (inl e) =
-    ap (λ (x : List ℕ). lines_in (t ++ (x ++ rest))) e ∙ ap (λ (ls : List (List ℕ)). map without_terminator ls) (lines_ended t rest is.no_lf) ∙ ap (λ (x : List ℕ). x ∷ lines_in rest) (feed_off t ∙ no_return t is.no_cr)
+    ap (λ (x : List ℕ). lines_in (t ++ (x ++ rest))) e.0 ∙ ap (λ (ls : List (List ℕ)). map without_terminator ls) (lines_ended t rest is.no_lf) ∙ ap (λ (x : List ℕ). x ∷ lines_in rest) (feed_off t ∙ no_return t e.1)
 lines_with_end t end rest is (inr e) =
     let free : IsFree 10 (t ++ 13 ∷ []) = All-append (λ x. eqb x 10 ≡ false) t (13 ∷ []) is.no_lf (All-cons (λ x. eqb x 10 ≡ false) 13 [] refl (λ k x l. absurd (omega arith))) in
     ap (λ (x : List ℕ). lines_in (t ++ (x ++ rest))) e ∙ ap lines_in (sym (append_assoc t (13 ∷ []) (10 ∷ rest))) ∙ ap (λ (ls : List (List ℕ)). map without_terminator ls) (lines_ended (t ++ 13 ∷ []) rest free) ∙ ap (λ (x : List ℕ). x ∷ lines_in rest) (feed_off (t ++ 13 ∷ []) ∙ return_off t)
@@ -143,7 +144,7 @@ lines_are (t ∷ u ∷ us) bytes all h =
     ap lines_in h.3 ∙ lines_with_end t h.0 h.1 all.0 h.2 ∙ ap (λ (ls : List (List ℕ)). t ∷ ls) (lines_are (u ∷ us) h.1 all.1 h.4)
 
 plain_line : (t : List ℕ) → IsLineText t → IsPlainLine t
-plain_line t h = record { some = h.some; no_lf = λ k d l. ne_eqb _ 10 (h.no_lf k d l); no_cr = h.no_cr }
+plain_line t h = record { some = h.some; no_lf = λ k d l. ne_eqb _ 10 (h.no_lf k d l) }
 
 plain_lines : (ts : List (List ℕ)) → AllByRecursion IsLineText ts → AllByRecursion IsPlainLine ts
 plain_lines [] h = tt

@@ -1,6 +1,8 @@
 -- A text that spells a row has no fault, and spells no other row of its kind.
-use Rattle.std.proofs.Common.{◌≡◌, ℕ, Some, ◌<◌, ◌^◌, Bool, true, false, suc, List, [], ◌∷◌, length, get_or, refl, sym, ap, subst, ◌∙◌, inl, inr, arith}
-use Rattle.std.specs.Prelude.{decimal}
+use Rattle.std.proofs.Common.{◌≡◌, ℕ, Some, ◌<◌, ◌^◌, Bool, true, false, zero, suc, List, [], ◌∷◌, ◌++◌, length, get_or, refl, sym, ap, subst, ◌∙◌, inl, inr, arith, append_assoc}
+use Rattle.std.specs.Prelude.{decimal, replicate}
+use Rattle.std.specs.List.{AllByRecursion}
+use Rattle.std.proofs.lemmas.List.{append-nil, length-replicate}
 use Rattle.std.specs.Str.{IsUtf8}
 use Rattle.std.proofs.lemmas.Fmt.{decimal_injective}
 use Rattle.rf2_values.specs.declared.row.Kind.{Kind}
@@ -8,13 +10,20 @@ use Rattle.rf2_values.specs.declared.row.Kind.TheVariants as kind
 use Rattle.rf2_values.specs.declared.row.Body.{Body}
 use Rattle.rf2_values.specs.declared.row.Body.TheVariants as body
 use Rattle.rf2_rows.specs.declared.fault.LineFault.{LineFault}
+use Rattle.rf2_values.specs.declared.row.RefsetMember.{RefsetMember}
+use Rattle.rf2_values.specs.Member.{member_text}
+use Rattle.rf2_values.specs.Text.{IsColumn, further_columns}
+use Rattle.rf2_values.specs.Private.{tabbed}
 use Rattle.rf2_values.specs.Time.{IsTime}
 use Rattle.rf2_values.specs.Row.{RowValue, IsVersion, IsBody, IsConcept, IsComponent, IsIdOf, Spells, SpellsColumns, SpellsId, id_text, canonical, later_columns, body_columns, kind_of, kind_of_body, flag, line_of}
-use Rattle.rf2_rows.specs.Line.{Column, Identifier, Time, Active, ConceptReference, ComponentReference, Number, Text, MayStand, HasFault, FirstFault, columns, columns_in, own_layout, columns_of, IsFaultOf}
+use Rattle.rf2_rows.specs.declared.shape.Shape.{Shape}
+use Rattle.rf2_rows.specs.Line.{Column, Identifier, Time, Active, ConceptReference, ComponentReference, Number, Text, Any, MayStand, HasFault, FirstFault, columns, own_columns, columns_of, HasShape, IsFaultOf}
+use Rattle.rf2_rows.specs.File.{shape_with}
 use Rattle.rf2_rows.specs.Private.{AllStand}
 use Rattle.std.specs.Int.{from_be_bytes, w128}
 use Rattle.rf2_values.proofs.Ids.{same_ids}
 use Rattle.rf2_values.proofs.Members.{member_text_spells}
+use Rattle.rf2_values.proofs.FurtherColumns.{tabbed_line, tabbed_further, each_is_column}
 use Rattle.rf2_rows.proofs.Splits.{split-joined}
 use Rattle.rf2_rows.proofs.Clean.{all_clean, all_no_tab, line_is_utf8}
 
@@ -28,6 +37,7 @@ no_fault (Identifier kind.Description) t f h (inr fault) = fault.1 h
 no_fault (Identifier kind.Relationship) t f h (inl fault) = fault.0 (h.0, h.1.sctid, h.2)
 no_fault (Identifier kind.Relationship) t f h (inr fault) = fault.1 h
 no_fault (Identifier kind.Association) t f h fault = fault.0 h
+no_fault (Identifier kind.Member) t f h fault = fault.0 h
 no_fault (Identifier kind.Concrete) t f h (inl fault) = fault.0 (h.0, h.1.sctid, h.2)
 no_fault (Identifier kind.Concrete) t f h (inr fault) = fault.1 h
 no_fault Time t f h fault = fault.0 h
@@ -36,6 +46,7 @@ no_fault ConceptReference t f h fault = fault.0 h
 no_fault ComponentReference t f h fault = fault.0 h
 no_fault Number t f h fault = fault.0 h
 no_fault Text t f h fault = fault.0 h
+no_fault Any t f h fault = fault.0 h
 
 no_first_fault : (cs : List Column) (ts : List (List ℕ)) (f : LineFault) → AllStand cs ts → FirstFault cs ts f → ⊥
 unfolding FirstFault
@@ -44,42 +55,78 @@ no_first_fault (c ∷ cs) [] f stand h = h
 no_first_fault (c ∷ cs) (t ∷ ts) f stand (inl h) = no_fault c t f stand.0 h
 no_first_fault (c ∷ cs) (t ∷ ts) f stand (inr h) = no_first_fault cs ts f stand.1 h.1
 
-own_stand : (b : Body) → IsBody b → AllStand (columns_in (own_layout (kind_of_body b))) (body_columns b)
-own_stand (body.Concept c) h = ((c.definition_status, h, refl), tt)
-own_stand (body.Description d) h = ((d.concept, h.0, refl), (h.1, ((d.type_id, h.2, refl), (h.3, ((d.case_significance, h.4, refl), tt)))))
-own_stand (body.Relationship r) h = ((r.source, h.0, refl), ((r.destination, h.1, refl), ((r.group, h.2, refl), ((r.type_id, h.3, refl), ((r.characteristic_type, h.4, refl), ((r.modifier, h.5, refl), tt))))))
-own_stand (body.Association a) h = ((a.refset, h.0, refl), ((a.referenced, h.1, refl), ((a.target, h.2, refl), tt)))
-own_stand (body.Concrete c) h = ((c.source, h.0, refl), (h.1, ((c.group, h.2, refl), ((c.type_id, h.3, refl), ((c.characteristic_type, h.4, refl), ((c.modifier, h.5, refl), tt))))))
+-- what may stand in columns of any meaning
+any_stand : (ts : List (List ℕ)) (n : ℕ) → length ts ≡ n → AllByRecursion IsColumn ts → AllStand (replicate n Any) ts
+any_stand [] zero e h = tt
+any_stand [] (suc n) e h = absurd (omega arith)
+any_stand (t ∷ ts) zero e h = absurd (omega arith)
+any_stand (t ∷ ts) (suc n) e h = (h.0, any_stand ts n (omega arith) h.1)
+
+own_stand : (b : Body) (n : ℕ) → length (body_columns b) ≡ length (own_columns (shape_with (kind_of_body b) n)) → IsBody b → AllStand (own_columns (shape_with (kind_of_body b) n)) (body_columns b)
+own_stand (body.Concept c) n e h = ((c.definition_status, h, refl), tt)
+own_stand (body.Description d) n e h = ((d.concept, h.0, refl), (h.1, ((d.type_id, h.2, refl), (h.3, ((d.case_significance, h.4, refl), tt)))))
+own_stand (body.Relationship r) n e h = ((r.source, h.0, refl), ((r.destination, h.1, refl), ((r.group, h.2, refl), ((r.type_id, h.3, refl), ((r.characteristic_type, h.4, refl), ((r.modifier, h.5, refl), tt))))))
+own_stand (body.Association a) n e h = ((a.refset, h.0, refl), ((a.referenced, h.1, refl), ((a.target, h.2, refl), tt)))
+own_stand (body.Concrete c) n e h = ((c.source, h.0, refl), (h.1, ((c.group, h.2, refl), ((c.type_id, h.3, refl), ((c.characteristic_type, h.4, refl), ((c.modifier, h.5, refl), tt))))))
+own_stand (body.Member m) n e h =
+    let count = length-replicate n Any in
+    ((m.refset, h.0, refl), ((m.referenced, h.1, refl), any_stand (further_columns m.further) n (omega arith) (each_is_column m.further h.2)))
 
 -- the columns of a row may stand where they stand
-pub columns_stand : (v : RowValue) (texts : List (List ℕ)) → IsVersion v → SpellsColumns v texts → AllStand (columns (kind_of v)) texts
-columns_stand v texts h s =
-    subst (λ (ts : List (List ℕ)). AllStand (columns (kind_of v)) ts) (sym s.2)
-    ((v.id, h.id, s.1), ((v.time, h.time, refl), ((v.active, refl), ((v.module_id, h.module_id, refl), own_stand v.body h.body))))
+pub columns_stand : (shape : Shape) (v : RowValue) (texts : List (List ℕ)) → HasShape shape v → IsVersion v → SpellsColumns v texts → AllStand (columns shape) texts
+columns_stand shape v texts has h s =
+    let many : length (body_columns v.body) ≡ length (own_columns (shape_with (kind_of v) shape.further)) = subst (λ (k : Kind). length (body_columns v.body) ≡ length (own_columns (shape_with k shape.further))) (sym has.0) has.1 in
+    let stand : AllStand (columns (shape_with (kind_of v) shape.further)) (s.0 ∷ later_columns v) = ((v.id, h.id, s.1), ((v.time, h.time, refl), ((v.active, refl), ((v.module_id, h.module_id, refl), own_stand v.body shape.further many h.body)))) in
+    subst (λ (ts : List (List ℕ)). AllStand (columns shape) ts) (sym s.2) (subst (λ (k : Kind). AllStand (columns (shape_with k shape.further)) (s.0 ∷ later_columns v)) has.0 stand)
 
-columns_len : (cs : List Column) (ts : List (List ℕ)) → AllStand cs ts → length ts ≡ length cs
+-- the shape that a row has
+further_count : Body → ℕ
+further_count (body.Concept c) = 0
+further_count (body.Description d) = 0
+further_count (body.Relationship r) = 0
+further_count (body.Association a) = 0
+further_count (body.Concrete c) = 0
+further_count (body.Member m) = length (further_columns m.further)
+
+own_count : (b : Body) → length (body_columns b) ≡ length (own_columns (shape_with (kind_of_body b) (further_count b)))
+unfolding further_count
+own_count (body.Concept c) = refl
+own_count (body.Description d) = refl
+own_count (body.Relationship r) = refl
+own_count (body.Association a) = refl
+own_count (body.Concrete c) = refl
+own_count (body.Member m) = let count = length-replicate (length (further_columns m.further)) Any in omega arith
+
+pub shape_of : RowValue → Shape
+shape_of v = shape_with (kind_of v) (further_count v.body)
+
+pub has_own_shape : (v : RowValue) → HasShape (shape_of v) v
+unfolding shape_of
+has_own_shape v = (refl, own_count v.body)
+
+pub columns_len : (cs : List Column) (ts : List (List ℕ)) → AllStand cs ts → length ts ≡ length cs
 columns_len [] [] h = refl
 columns_len [] (t ∷ ts) h = absurd h
 columns_len (c ∷ cs) [] h = absurd h
 columns_len (c ∷ cs) (t ∷ ts) h = ap suc (columns_len cs ts h.1)
 
 -- what a line that spells a row holds between its TABs
-columns_cut : (kind : Kind) (texts : List (List ℕ)) → AllStand (columns kind) texts → columns_of (line_of texts) ≡ texts
-columns_cut kind [] h = absurd h
-columns_cut kind (t ∷ ts) h = let free = all_no_tab (t ∷ ts) (all_clean (columns kind) (t ∷ ts) h) in split-joined 9 t ts free.0 free.1
+columns_cut : (shape : Shape) (texts : List (List ℕ)) → AllStand (columns shape) texts → columns_of (line_of texts) ≡ texts
+columns_cut shape [] h = absurd h
+columns_cut shape (t ∷ ts) h = let free = all_no_tab (t ∷ ts) (all_clean (columns shape) (t ∷ ts) h) in split-joined 9 t ts free.0 free.1
 
-pub spelled_has_no_fault : (v : RowValue) (text : List ℕ) (f : LineFault) → Spells v text → IsFaultOf (kind_of v) text f → ⊥
-spelled_has_no_fault v text f s (inl long) = let short = s.short in omega arith
-spelled_has_no_fault v text f s (inr (other)) =
+pub spelled_has_no_fault : (shape : Shape) (v : RowValue) (text : List ℕ) (f : LineFault) → HasShape shape v → Spells v text → IsFaultOf shape text f → ⊥
+spelled_has_no_fault shape v text f has s (inl long) = let short = s.short in omega arith
+spelled_has_no_fault shape v text f has s (inr other) =
     let texts = s.columns.0 in
-    let stand = columns_stand v texts s.is_row s.columns.1 in
-    let cut : columns_of text ≡ texts = ap columns_of s.columns.2 ∙ columns_cut (kind_of v) texts stand in
+    let stand = columns_stand shape v texts has s.is_row s.columns.1 in
+    let cut : columns_of text ≡ texts = ap columns_of s.columns.2 ∙ columns_cut shape texts stand in
     elim other.1 [
-      | inl bad ↦ bad.0 (subst IsUtf8 (sym s.columns.2) (line_is_utf8 texts (all_clean (columns (kind_of v)) texts stand)))
+      | inl bad ↦ bad.0 (subst IsUtf8 (sym s.columns.2) (line_is_utf8 texts (all_clean (columns shape) texts stand)))
       | inr good ↦
           elim good.1 [
-            | inl count ↦ count.0 (ap length cut ∙ columns_len (columns (kind_of v)) texts stand)
-            | inr first ↦ no_first_fault (columns (kind_of v)) texts f stand (subst (λ (ts : List (List ℕ)). FirstFault (columns (kind_of v)) ts f) cut first.1)
+            | inl count ↦ count.0 (ap length cut ∙ columns_len (columns shape) texts stand)
+            | inr first ↦ no_first_fault (columns shape) texts f stand (subst (λ (ts : List (List ℕ)). FirstFault (columns shape) ts f) cut first.1)
           ]
     ]
 
@@ -153,6 +200,12 @@ same_bodies (body.Concrete a) (body.Concrete b) ha hb k e =
     let modifier = same_concepts a.modifier b.modifier ha.5 hb.5 _ _ characteristic.1 in
     let made : ℕ → List ℕ → ℕ → ℕ → ℕ → ℕ → Body = λ s v g t c m. body.Concrete (record { source = s; value = v; group = g; type_id = t; characteristic_type = c; modifier = m }) in
     ap (λ s. made s a.value a.group a.type_id a.characteristic_type a.modifier) source.0 ∙ ap (λ v. made b.source v a.group a.type_id a.characteristic_type a.modifier) value.0 ∙ ap (λ g. made b.source b.value g a.type_id a.characteristic_type a.modifier) group.0 ∙ ap (λ t. made b.source b.value b.group t a.characteristic_type a.modifier) type_id.0 ∙ ap (λ c. made b.source b.value b.group b.type_id c a.modifier) characteristic.0 ∙ ap (λ m. made b.source b.value b.group b.type_id b.characteristic_type m) modifier.0
+same_bodies (body.Member a) (body.Member b) ha hb k e =
+    let refset = same_concepts a.refset b.refset ha.0 hb.0 _ _ e in
+    let referenced = same_components a.referenced b.referenced ha.1 hb.1 _ _ refset.1 in
+    let further : a.further ≡ b.further = sym (tabbed_further a.further ha.2) ∙ ap (λ (ts : List (List ℕ)). tabbed ts) referenced.1 ∙ tabbed_further b.further hb.2 in
+    let made : ℕ → ℕ → List ℕ → Body = λ s r f. body.Member (record { refset = s; referenced = r; further = f }) in
+    ap (λ s. made s a.referenced a.further) refset.0 ∙ ap (λ r. made b.refset r a.further) referenced.0 ∙ ap (λ f. made b.refset b.referenced f) further
 same_bodies a b ha hb k e = absurd cc
 
 time_below : (t : ℕ) → IsTime t → t < 2 ^ 64
@@ -165,10 +218,10 @@ same_versions v w id time active modul body =
 
 pub spells_one_row : (v w : RowValue) (text : List ℕ) → kind_of v ≡ kind_of w → Spells v text → Spells w text → v ≡ w
 spells_one_row v w text k s t =
-    let a = columns_stand v s.columns.0 s.is_row s.columns.1 in
-    let b = columns_stand w t.columns.0 t.is_row t.columns.1 in
-    let cut_v : columns_of text ≡ s.columns.0 = ap columns_of s.columns.2 ∙ columns_cut (kind_of v) s.columns.0 a in
-    let cut_w : columns_of text ≡ t.columns.0 = ap columns_of t.columns.2 ∙ columns_cut (kind_of w) t.columns.0 b in
+    let a = columns_stand (shape_of v) v s.columns.0 (has_own_shape v) s.is_row s.columns.1 in
+    let b = columns_stand (shape_of w) w t.columns.0 (has_own_shape w) t.is_row t.columns.1 in
+    let cut_v : columns_of text ≡ s.columns.0 = ap columns_of s.columns.2 ∙ columns_cut (shape_of v) s.columns.0 a in
+    let cut_w : columns_of text ≡ t.columns.0 = ap columns_of t.columns.2 ∙ columns_cut (shape_of w) t.columns.0 b in
     let all : s.columns.1.0 ∷ later_columns v ≡ t.columns.1.0 ∷ later_columns w = sym s.columns.1.2 ∙ sym cut_v ∙ cut_w ∙ t.columns.1.2 in
     let id_text_same : s.columns.1.0 ≡ t.columns.1.0 = cc in
     let later : later_columns v ≡ later_columns w = cc in
@@ -193,3 +246,20 @@ canonical_spells v h = record { is_row = h; columns = (id_text (kind_of v) v.id 
     canonical_id kind.Relationship n h = refl
     canonical_id kind.Association n h = member_text_spells n h
     canonical_id kind.Concrete n h = refl
+    canonical_id kind.Member n h = member_text_spells n h
+
+-- columns of a known meaning, and others behind them
+pub joined : (u : List ℕ) (us ts : List (List ℕ)) → line_of (u ∷ us ++ ts) ≡ line_of (u ∷ us) ++ tabbed ts
+joined u [] [] = sym (append-nil u)
+joined u [] (t ∷ ts) = ap (λ (x : List ℕ). u ++ x) (sym (tabbed_line t ts))
+joined u (x ∷ xs) ts = ap (λ (rest : List ℕ). u ++ 9 ∷ rest) (joined x xs ts) ∙ sym (append_assoc u (9 ∷ line_of (x ∷ xs)) (tabbed ts))
+
+pub member_keeps_its_bytes : (v : RowValue) (m : RefsetMember) → IsVersion v → v.body ≡ body.Member m
+    → canonical v ≡ line_of (member_text v.id ∷ decimal v.time ∷ flag v.active ∷ decimal v.module_id ∷ decimal m.refset ∷ decimal m.referenced ∷ []) ++ m.further
+member_keeps_its_bytes v m h e =
+    let is_further = (subst IsBody e h.body).2 in
+    let whole : canonical v ≡ line_of (member_text v.id ∷ decimal v.time ∷ flag v.active ∷ decimal v.module_id ∷ body_columns (body.Member m)) =
+    ap (λ (b : Body). line_of (id_text (kind_of_body b) v.id ∷ decimal v.time ∷ flag v.active ∷ decimal v.module_id ∷ body_columns b)) e in
+    whole
+    ∙ joined (member_text v.id) (decimal v.time ∷ flag v.active ∷ decimal v.module_id ∷ decimal m.refset ∷ decimal m.referenced ∷ []) (further_columns m.further)
+    ∙ ap (λ (x : List ℕ). line_of (member_text v.id ∷ decimal v.time ∷ flag v.active ∷ decimal v.module_id ∷ decimal m.refset ∷ decimal m.referenced ∷ []) ++ x) (tabbed_further m.further is_further)

@@ -1,10 +1,10 @@
 -- The pieces round a byte, as bstr cuts them and as std's word gives them, and those of what was joined.
 use Rattle.std.proofs.Common.{◌≡◌, ◌≢◌, ℕ, zero, suc, ◌+◌, ◌-◌, ◌<◌, ◌≤◌, false, eqb, List, [], ◌∷◌, ◌++◌, length, get_or, take, drop, refl, sym, ap, subst, ◌∙◌, arith, inl, inr, All, take-append-drop, get_or-drop, get_or-take, add-zero}
-use Rattle.std.specs.List.{slice_split, join_with_byte, AllByRecursion}
+use Rattle.std.specs.List.{slice_split, onto_first, join_with_byte, AllByRecursion}
 use Rattle.std.proofs.lemmas.Bool.{cases_Bool, cases_eq, ne_eqb, eq-eqb, cond-true, cond-false, both_ways}
 use Rattle.std.proofs.lemmas.List.{drop-drop, drop_more, length-drop, length-take, take_all}
-use Rattle.std.proofs.lemmas.List.Elements.{All-from_get_or}
-use Rattle.std.proofs.lemmas.List.Splits.{slice_split_none, slice_split_at}
+use Rattle.std.proofs.lemmas.List.Elements.{All-from_get_or, All-nil, All-cons}
+use Rattle.std.proofs.lemmas.List.Splits.{slice_split_none, slice_split_at, slice_split-cons_yes, slice_split-cons_no}
 use Rattle.memchr.specs.Find.{occurs_at, matches, matches_from, OccursAt}
 use Rattle.memchr.proofs.lemmas.MatchLemmas.{OccursAt-true, occurs_at-true}
 use Rattle.bstr.specs.Text.{split_at, part}
@@ -75,3 +75,18 @@ pub split-joined : (c : ℕ) (t : List ℕ) (ts : List (List ℕ)) → IsFree c 
 split-joined c t [] free all = slice_split_none (λ b. eqb b c) t free
 split-joined c t (u ∷ us) free all =
     slice_split_at (λ b. eqb b c) t c (join_with_byte c (u ∷ us)) free (eq-eqb c c refl) ∙ ap (λ (x : List (List ℕ)). t ∷ x) (split-joined c u us all.0 all.1)
+
+onto_free : (c x : ℕ) (parts : List (List ℕ)) → x ≢ c → AllByRecursion (λ t. All (λ b. b ≢ c) t) parts → AllByRecursion (λ t. All (λ b. b ≢ c) t) (onto_first x parts)
+onto_free c x [] other h = (All-cons (λ b. b ≢ c) x [] other (All-nil (λ (b : ℕ). b ≢ c)), tt)
+onto_free c x (p ∷ ps) other h = (All-cons (λ b. b ≢ c) x p other h.0, h.1)
+
+-- the parts of a text don't have the byte round which it was cut
+pub parts_free : (c : ℕ) (text : List ℕ) → AllByRecursion (λ t. All (λ b. b ≢ c) t) (slice_split (λ b. eqb b c) text)
+parts_free c [] = (All-nil (λ (b : ℕ). b ≢ c), tt)
+parts_free c (x ∷ xs) =
+    elim (cases_eq x c) [
+      | inl same ↦
+          subst (λ (ts : List (List ℕ)). AllByRecursion (λ t. All (λ b. b ≢ c) t) ts) (sym (slice_split-cons_yes (λ b. eqb b c) x xs (eq-eqb x c same))) (All-nil (λ (b : ℕ). b ≢ c), parts_free c xs)
+      | inr other ↦
+          subst (λ (ts : List (List ℕ)). AllByRecursion (λ t. All (λ b. b ≢ c) t) ts) (sym (slice_split-cons_no (λ b. eqb b c) x xs (ne_eqb x c other))) (onto_free c x (slice_split (λ b. eqb b c) xs) other (parts_free c xs))
+    ]

@@ -1,46 +1,70 @@
 -- What a release file is, and what is wrong with a file that is none.
-use Rattle.std.specs.Prelude.{◌≡◌, ◌≢◌, ℕ, ◌+◌, ◌≤◌, ◌<◌, ◌⊎◌, List, [], ◌∷◌, ◌++◌, length, map}
-use Rattle.std.specs.Prelude.{drop, nat_eq, if◌then◌else◌}
+use Rattle.std.specs.Prelude.{◌≡◌, ◌≢◌, ℕ, ◌+◌, ◌-◌, ◌≤◌, ◌<◌, ◌⊎◌, List, [], ◌∷◌, ◌++◌, length, map}
+use Rattle.std.specs.Prelude.{drop, nat_eq, slice_index, if◌then◌else◌}
 use Rattle.std.specs.List.{AllZip, starts_with}
 use Rattle.std.specs.Str.{IsUtf8}
 use Rattle.bstr.specs.Text.{lines_of, without_terminator}
 use Rattle.rf2_values.specs.declared.row.Kind.{Kind}
+use Rattle.rf2_values.specs.declared.row.Kind.TheVariants as kind
 use Rattle.rf2_rows.specs.declared.fault.LineFault.{LineFault}
 use Rattle.rf2_rows.specs.declared.fault.FileFault.{FileFault}
 use Rattle.rf2_rows.specs.declared.fault.FileFault.TheVariants as filefault
 use Rattle.rf2_rows.specs.declared.fault.LineFault.TheVariants as fault
-use Rattle.rf2_values.specs.Row.{RowValue, Spells, kind_of, line_limit}
-use Rattle.rf2_rows.specs.Line.{header, IsFaultOf}
+use Rattle.rf2_values.specs.Text.{IsFurther, further_columns}
+use Rattle.rf2_values.specs.Row.{RowValue, Spells, line_limit}
+use Rattle.rf2_rows.specs.declared.shape.Shape.{Shape}
+use Rattle.rf2_rows.specs.Line.{header, HasShape, IsFaultOf}
 
--- a line end is LF or CR LF
-abbrev pub IsLineEnd : List ℕ → Type 0
-IsLineEnd end = (end ≡ 10 ∷ []) ⊎ (end ≡ 13 ∷ 10 ∷ [])
+-- what may end a line of this text: CR LF, or LF alone where the text itself doesn't end in CR
+abbrev pub IsLineEnd : List ℕ → List ℕ → Type 0
+IsLineEnd text end =
+    ((end ≡ 10 ∷ []) × (slice_index text (length text - 1) ≢ 13)) ⊎ (end ≡ 13 ∷ 10 ∷ [])
 
 -- the bytes are the texts in order, each with a line end, which the last one may lack
 abbrev pub InLines : List (List ℕ) → List ℕ → Type 0
 InLines [] bytes = bytes ≡ []
-InLines (t ∷ []) bytes = (bytes ≡ t) ⊎ ((end : List ℕ) × IsLineEnd end × (bytes ≡ t ++ end))
+InLines (t ∷ []) bytes = (bytes ≡ t) ⊎ ((end : List ℕ) × IsLineEnd t end × (bytes ≡ t ++ end))
 InLines (t ∷ u ∷ us) bytes =
-    (end : List ℕ) × (rest : List ℕ) × IsLineEnd end × (bytes ≡ t ++ (end ++ rest))
+    (end : List ℕ) × (rest : List ℕ) × IsLineEnd t end × (bytes ≡ t ++ (end ++ rest))
     × InLines (u ∷ us) rest
 
 -- the byte order mark
 abbrev pub mark : List ℕ
 mark = 0xef ∷ 0xbb ∷ 0xbf ∷ []
 
--- each text spells the row of its place
-abbrev pub SpellsEach : Kind → List RowValue → List (List ℕ) → Type 0
-SpellsEach kind rows texts = AllZip (λ v text. (kind_of v ≡ kind) × Spells v text) rows texts
+-- the text is the column names of a file of the kind that has so many further columns, whose names
+-- may be any
+abbrev pub IsHeader : Kind → ℕ → List ℕ → Type 0
+IsHeader kind.Concept n text = (n ≡ 0) × (text ≡ header kind.Concept)
+IsHeader kind.Description n text = (n ≡ 0) × (text ≡ header kind.Description)
+IsHeader kind.Relationship n text = (n ≡ 0) × (text ≡ header kind.Relationship)
+IsHeader kind.Association n text = (n ≡ 0) × (text ≡ header kind.Association)
+IsHeader kind.Concrete n text = (n ≡ 0) × (text ≡ header kind.Concrete)
+IsHeader kind.Member n text =
+    (names : List ℕ) × IsFurther names × (n ≡ length (further_columns names))
+    × (text ≡ header kind.Member ++ names) × (length text ≤ line_limit)
 
--- an optional mark, the header, and then one line for each row in order
+-- each text spells the row of its place, which has the shape
+abbrev pub SpellsEach : Shape → List RowValue → List (List ℕ) → Type 0
+SpellsEach shape rows texts = AllZip (λ v text. HasShape shape v × Spells v text) rows texts
+
+-- the shape of rows of the kind with so many further columns
+abbrev pub shape_with : Kind → ℕ → Shape
+shape_with kind n = record { kind = kind; further = n }
+
+-- An optional mark, the column names, and then one line for each row in order. Each line has as
+-- many columns as there are names.
 pub record IsReleaseFile (kind : Kind) (rows : List RowValue) (bytes : List ℕ) : Type 0 where
   pub front : List ℕ
   pub is_front : (front ≡ []) ⊎ (front ≡ mark)
   pub body : List ℕ
+  pub names : List ℕ
+  pub further : ℕ
+  pub are_names : IsHeader kind further names
   pub texts : List (List ℕ)
   pub whole : bytes ≡ front ++ body
-  pub in_lines : InLines (header kind ∷ texts) body
-  pub spelled : SpellsEach kind rows texts
+  pub in_lines : InLines (names ∷ texts) body
+  pub spelled : SpellsEach (shape_with kind further) rows texts
 
 -- ---- faults
 
@@ -58,14 +82,14 @@ IsFirstLineFault kind text f =
     ((line_limit < length text) × (f ≡ fault.LineLength))
     ⊎ ((length text ≤ line_limit)
     × ((¬ (IsUtf8 text) × (f ≡ fault.NotUtf8))
-    ⊎ (IsUtf8 text × (text ≢ header kind) × (f ≡ fault.Header))))
+    ⊎ (IsUtf8 text × ((n : ℕ) → ¬ (IsHeader kind n text)) × (f ≡ fault.Header))))
 
 -- Of the lines from line 2 on, line n is the first that has a fault, and f is its fault:
 -- those before it spell rows.
-abbrev pub IsFaultOfRows : Kind → List (List ℕ) → ℕ → LineFault → Type 0
-IsFaultOfRows kind lines n f =
+abbrev pub IsFaultOfRows : Shape → List (List ℕ) → ℕ → LineFault → Type 0
+IsFaultOfRows shape lines n f =
     (rows : List RowValue) × (before : List (List ℕ)) × (text : List ℕ) × (after : List (List ℕ))
-    × (lines ≡ before ++ text ∷ after) × SpellsEach kind rows before × IsFaultOf kind text f
+    × (lines ≡ before ++ text ∷ after) × SpellsEach shape rows before × IsFaultOf shape text f
     × (n ≡ length before + 2)
 
 -- Line n, counted from 1, is the first that has a fault, and f is its fault.
@@ -74,7 +98,8 @@ abbrev pub IsFaultOfLines : Kind → List (List ℕ) → ℕ → LineFault → T
 IsFaultOfLines kind [] n f = (n ≡ 1) × (f ≡ fault.Header)
 IsFaultOfLines kind (first ∷ others) n f =
     ((n ≡ 1) × IsFirstLineFault kind first f)
-    ⊎ ((first ≡ header kind) × IsFaultOfRows kind others n f)
+    ⊎ ((further : ℕ) × IsHeader kind further first
+    × IsFaultOfRows (shape_with kind further) others n f)
 
 abbrev pub IsFaultOfFile : Kind → List ℕ → ℕ → LineFault → Type 0
 IsFaultOfFile kind bytes n f = IsFaultOfLines kind (lines_in (without_mark bytes)) n f

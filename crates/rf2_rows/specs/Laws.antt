@@ -1,10 +1,14 @@
 -- What holds of every row, line and file. Each is proved by the function of its name in `laws`.
-use Rattle.std.specs.Prelude.{◌≡◌, ◌≢◌, ◌↔◌, ◌⊎◌, ℕ, ◌-◌, ◌<◌, List, length, slice_index}
+use Rattle.std.specs.Prelude.{◌≡◌, ◌≢◌, ◌↔◌, ◌⊎◌, ℕ, ◌<◌, List, [], ◌∷◌, ◌++◌, length, decimal}
 use Rattle.std.specs.List.{All, AllByRecursion}
 use Rattle.rf2_values.specs.declared.row.Kind.{Kind}
-use Rattle.rf2_values.specs.Row.{RowValue, IsVersion, Spells, canonical, kind_of}
+use Rattle.rf2_values.specs.declared.row.RefsetMember.{RefsetMember}
+use Rattle.rf2_values.specs.declared.row.Body.TheVariants as body
+use Rattle.rf2_values.specs.Member.{member_text}
+use Rattle.rf2_values.specs.Row.{RowValue, IsVersion, Spells, canonical, kind_of, flag, line_of}
 use Rattle.rf2_rows.specs.declared.fault.LineFault.{LineFault}
-use Rattle.rf2_rows.specs.Line.{IsFaultOf}
+use Rattle.rf2_rows.specs.declared.shape.Shape.{Shape}
+use Rattle.rf2_rows.specs.Line.{HasShape, IsFaultOf}
 use Rattle.rf2_rows.specs.File.{InLines, lines_in, IsReleaseFile, IsFaultOfFile}
 
 -- ---- lines
@@ -18,23 +22,35 @@ SpellsOneRow =
 abbrev pub CanonicalSpells : Type 0
 CanonicalSpells = (v : RowValue) → IsVersion v → Spells v (canonical v)
 
+-- The line of a member of a reference set is its six columns of a known meaning, and behind them
+-- its further ones as they were.
+abbrev pub MemberKeepsItsBytes : Type 0
+MemberKeepsItsBytes =
+    (v : RowValue) (m : RefsetMember) → IsVersion v → v.body ≡ body.Member m
+    → canonical v
+    ≡
+    line_of (member_text v.id ∷ decimal v.time ∷ flag v.active ∷ decimal v.module_id
+    ∷ decimal m.refset ∷ decimal m.referenced ∷ [])
+    ++ m.further
+
 -- A line has at most one fault.
 abbrev pub OneFaultOfLine : Type 0
 OneFaultOfLine =
-    (kind : Kind) (text : List ℕ) (f g : LineFault)
-    → IsFaultOf kind text f → IsFaultOf kind text g → f ≡ g
+    (shape : Shape) (text : List ℕ) (f g : LineFault)
+    → IsFaultOf shape text f → IsFaultOf shape text g → f ≡ g
 
--- A line that spells a row has no fault.
+-- A line that spells a row of the shape has no fault.
 abbrev pub RowHasNoFault : Type 0
 RowHasNoFault =
-    (v : RowValue) (text : List ℕ) (f : LineFault) → Spells v text → ¬ IsFaultOf (kind_of v) text f
+    (shape : Shape) (v : RowValue) (text : List ℕ) (f : LineFault)
+    → HasShape shape v → Spells v text → ¬ IsFaultOf shape text f
 
--- Each line spells a row of the kind or has a fault.
+-- Each line spells a row of the shape or has a fault.
 abbrev pub RowOrFault : Type 0
 RowOrFault =
-    (kind : Kind) (text : List ℕ)
-    → ((v : RowValue) × (kind_of v ≡ kind) × Spells v text)
-    ⊎ ((f : LineFault) × IsFaultOf kind text f)
+    (shape : Shape) (text : List ℕ)
+    → ((v : RowValue) × HasShape shape v × Spells v text)
+    ⊎ ((f : LineFault) × IsFaultOf shape text f)
 
 -- ---- files
 
@@ -65,11 +81,10 @@ FileOrFault =
 
 -- ---- the lines of bytes
 
--- a text that any line end shows as it is: some bytes without LF, the last of which is no CR
+-- a text that a line may have: some bytes without LF
 pub record IsLineText (text : List ℕ) : Type 0 where
   pub some : 0 < length text
   pub no_lf : All (λ b. b ≢ 10) text
-  pub no_cr : slice_index text (length text - 1) ≢ 13
 
 -- Any bytes are their lines in order, each with a line end, which the last one may lack.
 abbrev pub BytesAreTheirLines : Type 0

@@ -1,6 +1,6 @@
 -- What is wrong with a line.
 use Rattle.std.specs.Prelude.{◌≡◌, ◌≢◌, ℕ, ◌≤◌, ◌<◌, ◌^◌, ◌==◌, ◌⊎◌, Bool, List, [], ◌∷◌, ◌++◌}
-use Rattle.std.specs.Prelude.{length, map, decimal, codes}
+use Rattle.std.specs.Prelude.{length, map, replicate, decimal, codes}
 use Rattle.std.specs.List.{slice_split}
 use Rattle.std.specs.Str.{IsUtf8}
 use Rattle.rf2_values.specs.declared.sctid.Class.{Class}
@@ -11,11 +11,12 @@ use Rattle.rf2_rows.specs.declared.fault.LineFault.{LineFault}
 use Rattle.rf2_rows.specs.declared.fault.LineFault.TheVariants as fault
 use Rattle.rf2_values.specs.Sctid.{IsSctid}
 use Rattle.rf2_values.specs.Time.{IsTime}
-use Rattle.rf2_values.specs.Text.{IsText}
+use Rattle.rf2_values.specs.Text.{IsText, IsColumn}
 use Rattle.rf2_rows.specs.declared.fault.RowFault.{RowFault}
 use Rattle.rf2_rows.specs.declared.fault.RowFault.TheVariants as rowfault
-use Rattle.rf2_values.specs.Row.{IsOfClass, IsConcept, IsComponent, IsIdOf, SpellsId, flag}
-use Rattle.rf2_values.specs.Row.{line_limit, line_of}
+use Rattle.rf2_rows.specs.declared.shape.Shape.{Shape}
+use Rattle.rf2_values.specs.Row.{RowValue, IsOfClass, IsConcept, IsComponent, IsIdOf, SpellsId, flag}
+use Rattle.rf2_values.specs.Row.{kind_of, body_columns, line_limit, line_of}
 
 -- the texts between the TABs
 abbrev pub columns_of : List ℕ → List (List ℕ)
@@ -30,6 +31,7 @@ pub data Column : Type 0 where
   ComponentReference : Column
   Number : Column
   Text : Column
+  Any : Column
 
 -- the columns that every kind has, each with its name
 abbrev pub common_layout : Kind → List (List ℕ × Column)
@@ -71,14 +73,37 @@ own_layout kind.Concrete =
     ∷ (codes "characteristicTypeId", ConceptReference)
     ∷ (codes "modifierId", ConceptReference)
     ∷ []
+own_layout kind.Member =
+    (codes "refsetId", ConceptReference)
+    ∷ (codes "referencedComponentId", ComponentReference)
+    ∷ []
+
+-- the columns behind these: members have as many as it is said, the other kinds have none
+abbrev pub further_layout : Kind → ℕ → List Column
+further_layout kind.Concept n = []
+further_layout kind.Description n = []
+further_layout kind.Relationship n = []
+further_layout kind.Association n = []
+further_layout kind.Concrete n = []
+further_layout kind.Member n = replicate n Any
 
 abbrev pub columns_in : List (List ℕ × Column) → List Column
 columns_in layout = map (λ c. c.1) layout
 
-abbrev pub columns : Kind → List Column
-columns kind = columns_in (common_layout kind ++ own_layout kind)
+-- the columns that lines of the shape have of their own
+abbrev pub own_columns : Shape → List Column
+own_columns shape =
+    columns_in (own_layout shape.kind) ++ further_layout shape.kind shape.further
 
--- the first line of a file
+abbrev pub columns : Shape → List Column
+columns shape = columns_in (common_layout shape.kind) ++ own_columns shape
+
+-- the row is of the shape's kind, and has as many columns
+abbrev pub HasShape : Shape → RowValue → Type 0
+HasShape shape v =
+    (kind_of v ≡ shape.kind) × (length (body_columns v.body) ≡ length (own_columns shape))
+
+-- the names of the columns that each file of the kind has
 abbrev pub header : Kind → List ℕ
 header kind = line_of (map (λ c. c.0) (common_layout kind ++ own_layout kind))
 
@@ -95,6 +120,7 @@ MayStand ConceptReference text = SpellsSome IsConcept text
 MayStand ComponentReference text = SpellsSome IsComponent text
 MayStand Number text = SpellsSome (λ n. n < 2 ^ 32) text
 MayStand Text text = IsText text
+MayStand Any text = IsColumn text
 
 -- the fault of a text that is no SCTID of the class
 abbrev pub HasClassFault : Class → List ℕ → LineFault → Type 0
@@ -110,6 +136,8 @@ HasIdFault kind.Relationship text f = HasClassFault class.Relationship text f
 HasIdFault kind.Association text f =
     ¬ (MayStand (Identifier kind.Association) text) × (f ≡ fault.MemberId)
 HasIdFault kind.Concrete text f = HasClassFault class.Relationship text f
+HasIdFault kind.Member text f =
+    ¬ (MayStand (Identifier kind.Member) text) × (f ≡ fault.MemberId)
 
 -- the fault of a text that may not stand in the column
 abbrev pub HasFault : Column → List ℕ → LineFault → Type 0
@@ -120,6 +148,7 @@ HasFault ConceptReference text f = ¬ (MayStand ConceptReference text) × (f ≡
 HasFault ComponentReference text f = ¬ (MayStand ComponentReference text) × (f ≡ fault.Reference)
 HasFault Number text f = ¬ (MayStand Number text) × (f ≡ fault.Number)
 HasFault Text text f = ¬ (MayStand Text text) × (f ≡ fault.EmptyText)
+HasFault Any text f = ¬ (MayStand Any text) × (f ≡ fault.EmptyText)
 
 -- the fault of the first text, from the left, that may not stand in its column
 unfoldable pub FirstFault : List Column → List (List ℕ) → LineFault → Type 0
@@ -128,18 +157,18 @@ FirstFault (c ∷ cs) [] f = ⊥
 FirstFault (c ∷ cs) (t ∷ ts) f = HasFault c t f ⊎ (MayStand c t × FirstFault cs ts f)
 
 -- the first fault of columns
-abbrev pub IsFaultOfColumns : Kind → List (List ℕ) → LineFault → Type 0
-IsFaultOfColumns kind texts f =
-    ((length texts ≢ length (columns kind)) × (f ≡ fault.Columns))
-    ⊎ ((length texts ≡ length (columns kind)) × FirstFault (columns kind) texts f)
+abbrev pub IsFaultOfColumns : Shape → List (List ℕ) → LineFault → Type 0
+IsFaultOfColumns shape texts f =
+    ((length texts ≢ length (columns shape)) × (f ≡ fault.Columns))
+    ⊎ ((length texts ≡ length (columns shape)) × FirstFault (columns shape) texts f)
 
 -- the first fault of a line
-abbrev pub IsFaultOf : Kind → List ℕ → LineFault → Type 0
-IsFaultOf kind text f =
+abbrev pub IsFaultOf : Shape → List ℕ → LineFault → Type 0
+IsFaultOf shape text f =
     ((line_limit < length text) × (f ≡ fault.LineLength))
     ⊎ ((length text ≤ line_limit)
     × ((¬ (IsUtf8 text) × (f ≡ fault.NotUtf8))
-    ⊎ (IsUtf8 text × IsFaultOfColumns kind (columns_of text) f)))
+    ⊎ (IsUtf8 text × IsFaultOfColumns shape (columns_of text) f)))
 
 -- a fault that reading gives is the one meant, where memory lasts
 abbrev pub IsLineFaultThat : (LineFault → Type 0) → RowFault → Type 0

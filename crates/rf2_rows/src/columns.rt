@@ -1,18 +1,20 @@
 //! The columns of a line, each with its fault.
 
-ghost use Rattle.std.specs.Prelude.{◌≡◌, ◌<◌, ◌^◌, OnOk, MatchResult, decimal};
+ghost use Rattle.std.specs.Prelude.{◌≡◌, ◌<◌, ◌^◌, length, replicate, IfOk, OnOk, MatchResult, decimal};
 ghost use Rattle.rf2_values.specs.declared.row.Kind.TheVariants as kind;
 ghost use Rattle.rf2_values.specs.Time.{IsTime};
-ghost use Rattle.rf2_values.specs.Text.{IsText};
+ghost use Rattle.rf2_values.specs.Text.{IsText, IsFurther, further_columns};
+ghost use Rattle.rf2_values.specs.Private.{tabbed};
 ghost use Rattle.rf2_values.specs.Row.{IsOfClass, IsConcept, IsComponent, IsIdOf, SpellsId, flag};
 ghost use Rattle.rf2_rows.specs.Line.{Identifier, Time, Active, ConceptReference};
-ghost use Rattle.rf2_rows.specs.Line.{ComponentReference, Number, Text as ColumnText};
-ghost use Rattle.rf2_rows.specs.Line.{IsLineFaultThat, HasClassFault, HasFault, columns_of};
-ghost use Rattle.rf2_rows.specs.Private.{texts};
+ghost use Rattle.rf2_rows.specs.Line.{ComponentReference, Number, Text as ColumnText, Any};
+ghost use Rattle.rf2_rows.specs.Line.{IsLineFaultThat, HasClassFault, HasFault, FirstFault};
+ghost use Rattle.rf2_rows.specs.Line.{columns_of};
+ghost use Rattle.rf2_rows.specs.Private.{texts, HaveNoTab};
 
 use crate::fault::{LineFault, RowFault};
 use bstr::ByteSlice;
-use rf2_values::{Class, EffectiveTime, Kind, Member, Sctid, Text, number};
+use rf2_values::{Class, EffectiveTime, Further, Kind, Member, Sctid, Text, number};
 use std::alloc::{AllocError, Global};
 
 /// Puts the texts between the TABs into the vector, in place of what it held.
@@ -66,7 +68,7 @@ pub(crate) fn identifier(kind: Kind, text: &[u8]) -> Result<u128, LineFault>
         Kind::Relationship | Kind::Concrete => {
             Ok(u128::from(sctid_of(text, Class::Relationship)?.value()))
         }
-        Kind::Association => member_id(text),
+        Kind::Association | Kind::Member => member_id(text),
     }
 }
 
@@ -135,6 +137,34 @@ pub(crate) fn some_text(alloc: Global, text: &[u8]) -> Result<Text, RowFault>
 {
     match Text::of(alloc, text)? {
         Some(text) => Ok(text),
+        None => Err(RowFault::Line(LineFault::EmptyText)),
+    }
+}
+
+/// The columns, each after a TAB.
+#[tactic(auto, using(crate::proofs::Texts::joined_more))]
+fn join(alloc: Global, columns: &[&[u8]]) -> Result<Vec<u8>, AllocError>
+    ensures { IfOk result (λ bytes. bytes.items ≡ tabbed (texts columns.now)) }
+{
+    let mut bytes = Vec::new(alloc);
+    for column in columns {
+        bytes.push(b'\t')?;
+        bytes.extend_from_slice(column)?;
+    }
+    Ok(bytes)
+}
+
+/// The columns behind those of a known meaning.
+pub(crate) fn further(alloc: Global, columns: &[&[u8]]) -> Result<Further, RowFault>
+    requires { HaveNoTab (texts columns.now) }
+    ensures { MatchResult result
+        (λ f. IsFurther f × (texts columns.now ≡ further_columns f))
+        (IsLineFaultThat
+        (FirstFault (replicate (length columns.now) Any) (texts columns.now))) }
+{
+    let bytes = join(alloc, columns)?;
+    match Further::of(alloc, &bytes)? {
+        Some(further) => Ok(further),
         None => Err(RowFault::Line(LineFault::EmptyText)),
     }
 }

@@ -40,11 +40,11 @@ pub enum LineFault {
     /// In the column `relationshipGroup`.
     #[error("the number isn't one of 32 bits")]
     Number,
-    /// In the column `id` of a reference set file.
+    /// In the column `id` of a reference set file, whatever its pattern.
     #[error("the member id isn't a UUID of 36 bytes")]
     MemberId,
-    /// In the columns `languageCode`, `term` and `value`; also a text
-    /// with an LF, which only a line handed over by itself can hold.
+    /// In the columns `languageCode`, `term` and `value`. Also a text with an LF, here or in a
+    /// further column of a member, which only a line handed over by itself can hold.
     #[error("the text is empty")]
     EmptyText,
 }

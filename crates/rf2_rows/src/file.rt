@@ -1,19 +1,20 @@
 //! Files: reading rows.
 
-ghost use Rattle.std.specs.Prelude.{◌≡◌, ℕ, ◌<◌, ◌↔◌, ◌⊎◌, length, List, MatchResult, MatchOption};
+ghost use Rattle.std.specs.Prelude.{◌≡◌, ℕ, ◌≤◌, ◌⊎◌, List, length, MatchResult, MatchOption};
 ghost use Rattle.std.specs.Prelude.{IfOk, IfErr};
-ghost use Rattle.rf2_values.specs.Row.{RowValue};
+ghost use Rattle.rf2_values.specs.Row.{RowValue, line_limit};
 ghost use Rattle.rf2_rows.specs.declared.fault.LineFault.{LineFault};
 ghost use Rattle.rf2_rows.specs.declared.fault.FileFault.TheVariants as filefault;
 ghost use Rattle.rf2_rows.specs.Line.{header};
 ghost use Rattle.rf2_rows.specs.File.{without_mark as bytes_without_mark, lines_in, IsReleaseFile};
-ghost use Rattle.rf2_rows.specs.File.{SpellsEach};
+ghost use Rattle.rf2_rows.specs.File.{IsHeader, SpellsEach};
 ghost use Rattle.rf2_rows.specs.File.{IsFirstLineFault, IsFaultOfRows, IsFaultOfFile, IsFaultThat};
 
 use crate::fault::{FileFault, LineFault};
 use crate::line::read_line;
+use crate::shape::Shape;
 use bstr::{ByteSlice, Lines};
-use rf2_values::{Kind, LINE_LIMIT, Row};
+use rf2_values::{Further, Kind, LINE_LIMIT, Row};
 use std::alloc::Global;
 
 /// The column names of a concept file.
@@ -38,7 +39,12 @@ const CONCRETE_HEADER: &[u8] =
     b"id\teffectiveTime\tactive\tmoduleId\tsourceId\tvalue\trelationshipGroup\ttypeId\t\
       characteristicTypeId\tmodifierId";
 
+/// The column names that each file of members of reference sets begins with.
+const MEMBER_HEADER: &[u8] =
+    b"id\teffectiveTime\tactive\tmoduleId\trefsetId\treferencedComponentId";
+
 /// The first line of a file of the kind, without its line end: the column names, joined by TAB.
+/// In a file of members of reference sets any further names may follow.
 pub fn column_names(kind: Kind) -> &'static [u8]
     ensures { result.now ≡ header kind }
 {
@@ -48,6 +54,7 @@ pub fn column_names(kind: Kind) -> &'static [u8]
         Kind::Relationship => RELATIONSHIP_HEADER,
         Kind::Association => ASSOCIATION_HEADER,
         Kind::Concrete => CONCRETE_HEADER,
+        Kind::Member => MEMBER_HEADER,
     }
 }
 
@@ -61,33 +68,51 @@ fn without_mark(bytes: &[u8]) -> &[u8]
     }
 }
 
-/// What is wrong with a first line, if anything.
-fn first_line_fault(kind: Kind, text: &[u8]) -> Option<LineFault>
-    ensures { MatchOption result (text.now ≡ header kind) (IsFirstLineFault kind text.now) }
+/// How many further columns a file of the kind has below these column names, which fit a line;
+/// nothing where they are none of such a file.
+fn further_names(kind: Kind, names: &[u8]) -> Option<usize>
+    requires { length names.now ≤ line_limit }
+    ensures { MatchOption result ((n : ℕ) → ¬ (IsHeader kind n names.now))
+        (λ n. IsHeader kind n names.now) }
+{
+    let others = names.strip_prefix(column_names(kind))?;
+    if others.is_empty() {
+        return Some(0);
+    }
+    match kind {
+        Kind::Member => Further::count(others),
+        _ => None,
+    }
+}
+
+/// The shape of the rows below a first line.
+fn read_first_line(kind: Kind, text: &[u8]) -> Result<Shape, LineFault>
+    ensures { MatchResult result
+        (λ shape. (shape.kind ≡ kind) × IsHeader kind shape.further text.now)
+        (IsFirstLineFault kind text.now) }
 {
     if text.len() > LINE_LIMIT {
-        return Some(LineFault::LineLength);
+        return Err(LineFault::LineLength);
     }
     if !text.is_utf8() {
-        return Some(LineFault::NotUtf8);
+        return Err(LineFault::NotUtf8);
     }
-    if text == column_names(kind) {
-        None
-    } else {
-        Some(LineFault::Header)
+    match further_names(kind, text) {
+        Some(further) => Ok(Shape { kind, further }),
+        None => Err(LineFault::Header),
     }
 }
 
 /// The rows of the lines after the first.
-fn read_rows(alloc: Global, kind: Kind, lines: Lines<'_>) -> Result<Vec<Row>, FileFault>
+fn read_rows(alloc: Global, shape: Shape, lines: Lines<'_>) -> Result<Vec<Row>, FileFault>
     ensures { MatchResult result
-        (λ rows. SpellsEach kind rows.items lines.entry)
-        (IsFaultThat (IsFaultOfRows kind lines.entry)) }
+        (λ rows. SpellsEach shape rows.items lines.entry)
+        (IsFaultThat (IsFaultOfRows shape lines.entry)) }
 {
     let mut rows = Vec::new(alloc);
     let mut room = Vec::new(alloc);
     for line in lines {
-        match read_line(alloc, &mut room, kind, line) {
+        match read_line(alloc, &mut room, shape, line) {
             Ok(row) => rows.push(row)?,
             Err(fault) => return Err(fault.at_line(rows.len() + 2)),
         }
@@ -108,14 +133,15 @@ fn read(alloc: Global, kind: Kind, bytes: &[u8]) -> Result<Vec<Row>, FileFault>
             fault: LineFault::Header,
         });
     };
-    if let Some(fault) = first_line_fault(kind, first) {
-        return Err(FileFault::Row { line: 1, fault });
+    match read_first_line(kind, first) {
+        Ok(shape) => read_rows(alloc, shape, lines),
+        Err(fault) => Err(FileFault::Row { line: 1, fault }),
     }
-    read_rows(alloc, kind, lines)
 }
 
-/// The rows of a release file of a kind, whole: an optional byte order mark, the column
-/// names, and one row a line. Lines end in CR LF or LF, which the last one may lack.
+/// The rows of a release file of a kind, whole: an optional byte order mark, the column names, and
+/// one row a line, with as many columns as there are names. Lines end in CR LF or LF, which the last
+/// one may lack.
 pub fn read_file(alloc: Global, kind: Kind, bytes: &[u8]) -> Result<Vec<Row>, FileFault>
     // What is read is spelled so.
     ensures found { IfOk result (λ rows. IsReleaseFile kind rows.items bytes.now) }

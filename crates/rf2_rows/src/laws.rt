@@ -1,7 +1,7 @@
 //! Laws of the definitions. The functions do nothing: each has its law for a contract.
 
 ghost use Rattle.rf2_rows.specs.Laws.{SpellsOneRow, CanonicalSpells, OneFaultOfLine, RowHasNoFault};
-ghost use Rattle.rf2_rows.specs.Laws.{RowOrFault};
+ghost use Rattle.rf2_rows.specs.Laws.{RowOrFault, MemberKeepsItsBytes};
 ghost use Rattle.rf2_rows.specs.Laws.{OneList, OneFaultOfFile, ReleaseFileHasNoFault, FileOrFault};
 ghost use Rattle.rf2_rows.specs.Laws.{BytesAreTheirLines, LinesAreFound};
 
@@ -15,17 +15,22 @@ pub fn canonical_spells()
     ensures { CanonicalSpells }
 {}
 
+/// The line of a member of a reference set ends with its further columns as they were.
+pub fn member_keeps_its_bytes()
+    ensures { MemberKeepsItsBytes }
+{}
+
 /// A line has at most one fault.
 pub fn one_fault_of_line()
     ensures { OneFaultOfLine }
 {}
 
-/// A line that spells a row has no fault.
+/// A line that spells a row of the shape has no fault.
 pub fn row_has_no_fault()
     ensures { RowHasNoFault }
 {}
 
-/// Each line spells a row of the kind or has a fault.
+/// Each line spells a row of the shape or has a fault.
 pub fn row_or_fault()
     ensures { RowOrFault }
 {}

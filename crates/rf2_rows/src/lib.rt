@@ -9,13 +9,15 @@ mod fault;
 mod file;
 pub mod laws;
 mod line;
+mod shape;
 mod write;
 
 pub use fault::{FileFault, LineFault, RowFault};
 pub use file::{column_names, read_file};
 pub use line::parse_line;
 pub use rf2_values::{
-    Association, Body, Class, Concept, Concrete, Description, EffectiveTime, Key, Kind, Member,
-    Relationship, Row, Sctid, Text,
+    Association, Body, Class, Concept, Concrete, Description, EffectiveTime, Further, Key, Kind,
+    Member, RefsetMember, Relationship, Row, Sctid, Text,
 };
+pub use shape::Shape;
 pub use write::write_row;

@@ -1,28 +1,31 @@
 //! Lines: reading a row.
 
-ghost use Rattle.std.specs.Prelude.{◌≡◌, ◌≤◌, ◌⊎◌, ℕ, [], ◌∷◌, length, MatchResult, IfOk, IfErr};
-ghost use Rattle.std.specs.Prelude.{decimal};
+ghost use Rattle.std.specs.Prelude.{◌≡◌, ◌≤◌, ◌⊎◌, ◌↔◌, ℕ, [], ◌∷◌, length, replicate, decimal};
+ghost use Rattle.std.specs.Prelude.{IsTrue, MatchResult, IfOk, IfErr};
 ghost use Rattle.rf2_values.specs.declared.row.Kind.TheVariants as kind;
 ghost use Rattle.rf2_rows.specs.declared.fault.LineFault.{LineFault};
 ghost use Rattle.rf2_rows.specs.declared.fault.RowFault.TheVariants as rowfault;
 ghost use Rattle.rf2_values.specs.Time.{IsTime};
-ghost use Rattle.rf2_values.specs.Row.{RowValue, IsVersion, IsBody, IsConcept, IsIdOf, kind_of};
+ghost use Rattle.rf2_values.specs.Row.{RowValue, IsVersion, IsBody, IsConcept, IsIdOf};
 ghost use Rattle.rf2_values.specs.Row.{kind_of_body, body_columns};
 ghost use Rattle.rf2_values.specs.Row.{Spells, SpellsId, SpellsColumns, flag as flag_text};
 ghost use Rattle.rf2_values.specs.Row.{line_limit, line_of};
 ghost use Rattle.rf2_rows.specs.Line.{IsLineFaultThat, FirstFault, columns_in, common_layout};
-ghost use Rattle.rf2_rows.specs.Line.{own_layout, IsFaultOfColumns, IsFaultOf};
-ghost use Rattle.rf2_rows.specs.Private.{texts, IsLineReading};
+ghost use Rattle.rf2_rows.specs.Line.{own_layout, own_columns, HasShape};
+ghost use Rattle.rf2_rows.specs.Line.{ConceptReference, ComponentReference, Any};
+ghost use Rattle.rf2_rows.specs.Line.{IsFaultOfColumns, IsFaultOf};
+ghost use Rattle.rf2_rows.specs.Private.{texts, HaveNoTab, IsLineReading};
 
 use crate::columns::{
-    active, component_reference, concept_reference, effective_time, group, identifier, put_columns,
-    some_text,
+    active, component_reference, concept_reference, effective_time, further, group, identifier,
+    put_columns, some_text,
 };
 use crate::fault::{LineFault, RowFault};
+use crate::shape::Shape;
 use bstr::ByteSlice;
 use rf2_values::{
     Association, Body, Concept, Concrete, Description, EffectiveTime, Kind, LINE_LIMIT,
-    Relationship, Row, Sctid,
+    RefsetMember, Relationship, Row, Sctid,
 };
 use std::alloc::Global;
 
@@ -176,26 +179,50 @@ fn read_concrete(
     }))
 }
 
-/// How many columns of its own a kind has.
-fn own_count(kind: Kind) -> usize
-    ensures { result ≡ length (own_layout kind) }
+/// The columns of its own that a member of a reference set has.
+fn read_member(
+    alloc: Global,
+    refset: &[u8],
+    referenced: &[u8],
+    others: &[&[u8]],
+) -> Result<Body, RowFault>
+    requires { HaveNoTab (texts others.now) }
+    ensures { MatchResult result
+        (λ b. (kind_of_body b ≡ kind.Member) × IsBody b
+        × (refset.now ∷ referenced.now ∷ texts others.now ≡ body_columns b))
+        (IsLineFaultThat (FirstFault
+        (ConceptReference ∷ ComponentReference ∷ replicate (length others.now) Any)
+        (refset.now ∷ referenced.now ∷ texts others.now))) }
 {
-    match kind {
-        Kind::Concept => 1,
-        Kind::Description => 5,
-        Kind::Relationship | Kind::Concrete => 6,
-        Kind::Association => 3,
+    Ok(Body::Member(RefsetMember {
+        refset: concept_reference(refset)?,
+        referenced: component_reference(referenced)?,
+        further: further(alloc, others)?,
+    }))
+}
+
+/// Whether lines of the shape have so many columns of their own.
+fn has_own_count(shape: Shape, count: usize) -> bool
+    ensures { IsTrue result ↔ (count ≡ length (own_columns shape)) }
+{
+    match shape.kind {
+        Kind::Concept => count == 1,
+        Kind::Description => count == 5,
+        Kind::Relationship | Kind::Concrete => count == 6,
+        Kind::Association => count == 3,
+        Kind::Member => count >= 2 && count - 2 == shape.further,
     }
 }
 
-/// The columns of its own that a kind has.
-fn read_own(alloc: Global, kind: Kind, own: &[&[u8]]) -> Result<Body, RowFault>
-    requires { length own.now ≡ length (own_layout kind) }
+/// The columns of its own that a line of the shape has.
+fn read_own(alloc: Global, shape: Shape, own: &[&[u8]]) -> Result<Body, RowFault>
+    requires as_many { length own.now ≡ length (own_columns shape) }
+    requires no_tab { HaveNoTab (texts own.now) }
     ensures { MatchResult result
-        (λ b. (kind_of_body b ≡ kind) × IsBody b × (texts own.now ≡ body_columns b))
-        (IsLineFaultThat (FirstFault (columns_in (own_layout kind)) (texts own.now))) }
+        (λ b. (kind_of_body b ≡ shape.kind) × IsBody b × (texts own.now ≡ body_columns b))
+        (IsLineFaultThat (FirstFault (own_columns shape) (texts own.now))) }
 {
-    match kind {
+    match shape.kind {
         Kind::Concept => Ok(read_concept(own[0])?),
         Kind::Description => read_description(alloc, own[0], own[1], own[2], own[3], own[4]),
         Kind::Relationship => Ok(read_relationship(
@@ -203,24 +230,26 @@ fn read_own(alloc: Global, kind: Kind, own: &[&[u8]]) -> Result<Body, RowFault>
         )?),
         Kind::Association => Ok(read_association(own[0], own[1], own[2])?),
         Kind::Concrete => read_concrete(alloc, own[0], own[1], own[2], own[3], own[4], own[5]),
+        Kind::Member => read_member(alloc, own[0], own[1], &own[2..]),
     }
 }
 
 /// The row that the columns spell.
-fn read_columns(alloc: Global, kind: Kind, columns: &[&[u8]]) -> Result<Row, RowFault>
-    requires { length (line_of (texts columns.now)) ≤ line_limit }
+fn read_columns(alloc: Global, shape: Shape, columns: &[&[u8]]) -> Result<Row, RowFault>
+    requires short { length (line_of (texts columns.now)) ≤ line_limit }
+    requires no_tab { HaveNoTab (texts columns.now) }
     ensures { MatchResult result
-        (λ v. (kind_of v ≡ kind) × IsVersion v × SpellsColumns v (texts columns.now))
-        (IsLineFaultThat (IsFaultOfColumns kind (texts columns.now))) }
+        (λ v. HasShape shape v × IsVersion v × SpellsColumns v (texts columns.now))
+        (IsLineFaultThat (IsFaultOfColumns shape (texts columns.now))) }
 {
     let [id, time, flag, module_id, own @ ..] = columns else {
         return Err(RowFault::Line(LineFault::Columns));
     };
-    if own.len() != own_count(kind) {
+    if !has_own_count(shape, own.len()) {
         return Err(RowFault::Line(LineFault::Columns));
     }
-    let common = read_common(kind, id, time, flag, module_id)?;
-    let body = read_own(alloc, kind, own)?;
+    let common = read_common(shape.kind, id, time, flag, module_id)?;
+    let body = read_own(alloc, shape, own)?;
     Ok(Row::new(
         common.id,
         common.time,
@@ -235,10 +264,10 @@ fn read_columns(alloc: Global, kind: Kind, columns: &[&[u8]]) -> Result<Row, Row
 pub(crate) fn read_line<'a>(
     alloc: Global,
     room: &mut Vec<&'a [u8]>,
-    kind: Kind,
+    shape: Shape,
     text: &'a [u8],
 ) -> Result<Row, RowFault>
-    ensures { IsLineReading kind text.now result }
+    ensures { IsLineReading shape text.now result }
 {
     if text.len() > LINE_LIMIT {
         return Err(RowFault::Line(LineFault::LineLength));
@@ -247,22 +276,22 @@ pub(crate) fn read_line<'a>(
         return Err(RowFault::Line(LineFault::NotUtf8));
     }
     put_columns(room, text)?;
-    read_columns(alloc, kind, room)
+    read_columns(alloc, shape, room)
 }
 
-/// The row that a line of a file of the kind spells, without its line end.
-pub fn parse_line(alloc: Global, kind: Kind, text: &[u8]) -> Result<Row, RowFault>
+/// The row that a line of a file of the shape spells, without its line end.
+pub fn parse_line(alloc: Global, shape: Shape, text: &[u8]) -> Result<Row, RowFault>
     // What is read is spelled so.
-    ensures found { IfOk result (λ v. (kind_of v ≡ kind) × Spells v text.now) }
+    ensures found { IfOk result (λ v. HasShape shape v × Spells v text.now) }
     // What is spelled so is read, unless memory runs out.
-    ensures only { (v : RowValue) → kind_of v ≡ kind → Spells v text.now
+    ensures only { (v : RowValue) → HasShape shape v → Spells v text.now
         → MatchResult result (λ w. w ≡ v) (λ e. e ≡ rowfault.OutOfMemory) }
     // How the line is faulty.
-    ensures fault { IfErr result (IsLineFaultThat (IsFaultOf kind text.now)) }
+    ensures fault { IfErr result (IsLineFaultThat (IsFaultOf shape text.now)) }
     // A line with that fault is refused so, unless memory runs out.
-    ensures refused { (f : LineFault) → IsFaultOf kind text.now f
+    ensures refused { (f : LineFault) → IsFaultOf shape text.now f
         → MatchResult result (λ v. ⊥) (λ e. (e ≡ rowfault.OutOfMemory) ⊎ (e ≡ rowfault.Line f)) }
 {
     let mut room = Vec::new(alloc);
-    read_line(alloc, &mut room, kind, text)
+    read_line(alloc, &mut room, shape, text)
 }

@@ -41,7 +41,7 @@ fn put_id(line: &mut Vec<u8>, kind: Kind, id: u128) -> Result<(), AllocError>
         Kind::Concept | Kind::Description | Kind::Relationship | Kind::Concrete => {
             line.extend_from_slice(Buffer::new().format(id).as_bytes())
         }
-        Kind::Association => Member::of(id).write(line),
+        Kind::Association | Kind::Member => Member::of(id).write(line),
     }
 }
 
@@ -78,6 +78,11 @@ fn put_own(line: &mut Vec<u8>, body: &Body) -> Result<(), AllocError>
             put_number(line, concrete.type_id.value())?;
             put_number(line, concrete.characteristic_type.value())?;
             put_number(line, concrete.modifier.value())
+        }
+        Body::Member(member) => {
+            put_number(line, member.refset.value())?;
+            put_number(line, member.referenced.value())?;
+            line.extend_from_slice(member.further.as_bytes())
         }
     }
 }

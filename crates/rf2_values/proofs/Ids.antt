@@ -24,6 +24,10 @@ same_ids kind.Association m n text hm hn sm sn =
     let both : Some sm.value.0 ≡ Some sn.value.0 = sym sm.value.1 ∙ sn.value.1 in
     let bytes : sm.value.0 ≡ sn.value.0 = cc in
     sm.value.2 ∙ ap (from_be_bytes w128) bytes ∙ sym sn.value.2
+same_ids kind.Member m n text hm hn sm sn =
+    let both : Some sm.value.0 ≡ Some sn.value.0 = sym sm.value.1 ∙ sn.value.1 in
+    let bytes : sm.value.0 ≡ sn.value.0 = cc in
+    sm.value.2 ∙ ap (from_be_bytes w128) bytes ∙ sym sn.value.2
 same_ids kind.Concrete m n text hm hn sm sn =
     let low = hm.sctid.high in
     let high = hn.sctid.high in

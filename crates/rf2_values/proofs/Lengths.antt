@@ -12,6 +12,7 @@ use Rattle.rf2_values.specs.declared.row.Association.{Association}
 use Rattle.rf2_values.specs.declared.row.Body.TheVariants as body
 use Rattle.rf2_values.specs.Time.{IsTime}
 use Rattle.rf2_values.specs.Private.{columns_len}
+use Rattle.rf2_values.proofs.FurtherColumns.{further_length}
 use Rattle.rf2_values.specs.Row.{version, canonical, line_of, flag, id_text, later_columns, body_columns, kind_of_body, line_limit, IsIdOf, IsConcept, IsBody}
 
 pub length-line : (text : List ℕ) (texts : List (List ℕ)) → length (line_of (text ∷ texts)) ≡ length text + columns_len texts
@@ -32,6 +33,7 @@ id_short kind.Concept n h = let high = h.sctid.high in omega (arith, number_shor
 id_short kind.Description n h = let high = h.sctid.high in omega (arith, number_short n (omega arith))
 id_short kind.Relationship n h = let high = h.sctid.high in omega (arith, number_short n (omega arith))
 id_short kind.Association n h = let long : length (id_text kind.Association n) ≡ 36 = by_index_length 36 _ in omega arith
+id_short kind.Member n h = let long : length (id_text kind.Member n) ≡ 36 = by_index_length 36 _ in omega arith
 id_short kind.Concrete n h = let high = h.sctid.high in omega (arith, number_short n (omega arith))
 
 concept_short : (n : ℕ) → IsConcept n → length (decimal n) ≤ 20
@@ -44,6 +46,7 @@ texts_length (body.Description d) = length d.language_code + 1 + (length d.term 
 texts_length (body.Relationship r) = 0
 texts_length (body.Association a) = 0
 texts_length (body.Concrete c) = length c.value + 1
+texts_length (body.Member m) = length m.further
 
 pub no_texts : (b : Body) → ((c : Concept) × (b ≡ body.Concept c)) ⊎ (((r : Relationship) × (b ≡ body.Relationship r)) ⊎ ((a : Association) × (b ≡ body.Association a))) → texts_length b ≡ 0
 no_texts b (inl h) = ap texts_length h.1
@@ -63,6 +66,9 @@ own_short (body.Association a) h =
 own_short (body.Concrete c) h =
     let group = h.2 in
     omega (arith, concept_short c.source h.0, number_short c.group (omega arith), concept_short c.type_id h.3, concept_short c.characteristic_type h.4, concept_short c.modifier h.5)
+own_short (body.Member m) h =
+    let referenced = h.1.sctid.high in
+    omega (arith, concept_short m.refset h.0, number_short m.referenced (omega arith), further_length m.further)
 
 -- a row whose texts are short has a short line
 pub line_short : (id time : ℕ) (active : Bool) (m : ℕ) (b : Body) (texts : ℕ) → IsIdOf (kind_of_body b) id → IsTime time → IsConcept m

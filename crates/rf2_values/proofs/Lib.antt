@@ -1,6 +1,8 @@
 pub mod Decimals
 pub mod Digits
+pub mod FurtherColumns
 pub mod Ids
+pub mod KindOrder
 pub mod Lengths
 pub mod Members
 pub mod Metadata

@@ -18,6 +18,7 @@ kind_place kind.Description = 1
 kind_place kind.Relationship = 2
 kind_place kind.Association = 3
 kind_place kind.Concrete = 4
+kind_place kind.Member = 5
 
 -- by kind, then by id, then by time
 abbrev pub key_cmp : Key → Key → Ordering

@@ -10,7 +10,7 @@ use Rattle.rf2_values.specs.declared.row.Body.{Body}
 use Rattle.rf2_values.specs.declared.row.Body.TheVariants as body
 use Rattle.rf2_values.specs.Sctid.{IsSctid, class_of}
 use Rattle.rf2_values.specs.Time.{IsTime}
-use Rattle.rf2_values.specs.Text.{IsText}
+use Rattle.rf2_values.specs.Text.{IsText, IsFurther, further_columns}
 use Rattle.rf2_values.specs.Member.{SpellsMember, member_text}
 
 -- a row as clauses see it
@@ -31,6 +31,7 @@ kind_of_body (body.Description d) = kind.Description
 kind_of_body (body.Relationship r) = kind.Relationship
 kind_of_body (body.Association a) = kind.Association
 kind_of_body (body.Concrete c) = kind.Concrete
+kind_of_body (body.Member m) = kind.Member
 
 abbrev pub kind_of : RowValue → Kind
 kind_of v = kind_of_body v.body
@@ -55,6 +56,7 @@ IsIdOf kind.Description n = IsOfClass class.Description n
 IsIdOf kind.Relationship n = IsOfClass class.Relationship n
 IsIdOf kind.Association n = n < 2 ^ 128
 IsIdOf kind.Concrete n = IsOfClass class.Relationship n
+IsIdOf kind.Member n = n < 2 ^ 128
 
 abbrev pub IsBody : Body → Type 0
 IsBody (body.Concept c) = IsConcept c.definition_status
@@ -68,6 +70,7 @@ IsBody (body.Association a) = IsConcept a.refset × IsComponent a.referenced × 
 IsBody (body.Concrete c) =
     IsConcept c.source × IsText c.value × (c.group < 2 ^ 32) × IsConcept c.type_id
     × IsConcept c.characteristic_type × IsConcept c.modifier
+IsBody (body.Member m) = IsConcept m.refset × IsComponent m.referenced × IsFurther m.further
 
 -- ---- how a line spells a row
 
@@ -82,6 +85,7 @@ SpellsId kind.Description n text = text ≡ decimal n
 SpellsId kind.Relationship n text = text ≡ decimal n
 SpellsId kind.Association n text = SpellsMember n text
 SpellsId kind.Concrete n text = text ≡ decimal n
+SpellsId kind.Member n text = SpellsMember n text
 
 -- the canonical spelling of an identifier of the kind
 abbrev pub id_text : Kind → ℕ → List ℕ
@@ -90,6 +94,7 @@ id_text kind.Description n = decimal n
 id_text kind.Relationship n = decimal n
 id_text kind.Association n = member_text n
 id_text kind.Concrete n = decimal n
+id_text kind.Member n = member_text n
 
 abbrev pub body_columns : Body → List (List ℕ)
 body_columns (body.Concept c) = decimal c.definition_status ∷ []
@@ -104,6 +109,8 @@ body_columns (body.Association a) =
 body_columns (body.Concrete c) =
     decimal c.source ∷ c.value ∷ decimal c.group ∷ decimal c.type_id
     ∷ decimal c.characteristic_type ∷ decimal c.modifier ∷ []
+body_columns (body.Member m) =
+    decimal m.refset ∷ decimal m.referenced ∷ further_columns m.further
 
 -- the columns of a row after the identifier, in their canonical spelling
 abbrev pub later_columns : RowValue → List (List ℕ)

@@ -4,7 +4,7 @@ ghost use Rattle.std.specs.Prelude.{◌≡◌, ◌↔◌, IsTrue};
 ghost use Rattle.rf2_values.specs.Row.{IsConcept, IsComponent, IsOfClass, IsIdOf, IsBody};
 ghost use Rattle.rf2_values.specs.Text.{IsText};
 
-use crate::row::{Association, Body, Concrete, Description, Kind, Relationship};
+use crate::row::{Association, Body, Concrete, Description, Kind, RefsetMember, Relationship};
 use crate::sctid::{Class, Sctid};
 
 /// Whether the identifier is a concept's.
@@ -42,7 +42,7 @@ pub(crate) fn is_id_of(kind: Kind, id: u128) -> bool
         Kind::Concept => is_of_class(Class::Concept, id),
         Kind::Description => is_of_class(Class::Description, id),
         Kind::Relationship | Kind::Concrete => is_of_class(Class::Relationship, id),
-        Kind::Association => true,
+        Kind::Association | Kind::Member => true,
     }
 }
 
@@ -88,6 +88,15 @@ fn is_concrete(columns: &Concrete) -> bool
             && (is_concept(columns.characteristic_type) && is_concept(columns.modifier)))
 }
 
+/// Whether these are columns of a member of a reference set.
+fn is_member(columns: &RefsetMember) -> bool
+    ensures { IsTrue result ↔ IsBody (Body.Member columns.now) }
+{
+    // Nothing is to be tested of the further columns, which are a `Further`.
+    let _further = columns.further.as_bytes();
+    is_concept(columns.refset) && is_component(columns.referenced)
+}
+
 /// Whether these are columns of a row.
 pub(crate) fn is_body(body: &Body) -> bool
     ensures { IsTrue result ↔ IsBody body.now }
@@ -98,5 +107,6 @@ pub(crate) fn is_body(body: &Body) -> bool
         Body::Relationship(columns) => is_relationship(columns),
         Body::Association(columns) => is_association(columns),
         Body::Concrete(columns) => is_concrete(columns),
+        Body::Member(columns) => is_member(columns),
     }
 }

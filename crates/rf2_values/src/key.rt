@@ -6,7 +6,7 @@ ghost use Rattle.std.specs.Cmp.{partial_order_from_agreeing_total};
 ghost use Rattle.std.specs.Cmp.Rules.{comparing};
 ghost use Rattle.std.specs.Ordering.{as_partial_cmp};
 ghost use Rattle.rf2_values.specs.Key.{key_cmp};
-ghost use Rattle.rf2_values.specs.Private.{keys_total};
+ghost use Rattle.rf2_values.specs.Private.{keys_tie, keys_total};
 
 use crate::row::Kind;
 use crate::time::EffectiveTime;
@@ -43,7 +43,7 @@ impl Ord for Key {
 
     ghost matches_partial_cmp = { Prim.search (comparing, rules) };
 
-    ghost matches_eq = { Prim.search (comparing, rules) };
+    ghost matches_eq = { keys_tie };
 
     fn cmp(&self, other: &Key) -> Ordering {
         self.compare(other)
@@ -54,7 +54,7 @@ impl PartialOrd for Key {
     ghost partial_cmp = { as_partial_cmp key_cmp };
 
     ghost laws = { partial_order_from_agreeing_total key_cmp keys_total (λ _ _. refl)
-        (Prim.search (comparing, rules)) };
+        keys_tie };
 
     fn partial_cmp(&self, other: &Key) -> Option<Ordering> {
         Some(self.compare(other))

@@ -1,11 +1,13 @@
 //! How long the line of a row is.
 
 ghost use Rattle.std.specs.Prelude.{◌≡◌, ◌+◌, ◌≤◌, ◌^◌, ◌↔◌, IsTrue, length, decimal};
+ghost use Rattle.rf2_values.specs.Text.{further_columns};
 ghost use Rattle.rf2_values.specs.Time.{IsTime};
 ghost use Rattle.rf2_values.specs.Private.{columns_len};
 ghost use Rattle.rf2_values.specs.Row.{version, canonical, id_text, body_columns, kind_of_body};
 ghost use Rattle.rf2_values.specs.Row.{line_limit, IsIdOf, IsConcept, IsBody};
 
+use crate::further::Further;
 use crate::row::{Body, Kind};
 use crate::sctid::Sctid;
 use crate::text::Text;
@@ -31,6 +33,14 @@ fn text_len(text: &Text) -> u128
     text.as_bytes().len() as u128 + 1
 }
 
+/// How many bytes the further columns take, with the TABs before them.
+fn further_len(further: &Further) -> u128
+    ensures value { result ≡ columns_len (further_columns further.now) }
+    ensures short { result ≤ 2 ^ 64 }
+{
+    further.as_bytes().len() as u128
+}
+
 /// How many bytes the identifier of a row takes.
 fn id_len(kind: Kind, id: u128) -> u128
     ensures value { result ≡ length (id_text kind id) }
@@ -40,7 +50,7 @@ fn id_len(kind: Kind, id: u128) -> u128
         Kind::Concept | Kind::Description | Kind::Relationship | Kind::Concrete => {
             Buffer::new().format(id).len() as u128
         }
-        Kind::Association => 36,
+        Kind::Association | Kind::Member => 36,
     }
 }
 
@@ -79,6 +89,11 @@ fn body_len(body: &Body) -> u128
                 + number_len(columns.characteristic_type.value())
                 + number_len(columns.modifier.value())
         }
+        Body::Member(columns) => {
+            number_len(columns.refset.value())
+                + number_len(columns.referenced.value())
+                + further_len(&columns.further)
+        }
     }
 }
 
@@ -104,6 +119,7 @@ fn texts_len(body: &Body) -> u128
     match body {
         Body::Description(columns) => text_len(&columns.language_code) + text_len(&columns.term),
         Body::Concrete(columns) => text_len(&columns.value),
+        Body::Member(columns) => further_len(&columns.further),
         Body::Concept(_) | Body::Relationship(_) | Body::Association(_) => 0,
     }
 }

@@ -2,6 +2,7 @@
 #![tactic(auto)]
 
 mod allowed;
+mod further;
 mod key;
 mod length;
 mod member;
@@ -11,10 +12,13 @@ mod sctid;
 mod text;
 mod time;
 
+pub use further::Further;
 pub use key::Key;
 pub use length::LINE_LIMIT;
 pub use member::Member;
-pub use row::{Association, Body, Concept, Concrete, Description, Kind, Relationship, Row};
+pub use row::{
+    Association, Body, Concept, Concrete, Description, Kind, RefsetMember, Relationship, Row,
+};
 pub use sctid::{Class, Sctid};
 pub use text::Text;
 pub use time::EffectiveTime;

@@ -2,12 +2,14 @@
 //!
 //! The columns are those of the SNOMED CT Release File Specifications (RF2), in its sections
 //! "Concept File Specification", "Description File Specification", "Relationship File
-//! Specification", "Association Reference Set" and "Relationship Concrete Values File".
+//! Specification", "Association Reference Set", "Relationship Concrete Values File" and "Reference
+//! Set File Specification".
 
 ghost use Rattle.std.specs.Prelude.{◌≡◌, ◌↔◌, IsTrue, IfOk, SomeIff};
 ghost use Rattle.rf2_values.specs.Row.{version, IsVersion, kind_of, kind_of_body};
 ghost use Rattle.rf2_values.specs.Key.{key_of};
 
+use crate::further::Further;
 use crate::key::Key;
 use crate::sctid::Sctid;
 use crate::text::Text;
@@ -26,6 +28,8 @@ pub enum Kind {
     Association,
     /// A relationship whose destination is a value: a number, a text or a boolean.
     Concrete,
+    /// A member of a reference set of whatever pattern.
+    Member,
 }
 
 /// The columns that only concepts have.
@@ -95,6 +99,18 @@ pub struct Concrete {
     pub modifier: Sctid,
 }
 
+/// The columns that only members of reference sets have. What stands behind those that each
+/// reference set has is kept as it stands.
+#[derive(Debug, Drop, PartialEq, Eq)]
+pub struct RefsetMember {
+    /// The column `refsetId`: the reference set.
+    pub refset: Sctid,
+    /// The column `referencedComponentId`: a concept, a description or a relationship.
+    pub referenced: Sctid,
+    /// The further columns, which depend on the pattern of the reference set.
+    pub further: Further,
+}
+
 /// The columns that only one kind has.
 #[derive(Debug, Drop, PartialEq, Eq)]
 pub enum Body {
@@ -103,6 +119,7 @@ pub enum Body {
     Relationship(Relationship),
     Association(Association),
     Concrete(Concrete),
+    Member(RefsetMember),
 }
 
 impl Body {
@@ -116,6 +133,7 @@ impl Body {
             Body::Relationship(_) => Kind::Relationship,
             Body::Association(_) => Kind::Association,
             Body::Concrete(_) => Kind::Concrete,
+            Body::Member(_) => Kind::Member,
         }
     }
 
@@ -141,6 +159,11 @@ impl Body {
                 type_id: concrete.type_id,
                 characteristic_type: concrete.characteristic_type,
                 modifier: concrete.modifier,
+            })),
+            Body::Member(member) => Ok(Body::Member(RefsetMember {
+                refset: member.refset,
+                referenced: member.referenced,
+                further: member.further.try_clone(alloc)?,
             })),
         }
     }

@@ -12,6 +12,7 @@ use Rattle.rf2_values.specs.declared.row.Body.TheVariants as bodies
 use Rattle.rf2_values.specs.Row.{RowValue, IsVersion, IsBody, IsIdOf, kind_of, kind_of_body, line_limit, line_of, body_columns, flag, id_text}
 use Rattle.rf2_values.specs.Time.{IsTime}
 use Rattle.rf2_values.proofs.Lengths.{length-line}
+use Rattle.rf2_values.proofs.FurtherColumns.{further_length}
 use Rattle.history_model.specs.declared.stamped.StampedRow.{StampedRow}
 use Rattle.checksum.specs.declared.form.Form.{Form}
 use Rattle.checksum.specs.declared.form.Form.TheVariants as forms
@@ -28,6 +29,7 @@ small_kind kinds.Description = omega arith
 small_kind kinds.Relationship = omega arith
 small_kind kinds.Association = omega arith
 small_kind kinds.Concrete = omega arith
+small_kind kinds.Member = omega arith
 
 small_flag : (b : Bool) → active_code b < 2 ^ 8
 small_flag false = omega arith
@@ -39,6 +41,7 @@ small_id kinds.Description n is = omega (arith, is.sctid.high)
 small_id kinds.Relationship n is = omega (arith, is.sctid.high)
 small_id kinds.Association n is = is
 small_id kinds.Concrete n is = omega (arith, is.sctid.high)
+small_id kinds.Member n is = is
 
 small_time : (t : ℕ) → IsTime t → t < 2 ^ 32
 small_time t is = omega (arith, is.year_to)
@@ -59,6 +62,9 @@ body_fits (bodies.Association a) id time active module_id is short =
 body_fits (bodies.Concrete c) id time active module_id is short =
     let len = length-line id (time ∷ active ∷ module_id ∷ body_columns (bodies.Concrete c)) in
     (omega (arith, is.0.sctid.high), (is.2, (omega (arith, is.3.sctid.high), (omega (arith, is.4.sctid.high), (omega (arith, is.5.sctid.high), (omega (arith, len, short), tt))))))
+body_fits (bodies.Member m) id time active module_id is short =
+    let len = length-line id (time ∷ active ∷ module_id ∷ body_columns (bodies.Member m)) in
+    (omega (arith, is.0.sctid.high), (omega (arith, is.1.sctid.high), (omega (arith, len, short, further_length m.further), tt)))
 
 pub row_fits : (v : RowValue) → IsVersion v → AllByRecursion Fits (body_fields v.body)
 row_fits v is = body_fits v.body (id_text (kind_of v) v.id) (decimal v.time) (flag v.active) (decimal v.module_id) is.body is.short
@@ -71,6 +77,7 @@ forms_are (bodies.Description d) = refl
 forms_are (bodies.Relationship r) = refl
 forms_are (bodies.Association a) = refl
 forms_are (bodies.Concrete c) = refl
+forms_are (bodies.Member m) = refl
 
 pub common_again : (s : StampedRow) → IsStamped s → fields_at common_forms (spelled (fields_of s)) ≡ Some (common_fields s, spelled (body_fields s.row.body))
 common_again s is =
@@ -134,6 +141,21 @@ same_bodies (bodies.Concrete b) (bodies.Concrete c) e =
     let characteristic_type_is : b.characteristic_type ≡ c.characteristic_type = cc in
     let modifier_is : b.modifier ≡ c.modifier = cc in
     λ i. bodies.Concrete (record { source = source_is i; value = value_is i; group = group_is i; type_id = type_id_is i; characteristic_type = characteristic_type_is i; modifier = modifier_is i })
+same_bodies (bodies.Member b) (bodies.Concept c) e = absurd cc
+same_bodies (bodies.Concept b) (bodies.Member c) e = absurd cc
+same_bodies (bodies.Member b) (bodies.Description c) e = absurd cc
+same_bodies (bodies.Description b) (bodies.Member c) e = absurd cc
+same_bodies (bodies.Member b) (bodies.Relationship c) e = absurd cc
+same_bodies (bodies.Relationship b) (bodies.Member c) e = absurd cc
+same_bodies (bodies.Member b) (bodies.Association c) e = absurd cc
+same_bodies (bodies.Association b) (bodies.Member c) e = absurd cc
+same_bodies (bodies.Member b) (bodies.Concrete c) e = absurd cc
+same_bodies (bodies.Concrete b) (bodies.Member c) e = absurd cc
+same_bodies (bodies.Member b) (bodies.Member c) e =
+    let refset_is : b.refset ≡ c.refset = cc in
+    let referenced_is : b.referenced ≡ c.referenced = cc in
+    let further_is : b.further ≡ c.further = cc in
+    λ i. bodies.Member (record { refset = refset_is i; referenced = referenced_is i; further = further_is i })
 
 pub code_kind : (k l : Kind) → kind_code k ≡ kind_code l → k ≡ l
 code_kind kinds.Concept kinds.Concept e = refl
@@ -161,6 +183,17 @@ code_kind kinds.Concrete kinds.Concept e = absurd (omega arith)
 code_kind kinds.Concrete kinds.Description e = absurd (omega arith)
 code_kind kinds.Concrete kinds.Relationship e = absurd (omega arith)
 code_kind kinds.Concrete kinds.Association e = absurd (omega arith)
+code_kind kinds.Member kinds.Member e = refl
+code_kind kinds.Member kinds.Concept e = absurd (omega arith)
+code_kind kinds.Concept kinds.Member e = absurd (omega arith)
+code_kind kinds.Member kinds.Description e = absurd (omega arith)
+code_kind kinds.Description kinds.Member e = absurd (omega arith)
+code_kind kinds.Member kinds.Relationship e = absurd (omega arith)
+code_kind kinds.Relationship kinds.Member e = absurd (omega arith)
+code_kind kinds.Member kinds.Association e = absurd (omega arith)
+code_kind kinds.Association kinds.Member e = absurd (omega arith)
+code_kind kinds.Member kinds.Concrete e = absurd (omega arith)
+code_kind kinds.Concrete kinds.Member e = absurd (omega arith)
 
 pub code_flag : (a b : Bool) → active_code a ≡ active_code b → a ≡ b
 code_flag false false e = refl
@@ -231,6 +264,8 @@ body_room (bodies.Relationship r) id time active module_id short = omega arith
 body_room (bodies.Association a) id time active module_id short = omega arith
 body_room (bodies.Concrete c) id time active module_id short =
     let len = length-line id (time ∷ active ∷ module_id ∷ body_columns (bodies.Concrete c)) in omega (arith, len, short)
+body_room (bodies.Member m) id time active module_id short =
+    let len = length-line id (time ∷ active ∷ module_id ∷ body_columns (bodies.Member m)) in omega (arith, len, short, further_length m.further)
 
 pub row_room : (v : RowValue) → IsVersion v → fields_len (body_fields v.body) ≤ 65564
 row_room v is = body_room v.body (id_text (kind_of v) v.id) (decimal v.time) (flag v.active) (decimal v.module_id) is.short
@@ -250,6 +285,7 @@ body_sizes (bodies.Description d) = omega arith
 body_sizes (bodies.Relationship r) = refl
 body_sizes (bodies.Association a) = refl
 body_sizes (bodies.Concrete c) = omega arith
+body_sizes (bodies.Member m) = omega arith
 
 pub record_size : (s : StampedRow) → length (record_of s) ≡ fixed_len (kind_of s.row) + texts_len s.row.body
 record_size s = length-record s ∙ body_sizes s.row.body
@@ -262,6 +298,8 @@ few_texts (bodies.Relationship r) id time active module_id short = omega arith
 few_texts (bodies.Association a) id time active module_id short = omega arith
 few_texts (bodies.Concrete c) id time active module_id short =
     let len = length-line id (time ∷ active ∷ module_id ∷ body_columns (bodies.Concrete c)) in omega (arith, len, short)
+few_texts (bodies.Member m) id time active module_id short =
+    let len = length-line id (time ∷ active ∷ module_id ∷ body_columns (bodies.Member m)) in omega (arith, len, short, further_length m.further)
 
 pub texts_room : (v : RowValue) → IsVersion v → texts_len v.body ≤ line_limit
 texts_room v is = few_texts v.body (id_text (kind_of v) v.id) (decimal v.time) (flag v.active) (decimal v.module_id) is.short

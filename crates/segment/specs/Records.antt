@@ -36,6 +36,7 @@ kind_code kinds.Description = 2
 kind_code kinds.Relationship = 3
 kind_code kinds.Association = 4
 kind_code kinds.Concrete = 5
+kind_code kinds.Member = 6
 
 abbrev pub active_code : Bool → ℕ
 active_code false = 0
@@ -60,6 +61,7 @@ body_fields (bodies.Association a) =
     Number w64 a.refset ∷ Number w64 a.referenced ∷ Number w64 a.target ∷ []
 body_fields (bodies.Concrete c) = Number w64 c.source ∷ Number w32 c.group ∷ Number w64 c.type_id
     ∷ Number w64 c.characteristic_type ∷ Number w64 c.modifier ∷ Text c.value ∷ []
+body_fields (bodies.Member m) = Number w64 m.refset ∷ Number w64 m.referenced ∷ Text m.further ∷ []
 
 -- all fields of a record but its length
 abbrev pub fields_of : StampedRow → List Field

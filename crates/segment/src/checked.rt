@@ -71,6 +71,16 @@ fn behind_concrete(bytes: &[u8]) -> Option<&[u8]>
     Some(rest)
 }
 
+fn behind_member(bytes: &[u8]) -> Option<&[u8]>
+    ensures { option_map (λ p. p.1) (fields_at (body_forms kinds.Member) bytes.now)
+        ≡ option_map (λ rest. rest.now) result }
+{
+    let (_, rest) = read_u64(bytes)?;
+    let (_, rest) = read_u64(rest)?;
+    let (_, rest) = read_text(rest)?;
+    Some(rest)
+}
+
 /// The bytes behind the fields that bodies of this kind have.
 fn behind_body(kind: Kind, bytes: &[u8]) -> Option<&[u8]>
     ensures { option_map (λ p. p.1) (fields_at (body_forms kind) bytes.now)
@@ -82,6 +92,7 @@ fn behind_body(kind: Kind, bytes: &[u8]) -> Option<&[u8]>
         Kind::Relationship => behind_relationship(bytes),
         Kind::Association => behind_association(bytes),
         Kind::Concrete => behind_concrete(bytes),
+        Kind::Member => behind_member(bytes),
     }
 }
 

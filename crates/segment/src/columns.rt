@@ -3,17 +3,21 @@
 ghost use Rattle.std.specs.Prelude.{◌≡◌, [], ◌∷◌};
 ghost use Rattle.std.specs.Int.{w64};
 ghost use Rattle.rf2_values.specs.Sctid.{IsSctid};
-ghost use Rattle.rf2_values.specs.Text.{IsText};
+ghost use Rattle.rf2_values.specs.Text.{IsText, IsFurther};
 ghost use Rattle.rf2_values.specs.Row.{IsBody};
 ghost use Rattle.segment.specs.Records.{Number};
 ghost use Rattle.rf2_values.specs.declared.row.Kind.TheVariants as kinds;
 ghost use Rattle.segment.specs.Private.Reading.{raw_description_fields, raw_relationship_fields};
 ghost use Rattle.segment.specs.Private.Reading.{raw_association_fields, raw_concrete_fields};
+ghost use Rattle.segment.specs.Private.Reading.{raw_member_fields};
 ghost use Rattle.segment.specs.Private.Finding.{Finds, HasFields};
 
 use crate::fault::SegmentFault;
-use crate::raw::{RawAssociation, RawConcrete, RawDescription, RawRelationship};
-use rf2_values::{Association, Body, Concept, Concrete, Description, Relationship, Sctid, Text};
+use crate::raw::{RawAssociation, RawConcrete, RawDescription, RawMember, RawRelationship};
+use rf2_values::{
+    Association, Body, Concept, Concrete, Description, Further, RefsetMember, Relationship, Sctid,
+    Text,
+};
 use std::alloc::Global;
 
 pub(crate) fn sctid(value: u64) -> Result<Sctid, SegmentFault>
@@ -26,6 +30,12 @@ fn text(alloc: Global, bytes: &[u8]) -> Result<Text, SegmentFault>
     ensures { Finds IsText (λ t. t ≡ bytes.now) result }
 {
     Text::of(alloc, bytes)?.ok_or(SegmentFault::BadSegment)
+}
+
+fn further(alloc: Global, bytes: &[u8]) -> Result<Further, SegmentFault>
+    ensures { Finds IsFurther (λ f. f ≡ bytes.now) result }
+{
+    Further::of(alloc, bytes)?.ok_or(SegmentFault::BadSegment)
 }
 
 pub(crate) fn concept_of(definition_status: u64) -> Result<Body, SegmentFault>
@@ -90,5 +100,18 @@ pub(crate) fn concrete_of(alloc: Global, raw: RawConcrete<'_>) -> Result<Body, S
         type_id,
         characteristic_type,
         modifier,
+    }))
+}
+
+pub(crate) fn member_of(alloc: Global, raw: RawMember<'_>) -> Result<Body, SegmentFault>
+    ensures { Finds IsBody (HasFields kinds.Member (raw_member_fields raw.entry)) result }
+{
+    let refset = sctid(raw.refset)?;
+    let referenced = sctid(raw.referenced)?;
+    let further = further(alloc, raw.further)?;
+    Ok(Body::Member(RefsetMember {
+        refset,
+        referenced,
+        further,
     }))
 }

@@ -15,7 +15,7 @@ ghost use Rattle.segment.specs.Private.Reading.{Fits, fixed_len, texts_len};
 use crate::writing::{put_text, put_u8, put_u32, put_u64, put_u128};
 use checksum::{Form, crc32c};
 use history_model::StampedRow;
-use rf2_values::{Body, Concrete, Description, Kind, Relationship};
+use rf2_values::{Body, Concrete, Description, Kind, RefsetMember, Relationship};
 use std::alloc::{AllocError, Global};
 
 fn code_of(kind: Kind) -> u8
@@ -27,6 +27,7 @@ fn code_of(kind: Kind) -> u8
         Kind::Relationship => 3,
         Kind::Association => 4,
         Kind::Concrete => 5,
+        Kind::Member => 6,
     }
 }
 
@@ -47,6 +48,7 @@ fn text_bytes(body: &Body) -> u32
                 + description.term.as_bytes().len() as u32
         }
         Body::Concrete(concrete) => concrete.value.as_bytes().len() as u32,
+        Body::Member(member) => member.further.as_bytes().len() as u32,
         Body::Concept(_) | Body::Relationship(_) | Body::Association(_) => 0,
     }
 }
@@ -61,6 +63,7 @@ fn fixed_bytes(kind: Kind) -> u32
         Kind::Relationship => 82,
         Kind::Association => 62,
         Kind::Concrete => 76,
+        Kind::Member => 56,
     }
 }
 
@@ -112,6 +115,16 @@ fn put_concrete(out: &mut Vec<u8>, concrete: &Concrete) -> Result<(), AllocError
     put_text(out, concrete.value.as_bytes())
 }
 
+fn put_member(out: &mut Vec<u8>, member: &RefsetMember) -> Result<(), AllocError>
+    requires { AllByRecursion Fits (body_fields (bodies.Member member.now)) }
+    ensures { OnOk result
+        (out.new.items ≡ out.old.items ++ spelled (body_fields (bodies.Member member.now))) }
+{
+    put_u64(out, member.refset.value())?;
+    put_u64(out, member.referenced.value())?;
+    put_text(out, member.further.as_bytes())
+}
+
 fn put_body(out: &mut Vec<u8>, body: &Body) -> Result<(), AllocError>
     requires { AllByRecursion Fits (body_fields body.now) }
     ensures { OnOk result (out.new.items ≡ out.old.items ++ spelled (body_fields body.now)) }
@@ -126,6 +139,7 @@ fn put_body(out: &mut Vec<u8>, body: &Body) -> Result<(), AllocError>
             put_u64(out, association.target.value())
         }
         Body::Concrete(concrete) => put_concrete(out, concrete),
+        Body::Member(member) => put_member(out, member),
     }
 }
 

@@ -8,7 +8,7 @@ ghost use Rattle.segment.specs.Records.{Field, Number};
 ghost use Rattle.segment.specs.Private.Reading.{fields_at, all_at, common_forms, body_forms};
 ghost use Rattle.segment.specs.Private.Reading.{raw_common_fields, raw_description_fields};
 ghost use Rattle.segment.specs.Private.Reading.{raw_relationship_fields, raw_association_fields};
-ghost use Rattle.segment.specs.Private.Reading.{raw_concrete_fields};
+ghost use Rattle.segment.specs.Private.Reading.{raw_concrete_fields, raw_member_fields};
 
 use crate::fields::{read_text, read_u8, read_u32, read_u64, read_u128};
 
@@ -57,6 +57,13 @@ pub(crate) struct RawConcrete<'a> {
     pub(crate) characteristic_type: u64,
     pub(crate) modifier: u64,
     pub(crate) value: &'a [u8],
+}
+
+#[derive(Clone, Copy)]
+pub(crate) struct RawMember<'a> {
+    pub(crate) refset: u64,
+    pub(crate) referenced: u64,
+    pub(crate) further: &'a [u8],
 }
 
 pub(crate) fn read_common(bytes: &[u8]) -> Option<(RawCommon, &[u8])>
@@ -160,5 +167,19 @@ pub(crate) fn read_concrete(bytes: &[u8]) -> Option<RawConcrete<'_>>
         characteristic_type,
         modifier,
         value,
+    })
+}
+
+pub(crate) fn read_member(bytes: &[u8]) -> Option<RawMember<'_>>
+    ensures { all_at
+        (body_forms kinds.Member) bytes.now ≡ option_map raw_member_fields result }
+{
+    let (refset, rest) = read_u64(bytes)?;
+    let (referenced, rest) = read_u64(rest)?;
+    let (further, rest) = read_text(rest)?;
+    rest.is_empty().then_some(RawMember {
+        refset,
+        referenced,
+        further,
     })
 }

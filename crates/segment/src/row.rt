@@ -8,11 +8,12 @@ ghost use Rattle.segment.specs.Records.{kind_code, active_code, IsStamped};
 ghost use Rattle.segment.specs.Private.Finding.{Finds, IsBodyIn, IsRowIn};
 
 use crate::columns::{
-    association_of, concept_of, concrete_of, description_of, relationship_of, sctid,
+    association_of, concept_of, concrete_of, description_of, member_of, relationship_of, sctid,
 };
 use crate::fault::SegmentFault;
 use crate::raw::{
-    read_association, read_common, read_concept, read_concrete, read_description, read_relationship,
+    read_association, read_common, read_concept, read_concrete, read_description, read_member,
+    read_relationship,
 };
 use history_model::StampedRow;
 use rf2_values::{Body, EffectiveTime, Kind, Row, Sctid};
@@ -28,6 +29,7 @@ pub(crate) fn kind_with_code(code: u8) -> Option<Kind>
         3 => Some(Kind::Relationship),
         4 => Some(Kind::Association),
         5 => Some(Kind::Concrete),
+        6 => Some(Kind::Member),
         _ => None,
     }
 }
@@ -90,6 +92,10 @@ fn read_body(alloc: Global, kind: Kind, bytes: &[u8]) -> Result<Body, SegmentFau
         },
         Kind::Concrete => match read_concrete(bytes) {
             Some(raw) => concrete_of(alloc, raw),
+            None => Err(SegmentFault::BadSegment),
+        },
+        Kind::Member => match read_member(bytes) {
+            Some(raw) => member_of(alloc, raw),
             None => Err(SegmentFault::BadSegment),
         },
     }

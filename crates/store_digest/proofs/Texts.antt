@@ -9,7 +9,7 @@ use Rattle.rf2_values.specs.Row.{RowValue, IsVersion, Spells, kind_of, canonical
 use Rattle.rf2_rows.specs.Line.{columns}
 use Rattle.rf2_rows.proofs.Splits.{IsFree}
 use Rattle.rf2_rows.proofs.Clean.{all_clean, line_no_lf}
-use Rattle.rf2_rows.proofs.RowLaws.{spells_one_row, canonical_spells, columns_stand}
+use Rattle.rf2_rows.proofs.RowLaws.{spells_one_row, canonical_spells, columns_stand, shape_of, has_own_shape}
 use Rattle.line_commands.specs.Questions.{letter}
 use Rattle.line_commands.proofs.FirstWords.{one_letter}
 use Rattle.history_model.proofs.Chains.{pinned_stays}
@@ -20,7 +20,7 @@ canonical_is_free : (row : RowValue) → IsVersion row → IsFree 10 (canonical 
 canonical_is_free row is =
     let s = canonical_spells row is in
     let texts = s.columns.0 in
-    subst (IsFree 10) (sym s.columns.2) (line_no_lf texts (all_clean (columns (kind_of row)) texts (columns_stand row texts is s.columns.1)))
+    subst (IsFree 10) (sym s.columns.2) (line_no_lf texts (all_clean (columns (shape_of row)) texts (columns_stand (shape_of row) row texts (has_own_shape row) is s.columns.1)))
 
 -- texts without LF that end with one are the same where what they begin is
 ended_alike : (a b x y : List ℕ) → IsFree 10 a → IsFree 10 b → a ++ 10 ∷ x ≡ b ++ 10 ∷ y → (a ≡ b) × (x ≡ y)
@@ -40,6 +40,7 @@ letter_byte kinds.Description = (68, refl)
 letter_byte kinds.Relationship = (82, refl)
 letter_byte kinds.Association = (65, refl)
 letter_byte kinds.Concrete = (86, refl)
+letter_byte kinds.Member = (77, refl)
 
 -- a text begins with the byte of a letter, a space, and a row's line
 begins : (row : RowValue) (rows : List RowValue) → text_of (row ∷ rows) ≡ (letter_byte (kind_of row)).0 ∷ 32 ∷ (canonical row ++ 10 ∷ text_of rows)

@@ -17,6 +17,7 @@ fn letter(kind: Kind) -> u8
         Kind::Relationship => b'R',
         Kind::Association => b'A',
         Kind::Concrete => b'V',
+        Kind::Member => b'M',
     }
 }
 

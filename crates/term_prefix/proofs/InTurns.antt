@@ -260,6 +260,7 @@ moved_body f (body.Description d) i = refl
 moved_body f (body.Relationship r) i = refl
 moved_body f (body.Association a) i = refl
 moved_body f (body.Concrete c) i = refl
+moved_body f (body.Member m) i = refl
 
 moved_row : (f : ℕ → ℕ) (row : RowValue) (i : ℕ) → map (moved f) (posted_term row i) ≡ posted_term row (f i)
 moved_row f row i = split row.active where

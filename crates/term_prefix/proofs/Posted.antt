@@ -28,6 +28,7 @@ HasFolded text (body.Description d) = folded d.term ≡ text
 HasFolded text (body.Relationship r) = ⊥
 HasFolded text (body.Association a) = ⊥
 HasFolded text (body.Concrete c) = ⊥
+HasFolded text (body.Member m) = ⊥
 
 -- what a posting says of the row that has its number
 pub record IsTermOf (t : TermAt) (row : RowValue) : Type 0 where
@@ -43,6 +44,7 @@ of_body row i (body.Description d) t a e h = elim h [
 of_body row i (body.Relationship r) t a e h = absurd h
 of_body row i (body.Association x) t a e h = absurd h
 of_body row i (body.Concrete x) t a e h = absurd h
+of_body row i (body.Member m) t a e h = absurd h
 
 of_row : (row : RowValue) (i : ℕ) (t : TermAt) → Has (posted_term row i) t → IsTermOf t row × (t.row ≡ i)
 of_row row i t h =
@@ -62,6 +64,7 @@ body_posted prefix i (body.Description d) e = (record { folded = folded d.term; 
 body_posted prefix i (body.Relationship r) e = absurd (cc)
 body_posted prefix i (body.Association a) e = absurd (cc)
 body_posted prefix i (body.Concrete c) e = absurd (cc)
+body_posted prefix i (body.Member m) e = absurd (cc)
 
 row_posted : (prefix : List ℕ) (after : Option ℕ) (row : RowValue) (i : ℕ) → is_term_above prefix after row ≡ true → (t : TermAt) × Has (posted_term row i) t × (t.row ≡ i)
 row_posted prefix after row i e =
@@ -83,6 +86,7 @@ few_of_row row i = split row.active row.body where
   split true (body.Relationship r) = omega arith
   split true (body.Association x) = omega arith
   split true (body.Concrete x) = omega arith
+  split true (body.Member m) = omega arith
   split false x = omega arith
 
 few_of_rows : (from : ℕ) (rows : List StampedRow) → length (posted_all posted_term from rows) ≤ length rows

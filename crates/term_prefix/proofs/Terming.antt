@@ -146,6 +146,7 @@ begins_from prefix text (body.Description d) h e = subst (λ t. starts_with nat_
 begins_from prefix text (body.Relationship r) h e = absurd h
 begins_from prefix text (body.Association a) h e = absurd h
 begins_from prefix text (body.Concrete c) h e = absurd h
+begins_from prefix text (body.Member m) h e = absurd h
 
 begins_to : (prefix text : List ℕ) (b : Body) → HasFolded text b → begins_with prefix b ≡ true → starts_with nat_eq text (folded prefix) ≡ true
 begins_to prefix text (body.Concept c) h e = absurd h
@@ -153,6 +154,7 @@ begins_to prefix text (body.Description d) h e = subst (λ t. starts_with nat_eq
 begins_to prefix text (body.Relationship r) h e = absurd h
 begins_to prefix text (body.Association a) h e = absurd h
 begins_to prefix text (body.Concrete c) h e = absurd h
+begins_to prefix text (body.Member m) h e = absurd h
 
 described : (text : List ℕ) (row : RowValue) (b : Body) → row.body ≡ b → HasFolded text b → kind_of row ≡ kinds.Description
 described text row (body.Concept c) e h = absurd h
@@ -160,6 +162,7 @@ described text row (body.Description d) e h = ap (λ (x : Body). kind_of_body x)
 described text row (body.Relationship r) e h = absurd h
 described text row (body.Association a) e h = absurd h
 described text row (body.Concrete c) e h = absurd h
+described text row (body.Member m) e h = absurd h
 
 has_numbered : (k n : ℕ) (terms : List (List TermAt)) (ts : List TermAt) (t : TermAt) → n < length terms → ts ≡ get_or terms n ts → Has ts t → Has (numbered k terms) (k + n, t)
 has_numbered k n [] ts t lt is h = absurd (omega arith)

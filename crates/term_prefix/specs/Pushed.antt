@@ -16,6 +16,7 @@ term_of_body (body.Description d) i = record { folded = folded d.term; row = i }
 term_of_body (body.Relationship r) i = []
 term_of_body (body.Association a) i = []
 term_of_body (body.Concrete c) i = []
+term_of_body (body.Member m) i = []
 
 -- what is posted of row i: an active description's folded term
 abbrev pub posted_term : RowValue → ℕ → List TermAt

@@ -1,6 +1,7 @@
 //! Lines and files of releases.
 //!
-//! - `line KIND TEXT` answers the fault of a line, or `no fault`;
+//! - `line SHAPE TEXT` answers the fault of a line, or `no fault`: a shape is a kind, and behind a
+//!   plus sign how many further columns a member has;
 //! - `row KIND TEXT` answers the kind, the number and the line of the row that a line spells;
 //! - `file KIND TEXT` answers how many rows a file has, or its first faulty line and the fault;
 //! - `file_of KIND TEXT` answers the same of a file that begins with the column names of its kind,
@@ -13,8 +14,12 @@
 //! In each text a bar stands for a TAB, and a name in capitals for an identifier.
 
 use case_files::{Answer, NoAnswer};
-use case_values::{first_word, kind_of, line_of, read_row, row_bytes, spell_id, spell_text};
-use rf2_rows::{Body, FileFault, Key, Kind, Row, RowFault, column_names, parse_line, read_file};
+use case_values::{
+    first_word, kind_of, line_of, read_row, row_bytes, shape_of, spell_id, spell_text,
+};
+use rf2_rows::{
+    Body, FileFault, Key, Kind, Row, RowFault, Shape, column_names, parse_line, read_file,
+};
 use std::alloc::{AllocError, Global};
 
 /// A count.
@@ -23,8 +28,8 @@ fn spell_count(alloc: Global, count: usize) -> Answer {
 }
 
 /// The fault of a line.
-fn fault_of(alloc: Global, kind: Kind, line: &[u8]) -> Answer {
-    match parse_line(alloc, kind, line) {
+fn fault_of(alloc: Global, shape: Shape, line: &[u8]) -> Answer {
+    match parse_line(alloc, shape, line) {
         Ok(_) => Ok(String::from_str(alloc, "no fault")?),
         Err(RowFault::Line(fault)) => Ok(format!(in alloc; "{fault:?}")?),
         Err(RowFault::OutOfMemory) => Err(NoAnswer::OutOfMemory),
@@ -112,8 +117,12 @@ pub fn answer(alloc: Global, word: &str, rest: &str) -> Answer {
     if word == "names" {
         return spell_text(alloc, column_names(kind_of(rest)?));
     }
-    let (kind, text) = first_word(rest)?;
-    let kind = kind_of(kind)?;
+    let (first, text) = first_word(rest)?;
+    if word == "line" {
+        let line = row_bytes(alloc, text)?;
+        return fault_of(alloc, shape_of(first)?, line.as_slice());
+    }
+    let kind = kind_of(first)?;
     if word == "names_as" {
         return outcome(alloc, kind_of(text)?, column_names(kind));
     }
@@ -121,7 +130,6 @@ pub fn answer(alloc: Global, word: &str, rest: &str) -> Answer {
     match word {
         "bytes" => spell_count(alloc, text.len()),
         "term_bytes" => spell_count(alloc, count_term(&read_row(alloc, kind, text.as_slice())?)),
-        "line" => fault_of(alloc, kind, text.as_slice()),
         "file" => outcome(alloc, kind, text.as_slice()),
         "file_of" => outcome_below(alloc, kind, text.as_slice()),
         "row" => spell_row(alloc, &read_row(alloc, kind, text.as_slice())?),

@@ -3,6 +3,7 @@
 //! - `sctid TEXT` answers the class of the identifier that the text spells, `sctid_of NUMBER` the
 //!   identifier with a number, `time TEXT` the number of the day, `member TEXT` that of the member,
 //!   in base 16, and each of them `none` where there is none;
+//! - `further TEXT` answers how many further columns of a member the text is, or `none`;
 //! - `below KIND ID DAY < KIND ID DAY` answers whether the first key is less, by `compare`, by `<`
 //!   and by `==`, and neither turned round nor of one with itself;
 //! - `bytes_of a key` answers how many bytes it takes in memory;
@@ -12,7 +13,9 @@
 
 use case_files::{Answer, NoAnswer, unquoted};
 use case_values::{day_of, first_word, kind_of, number, sctid_of};
-use rf2_values::{Body, Concept, Description, EffectiveTime, Key, Member, Row, Sctid, Text};
+use rf2_values::{
+    Body, Concept, Description, EffectiveTime, Further, Key, Member, Row, Sctid, Text,
+};
 use shown_names::Shown;
 use std::alloc::Global;
 use std::cmp::Ordering;
@@ -61,6 +64,21 @@ fn member_in(alloc: Global, text: &[u8]) -> Answer {
     }
     let number = member.value();
     Ok(format!(in alloc; "{number:032x}")?)
+}
+
+/// How many further columns a text is: where it is any, they are kept as they stand.
+fn further_in(alloc: Global, text: &[u8]) -> Answer {
+    let count = Further::count(text);
+    let kept = Further::of(alloc, text)?;
+    if kept.is_some() != count.is_some() {
+        return Ok(String::from_str(alloc, "kept otherwise than counted")?);
+    }
+    if let Some(kept) = &kept
+        && (kept.as_bytes() != text || kept.try_clone(alloc)? != *kept)
+    {
+        return Ok(String::from_str(alloc, "not the same bytes")?);
+    }
+    spell_number(alloc, count.map(|count| count as u64))
 }
 
 /// What the name of a file is shown as.
@@ -141,6 +159,7 @@ pub fn answer(alloc: Global, word: &str, rest: &str) -> Answer {
         "sctid_of" => spell_number(alloc, Sctid::of(number(rest)?).map(|id| id.value())),
         "time" => day_in(alloc, unquoted(alloc, rest)?.as_slice()),
         "member" => member_in(alloc, unquoted(alloc, rest)?.as_slice()),
+        "further" => further_in(alloc, unquoted(alloc, rest)?.as_slice()),
         "shown" => shown(alloc, unquoted(alloc, rest)?.as_slice()),
         "below" => compare(alloc, rest),
         "bytes_of" if rest == "a key" => spell_number(alloc, Some(size_of::<Key>() as u64)),

@@ -12,6 +12,7 @@ use Rattle.segment.specs.declared.raw.RawDescription.{RawDescription}
 use Rattle.segment.specs.declared.raw.RawRelationship.{RawRelationship}
 use Rattle.segment.specs.declared.raw.RawAssociation.{RawAssociation}
 use Rattle.segment.specs.declared.raw.RawConcrete.{RawConcrete}
+use Rattle.segment.specs.declared.raw.RawMember.{RawMember}
 use Rattle.segment.specs.Records.{Field, Number, Text}
 
 -- what a field may be: a number of a width, or a text
@@ -73,6 +74,7 @@ body_forms kinds.Description = Wide w64 ∷ Wide w64 ∷ Wide w64 ∷ Counted �
 body_forms kinds.Relationship = Wide w64 ∷ Wide w64 ∷ Wide w32 ∷ Wide w64 ∷ Wide w64 ∷ Wide w64 ∷ []
 body_forms kinds.Association = Wide w64 ∷ Wide w64 ∷ Wide w64 ∷ []
 body_forms kinds.Concrete = Wide w64 ∷ Wide w32 ∷ Wide w64 ∷ Wide w64 ∷ Wide w64 ∷ Counted ∷ []
+body_forms kinds.Member = Wide w64 ∷ Wide w64 ∷ Counted ∷ []
 
 -- the fields that bytes are, with no rest
 abbrev pub all_at : List Form → List ℕ → Option (List Field)
@@ -107,6 +109,9 @@ abbrev pub raw_concrete_fields : RawConcrete → List Field
 raw_concrete_fields r = Number w64 r.source ∷ Number w32 r.group ∷ Number w64 r.type_id
     ∷ Number w64 r.characteristic_type ∷ Number w64 r.modifier ∷ Text r.value.now ∷ []
 
+abbrev pub raw_member_fields : RawMember → List Field
+raw_member_fields r = Number w64 r.refset ∷ Number w64 r.referenced ∷ Text r.further.now ∷ []
+
 -- how many bytes a record has besides its texts
 abbrev pub fixed_len : Kind → ℕ
 fixed_len kinds.Concept = 46
@@ -114,9 +119,11 @@ fixed_len kinds.Description = 66
 fixed_len kinds.Relationship = 82
 fixed_len kinds.Association = 62
 fixed_len kinds.Concrete = 76
+fixed_len kinds.Member = 56
 
 -- how many bytes the texts of a body have
 abbrev pub texts_len : Body → ℕ
 texts_len (bodies.Description d) = length d.language_code + length d.term
 texts_len (bodies.Concrete c) = length c.value
+texts_len (bodies.Member m) = length m.further
 texts_len _ = 0

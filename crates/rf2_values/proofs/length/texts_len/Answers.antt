@@ -1,5 +1,6 @@
 use Rattle.std.proofs.Common.{ap, arith}
 use Rattle.rf2_values.proofs.Lengths.{texts_length, own_short, no_texts}
+use Rattle.rf2_values.proofs.FurtherColumns.{further_length}
 use Rattle.rf2_values.proofs.length.texts_len.Goals as goal
 
 pub returns-in-Description-clause-many : goal.returns-in-Description-clause-many
@@ -18,3 +19,7 @@ returns-in-Concept-3-clause-many c = omega (arith, own_short c.args.body.now c.r
 pub returns-in-Concrete-clause-many : goal.returns-in-Concrete-clause-many
 returns-in-Concrete-clause-many c =
     omega (arith, own_short c.args.body.now c.requires, ap texts_length c.in-Concrete.is, c.text_len-in-Concrete.ensures.value)
+
+pub returns-in-Member-clause-many : goal.returns-in-Member-clause-many
+returns-in-Member-clause-many c =
+    omega (arith, own_short c.args.body.now c.requires, ap texts_length c.in-Member.is, c.further_len.ensures.value, further_length c.in-Member.columns.further)
