@@ -48,32 +48,32 @@ JAPANESE = "722129009"
 CHINESE = "722128001"
 KOREAN = "21000267104"
 
-# The reference set of each tag that isn't a language alone, in lower case.
+# The reference set of each tag that isn't a language alone.
 DIALECTS = {
-    "en-us": US_ENGLISH,
-    "en-gb": GB_ENGLISH,
-    "en-au": AUSTRALIAN_ENGLISH,
-    "en-ca": CANADIAN_ENGLISH,
-    "en-ie": IRISH_ENGLISH,
-    "en-nz": NEW_ZEALAND_ENGLISH,
+    "en-US": US_ENGLISH,
+    "en-GB": GB_ENGLISH,
+    "en-AU": AUSTRALIAN_ENGLISH,
+    "en-CA": CANADIAN_ENGLISH,
+    "en-IE": IRISH_ENGLISH,
+    "en-NZ": NEW_ZEALAND_ENGLISH,
     "en-nhs-clinical": NHS_CLINICAL_ENGLISH,
     "en-nhs-pharmacy": NHS_PHARMACY_ENGLISH,
-    "de-at": AUSTRIAN_GERMAN,
-    "de-ch": SWISS_GERMAN,
-    "fr-be": BELGIAN_FRENCH,
-    "fr-ca": CANADIAN_FRENCH,
-    "fr-ch": SWISS_FRENCH,
-    "it-ch": SWISS_ITALIAN,
-    "nl-be": BELGIAN_DUTCH,
-    "nl-nl": NETHERLANDS_DUTCH,
-    "da-dk": DANISH,
-    "sv-se": SWEDISH,
-    "nb-no": NORWEGIAN_BOKMAL,
-    "nn-no": NORWEGIAN_NYNORSK,
-    "et-ee": ESTONIAN,
+    "de-AT": AUSTRIAN_GERMAN,
+    "de-CH": SWISS_GERMAN,
+    "fr-BE": BELGIAN_FRENCH,
+    "fr-CA": CANADIAN_FRENCH,
+    "fr-CH": SWISS_FRENCH,
+    "it-CH": SWISS_ITALIAN,
+    "nl-BE": BELGIAN_DUTCH,
+    "nl-NL": NETHERLANDS_DUTCH,
+    "da-DK": DANISH,
+    "sv-SE": SWEDISH,
+    "nb-NO": NORWEGIAN_BOKMAL,
+    "nn-NO": NORWEGIAN_NYNORSK,
+    "et-EE": ESTONIAN,
     "es-419": LATIN_AMERICAN_SPANISH,
-    "es-uy": URUGUAYAN_SPANISH,
-    "ko-kr": KOREAN,
+    "es-UY": URUGUAYAN_SPANISH,
+    "ko-KR": KOREAN,
 }
 # Those of a language alone. The International Edition has its English in US spelling first.
 LANGUAGES = {
@@ -91,6 +91,8 @@ LANGUAGES = {
     "zh": (CHINESE,),
     "ko": (KOREAN,),
 }
+# Tags are alike whose letters differ in their case alone.
+FOLDED = {tag.lower(): refset for tag, refset in DIALECTS.items()}
 
 
 def language_of(tag: str, house: Sequence[str]) -> Language:
@@ -104,7 +106,7 @@ def language_of(tag: str, house: Sequence[str]) -> Language:
         return Language(code, (named_refset(digits),))
     parts = tag.split("-")
     for count in range(len(parts), 1, -1):
-        if (refset := DIALECTS.get("-".join(parts[:count]))) is not None:
+        if (refset := FOLDED.get("-".join(parts[:count]))) is not None:
             return Language(code, (refset,))
     own = tuple(refset for refset in house if refset in refsets_of(code))
     return Language(code, own or LANGUAGES.get(code, ()))

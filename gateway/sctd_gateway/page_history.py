@@ -39,11 +39,14 @@ class Names:
         return "Parent" if code == IS_A else self.of(code).removesuffix(" (attribute)")
 
     def of_refset(self, code: str) -> str:
-        return self.refsets.get(code) or self.of(code).removesuffix(METADATA_TAG)
+        return self.refsets.get(code) or self.of_metadata(code)
+
+    def of_metadata(self, code: str) -> str:
+        return self.of(code).removesuffix(METADATA_TAG)
 
     def of_further(self, further: Iterable[str]) -> str:
         """What a member says beside what it refers to."""
-        return BESIDE.join(map(self.of, further))
+        return BESIDE.join(map(self.of_metadata, further))
 
 
 async def history(

@@ -13,7 +13,6 @@ from .page_members import Membership, memberships, refset_entries
 from .snomed import (
     DEFINED,
     FULLY_SPECIFIED_NAME,
-    INACTIVATION_INDICATOR,
     IS_A,
     TEXT_DEFINITION,
     Association,
@@ -25,6 +24,7 @@ from .snomed import (
     distinct,
     is_concept_id,
     preferred_term,
+    reasons_of,
     with_hyphens,
 )
 from .store import Versions, View
@@ -74,9 +74,7 @@ class Side(NamedTuple):
 
     @property
     def reasons(self) -> list[str]:
-        """Why the concept was retired, in codes."""
-        rows = [one.row for one in self.members if one.row.refset == INACTIVATION_INDICATOR]
-        return distinct(row.further[0] for row in rows if row.further)
+        return reasons_of(one.row for one in self.members)
 
     def called(self, code: str) -> str:
         """A concept of the metadata by its name."""
@@ -204,7 +202,8 @@ async def record(view: View, question: Question) -> Html:
                 )
             )
     marks = {now.day: "The day compared with", then.day: "The record\u2019s day"}
-    parts.append(tag("section", tag("h3", "History"), await history(view, timeline, marks, REFSETS)))
+    told = await history(view, timeline, marks, REFSETS)
+    parts.append(tag("section", tag("h3", "History"), told))
     parts.append(report(view, question, then))
     return joined(*parts)
 

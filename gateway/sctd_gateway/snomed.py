@@ -143,12 +143,7 @@ class Facts(NamedTuple):
 
     @property
     def reasons(self) -> list[str]:
-        """Why the concept was retired, as the reference set of the indicators has it."""
-        return distinct(
-            row.further[0]
-            for row in self.members
-            if row.refset == INACTIVATION_INDICATOR and row.further
-        )
+        return reasons_of(self.members)
 
     @property
     def parents(self) -> list[str]:
@@ -202,6 +197,12 @@ def is_day(text: str) -> bool:
 
 def with_hyphens(day: str) -> str:
     return "%s-%s-%s" % (day[:4], day[4:6], day[6:])
+
+
+def reasons_of(members: Iterable[RefsetMember]) -> list[str]:
+    """Why a concept was retired, in codes, as the reference set of the indicators has it."""
+    own = (row.further[:1] for row in members if row.refset == INACTIVATION_INDICATOR)
+    return distinct(value for further in own for value in further if value)
 
 
 def preferred_term(called: Iterable[Called]) -> str | None:
