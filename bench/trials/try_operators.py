@@ -126,7 +126,7 @@ def contradictions_told(place: Place, store: Path, numbers: range) -> tuple[list
     told = check_told(place, store, what)
     same("a check of %d contradictions" % len(numbers), (told.status, told.output),
          (1, "ERR 32 Contradiction 1 3\n"))
-    name = rf2.NAMES["C"].format("Delta", DATE).rpartition("/")[2]
+    name = rf2.SORTS["C"].name.format("Delta", DATE).rpartition("/")[2]
     lines = told.faults.splitlines()
     places = [line for line in lines if line.startswith("sctd: %s, line " % name)]
     starts = ["sctd: %s, line %d: " % (name, number) for number in range(3, len(places) + 3)]
