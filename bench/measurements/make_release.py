@@ -57,16 +57,16 @@ DOMAINS, ATTRIBUTE_DOMAINS, ATTRIBUTE_RANGES, SCOPES = 723560006, 723561005, 723
 MANDATORY, ALL_CONTENT = 723597001, 723596005
 ATTRIBUTES = (363698007, 116676008, 246075003, 260686004, 405813007, 127489000, 411116001)
 
-FIRST_COLUMNS = "id effectiveTime active moduleId"
-DESCRIPTION_COLUMNS = " conceptId languageCode typeId term caseSignificanceId"
-RELATIONSHIP_COLUMNS = (" sourceId destinationId relationshipGroup typeId characteristicTypeId"
-                        " modifierId")
-MEMBER_COLUMNS = " refsetId referencedComponentId"
+FIRST_COLUMNS = "id effectiveTime active moduleId "
+DESCRIPTION_COLUMNS = FIRST_COLUMNS + "conceptId languageCode typeId term caseSignificanceId"
+RELATIONSHIP_COLUMNS = FIRST_COLUMNS + (
+    "sourceId destinationId relationshipGroup typeId characteristicTypeId modifierId")
+MEMBER_COLUMNS = FIRST_COLUMNS + "refsetId referencedComponentId"
 
 
 class Sort(NamedTuple):
     """A sort of files: the letter of their rows, where a file stands and its name, with places for
-    the word of the release and its date, and the names of the columns behind the first four."""
+    the word of the release and its date, and the names of the columns."""
 
     kind: str
     name: str
@@ -75,7 +75,7 @@ class Sort(NamedTuple):
 
 # The sorts of files that each version of a store's layout keeps, by the letters of their kinds.
 BASIC_SORTS = {
-    "C": Sort("C", "Terminology/sct2_Concept_{}_INT_{}.txt", " definitionStatusId"),
+    "C": Sort("C", "Terminology/sct2_Concept_{}_INT_{}.txt", FIRST_COLUMNS + "definitionStatusId"),
     "D": Sort("D", "Terminology/sct2_Description_{}-en_INT_{}.txt", DESCRIPTION_COLUMNS),
     "R": Sort("R", "Terminology/sct2_Relationship_{}_INT_{}.txt", RELATIONSHIP_COLUMNS),
     "A": Sort("A", "Refset/Content/der2_cRefset_Association{}_INT_{}.txt",
@@ -85,58 +85,56 @@ BASIC_SORTS = {
 }
 
 
-def members(folder: str, name: str, further: str = "") -> Sort:
-    """A sort of files of members: the name has the letters of the further columns in it."""
-    return Sort("M", folder + "/" + name + "_INT_{}.txt", MEMBER_COLUMNS + further)
+def members(name: str, further: str = "") -> Sort:
+    """A sort of files of members, whose names have a letter for each further column."""
+    return Sort("M", name + "_INT_{}.txt", MEMBER_COLUMNS + further)
 
 
 # Those that version 3 keeps besides.
 FURTHER_SORTS = {
     "TextDefinition": Sort("D", "Terminology/sct2_TextDefinition_{}-en_INT_{}.txt",
                            DESCRIPTION_COLUMNS),
-    "OWLExpression": members("Terminology", "sct2_sRefset_OWLExpression{}", " owlExpression"),
-    "Simple": members("Refset/Content", "der2_Refset_Simple{}"),
-    "AttributeValue": members("Refset/Content", "der2_cRefset_AttributeValue{}", " valueId"),
-    "Language": members("Refset/Language", "der2_cRefset_Language{}-en", " acceptabilityId"),
-    "SimpleMap": members("Refset/Map", "der2_sRefset_SimpleMap{}", " mapTarget"),
+    "OWLExpression": members("Terminology/sct2_sRefset_OWLExpression{}", " owlExpression"),
+    "Simple": members("Refset/Content/der2_Refset_Simple{}"),
+    "AttributeValue": members("Refset/Content/der2_cRefset_AttributeValue{}", " valueId"),
+    "Language": members("Refset/Language/der2_cRefset_Language{}-en", " acceptabilityId"),
+    "SimpleMap": members("Refset/Map/der2_sRefset_SimpleMap{}", " mapTarget"),
     "ExtendedMap": members(
-        "Refset/Map", "der2_iisssccRefset_ExtendedMap{}",
+        "Refset/Map/der2_iisssccRefset_ExtendedMap{}",
         " mapGroup mapPriority mapRule mapAdvice mapTarget correlationId mapCategoryId"),
     "RefsetDescriptor": members(
-        "Refset/Metadata", "der2_cciRefset_RefsetDescriptor{}",
+        "Refset/Metadata/der2_cciRefset_RefsetDescriptor{}",
         " attributeDescription attributeType attributeOrder"),
     "DescriptionType": members(
-        "Refset/Metadata", "der2_ciRefset_DescriptionType{}",
+        "Refset/Metadata/der2_ciRefset_DescriptionType{}",
         " descriptionFormat descriptionLength"),
     "ModuleDependency": members(
-        "Refset/Metadata", "der2_ssRefset_ModuleDependency{}",
+        "Refset/Metadata/der2_ssRefset_ModuleDependency{}",
         " sourceEffectiveTime targetEffectiveTime"),
     "MRCMDomain": members(
-        "Refset/Metadata", "der2_sssssssRefset_MRCMDomain{}",
+        "Refset/Metadata/der2_sssssssRefset_MRCMDomain{}",
         " domainConstraint parentDomain proximalPrimitiveConstraint proximalPrimitiveRefinement"
         " domainTemplateForPrecoordination domainTemplateForPostcoordination guideURL"),
     "MRCMAttributeDomain": members(
-        "Refset/Metadata", "der2_cissccRefset_MRCMAttributeDomain{}",
+        "Refset/Metadata/der2_cissccRefset_MRCMAttributeDomain{}",
         " domainId grouped attributeCardinality attributeInGroupCardinality ruleStrengthId"
         " contentTypeId"),
     "MRCMAttributeRange": members(
-        "Refset/Metadata", "der2_ssccRefset_MRCMAttributeRange{}",
+        "Refset/Metadata/der2_ssccRefset_MRCMAttributeRange{}",
         " rangeConstraint attributeRule ruleStrengthId contentTypeId"),
     "MRCMModuleScope": members(
-        "Refset/Metadata", "der2_cRefset_MRCMModuleScope{}", " mrcmRuleRefsetId"),
+        "Refset/Metadata/der2_cRefset_MRCMModuleScope{}", " mrcmRuleRefsetId"),
 }
 # Those that a package has and no store keeps.
 UNKEPT_SORTS = {
     "StatedRelationship": Sort("R", "Terminology/sct2_StatedRelationship_{}_INT_{}.txt",
                                RELATIONSHIP_COLUMNS),
-    "Identifier": Sort("", "Terminology/sct2_Identifier_{}_INT_{}.txt", ""),
+    "Identifier": Sort(
+        "", "Terminology/sct2_Identifier_{}_INT_{}.txt",
+        "alternateIdentifier effectiveTime active moduleId identifierSchemeId"
+        " referencedComponentId"),
 }
-IDENTIFIER_COLUMNS = (
-    "alternateIdentifier effectiveTime active moduleId identifierSchemeId referencedComponentId")
 SORTS = {**BASIC_SORTS, **FURTHER_SORTS, **UNKEPT_SORTS}
-HEADERS = {sort: FIRST_COLUMNS + SORTS[sort].columns for sort in SORTS}
-HEADERS["Identifier"] = IDENTIFIER_COLUMNS
-NAMES = {sort: SORTS[sort].name for sort in SORTS}
 KINDS = "".join(BASIC_SORTS)
 
 # How many rows of a hundred are of each kind, roughly as in an international edition without its
@@ -439,13 +437,13 @@ def line(made: Component | tuple[object, str, Columns], date: str, active: int,
     return "\t".join(str(column) for column in columns)
 
 
-def write_file(folder: str, release: str, date: str, sort: str, rows: Iterable[str]) -> int:
+def write_file(folder: str, release: str, date: str, sort: Sort, rows: Iterable[str]) -> int:
     """Writes a file of a sort, and tells how many rows it has."""
-    path = os.path.join(folder, NAMES[sort].format(release, date))
+    path = os.path.join(folder, sort.name.format(release, date))
     os.makedirs(os.path.dirname(path), exist_ok=True)
     count = 0
     with open(path, "w", encoding="utf-8", newline="") as file:
-        file.write(HEADERS[sort].replace(" ", "\t") + "\r\n")
+        file.write(sort.columns.replace(" ", "\t") + "\r\n")
         for row in rows:
             file.write(row + "\r\n")
             count += 1
@@ -454,9 +452,9 @@ def write_file(folder: str, release: str, date: str, sort: str, rows: Iterable[s
 
 def write(folder: str, release: str, date: str, rows: Mapping[str, Iterable[str]]) -> None:
     """Writes a file of each of the five kinds, and of each other sort that has rows."""
-    for sort in SORTS:
-        if sort in KINDS or sort in rows:
-            write_file(folder, release, date, sort, rows[sort])
+    for name, sort in SORTS.items():
+        if name in KINDS or name in rows:
+            write_file(folder, release, date, sort, rows[name])
 
 
 def versions_of(edition: Edition, sort: str, count: int) -> Iterator[str]:
@@ -509,11 +507,12 @@ def write_package(folder: str, package: Package, count: int) -> dict[str, int]:
     for sort, share in PACKAGE_SHARES.items():
         wanted = max(1, count * share // PACKAGE_PARTS)
         rows = versions_of(package, sort, wanted)
-        counts[sort] = write_file(folder, "Full", FULL_DATE, sort, rows)
+        counts[sort] = write_file(folder, "Full", FULL_DATE, SORTS[sort], rows)
     stated = (line(Component(package.name("R"), "R", Edition.body(package, "R")), DATES[0], 1)
               for _ in range(UNKEPT_ROWS))
-    write_file(folder, "Full", FULL_DATE, "StatedRelationship", stated)
-    write_file(folder, "Full", FULL_DATE, "Identifier", identifiers(package))
+    unkept = {"StatedRelationship": stated, "Identifier": identifiers(package)}
+    for name, lines in unkept.items():
+        write_file(folder, "Full", FULL_DATE, UNKEPT_SORTS[name], lines)
     return counts
 
 
