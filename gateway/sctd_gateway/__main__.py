@@ -11,6 +11,7 @@ import argparse
 import asyncio
 import contextlib
 import os
+import re
 import signal
 import socket
 import stat
@@ -20,7 +21,10 @@ from . import http, limits
 from .app import App, refused_request
 from .fhir.versions import Edition
 from .pool import Pool
-from .snomed import is_concept_id
+from .snomed import distinct, is_concept_id
+
+# A URI that names a code system: a scheme, and no space or control character.
+SYSTEM = re.compile(r"[A-Za-z][A-Za-z0-9+.-]*:[\x21-\x7e]+\Z", re.ASCII)
 
 
 def options() -> argparse.Namespace:
@@ -35,6 +39,21 @@ def options() -> argparse.Namespace:
         "--listen", default="127.0.0.1:8080", help="HOST:PORT, or the path of a socket"
     )
     words.add_argument(
+        "--languages",
+        type=refsets_of,
+        default=(),
+        metavar="SCTID,..",
+        help="the language reference sets whose preferred terms are shown, the most wanted first",
+    )
+    words.add_argument(
+        "--map",
+        type=map_of,
+        action="append",
+        default=[],
+        metavar="SCTID=URI",
+        help="the code system to which the simple map of this reference set leads",
+    )
+    words.add_argument(
         "--log", action="store_true", help="a line of each request to standard error"
     )
     found = words.parse_args()
@@ -45,6 +64,22 @@ def options() -> argparse.Namespace:
     if "/" not in found.listen and not (host and port.isdecimal() and int(port) < 1 << 16):
         words.error("--listen is HOST:PORT, or the path of a socket with a slash in it")
     return found
+
+
+def refsets_of(text: str) -> tuple[str, ...]:
+    found = tuple(distinct(text.split(",")))
+    if not all(map(is_concept_id, found)):
+        raise argparse.ArgumentTypeError("they are SCTIDs of reference sets, separated by commas")
+    if len(found) > limits.LANGUAGES:
+        raise argparse.ArgumentTypeError("there may be %d at most" % limits.LANGUAGES)
+    return found
+
+
+def map_of(text: str) -> tuple[str, str]:
+    refset, _, system = text.partition("=")
+    if not is_concept_id(refset) or not SYSTEM.match(system):
+        raise argparse.ArgumentTypeError("it is the SCTID of a reference set, =, and a URI")
+    return refset, system
 
 
 async def listening(server: http.Server, place: str) -> asyncio.Server:
@@ -81,7 +116,8 @@ def file_of(path: str) -> tuple[int, int] | None:
 
 
 async def serve(found: argparse.Namespace) -> int:
-    app = App(Pool(found.socket), Edition(found.edition))
+    edition = Edition(found.edition, found.languages, dict(found.map))
+    app = App(Pool(found.socket), edition)
     server = http.Server(app.answer, refused_request, log=found.log)
     try:
         listens = await listening(server, found.listen)
