@@ -20,7 +20,7 @@ use Rattle.links.specs.declared.postings.Link.{Link}
 use Rattle.links.specs.declared.postings.Reference.{Reference}
 use Rattle.links.specs.declared.postings.Target.{Target}
 use Rattle.links.specs.declared.postings.Subject.{Subject}
-use Rattle.links.specs.Edges.{Edges, link_of_body, reference_of_body, target_of_body, subject_at, posted_link, posted_reference, posted_target, posted_subject}
+use Rattle.links.specs.Edges.{Edges, link_of_body, reference_of_body, target_of_body, subject_at, posted_link, posted_reference, posted_target, posted_subject, posted_membership}
 use Rattle.links.specs.Private.{links_in, references_in, targets_in, subjects_in}
 use Rattle.links.specs.Laws.{EachPosted, ArePostingsOf, PushedOneByOne, EdgesMore, EdgesMerged}
 
@@ -243,6 +243,7 @@ pushed_one_by_one rows row = λ k.
       references = posted-push posted_reference rows row k;
       targets = posted-push posted_target rows row k;
       subjects = posted-push posted_subject rows row k;
+      memberships = posted-push posted_membership rows row k;
     }
 
 -- ---- lists that change
