@@ -1,4 +1,4 @@
-use Rattle.std.proofs.Common.{◌≡◌, sym, subst, take, take_all}
+use Rattle.std.proofs.Common.{subst, take, take_all}
 use Rattle.as_of_index.specs.Private.Postings.{numbered}
 use Rattle.links.specs.declared.membership.Membership.{Membership}
 use Rattle.links.specs.Edges.{Edges}

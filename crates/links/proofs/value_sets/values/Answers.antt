@@ -1,5 +1,5 @@
 use Rattle.std.specs.List.{sum_by}
-use Rattle.std.proofs.Common.{◌≡◌, ◌+◌, ◌≤◌, sym, subst, IfOk, map}
+use Rattle.std.proofs.Common.{◌≡◌, ◌+◌, ◌≤◌, sym, subst, ◌∙◌, IfOk, map}
 use Rattle.rf2_values.specs.Key.{key_of}
 use Rattle.as_of_index.specs.Chosen.{StandAtAll}
 use Rattle.links.proofs.ValueRows.{kept_rise, values_from_chosen}
