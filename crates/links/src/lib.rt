@@ -2,8 +2,9 @@
 //! one, and which members reference sets have, at a date and a pin.
 //!
 //! Active relationships and associations are posted as rows are written, what each active row is
-//! about, and each member of a reference set, each with the number of its row in the segment. A posting is a candidate: it counts
-//! only where the index picks that very version at the date and the pin.
+//! about, and each member of a reference set, each with the number of its row in the segment. A
+//! posting is a candidate: it counts only where the index picks that very version at the date and
+//! the pin.
 #![tactic(auto)]
 
 mod downwards;
