@@ -1,9 +1,5 @@
 -- Memberships between two places in their order, and those that are asked for.
-<<<<<<< HEAD
-use Rattle.std.proofs.Common.{◌≡◌, ℕ, ◌+◌, ◌*◌, ◌≤◌, ◌<◌, true, false, Bool, List, [], ◌∷◌, ◌++◌, length, get_or, take, drop, map, refl, sym, ap, subst, inl, inr, ◌∙◌, arith, take-append-drop, min}
-=======
 use Rattle.std.proofs.Common.{◌≡◌, ℕ, ◌≤◌, true, false, Bool, List, [], ◌++◌, take, drop, refl, sym, ap, subst, inl, inr, arith, take-append-drop, min}
->>>>>>> 7fee920551c9a54ab07c0c014c1b4c69e8d00e93
 use Rattle.std.specs.Prelude.{◌==◌, ◌&&◌, nat_lt, nat_le, Some, None}
 use Rattle.std.proofs.Math.Nat.{min-le_right, min-le_left, le-min}
 use Rattle.std.proofs.lemmas.Bool.Decides.{nat_tests}

@@ -1,29 +1,4 @@
 -- What the answers about members have, and that they ascend.
-<<<<<<< HEAD
-use Rattle.std.proofs.Common.{◌≡◌, ℕ, true, false, Bool, List, [], map, take, refl, sym, ap, subst, inl, inr, ◌∙◌, arith}
-use Rattle.std.specs.Prelude.{◌==◌, ◌&&◌, Option, Some, None}
-use Rattle.std.specs.List.{filter}
-use Rattle.std.specs.Ordering.{nat_cmp}
-use Rattle.std.specs.Cmp.{IsTotalOrder, nat_cmp_total, on_total, then_total, ranked}
-use Rattle.std.specs.declared.cmp.Ordering.TheVariants.{Equal}
-use Rattle.std.proofs.lemmas.Bool.Decides.{nat_tests}
-use Rattle.rf2_values.specs.declared.row.Kind.TheVariants as kinds
-use Rattle.rf2_values.specs.declared.row.Body.{Body}
-use Rattle.rf2_values.specs.declared.row.Body.TheVariants as body
-use Rattle.rf2_values.specs.Row.{RowValue, kind_of, kind_of_body}
-use Rattle.history_model.specs.InOrder.{Has, IsAscending}
-use Rattle.history_model.specs.History.{row_cmp}
-use Rattle.history_model.specs.Laws.{by_id}
-use Rattle.history_model.specs.Queries.{is_above, snapshot, subject_of, subject_of_body, about, is_member_of, is_member_above, members_above, member_component, component_of, is_value_above, value_cmp, values_above, members_about}
-use Rattle.history_model.proofs.InOrder.{Has-put_all_cases, Has-put_all_new, IsAscending-in_order}
-use Rattle.history_model.proofs.Keys.{both_tie}
-use Rattle.history_model.proofs.Filtered.{both, Has-filter, Has-filter_from, IsAscending-filter}
-use Rattle.history_model.proofs.Hierarchy.{both_true, same_number, number_test}
-use Rattle.history_model.proofs.Snapshots.{current_from_snapshot, IsAscending-snapshot, Rises-current}
-use Rattle.history_model.proofs.Ascents.{ascends, one_row_of_a_component, about_is_all, about_ascends}
-use Rattle.links.specs.declared.member_search.Wanted.TheVariants as wanted
-use Rattle.links.proofs.MemberPosts.{wanted_row, wanted_member, member_body}
-=======
 use Rattle.std.proofs.Common.{◌≡◌, ℕ, true, false, Bool, List, [], refl, sym, ap, inl, inr, ◌∙◌}
 use Rattle.std.specs.Prelude.{◌==◌, ◌&&◌, Option, Some}
 use Rattle.std.specs.List.{filter}
@@ -45,7 +20,6 @@ use Rattle.history_model.proofs.Snapshots.{current_from_snapshot, IsAscending-sn
 use Rattle.history_model.proofs.Ascents.{ascends, one_row_of_a_component, about_is_all, about_ascends}
 use Rattle.links.specs.declared.member_search.Wanted.TheVariants as wanted
 use Rattle.links.proofs.MemberPosts.{wanted_row, wanted_member}
->>>>>>> 7fee920551c9a54ab07c0c014c1b4c69e8d00e93
 use Rattle.links.proofs.MemberRows.{member_kind}
 
 pub ids_total : IsTotalOrder by_id

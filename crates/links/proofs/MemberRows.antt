@@ -1,17 +1,9 @@
 -- The rows of the memberships that are taken from all lists are the members that are asked for.
 use Rattle.std.proofs.Common.{◌≡◌, ℕ, true, List, map, refl, sym, ap, subst, ◌∙◌}
 use Rattle.std.specs.Prelude.{Some}
-<<<<<<< HEAD
-use Rattle.std.specs.Ordering.{nat_cmp}
-use Rattle.std.specs.Cmp.{IsTotalOrder, ranked}
-use Rattle.std.specs.declared.cmp.Ordering.{Ordering}
-use Rattle.std.specs.declared.cmp.Ordering.TheVariants.{Less, Equal}
-use Rattle.rf2_values.specs.declared.row.Kind.{Kind}
-=======
 use Rattle.std.specs.Cmp.{IsTotalOrder}
 use Rattle.std.specs.declared.cmp.Ordering.{Ordering}
 use Rattle.std.specs.declared.cmp.Ordering.TheVariants.{Less, Equal}
->>>>>>> 7fee920551c9a54ab07c0c014c1b4c69e8d00e93
 use Rattle.rf2_values.specs.declared.row.Kind.TheVariants as kinds
 use Rattle.rf2_values.specs.declared.row.Body.{Body}
 use Rattle.rf2_values.specs.declared.row.Body.TheVariants as body
@@ -26,11 +18,7 @@ use Rattle.history_model.proofs.InOrder.{same_ascending}
 use Rattle.history_model.proofs.Snapshots.{current_from_snapshot, Has-listed_cases, Has-rows_at_cases}
 use Rattle.segment.specs.Standing.{places_of, StandsAt}
 use Rattle.as_of_index.specs.declared.chosen.Chosen.{Chosen}
-<<<<<<< HEAD
-use Rattle.as_of_index.specs.Places.{ArePlaces, item_at}
-=======
 use Rattle.as_of_index.specs.Places.{ArePlaces}
->>>>>>> 7fee920551c9a54ab07c0c014c1b4c69e8d00e93
 use Rattle.as_of_index.specs.Chosen.{StandAtAll}
 use Rattle.as_of_index.specs.Private.Postings.{numbered}
 use Rattle.as_of_index.proofs.Among.{looked_up}
@@ -46,11 +34,7 @@ use Rattle.links.specs.Laws.{EachPosted}
 use Rattle.links.proofs.MemberPosts.{IsMembershipOf, membership_stands, each_member_is_posted, wanted_row, wanted_of, member_body, wanted_member}
 
 -- the reference set of a member
-<<<<<<< HEAD
-refset_in : Body → ℕ
-=======
 abbrev refset_in : Body → ℕ
->>>>>>> 7fee920551c9a54ab07c0c014c1b4c69e8d00e93
 refset_in (body.Concept c) = 0
 refset_in (body.Description d) = 0
 refset_in (body.Relationship r) = 0

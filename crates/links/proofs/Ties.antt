@@ -68,20 +68,12 @@ count_all d [] all = refl
 count_all d (e ∷ ds) all = count_up d e ds (all e (inl refl)) ∙ ap suc (count_all d ds (λ f h. all f (inr h)))
 
 count_append : (d : ℕ) (ds es : List ℕ) → count_lesser d (ds ++ es) ≡ count_lesser d ds + count_lesser d es
-<<<<<<< HEAD
-count_append d [] es = refl
-=======
 count_append d [] es = omega arith
->>>>>>> 7fee920551c9a54ab07c0c014c1b4c69e8d00e93
 count_append d (e ∷ ds) es =
     step d e (ds ++ es) ∙ ap (λ n. cond (nat_lt e d) (suc n) n) (count_append d ds es)
     ∙ sum_of (nat_lt e d) (count_lesser d ds) (count_lesser d es) ∙ ap (λ n. n + count_lesser d es) (sym (step d e ds)) where
       sum_of : (t : Bool) (m n : ℕ) → cond t (suc (m + n)) (m + n) ≡ cond t (suc m) m + n
-<<<<<<< HEAD
-      sum_of true m n = refl
-=======
       sum_of true m n = omega arith
->>>>>>> 7fee920551c9a54ab07c0c014c1b4c69e8d00e93
       sum_of false m n = refl
 
 -- ---- lists
@@ -98,11 +90,7 @@ length_taken (suc n) (x ∷ xs) le = ap suc (length_taken n xs (omega (arith, le
 
 -- ---- numbers that never fall
 
-<<<<<<< HEAD
-pub Rising : List ℕ → Type 0
-=======
 abbrev pub Rising : List ℕ → Type 0
->>>>>>> 7fee920551c9a54ab07c0c014c1b4c69e8d00e93
 Rising [] = Unit {0}
 Rising (d ∷ ds) = AllByRecursion (λ e. d ≤ e) ds × Rising ds
 

@@ -1,9 +1,5 @@
 -- The rows of the places that are kept of a value set are those of the answer.
-<<<<<<< HEAD
-use Rattle.std.proofs.Common.{◌≡◌, ℕ, zero, suc, ◌≤◌, ◌<◌, List, [], ◌∷◌, length, get_or, map, take, refl, sym, ap, subst, inl, inr, ◌∙◌, arith}
-=======
 use Rattle.std.proofs.Common.{◌≡◌, ℕ, zero, suc, ◌≤◌, List, [], ◌∷◌, get_or, map, take, refl, sym, ap, subst, inl, inr, ◌∙◌, arith}
->>>>>>> 7fee920551c9a54ab07c0c014c1b4c69e8d00e93
 use Rattle.std.specs.Prelude.{Option}
 use Rattle.std.specs.List.Sorted.{IsNonDecreasingBy}
 use Rattle.std.specs.Ordering.{nat_cmp, ordering_then}

@@ -1,11 +1,7 @@
 -- Words on members of reference sets that private functions and proofs need. No public clause cites
 -- them.
 use Rattle.std.specs.Prelude.{◌≡◌, ◌≤◌, ◌<◌, ◌==◌, ◌&&◌, ◌++◌, ℕ, Bool, true, List, [], ◌∷◌, map}
-<<<<<<< HEAD
-use Rattle.std.specs.Prelude.{length, take, drop, nat_lt, Option, Some, None}
-=======
 use Rattle.std.specs.Prelude.{length, take, drop, nat_lt, Some, None}
->>>>>>> 7fee920551c9a54ab07c0c014c1b4c69e8d00e93
 use Rattle.std.specs.List.{filter, AllByRecursion}
 use Rattle.std.specs.declared.cmp.Ordering.{Ordering}
 use Rattle.history_model.specs.declared.stamped.StampedRow.{StampedRow}
@@ -13,14 +9,8 @@ use Rattle.history_model.specs.InOrder.{Has}
 use Rattle.history_model.specs.Queries.{is_above}
 use Rattle.segment.specs.declared.place.RowPlace.{RowPlace}
 use Rattle.as_of_index.specs.declared.chosen.Chosen.{Chosen}
-<<<<<<< HEAD
-use Rattle.as_of_index.specs.Private.Chosen.{chosen_cmp, ranked_cmp}
-use Rattle.as_of_index.specs.Private.Once.{AreOnce}
-use Rattle.as_of_index.specs.Private.Postings.{numbered}
-=======
 use Rattle.as_of_index.specs.Private.Chosen.{chosen_cmp}
 use Rattle.as_of_index.specs.Private.Once.{AreOnce}
->>>>>>> 7fee920551c9a54ab07c0c014c1b4c69e8d00e93
 use Rattle.as_of_index.specs.Current.{IsPlaceOfRow, IsCurrentAt}
 use Rattle.links.specs.declared.membership.Membership.{Membership}
 use Rattle.links.specs.declared.member_search.Asked.{Asked}

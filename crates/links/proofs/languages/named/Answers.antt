@@ -1,8 +1,4 @@
-<<<<<<< HEAD
-use Rattle.std.proofs.Common.{◌≡◌, get_or, refl, sym, ap, subst, ◌∙◌, ◌++◌, take, take_all}
-=======
 use Rattle.std.proofs.Common.{◌≡◌, ◌+◌, [], ◌∷◌, sym, ap, subst, ◌∙◌, ◌++◌, take, take_all}
->>>>>>> 7fee920551c9a54ab07c0c014c1b4c69e8d00e93
 use Rattle.std.proofs.lemmas.List.{take_more}
 use Rattle.as_of_index.specs.Private.Postings.{numbered}
 use Rattle.as_of_index.specs.declared.chosen.Chosen.{Chosen}
@@ -14,9 +10,6 @@ pub loop-k-init : goal.loop-k-init
 loop-k-init c = λ lists listed_so. c.new-kept.ensures.items
 
 pub loop-k-preserved : goal.loop-k-preserved
-<<<<<<< HEAD
-loop-k-preserved c = λ lists listed_so. ?
-=======
 loop-k-preserved c = λ lists listed_so.
     let a = c.args in
     let i = c.loop-k.k-index in
@@ -30,7 +23,6 @@ loop-k-preserved c = λ lists listed_so.
     subst (λ js. AreNamed lists a.refset a.time a.pin xs js c.push_with.new.kept.items) (sym one_more)
     (subst (λ ys. AreNamed lists a.refset a.time a.pin xs (take i ks ++ k ∷ []) ys) (sym pushed)
     (named_push lists a.refset a.time a.pin xs (take i ks) k kept those (c.loop-k.invariant lists listed_so) (c.in_ok-those.ensures lists listed_so)))
->>>>>>> 7fee920551c9a54ab07c0c014c1b4c69e8d00e93
 
 pub returns : goal.returns
 returns c = λ lists listed_so.

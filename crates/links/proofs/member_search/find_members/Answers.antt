@@ -1,8 +1,4 @@
-<<<<<<< HEAD
-use Rattle.std.proofs.Common.{◌≡◌, sym, subst, take, take_all}
-=======
 use Rattle.std.proofs.Common.{subst, take, take_all}
->>>>>>> 7fee920551c9a54ab07c0c014c1b4c69e8d00e93
 use Rattle.as_of_index.specs.Private.Postings.{numbered}
 use Rattle.links.specs.declared.membership.Membership.{Membership}
 use Rattle.links.specs.Edges.{Edges}

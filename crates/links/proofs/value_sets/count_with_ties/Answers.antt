@@ -1,9 +1,3 @@
-<<<<<<< HEAD
-use Rattle.std.proofs.Common.{◌≡◌, ℕ, map}
-use Rattle.as_of_index.specs.declared.chosen.Chosen.{Chosen}
-use Rattle.links.proofs.Ties.{cut_nothing, cut_all, cut_behind, rising_by, splits_by}
-use Rattle.links.proofs.value_sets.count_with_ties.Goals as goal
-=======
 use Rattle.std.proofs.Common.{◌≡◌, ℕ, ◌-◌, ◌<◌, suc, length, get_or, map, sym, ap, subst, ◌∙◌, arith, rules}
 use Rattle.std.specs.Prelude.{nat_le}
 use Rattle.std.proofs.lemmas.List.{length-map, get_or-map}
@@ -42,4 +36,3 @@ returns c = λ up.
     let numbers : SplitsAt (λ e. nat_le e (get_or ds k 0)) ds count = subst (λ n. SplitsAt (λ e. nat_le e n) ds count) (sym last_is) (splits_by target (λ n. nat_le n item.target) ks count split) in
     let next : suc k ≡ limit = omega (arith, some) in
     subst (λ n. IsCutAt n ds count) next (cut_behind k ds 0 count (rising_by target ks up) (omega (arith, within, long)) numbers)
->>>>>>> 7fee920551c9a54ab07c0c014c1b4c69e8d00e93

@@ -1,9 +1,5 @@
 use Rattle.std.specs.List.{sum_by}
-<<<<<<< HEAD
-use Rattle.std.proofs.Common.{◌≡◌, ◌+◌, ◌≤◌, sym, subst, IfOk, map}
-=======
 use Rattle.std.proofs.Common.{◌≡◌, ◌+◌, ◌≤◌, sym, subst, ◌∙◌, IfOk, map}
->>>>>>> 7fee920551c9a54ab07c0c014c1b4c69e8d00e93
 use Rattle.rf2_values.specs.Key.{key_of}
 use Rattle.as_of_index.specs.Chosen.{StandAtAll}
 use Rattle.links.proofs.ValueRows.{kept_rise, values_from_chosen}
