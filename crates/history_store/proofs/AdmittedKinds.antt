@@ -67,7 +67,7 @@ fits layouts.Three release kind version has = tt
 
 pub admitted_kinds : (layout : Layout) (release : Release) (known : List RowValue) (fresh : NewRows) (k : ℕ) → (IsForLater layout release → ⊥) → BringsByKey known release fresh → AreOfLayout (next_layout layout) (stamped k fresh.rows.items)
 admitted_kinds layout release known fresh k version brings = All-from_recursion Fits (stamped k fresh.rows.items) (all_from_has Fits (stamped k fresh.rows.items) each) where
-  abbrev Fits : StampedRow → Type 0
+  Fits : StampedRow → Type 0
   Fits s = HasKind (next_layout layout) (kind_of s.row)
 
   each : (s : StampedRow) → Has (stamped k fresh.rows.items) s → HasKind (next_layout layout) (kind_of s.row)

@@ -36,7 +36,7 @@ has_risen old new kind rises has = elim rises [
 ]
 
 pub of_risen : (old : Layout) (e : DirectoryValue) (lists : List (List StampedRow)) → RisesTo old e.layout → All (AreOfLayout old) lists → All (AreOfLayout e.layout) lists
-of_risen old e lists rises all = λ k d lt. λ i s below. has_risen old e.layout (kind_of s.row) rises (all k d lt i s below)
+of_risen old e lists rises all = λ k d lt. λ i s below. has_risen old e.layout _ rises (all k d lt i s below)
 
 -- ---- two lists replaced by the rows of both
 
@@ -60,7 +60,7 @@ module _ {X : Type 0} (P : X → Type 0) where
 
 union_kinds : (layout : Layout) (a b : List StampedRow) → AreOfLayout layout a → AreOfLayout layout b → AreOfLayout layout (union a b)
 union_kinds layout a b first second = All-from_recursion Fits (union a b) (all_from_has Fits (union a b) each) where
-  abbrev Fits : StampedRow → Type 0
+  Fits : StampedRow → Type 0
   Fits s = HasKind layout (kind_of s.row)
 
   each : (s : StampedRow) → Has (union a b) s → HasKind layout (kind_of s.row)
