@@ -615,7 +615,7 @@ FAULTS = [
     Fault(
         "each reference set is a simple map",
         "fhir/translation.py",
-        "    if not await view.is_within(refset, SIMPLE_MAP, day):",
+        "    if system is None and not await view.is_within(refset, SIMPLE_MAP, day):",
         "    if False:",
         MEMBERS,
     ),

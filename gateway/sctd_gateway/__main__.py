@@ -3,8 +3,10 @@
     python3 -m sctd_gateway --socket /run/sctd/questions.sock --edition 900000000000207008
 
 It asks through a socket of `examples/hub.py` and listens on 127.0.0.1:8080, or where `--listen`
-says. It prints `OK ready` once it does. TLS, users and the log of who asked what are those of the
-house's own proxy in front of it.
+says. It prints `OK ready` once it does. `--languages` has the SCTIDs of the language reference sets
+whose preferred terms are shown, such as 900000000000509007,900000000000508004, the most wanted
+first; without it fully specified names are. TLS, users and the log of who asked what are those of
+the house's own proxy in front of it.
 """
 
 import argparse
@@ -59,6 +61,8 @@ def options() -> argparse.Namespace:
     found = words.parse_args()
     if not is_concept_id(found.edition):
         words.error("the edition is the SCTID of a module, such as 900000000000207008")
+    if len(dict(found.map)) < len(found.map):
+        words.error("--map names a reference set twice")
     # (Without a host it would listen on every address of the machine.)
     host, _, port = found.listen.rpartition(":")
     if "/" not in found.listen and not (host and port.isdecimal() and int(port) < 1 << 16):

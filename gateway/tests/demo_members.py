@@ -4,6 +4,8 @@ were retired, simple reference sets, maps, and a text definition."""
 import uuid
 from pathlib import Path
 
+from make_release import sctid
+
 from . import demo_releases as demo
 from .demo_releases import FIRST_DAY, FULLY_SPECIFIED, Maker
 
@@ -13,6 +15,8 @@ PREFERRED, ACCEPTABLE = "900000000000548007", "900000000000549004"
 INDICATORS = "900000000000489007"
 AMBIGUOUS, DUPLICATE = "900000000000484002", "900000000000482003"
 CTV3 = "900000000000497000"
+# A map of the house's own, of which no release has the concept.
+HOUSE_MAP = str(sctid(4712, "00"))
 TEXT_DEFINITION = "900000000000550004"
 DEFINITION = "A break of bones of the wrist <joint>."
 FIXED = "id effectiveTime active moduleId refsetId referencedComponentId"
@@ -176,4 +180,5 @@ def maps(maker: WholeMaker) -> None:
     maker.member("map", "20190131", CTV3, codes["limb"], "X2")
     maker.member("map", "20200131", CTV3, codes["limb"], "X3", known=known)
     maker.member("map", FIRST_DAY, CTV3, codes["drug"], "")
+    maker.member("map", FIRST_DAY, HOUSE_MAP, codes["limb"], "H1")
     maker.member("odd", FIRST_DAY, codes["odd"], codes["limb"], "Y1", "ask <i>them</i>")

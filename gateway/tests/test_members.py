@@ -25,7 +25,9 @@ TRANSLATE = "ConceptMap/$translate"
 # What the house prefers: British English, and where that says nothing that of the United States.
 LANGUAGES = demo.GB + "," + demo.US
 CTV3_SYSTEM = "http://read.info/ctv3"
-WORDS = ("--languages", LANGUAGES, "--map", "%s=%s" % (demo.CTV3, CTV3_SYSTEM))
+HOUSE_SYSTEM = "urn:oid:1.2.3"
+MAPS = ((demo.CTV3, CTV3_SYSTEM), (demo.HOUSE_MAP, HOUSE_SYSTEM))
+WORDS = ("--languages", LANGUAGES, *(word for one in MAPS for word in ("--map", "%s=%s" % one)))
 US_TAG, GB_TAG = "en-x-sctlang-90000000-00005090-07", "en-x-sctlang-90000000-00005080-04"
 CONTEXT = "http://snomed.info/fhir/StructureDefinition/designation-use-context"
 # The reference set, how it has a description, and as what.
@@ -412,6 +414,13 @@ class Maps(Whole):
         self.assertEqual(self.ask("wrist", targetsystem=CTV3_SYSTEM)[0], 200)
         for system in (SCT, "http://hl7.org/fhir/sid/icd-10"):
             self.assertEqual(self.ask("wrist", targetsystem=system)[0], 404, system)
+
+    def test_map_of_the_house(self) -> None:
+        """It says that this is one, where the store has no concept of it."""
+        said = self.ask("limb", demo.HOUSE_MAP)[1]
+        found = [one["concept"] for one in parts_of(said, "match")]
+        self.assertEqual(found, [{"system": HOUSE_SYSTEM, "code": "H1"}])
+        self.assertEqual(self.ask("limb", str(sctid(4711, "00")))[0], 404)
 
     def test_what_is_no_simple_map(self) -> None:
         for refset, status in (

@@ -107,9 +107,9 @@ async def mapped(request: Request, asked: Asked) -> Json:
     """What a simple map has for a code. The release doesn't say of which code system that is, so an
     answer says it only where the house has said it."""
     view, day, refset = request.view, asked.moment.day, asked.refset
-    if not await view.is_within(refset, SIMPLE_MAP, day):
-        raise not_a_map(asked.url)
     system = request.edition.maps.get(refset)
+    if system is None and not await view.is_within(refset, SIMPLE_MAP, day):
+        raise not_a_map(asked.url)
     wanted = request.query.text("targetsystem")
     if wanted not in (None, system):
         raise not_found("the code system %.100r isn't said to be that of the map" % wanted)

@@ -7,7 +7,7 @@ from typing import NamedTuple
 
 from .. import refsets
 from ..problems import invalid, not_found, not_supported
-from ..snomed import is_concept_id
+from ..snomed import REFERENCE_SET, is_concept_id
 from .inputs import SCT
 from .request import Request
 from .versions import Moment
@@ -90,5 +90,7 @@ async def must_be_kept(request: Request, refset: str, moment: Moment) -> None:
 async def refsets_there(request: Request, moment: Moment) -> list[str]:
     found = await refsets.with_members(request.view, moment.day)
     if not found:
-        raise not_supported("the store has no reference set with members on that day")
+        raise not_supported(
+            "the store has no reference set with members on that day below %s" % REFERENCE_SET
+        )
     return found
