@@ -1,6 +1,6 @@
 -- Memberships between two places in their order, and those that are asked for.
 use Rattle.std.proofs.Common.{◌≡◌, ℕ, ◌≤◌, true, false, Bool, List, [], ◌++◌, take, drop, refl, sym, ap, subst, inl, inr, arith, take-append-drop, min}
-use Rattle.std.specs.Prelude.{◌==◌, ◌&&◌, nat_lt, nat_le, Some, None}
+use Rattle.std.specs.Prelude.{◌==◌, ◌&&◌, nat_lt, nat_le, Option, Some, None}
 use Rattle.std.proofs.Math.Nat.{min-le_right, min-le_left, le-min}
 use Rattle.std.proofs.lemmas.Bool.Decides.{nat_tests}
 use Rattle.history_model.specs.InOrder.{Has}
@@ -14,7 +14,7 @@ use Rattle.links.specs.declared.member_search.Wanted.{Wanted}
 use Rattle.links.specs.declared.member_search.Wanted.TheVariants as wanted
 use Rattle.links.specs.Edges.{membership_rank}
 use Rattle.links.specs.Private.{Takes}
-use Rattle.links.specs.Private.Memberships.{is_wanted, low_rank, high_rank, AreGiven}
+use Rattle.links.specs.Private.Memberships.{is_up_to, is_between, is_wanted, low_rank, high_rank, AreGiven}
 use Rattle.links.proofs.Numbering.{in_list, one_of}
 
 module _ {X : Type 0} (of : X → ℕ) (list : List X) (d e first count : ℕ) (low : SplitsAt (λ x. nat_lt (of x) d) list first) (high : SplitsAt (λ x. nat_le (of x) e) (drop first list) count) where
@@ -65,18 +65,23 @@ rank_within refset n low le =
     let f : min 18446744073709551615 18446744073709551615 ≡ 18446744073709551615 = refl in
     (omega (arith, d), omega (arith, a, f))
 
+above_low : (refset n : ℕ) (after last : Option ℕ) → is_above after n ≡ true → low_rank refset (wanted.Values after last) ≤ membership_rank refset n
+above_low refset n None last e = (rank_within refset n 0 (omega arith)).0
+above_low refset n (Some low) last e = (rank_within refset n low (grind (arith, nat_tests, e))).0
+
+below_high : (refset n : ℕ) (after last : Option ℕ) → is_up_to last n ≡ true → membership_rank refset n ≤ high_rank refset (wanted.Values after last)
+below_high refset n after None e = (rank_within refset n 0 (omega arith)).1
+below_high refset n after (Some high) e = (rank_within refset high n (grind (arith, nat_tests, e))).0
+
 pub wanted_within : (refset : ℕ) (w : Wanted) (m : Membership) (id : ℕ) → is_wanted refset w m id ≡ true → (low_rank refset w ≤ membership_rank m.refset m.referenced) × (membership_rank m.refset m.referenced ≤ high_rank refset w)
-wanted_within refset (wanted.Above after) m id e =
-    let own : m.refset ≡ refset = same_number m.refset refset (both (m.refset == refset) (is_above after id) e).0 in
+wanted_within refset (wanted.Above after last) m id e =
+    let own : m.refset ≡ refset = same_number m.refset refset (both (m.refset == refset) (is_between after last id) e).0 in
     subst (λ r. (membership_rank refset 0 ≤ membership_rank r m.referenced) × (membership_rank r m.referenced ≤ membership_rank refset 18446744073709551615)) (sym own) (rank_within refset m.referenced 0 (omega arith))
-wanted_within refset (wanted.Values None) m id e =
-    let own : m.refset ≡ refset = same_number m.refset refset (three m.active (m.refset == refset) (is_above None m.referenced) e).0 in
-    subst (λ r. (membership_rank refset 0 ≤ membership_rank r m.referenced) × (membership_rank r m.referenced ≤ membership_rank refset 18446744073709551615)) (sym own) (rank_within refset m.referenced 0 (omega arith))
-wanted_within refset (wanted.Values (Some after)) m id e =
-    let t = three m.active (m.refset == refset) (is_above (Some after) m.referenced) e in
+wanted_within refset (wanted.Values after last) m id e =
+    let t = three m.active (m.refset == refset) (is_between after last m.referenced) e in
     let own : m.refset ≡ refset = same_number m.refset refset t.0 in
-    let le : after ≤ m.referenced = (let above = t.1 in grind (arith, nat_tests, above)) in
-    subst (λ r. (membership_rank refset after ≤ membership_rank r m.referenced) × (membership_rank r m.referenced ≤ membership_rank refset 18446744073709551615)) (sym own) (rank_within refset m.referenced after le)
+    let w = both (is_above after m.referenced) (is_up_to last m.referenced) t.1 in
+    subst (λ r. (low_rank refset (wanted.Values after last) ≤ membership_rank r m.referenced) × (membership_rank r m.referenced ≤ high_rank refset (wanted.Values after last))) (sym own) (above_low refset m.referenced after last w.0, below_high refset m.referenced after last w.1)
 wanted_within refset (wanted.About component) m id e =
     let t = three m.active (m.refset == refset) (m.referenced == component) e in
     let own : m.refset ≡ refset = same_number m.refset refset t.0 in

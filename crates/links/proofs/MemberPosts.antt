@@ -8,7 +8,7 @@ use Rattle.rf2_values.specs.declared.row.RefsetMember.{RefsetMember}
 use Rattle.rf2_values.specs.Row.{RowValue}
 use Rattle.history_model.specs.declared.stamped.StampedRow.{StampedRow}
 use Rattle.history_model.specs.InOrder.{Has}
-use Rattle.history_model.specs.Queries.{is_above, is_member_of, is_member_above, member_component, component_of, is_value_above}
+use Rattle.history_model.specs.Queries.{is_member_of, member_component, component_of}
 use Rattle.history_model.proofs.Filtered.{both}
 use Rattle.as_of_index.specs.Places.{item_at}
 use Rattle.as_of_index.specs.Postings.{AllPosted}
@@ -18,7 +18,7 @@ use Rattle.links.specs.declared.membership.Membership.{Membership}
 use Rattle.links.specs.declared.member_search.Wanted.{Wanted}
 use Rattle.links.specs.declared.member_search.Wanted.TheVariants as wanted
 use Rattle.links.specs.Edges.{Edges, membership, membership_of_body, posted_membership}
-use Rattle.links.specs.Private.Memberships.{memberships_in, is_wanted}
+use Rattle.links.specs.Private.Memberships.{memberships_in, is_between, is_wanted}
 use Rattle.links.specs.Laws.{EachPosted}
 
 memberships_posted : (lists : List (List StampedRow)) (edges : List Edges) → EachPosted lists edges → AllPosted posted_membership lists (memberships_in edges)
@@ -67,17 +67,17 @@ each_member_is_posted lists edges a n i s w x e =
 
 -- the row is a member that is asked for
 abbrev pub wanted_row : ℕ → Wanted → RowValue → Bool
-wanted_row refset (wanted.Above after) row = is_member_above refset after row
-wanted_row refset (wanted.Values after) row = is_value_above refset after row
+wanted_row refset (wanted.Above after last) row = is_member_of refset row.body && is_between after last row.id
+wanted_row refset (wanted.Values after last) row = row.active && is_member_of refset row.body && is_between after last (component_of row)
 wanted_row refset (wanted.About component) row = row.active && is_member_of refset row.body && component_of row == component
 
 -- what is asked of a row is asked of its membership
 pub wanted_of : (refset : ℕ) (w : Wanted) (m : Membership) (row : RowValue) → IsMembershipOf m row → is_wanted refset w m row.id ≡ wanted_row refset w row
-wanted_of refset (wanted.Above after) m row of =
-    (λ i. (sym of.refset_is i == refset) && is_above after row.id) ∙ ap (λ (b : Body). is_member_of refset b && is_above after row.id) (sym of.body_is)
-wanted_of refset (wanted.Values after) m row of =
-    (λ i. sym of.active_is i && (sym of.refset_is i == refset) && is_above after (sym of.referenced_is i))
-    ∙ ap (λ (b : Body). row.active && is_member_of refset b && is_above after (member_component b)) (sym of.body_is)
+wanted_of refset (wanted.Above after last) m row of =
+    (λ i. (sym of.refset_is i == refset) && is_between after last row.id) ∙ ap (λ (b : Body). is_member_of refset b && is_between after last row.id) (sym of.body_is)
+wanted_of refset (wanted.Values after last) m row of =
+    (λ i. sym of.active_is i && (sym of.refset_is i == refset) && is_between after last (sym of.referenced_is i))
+    ∙ ap (λ (b : Body). row.active && is_member_of refset b && is_between after last (member_component b)) (sym of.body_is)
 wanted_of refset (wanted.About component) m row of =
     (λ i. sym of.active_is i && (sym of.refset_is i == refset) && (sym of.referenced_is i == component))
     ∙ ap (λ (b : Body). row.active && is_member_of refset b && (member_component b == component)) (sym of.body_is)
@@ -99,6 +99,6 @@ middle a b c e = elim a as (λ (t : Bool). (t && b && c) ≡ true → b ≡ true
 ] e
 
 pub wanted_member : (refset : ℕ) (w : Wanted) (row : RowValue) → wanted_row refset w row ≡ true → is_member_of refset row.body ≡ true
-wanted_member refset (wanted.Above after) row e = (both (is_member_of refset row.body) (is_above after row.id) e).0
-wanted_member refset (wanted.Values after) row e = middle row.active (is_member_of refset row.body) (is_above after (component_of row)) e
+wanted_member refset (wanted.Above after last) row e = (both (is_member_of refset row.body) (is_between after last row.id) e).0
+wanted_member refset (wanted.Values after last) row e = middle row.active (is_member_of refset row.body) (is_between after last (component_of row)) e
 wanted_member refset (wanted.About component) row e = middle row.active (is_member_of refset row.body) (component_of row == component) e

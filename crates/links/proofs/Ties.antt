@@ -1,15 +1,15 @@
 -- The first so many of what is in order, and with the last of them all that tie with it.
-use Rattle.std.proofs.Common.{◌≡◌, ℕ, zero, suc, ◌+◌, ◌<◌, ◌≤◌, Bool, true, false, cond, List, [], ◌∷◌, ◌++◌, length, take, drop, map, get_or, refl, sym, ap, subst, inl, inr, ◌∙◌, arith, take-append-drop}
-use Rattle.std.specs.Prelude.{nat_lt, nat_le}
+use Rattle.std.proofs.Common.{◌≡◌, ℕ, zero, suc, ◌+◌, ◌<◌, ◌≤◌, Bool, true, false, cond, List, [], ◌∷◌, ◌++◌, length, take, drop, map, get_or, refl, sym, ap, subst, inl, inr, ◌∙◌, arith, take-append-drop, append-nil, ◌⊎◌}
+use Rattle.std.specs.Prelude.{nat_lt, nat_le, Option, Some, None}
 use Rattle.std.specs.List.{filter, AllByRecursion}
 use Rattle.std.specs.List.Sorted.{IsNonDecreasingBy}
 use Rattle.std.proofs.lemmas.Bool.Decides.{nat_tests}
 use Rattle.history_model.specs.InOrder.{Has}
 use Rattle.history_model.proofs.InOrder.{Has-all, all_from_has}
-use Rattle.history_model.proofs.Filtered.{Has-map}
-use Rattle.std.proofs.lemmas.List.{take-map, drop-map}
+use Rattle.history_model.proofs.Filtered.{Has-map, Has-map_from, Has-filter, filter_none}
+use Rattle.std.proofs.lemmas.List.{take-map, drop-map, length-map}
 use Rattle.as_of_index.specs.Private.Search.{SplitsAt}
-use Rattle.links.specs.Private.Memberships.{count_lesser, IsCutAt}
+use Rattle.links.specs.Private.Memberships.{is_up_to, count_lesser, IsCutAt}
 
 -- ---- how many are below a number
 
@@ -254,3 +254,122 @@ filter_cut {X} f limit xs count cut =
     let le = Has-all (λ y. limit ≤ count_lesser (f y) (map f xs)) (drop count xs) x (All_from_map f (λ d. limit ≤ count_lesser d (map f xs)) (drop count xs) (subst (λ es. AllByRecursion (λ d. limit ≤ count_lesser d (map f xs)) es) (drop-map f count xs) cut.behind)) h in
     let same = filter_map_length f (λ e. nat_lt e (f x)) xs in
     isnt_less (length (filter (λ y. nat_lt (f y) (f x)) xs)) limit (omega (arith, le, same))))
+
+-- ---- of what is up to some number the first ones are those of all
+
+module _ {X : Type 0} (f : X → ℕ) where
+  -- the first items, up to a number if one is given, and the others, which are behind them
+  pub record HasFirst (last : Option ℕ) (xs : List X) : Type 0 where
+    pub rest : List X
+    pub parts : xs ≡ filter (λ x. is_up_to last (f x)) xs ++ rest
+    pub behind : (x y : X) → Has (filter (λ x. is_up_to last (f x)) xs) x → Has rest y → f x < f y
+    pub all : last ≡ None → rest ≡ []
+
+  filter_whole : (xs : List X) → xs ≡ filter (λ x. true) xs
+  filter_whole [] = refl
+  filter_whole (x ∷ xs) = ap (λ ys. x ∷ ys) (filter_whole xs)
+
+  parts_up_to : (last : ℕ) (xs : List X) → Rising (map f xs) → (rest : List X) × (xs ≡ filter (λ x. nat_le (f x) last) xs ++ rest) × ((y : X) → Has rest y → last < f y)
+  parts_up_to last [] up = ([], refl, λ y h. absurd h)
+  parts_up_to last (x ∷ xs) up =
+      elim (nat_le (f x) last) as (λ t. nat_le (f x) last ≡ t → (rest : List X) × (x ∷ xs ≡ cond t (x ∷ filter (λ x. nat_le (f x) last) xs) (filter (λ x. nat_le (f x) last) xs) ++ rest) × ((y : X) → Has rest y → last < f y)) [
+        | true ↦ λ e. (let w = parts_up_to last xs up.1 in (w.0, ap (λ ys. x ∷ ys) w.1, w.2))
+        | false ↦ λ e. (
+            let high : last < f x = from_test_gt (f x) last e in
+            let above : (y : X) → Has xs y → last < f y = λ y h. (let le = Has-all (λ n. f x ≤ n) (map f xs) (f y) up.0 (Has-map_from f xs y h) in omega (arith, high, le)) in
+            let none : filter (λ x. nat_le (f x) last) xs ≡ [] = filter_none (λ x. nat_le (f x) last) xs (λ y h. not_up_to (f y) last (above y h)) in
+            (x ∷ xs, ap (λ ys. ys ++ (x ∷ xs)) (sym none), λ y h. elim h [ inl same ↦ subst (λ z. last < f z) same high | inr t ↦ above y t ]))
+      ] refl where
+        not_up_to : (m n : ℕ) → n < m → nat_le m n ≡ false
+        not_up_to m n lt = grind (arith, nat_tests, lt)
+
+  pub first_up_to : (last : Option ℕ) (xs : List X) → Rising (map f xs) → HasFirst last xs
+  first_up_to None xs up = record {
+    rest = [];
+    parts = filter_whole xs ∙ sym (append-nil (filter (λ x. true) xs));
+    behind = λ x y h k. absurd k;
+    all = λ e. refl;
+  }
+  first_up_to (Some last) xs up =
+      let w = parts_up_to last xs up in
+      record {
+        rest = w.0;
+        parts = w.1;
+        behind = λ x y h k.
+            let low = from_test_le (f x) last (Has-filter (λ x. nat_le (f x) last) xs x h).1 in
+            let high = w.2 y k in
+            omega (arith, low, high);
+        all = λ e. absurd (cc);
+      }
+
+  -- enough items stand there, or all
+  abbrev pub IsEnough : Option ℕ → ℕ → List X → Type 0
+  IsEnough last limit part = (last ≡ None) ⊎ (limit ≤ length part)
+
+  take_first : (n : ℕ) (part rest : List X) → n ≤ length part → take n (part ++ rest) ≡ take n part
+  take_first zero part rest le = refl
+  take_first (suc n) [] rest le = absurd (omega (arith, le))
+  take_first (suc n) (x ∷ part) rest le = ap (λ ys. x ∷ ys) (take_first n part rest (omega (arith, le)))
+
+  pub take_up_to : (last : Option ℕ) (limit : ℕ) (xs : List X) → Rising (map f xs) → IsEnough last limit (filter (λ x. is_up_to last (f x)) xs) → take limit xs ≡ take limit (filter (λ x. is_up_to last (f x)) xs)
+  take_up_to last limit xs up enough =
+      let w = first_up_to last xs up in
+      let part = filter (λ x. is_up_to last (f x)) xs in
+      ap (take limit) w.parts ∙ elim enough [
+        | inl e ↦ ap (λ rest. take limit (part ++ rest)) (w.all e) ∙ ap (take limit) (append-nil part)
+        | inr le ↦ take_first limit part w.rest le
+      ]
+
+  filter_append : (p : X → Bool) (xs ys : List X) → filter p (xs ++ ys) ≡ filter p xs ++ filter p ys
+  filter_append p [] ys = refl
+  filter_append p (x ∷ xs) ys =
+      ap (λ zs. cond (p x) (x ∷ zs) zs) (filter_append p xs ys) ∙ of_test (p x) where
+        of_test : (t : Bool) → cond t (x ∷ (filter p xs ++ filter p ys)) (filter p xs ++ filter p ys) ≡ cond t (x ∷ filter p xs) (filter p xs) ++ filter p ys
+        of_test true = refl
+        of_test false = refl
+
+  filter_same : (p q : X → Bool) (xs : List X) → ((x : X) → Has xs x → p x ≡ q x) → filter p xs ≡ filter q xs
+  filter_same p q [] same = refl
+  filter_same p q (x ∷ xs) same = λ i. cond (same x (inl refl) i) (x ∷ filter_same p q xs (λ y h. same y (inr h)) i) (filter_same p q xs (λ y h. same y (inr h)) i)
+
+  map_append : (xs ys : List X) → map f (xs ++ ys) ≡ map f xs ++ map f ys
+  map_append [] ys = refl
+  map_append (x ∷ xs) ys = ap (λ zs. f x ∷ zs) (map_append xs ys)
+
+  -- fewer than so many items are below x
+  abbrev is_first : ℕ → List X → X → Bool
+  is_first limit xs x = nat_lt (length (filter (λ y. nat_lt (f y) (f x)) xs)) limit
+
+  lesser_of : (xs : List X) (x : X) → length (filter (λ y. nat_lt (f y) (f x)) xs) ≡ count_lesser (f x) (map f xs)
+  lesser_of xs x = sym (filter_map_length f (λ n. nat_lt n (f x)) xs)
+
+  lesser_parts : (part rest : List X) (x : X) → length (filter (λ y. nat_lt (f y) (f x)) (part ++ rest)) ≡ count_lesser (f x) (map f part) + count_lesser (f x) (map f rest)
+  lesser_parts part rest x = lesser_of (part ++ rest) x ∙ ap (count_lesser (f x)) (map_append part rest) ∙ count_append (f x) (map f part) (map f rest)
+
+  cut_parts : (limit count : ℕ) (part rest : List X) → ((x y : X) → Has part x → Has rest y → f x < f y) → (rest ≡ []) ⊎ (limit ≤ length part) → IsCutAt limit (map f part) count → filter (is_first limit (part ++ rest)) (part ++ rest) ≡ take count part
+  cut_parts limit count part rest behind enough cut =
+      filter_append (is_first limit (part ++ rest)) part rest ∙ (λ i. first_ones i ++ others i) ∙ append-nil (take count part) where
+        first_ones : filter (is_first limit (part ++ rest)) part ≡ take count part
+        first_ones =
+            filter_same (is_first limit (part ++ rest)) (is_first limit part) part (λ x h.
+            let none = count_none (f x) (map f rest) (λ n k. let m = Has-map f rest n k in let lt = behind x m.0 h m.1 in omega (arith, lt, m.2)) in
+            let whole = lesser_parts part rest x in
+            let own = lesser_of part x in
+            ap (λ n. nat_lt n limit) (omega (arith, whole, own, none)))
+            ∙ filter_cut f limit part count cut
+
+        others : filter (is_first limit (part ++ rest)) rest ≡ []
+        others = elim enough [
+          | inl e ↦ subst (λ (ys : List X). filter (is_first limit (part ++ rest)) ys ≡ []) (sym e) refl
+          | inr le ↦ filter_none (is_first limit (part ++ rest)) rest (λ y k.
+              let all = count_all (f y) (map f part) (λ n h. let m = Has-map f part n h in let lt = behind m.0 y m.1 k in omega (arith, lt, m.2)) in
+              let whole = lesser_parts part rest y in
+              let long = length-map part f in
+              isnt_less (length (filter (λ z. nat_lt (f z) (f y)) (part ++ rest))) limit (omega (arith, whole, all, long, le)))
+        ]
+
+  pub cut_up_to : (last : Option ℕ) (limit count : ℕ) (xs : List X) → Rising (map f xs) → IsEnough last limit (filter (λ x. is_up_to last (f x)) xs) → IsCutAt limit (map f (filter (λ x. is_up_to last (f x)) xs)) count → filter (λ x. nat_lt (length (filter (λ y. nat_lt (f y) (f x)) xs)) limit) xs ≡ take count (filter (λ x. is_up_to last (f x)) xs)
+  cut_up_to last limit count xs up enough cut =
+      let w = first_up_to last xs up in
+      let part = filter (λ x. is_up_to last (f x)) xs in
+      ap (λ ys. filter (is_first limit ys) ys) w.parts ∙ cut_parts limit count part w.rest w.behind (elim enough [ inl e ↦ inl (w.all e) | inr le ↦ inr le ]) cut

@@ -13,10 +13,11 @@ ghost use Rattle.as_of_index.specs.Private.Postings.{numbered};
 ghost use Rattle.fault_counts.specs.Counting.{Counts, CountsDiskFault, CountsDamage};
 ghost use Rattle.fault_counts.specs.declared.fault.ReadFault.TheVariants as readfault;
 ghost use Rattle.links.specs.Laws.{EachPosted};
-ghost use Rattle.links.specs.Private.Memberships.{memberships_in, AreMembers};
+ghost use Rattle.links.specs.declared.member_search.Wanted.TheVariants.{Above};
+ghost use Rattle.links.specs.Private.Memberships.{memberships_in, AreMembers, AreEnough};
 
 use crate::Links;
-use crate::member_search::{Asked, Wanted, find_members};
+use crate::member_search::{Asked, Wanted, between, find_members, high_rank, is_above, low_rank};
 use crate::postings::Sealed;
 use crate::subjects::sort_once;
 use as_of_index::{Chosen, Index, ReadFault, RowReader, read_all};
@@ -39,10 +40,77 @@ pub(crate) fn members_by_id(
     Ok(kept)
 }
 
+/// The ids above `after`, if that is given, of the posted members of a reference set, ascending.
+/// Which of them are answered is no matter: an id is only one up to which members are looked for.
+fn posted_ids(
+    alloc: Global,
+    links: &[Sealed],
+    index: &Index,
+    asked: &Asked,
+    after: Option<u128>,
+) -> Result<Vec<u128>, AllocError> {
+    let mut ids = Vec::new(alloc);
+    for (segment, list) in links.iter().enumerate() {
+        for m in between(list.memberships(), low_rank(asked), high_rank(asked)) {
+            if let Some(id) = index.id_at(segment, m.row) {
+                if is_above(after, id) {
+                    ids.push(id)?;
+                }
+            }
+        }
+    }
+    ids.sort_unstable();
+    Ok(ids)
+}
+
+/// The places of the current members with an id above `after`, if that is given, by id: of all, or
+/// of those up to some id that are at least so many. So it is seldom asked of a member behind the
+/// first so many whether it is current, which costs most.
+fn enough_by_id(
+    alloc: Global,
+    links: &[Sealed],
+    index: &Index,
+    refset: u64,
+    time: EffectiveTime,
+    after: Option<u128>,
+    limit: u32,
+    pin: u32,
+) -> Result<Vec<Chosen>, AllocError>
+    ensures { IfOk result (λ kept. (lists : List (List StampedRow)) → Lists index.now lists
+        → AreEnough chosen_cmp (λ last. Above after last) limit lists refset time pin
+        (numbered 0 (memberships_in links.now)) kept.items) }
+{
+    let all = Asked {
+        refset,
+        wanted: Wanted::Above(after, None),
+        time,
+        pin,
+    };
+    let ids = posted_ids(alloc, links, index, &all, after)?;
+    let mut count = limit as usize;
+    for _ in 0..16 {
+        let Some(last) = ids.get(count) else {
+            break;
+        };
+        let asked = Asked {
+            refset,
+            wanted: Wanted::Above(after, Some(*last)),
+            time,
+            pin,
+        };
+        let kept = members_by_id(alloc, links, index, &asked)?;
+        if limit as usize <= kept.len() {
+            return Ok(kept);
+        }
+        count = count.saturating_mul(4);
+    }
+    members_by_id(alloc, links, index, &all)
+}
+
 /// The members of the reference set at the date, active or not, with an id above `after` if that is
-/// given, the first so many by id, of the rows that the pin shows. It makes two bisections a list,
-/// and one a list for each posted member of the reference set with an id above `after`, and it takes
-/// memory for as many places.
+/// given, the first so many by id, of the rows that the pin shows. It looks at the id of each posted
+/// member of the reference set, and takes memory for those above `after`. For the first so many of
+/// these it makes a bisection a list, and for four times as many as long as too few are current.
 pub fn members<R: RowReader>(
     alloc: Global,
     links: &Links,
@@ -83,13 +151,8 @@ pub fn members<R: RowReader>(
 {
     // Its contract says that no key is listed twice.
     let _listed = index.lists();
-    let asked = Asked {
-        refset: refset.value(),
-        wanted: Wanted::Above(after),
-        time,
-        pin,
-    };
-    let mut kept = members_by_id(alloc, links.as_slice(), index, &asked)?;
+    let links = links.as_slice();
+    let mut kept = enough_by_id(alloc, links, index, refset.value(), time, after, limit, pin)?;
     kept.truncate(limit as usize);
     read_all(alloc, reader, kept.as_slice())
 }

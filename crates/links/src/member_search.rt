@@ -11,7 +11,8 @@ ghost use Rattle.as_of_index.specs.Current.{IsPlaceOfRow, IsCurrentAt};
 ghost use Rattle.as_of_index.specs.Private.Postings.{numbered};
 ghost use Rattle.links.specs.Edges.{membership_rank};
 ghost use Rattle.links.specs.Private.{Takes};
-ghost use Rattle.links.specs.Private.Memberships.{is_wanted, low_rank, high_rank, member_place};
+ghost use Rattle.links.specs.Private.Memberships.{is_up_to, is_between, is_wanted, low_rank};
+ghost use Rattle.links.specs.Private.Memberships.{high_rank, member_place};
 ghost use Rattle.links.specs.Private.Memberships.{GivesMember, AreGiven, memberships_in};
 
 use crate::membership::{Membership, rank, rank_of};
@@ -24,10 +25,12 @@ use std::alloc::{AllocError, Global};
 /// Which members of a reference set are asked for.
 #[derive(Clone, Copy)]
 pub(crate) enum Wanted {
-    /// All, active or not, with an id above, if one is given.
-    Above(Option<u128>),
-    /// The active ones that refer to a component above, if one is given.
-    Values(Option<u64>),
+    /// All, active or not, with an id above the first, if it is given, and up to the second, if it
+    /// is given.
+    Above(Option<u128>, Option<u128>),
+    /// The active ones that refer to a component above the first, if it is given, and up to the
+    /// second, if it is given.
+    Values(Option<u64>, Option<u64>),
     /// The active ones that refer to this component.
     About(u128),
 }
@@ -42,7 +45,7 @@ pub(crate) struct Asked {
 }
 
 /// Whether a number is above another, if one is given.
-fn is_behind(after: Option<u64>, number: u64) -> bool
+pub(crate) fn is_above(after: Option<u128>, number: u128) -> bool
     ensures { result ≡ is_above after number }
 {
     match after {
@@ -51,13 +54,30 @@ fn is_behind(after: Option<u64>, number: u64) -> bool
     }
 }
 
-fn is_id_above(after: Option<u128>, id: u128) -> bool
-    ensures { result ≡ is_above after id }
+/// Whether a number isn't above another, if one is given.
+fn is_up_to(last: Option<u128>, number: u128) -> bool
+    ensures { result ≡ is_up_to last number }
 {
-    match after {
+    match last {
         None => true,
-        Some(after) => after < id,
+        Some(last) => number <= last,
     }
+}
+
+fn widened(number: Option<u64>) -> Option<u128>
+    ensures { result ≡ number }
+{
+    match number {
+        None => None,
+        Some(number) => Some(u128::from(number)),
+    }
+}
+
+/// Whether a number is above the first, if it is given, and not above the last, if it is given.
+fn is_between(after: Option<u128>, last: Option<u128>, number: u128) -> bool
+    ensures { result ≡ is_between after last number }
+{
+    is_above(after, number) && is_up_to(last, number)
 }
 
 /// Whether the membership of a member with this id is asked for.
@@ -65,9 +85,11 @@ fn is_wanted(asked: &Asked, m: &Membership, id: u128) -> bool
     ensures { result ≡ is_wanted asked.now.refset asked.now.wanted m.now id }
 {
     match asked.wanted {
-        Wanted::Above(after) => m.refset == asked.refset && is_id_above(after, id),
-        Wanted::Values(after) => {
-            m.active && m.refset == asked.refset && is_behind(after, m.referenced)
+        Wanted::Above(after, last) => m.refset == asked.refset && is_between(after, last, id),
+        Wanted::Values(after, last) => {
+            m.active
+                && m.refset == asked.refset
+                && is_between(widened(after), widened(last), u128::from(m.referenced))
         }
         Wanted::About(component) => {
             m.active && m.refset == asked.refset && u128::from(m.referenced) == component
@@ -76,28 +98,31 @@ fn is_wanted(asked: &Asked, m: &Membership, id: u128) -> bool
 }
 
 /// Where those that are asked for begin in the order of memberships.
-fn low_rank(asked: &Asked) -> u128
+pub(crate) fn low_rank(asked: &Asked) -> u128
     ensures { result ≡ low_rank asked.now.refset asked.now.wanted }
 {
     match asked.wanted {
-        Wanted::Above(_) | Wanted::Values(None) => rank(asked.refset, 0),
-        Wanted::Values(Some(after)) => rank(asked.refset, u128::from(after)),
+        Wanted::Above(_, _) | Wanted::Values(None, _) => rank(asked.refset, 0),
+        Wanted::Values(Some(after), _) => rank(asked.refset, u128::from(after)),
         Wanted::About(component) => rank(asked.refset, component),
     }
 }
 
 /// The last place in the order of memberships that those may have that are asked for.
-fn high_rank(asked: &Asked) -> u128
+pub(crate) fn high_rank(asked: &Asked) -> u128
     ensures { result ≡ high_rank asked.now.refset asked.now.wanted }
 {
     match asked.wanted {
-        Wanted::Above(_) | Wanted::Values(_) => rank(asked.refset, u128::from(u64::MAX)),
+        Wanted::Above(_, _) | Wanted::Values(_, None) => {
+            rank(asked.refset, u128::from(u64::MAX))
+        }
+        Wanted::Values(_, Some(last)) => rank(asked.refset, u128::from(last)),
         Wanted::About(component) => rank(asked.refset, component),
     }
 }
 
 /// The memberships from one place in their order up to another.
-fn between(list: &[Membership], low: u128, high: u128) -> &[Membership]
+pub(crate) fn between(list: &[Membership], low: u128, high: u128) -> &[Membership]
     ensures { IsNonDecreasingBy (λ m. membership_rank m.refset m.referenced) list.now →
         (m : _) → Has result.now m ↔ (Has list.now m × (low ≤ membership_rank m.refset m.referenced)
         × (membership_rank m.refset m.referenced ≤ high)) }

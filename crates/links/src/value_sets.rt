@@ -14,10 +14,12 @@ ghost use Rattle.as_of_index.specs.Private.Postings.{numbered};
 ghost use Rattle.fault_counts.specs.Counting.{Counts, CountsDiskFault, CountsDamage};
 ghost use Rattle.fault_counts.specs.declared.fault.ReadFault.TheVariants as readfault;
 ghost use Rattle.links.specs.Laws.{EachPosted};
-ghost use Rattle.links.specs.Private.Memberships.{memberships_in, AreMembers, IsCutAt};
+ghost use Rattle.links.specs.declared.member_search.Wanted.TheVariants.{Values};
+ghost use Rattle.links.specs.Private.Memberships.{memberships_in, AreMembers, AreEnough};
+ghost use Rattle.links.specs.Private.Memberships.{IsCutAt};
 
 use crate::Links;
-use crate::member_search::{Asked, Wanted, find_members};
+use crate::member_search::{Asked, Wanted, between, find_members, high_rank, low_rank};
 use crate::postings::Sealed;
 use crate::references::sort_once;
 use as_of_index::{Chosen, Index, ReadFault, RowReader, read_all};
@@ -40,6 +42,66 @@ fn members_by_component(
     Ok(kept)
 }
 
+/// A component so far on that, in the list that comes to it first, so many posted members of the
+/// reference set are asked for up to it, or none if no list has more. Which one it is, is no matter:
+/// it is only one up to which members are looked for.
+fn component_behind(links: &[Sealed], asked: &Asked, count: usize) -> Option<u64> {
+    let mut first = None;
+    for list in links {
+        let those = between(list.memberships(), low_rank(asked), high_rank(asked));
+        if let Some(m) = those.get(count) {
+            first = match first {
+                Some(other) if other < m.referenced => Some(other),
+                _ => Some(m.referenced),
+            };
+        }
+    }
+    first
+}
+
+/// The places of the current active members that refer to a component above `after`, if that is
+/// given, by the component: of all, or of those up to some component that are at least so many. So
+/// it is seldom asked of a member behind the first so many whether it is current, which costs most.
+fn enough_by_component(
+    alloc: Global,
+    links: &[Sealed],
+    index: &Index,
+    refset: u64,
+    time: EffectiveTime,
+    after: Option<u64>,
+    limit: u32,
+    pin: u32,
+) -> Result<Vec<Chosen>, AllocError>
+    ensures { IfOk result (λ kept. (lists : List (List StampedRow)) → Lists index.now lists
+        → AreEnough ranked_cmp (λ last. Values after last) limit lists refset time pin
+        (numbered 0 (memberships_in links.now)) kept.items) }
+{
+    let all = Asked {
+        refset,
+        wanted: Wanted::Values(after, None),
+        time,
+        pin,
+    };
+    let mut count = limit as usize;
+    for _ in 0..16 {
+        let Some(last) = component_behind(links, &all, count) else {
+            break;
+        };
+        let asked = Asked {
+            refset,
+            wanted: Wanted::Values(after, Some(last)),
+            time,
+            pin,
+        };
+        let kept = members_by_component(alloc, links, index, &asked)?;
+        if limit as usize <= kept.len() {
+            return Ok(kept);
+        }
+        count = count.saturating_mul(4);
+    }
+    members_by_component(alloc, links, index, &all)
+}
+
 /// How many of the places the first so many are, and with the last of them all that refer to the
 /// same component.
 fn count_with_ties(kept: &[Chosen], limit: u32) -> usize
@@ -59,9 +121,9 @@ fn count_with_ties(kept: &[Chosen], limit: u32) -> usize
 
 /// The active members of the reference set at the date that refer to a component above `after`, if
 /// that is given, by the component, those of one by id, of the rows that the pin shows: the first so
-/// many, and with the last of them all that refer to the same component. It makes two bisections a
-/// list, and one a list for each posted active member of the reference set that refers to a
-/// component above `after`, and it takes memory for as many places.
+/// many, and with the last of them all that refer to the same component. It makes some bisections a
+/// list, and one a list for each of the first so many posted members behind `after` of each list, and
+/// for four times as many as long as too few are current.
 pub fn values<R: RowReader>(
     alloc: Global,
     links: &Links,
@@ -102,13 +164,9 @@ pub fn values<R: RowReader>(
 {
     // Its contract says that no key is listed twice.
     let _listed = index.lists();
-    let asked = Asked {
-        refset: refset.value(),
-        wanted: Wanted::Values(after),
-        time,
-        pin,
-    };
-    let mut kept = members_by_component(alloc, links.as_slice(), index, &asked)?;
+    let links = links.as_slice();
+    let refset = refset.value();
+    let mut kept = enough_by_component(alloc, links, index, refset, time, after, limit, pin)?;
     let count = count_with_ties(kept.as_slice(), limit);
     kept.truncate(count);
     read_all(alloc, reader, kept.as_slice())

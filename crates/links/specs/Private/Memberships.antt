@@ -1,7 +1,7 @@
 -- Words on members of reference sets that private functions and proofs need. No public clause cites
 -- them.
 use Rattle.std.specs.Prelude.{◌≡◌, ◌≤◌, ◌<◌, ◌==◌, ◌&&◌, ◌++◌, ℕ, Bool, true, List, [], ◌∷◌, map}
-use Rattle.std.specs.Prelude.{length, take, drop, nat_lt, Some, None}
+use Rattle.std.specs.Prelude.{◌⊎◌, length, take, drop, nat_lt, nat_le, Option, Some, None}
 use Rattle.std.specs.List.{filter, AllByRecursion}
 use Rattle.std.specs.declared.cmp.Ordering.{Ordering}
 use Rattle.history_model.specs.declared.stamped.StampedRow.{StampedRow}
@@ -22,24 +22,33 @@ use Rattle.links.specs.Edges.{Edges, membership_rank}
 abbrev pub memberships_in : List Edges → List (List Membership)
 memberships_in lists = map (λ e. e.memberships) lists
 
+-- the number isn't above the last, if one is given
+abbrev pub is_up_to : Option ℕ → ℕ → Bool
+is_up_to None n = true
+is_up_to (Some last) n = nat_le n last
+
+abbrev pub is_between : Option ℕ → Option ℕ → ℕ → Bool
+is_between after last n = is_above after n && is_up_to last n
+
 -- the membership of a member with this id is asked for
 abbrev pub is_wanted : ℕ → Wanted → Membership → ℕ → Bool
-is_wanted refset (wanted.Above after) m id = m.refset == refset && is_above after id
-is_wanted refset (wanted.Values after) m id =
-    m.active && m.refset == refset && is_above after m.referenced
+is_wanted refset (wanted.Above after last) m id = m.refset == refset && is_between after last id
+is_wanted refset (wanted.Values after last) m id =
+    m.active && m.refset == refset && is_between after last m.referenced
 is_wanted refset (wanted.About component) m id =
     m.active && m.refset == refset && m.referenced == component
 
 -- between which places in the order of memberships those stand that are asked for
 abbrev pub low_rank : ℕ → Wanted → ℕ
-low_rank refset (wanted.Above after) = membership_rank refset 0
-low_rank refset (wanted.Values None) = membership_rank refset 0
-low_rank refset (wanted.Values (Some after)) = membership_rank refset after
+low_rank refset (wanted.Above after last) = membership_rank refset 0
+low_rank refset (wanted.Values None last) = membership_rank refset 0
+low_rank refset (wanted.Values (Some after) last) = membership_rank refset after
 low_rank refset (wanted.About component) = membership_rank refset component
 
 abbrev pub high_rank : ℕ → Wanted → ℕ
-high_rank refset (wanted.Above after) = membership_rank refset 18446744073709551615
-high_rank refset (wanted.Values after) = membership_rank refset 18446744073709551615
+high_rank refset (wanted.Above after last) = membership_rank refset 18446744073709551615
+high_rank refset (wanted.Values after None) = membership_rank refset 18446744073709551615
+high_rank refset (wanted.Values after (Some last)) = membership_rank refset last
 high_rank refset (wanted.About component) = membership_rank refset component
 
 -- what is to be read for a membership of list n
@@ -66,6 +75,15 @@ abbrev pub AreMembers : (Chosen → Chosen → Ordering) → List (List StampedR
     → List (ℕ × Membership) → List Chosen → Type 0
 AreMembers cmp lists asked xs kept =
     (all : List Chosen) × AreGiven (GivesMember lists asked) xs all × AreOnce cmp all kept
+
+-- the places of the members up to some last one, each once, in an order: all that are asked for, or
+-- so many that the first ones up to the limit are among them
+abbrev pub AreEnough : (Chosen → Chosen → Ordering) → (Option ℕ → Wanted) → ℕ
+    → List (List StampedRow) → ℕ → ℕ → ℕ → List (ℕ × Membership) → List Chosen → Type 0
+AreEnough cmp upto limit lists refset date pin xs kept = (last : Option ℕ)
+    × AreMembers cmp lists
+    (record { refset = refset; wanted = upto last; time = date; pin = pin }) xs kept
+    × ((last ≡ None) ⊎ (limit ≤ length kept))
 
 -- how many of the numbers are below one
 abbrev pub count_lesser : ℕ → List ℕ → ℕ
