@@ -5,7 +5,10 @@ use crate::spelled::{spell_dates, spell_ids, spell_rows};
 use as_of_index::{ReadFault, RowReader};
 use case_files::{Answer, NoAnswer};
 use case_values::Question;
-use links::{about, ancestors, children, descendants, replacements, replaces, timeline};
+use links::{
+    about, ancestors, called, children, descendants, members, replacements, replaces, timeline,
+    values,
+};
 use rf2_values::{EffectiveTime, Row};
 use std::alloc::{AllocError, Global};
 use term_prefix::{Search, find};
@@ -78,6 +81,19 @@ pub fn rows_found<R: RowReader>(
         Question::Replaces(id, time) => replaces(alloc, links, index, reader, id, time, pin),
         Question::About(kind, id, time) => about(alloc, links, index, reader, kind, id, time, pin),
         Question::Timeline(kind, id) => timeline(alloc, links, index, reader, kind, id, pin),
+        Question::Members(refset, time, after, limit) => {
+            members(
+                alloc, links, index, reader, refset, time, after, limit, pin,
+            )
+        }
+        Question::Values(refset, time, after, limit) => {
+            values(
+                alloc, links, index, reader, refset, time, after, limit, pin,
+            )
+        }
+        Question::Called(id, time, refset) => {
+            called(alloc, links, index, reader, id, time, refset, pin)
+        }
         Question::Terms(time, limit) => {
             search(alloc, made, reader, prefix, (time, pin), (None, limit))
         }
