@@ -261,7 +261,7 @@ def tried(options, folder, python):
         print(HEAD)
         if not options.raw_only:
             any_code = functools.partial(lookup, codes, days)
-            few = random.Random(1).sample(codes, FEW_CODES)
+            few = random.Random(1).sample(codes, min(FEW_CODES, len(codes)))
             one_day = functools.partial(lookup, few, days[-1:])
             measured("$lookup", every, HttpClient, place, any_code, 1, seconds)
             measured("$lookup", every, HttpClient, place, any_code, 16, seconds)
