@@ -136,6 +136,18 @@ fn find_concepts(alloc: Global, made: &Indexed, request: Request) -> Answer {
     }
 }
 
+/// How many rows are read for the concepts that are found.
+pub fn count_reads(alloc: Global, made: &Indexed, request: Request) -> Answer {
+    let mut reader = made.reader();
+    let found = concepts_found(alloc, made, &mut reader, request);
+    let reads = reader.reads;
+    match found {
+        Ok(_found) => Ok(format!(in alloc; "{reads}")?),
+        Err(ReadFault::OutOfMemory) => Err(NoAnswer::OutOfMemory),
+        Err(fault) => Ok(format!(in alloc; "{fault:?}")?),
+    }
+}
+
 /// What the index answers.
 pub fn ask_index(alloc: Global, made: &Indexed, request: Request, prefix: &str) -> Answer {
     match request.question {
