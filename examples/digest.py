@@ -1,22 +1,29 @@
 #!/usr/bin/env python3
-"""digest.py FOLDER..: the digest that `sctd digest` gives of a store into which these folders of
-releases were imported, computed from their files alone. Standard library alone."""
+"""digest.py FOLDER.. [--all FOLDER..]: the digest that `sctd digest` gives of a store into which
+these folders of releases were imported, computed from their files alone. Those behind --all were
+imported while the store had version 3 of its layout, which keeps more files. Standard library
+alone."""
 import hashlib
+import re
 import sys
 from pathlib import Path
 
-KINDS = {"sct2_Concept_": "C", "sct2_Description_": "D", "sct2_Relationship_": "R",
-         "der2_cRefset_Association": "A", "sct2_RelationshipConcreteValues_": "V"}
-rows = set()
-for folder in map(Path, sys.argv[1:]):
-    for path in [*folder.glob("Terminology/*.txt"), *folder.glob("Refset/Content/*.txt")]:
-        kind = "".join(kind for name, kind in KINDS.items() if path.name.startswith(name))
+KINDS = [("sct2_Concept_", "C"), ("sct2_Description_", "D"), ("sct2_Relationship_", "R"),
+         ("der2_cRefset_Association", "A"), ("sct2_RelationshipConcreteValues_", "V")]
+MORE_KINDS = [("sct2_TextDefinition_", "D"), ("(der2|sct2)_[cis]*Refset_", "M")]
+ORDER = "CDRAVM"
+rows, kinds, refsets = set(), KINDS, "Refset/Content/*.txt"
+for word in sys.argv[1:]:
+    if word == "--all":
+        kinds, refsets = KINDS + MORE_KINDS, "Refset/*/*.txt"
+    for path in [*Path(word).glob("Terminology/*.txt"), *Path(word).glob(refsets)]:
+        kind = next((kind for name, kind in kinds if re.match(name, path.name)), None)
         if kind and ("Full" in path.name or "Delta" in path.name):
             for line in path.read_bytes().removesuffix(b"\n").split(b"\n")[1:]:
                 identifier, tab, columns = line.removesuffix(b"\r").partition(b"\t")
                 identifier = identifier.lower()  # A UUID may be spelled in capitals.
-                rows.add(("CDRAV".index(kind), len(identifier), identifier, tab + columns))
+                rows.add((ORDER.index(kind), len(identifier), identifier, tab + columns))
 digest = hashlib.sha256()
 for place, _, identifier, columns in sorted(rows):
-    digest.update(b"CDRAV"[place : place + 1] + b" " + identifier + columns + b"\n")
+    digest.update(ORDER[place].encode() + b" " + identifier + columns + b"\n")
 print(digest.hexdigest())

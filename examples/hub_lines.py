@@ -17,8 +17,8 @@ READ_SIZE = 1 << 16
 # Behind AT the program takes questions alone.
 QUESTIONS = frozenset((
     b"GET", b"HISTORY", b"ABOUT", b"TIMELINE", b"CHILDREN", b"ANCESTORS", b"DESCENDANTS", b"SEARCH",
-    b"TERMS", b"REPLACED", b"REPLACES", b"PAGE", b"DELTA", b"DATES", b"RECEIPT", b"DIGEST", b"AT",
-    b"STATUS", b"PIN", b"UNPIN"))
+    b"TERMS", b"REPLACED", b"REPLACES", b"PAGE", b"DELTA", b"MEMBERS", b"VALUES", b"CALLED",
+    b"DATES", b"RECEIPT", b"DIGEST", b"AT", b"STATUS", b"PIN", b"UNPIN"))
 # A question that reads each row of the store.
 DIGEST = b"DIGEST"
 BACKUP = b"BACKUP"

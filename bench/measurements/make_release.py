@@ -1,23 +1,35 @@
 #!/usr/bin/env python3
-"""Makes a Full release and a Delta of a made terminology, in RF2, for measurements.
+"""Makes a Full release and a Delta of a made terminology, in RF2, for measurements and trials.
 
-make_release.py FOLDER ROWS [SEED]
+make_release.py [--package] FOLDER ROWS [SEED]
 
-FOLDER/full holds a Full release of about ROWS rows of all five kinds, several versions of many of
-them, and FOLDER/delta a Delta of 100 rows: new versions and new components. The same ROWS and SEED
-give the same bytes. Seeds from 1 to 7 give releases that share no component. Standard library alone.
+FOLDER/full holds a Full release of about ROWS rows, several versions of many of them, and
+FOLDER/delta a Delta of 100 rows: new versions and new components. The rows are of concepts,
+descriptions, relationships, associations and concrete values. With --package they are of all sorts
+of files that an international edition has, with their names, folders and column names: to a concept
+three descriptions, seven relationships and twelve members of reference sets. Each concept has a
+fully specified name there and a parent that was made before it, and each description is preferred
+or acceptable in two languages. The sorts that no store keeps are there too.
+
+The same words give the same bytes. Seeds from 1 to 7 give releases that share no component.
+Standard library alone.
 """
+
+from __future__ import annotations
 
 import os
 import random
 import sys
 import uuid
+from typing import Callable, Iterable, Iterator, Mapping, NamedTuple, Optional, Sequence
 
 CORE = 900000000000207008
+MODEL = 900000000000012004
 PRIMITIVE = 900000000000074008
 DEFINED = 900000000000073002
 SYNONYM = 900000000000013009
 FULLY_SPECIFIED = 900000000000003001
+DEFINITION = 900000000000550004
 CASE_INSENSITIVE = 900000000000448009
 INFERRED = 900000000000011006
 MODIFIER = 900000000000451002
@@ -26,25 +38,127 @@ SAME_AS = 900000000000527005
 REPLACED_BY = 900000000000526001
 ROOT = 138875005
 
-HEADERS = {
-    "C": "id effectiveTime active moduleId definitionStatusId",
-    "D": "id effectiveTime active moduleId conceptId languageCode typeId term caseSignificanceId",
-    "R": "id effectiveTime active moduleId sourceId destinationId relationshipGroup typeId"
-    " characteristicTypeId modifierId",
-    "A": "id effectiveTime active moduleId refsetId referencedComponentId targetComponentId",
-    "V": "id effectiveTime active moduleId sourceId value relationshipGroup typeId"
-    " characteristicTypeId modifierId",
+# Reference sets, and what stands in their columns.
+LANGUAGES = US_ENGLISH, GB_ENGLISH = 900000000000509007, 900000000000508004
+PREFERRED, ACCEPTABLE = 900000000000548007, 900000000000549004
+AXIOMS, ROLE_GROUP = 733073007, 609096000
+WHY_CONCEPTS_ARE_INACTIVE, WHY_DESCRIPTIONS_ARE_INACTIVE = 900000000000489007, 900000000000490003
+# Duplicate, outdated, ambiguous, erroneous, of limited status.
+REASONS = (900000000000482003, 900000000000483008, 900000000000484002, 900000000000485001,
+           900000000000486000)
+VALUE_SETS = (723264001, 733990004)
+MAPS = 900000000000497000, 446608001
+ICD_10 = 447562003
+CORRELATION, CATEGORIES = 447561005, (447637006, 447638001)
+DESCRIPTORS, DESCRIBED, DESCRIBED_TYPE = 900000000000456007, 449608002, 900000000000461009
+FORMATS, PLAIN_TEXT = 900000000000538005, 900000000000540000
+DEPENDENCIES = 900000000000534007
+DOMAINS, ATTRIBUTE_DOMAINS, ATTRIBUTE_RANGES, SCOPES = 723560006, 723561005, 723562003, 723563008
+MANDATORY, ALL_CONTENT = 723597001, 723596005
+ATTRIBUTES = (363698007, 116676008, 246075003, 260686004, 405813007, 127489000, 411116001)
+
+FIRST_COLUMNS = "id effectiveTime active moduleId "
+DESCRIPTION_COLUMNS = FIRST_COLUMNS + "conceptId languageCode typeId term caseSignificanceId"
+RELATIONSHIP_COLUMNS = FIRST_COLUMNS + (
+    "sourceId destinationId relationshipGroup typeId characteristicTypeId modifierId")
+MEMBER_COLUMNS = FIRST_COLUMNS + "refsetId referencedComponentId"
+
+
+class Sort(NamedTuple):
+    """A sort of files: the letter of their rows, where a file stands and its name, with places for
+    the word of the release and its date, and the names of the columns."""
+
+    kind: str
+    name: str
+    columns: str
+
+
+# The sorts of files that each version of a store's layout keeps, by the letters of their kinds.
+BASIC_SORTS = {
+    "C": Sort("C", "Terminology/sct2_Concept_{}_INT_{}.txt", FIRST_COLUMNS + "definitionStatusId"),
+    "D": Sort("D", "Terminology/sct2_Description_{}-en_INT_{}.txt", DESCRIPTION_COLUMNS),
+    "R": Sort("R", "Terminology/sct2_Relationship_{}_INT_{}.txt", RELATIONSHIP_COLUMNS),
+    "A": Sort("A", "Refset/Content/der2_cRefset_Association{}_INT_{}.txt",
+              MEMBER_COLUMNS + " targetComponentId"),
+    "V": Sort("V", "Terminology/sct2_RelationshipConcreteValues_{}_INT_{}.txt",
+              RELATIONSHIP_COLUMNS.replace("destinationId", "value")),
 }
-NAMES = {
-    "C": "Terminology/sct2_Concept_{}_INT_{}.txt",
-    "D": "Terminology/sct2_Description_{}-en_INT_{}.txt",
-    "R": "Terminology/sct2_Relationship_{}_INT_{}.txt",
-    "A": "Refset/Content/der2_cRefset_Association{}_INT_{}.txt",
-    "V": "Terminology/sct2_RelationshipConcreteValues_{}_INT_{}.txt",
+
+
+def members(name: str, further: str = "") -> Sort:
+    """A sort of files of members, whose names have a letter for each further column."""
+    return Sort("M", name + "_INT_{}.txt", MEMBER_COLUMNS + further)
+
+
+# Those that version 3 keeps besides.
+FURTHER_SORTS = {
+    "TextDefinition": Sort("D", "Terminology/sct2_TextDefinition_{}-en_INT_{}.txt",
+                           DESCRIPTION_COLUMNS),
+    "OWLExpression": members("Terminology/sct2_sRefset_OWLExpression{}", " owlExpression"),
+    "Simple": members("Refset/Content/der2_Refset_Simple{}"),
+    "AttributeValue": members("Refset/Content/der2_cRefset_AttributeValue{}", " valueId"),
+    "Language": members("Refset/Language/der2_cRefset_Language{}-en", " acceptabilityId"),
+    "SimpleMap": members("Refset/Map/der2_sRefset_SimpleMap{}", " mapTarget"),
+    "ExtendedMap": members(
+        "Refset/Map/der2_iisssccRefset_ExtendedMap{}",
+        " mapGroup mapPriority mapRule mapAdvice mapTarget correlationId mapCategoryId"),
+    "RefsetDescriptor": members(
+        "Refset/Metadata/der2_cciRefset_RefsetDescriptor{}",
+        " attributeDescription attributeType attributeOrder"),
+    "DescriptionType": members(
+        "Refset/Metadata/der2_ciRefset_DescriptionType{}",
+        " descriptionFormat descriptionLength"),
+    "ModuleDependency": members(
+        "Refset/Metadata/der2_ssRefset_ModuleDependency{}",
+        " sourceEffectiveTime targetEffectiveTime"),
+    "MRCMDomain": members(
+        "Refset/Metadata/der2_sssssssRefset_MRCMDomain{}",
+        " domainConstraint parentDomain proximalPrimitiveConstraint proximalPrimitiveRefinement"
+        " domainTemplateForPrecoordination domainTemplateForPostcoordination guideURL"),
+    "MRCMAttributeDomain": members(
+        "Refset/Metadata/der2_cissccRefset_MRCMAttributeDomain{}",
+        " domainId grouped attributeCardinality attributeInGroupCardinality ruleStrengthId"
+        " contentTypeId"),
+    "MRCMAttributeRange": members(
+        "Refset/Metadata/der2_ssccRefset_MRCMAttributeRange{}",
+        " rangeConstraint attributeRule ruleStrengthId contentTypeId"),
+    "MRCMModuleScope": members(
+        "Refset/Metadata/der2_cRefset_MRCMModuleScope{}", " mrcmRuleRefsetId"),
 }
-KINDS = "CDRAV"
-# How many rows of a hundred are of each kind, roughly as in an international edition.
+# Those that a package has and no store keeps.
+UNKEPT_SORTS = {
+    "StatedRelationship": Sort("R", "Terminology/sct2_StatedRelationship_{}_INT_{}.txt",
+                               RELATIONSHIP_COLUMNS),
+    "Identifier": Sort(
+        "", "Terminology/sct2_Identifier_{}_INT_{}.txt",
+        "alternateIdentifier effectiveTime active moduleId identifierSchemeId"
+        " referencedComponentId"),
+}
+SORTS = {**BASIC_SORTS, **FURTHER_SORTS, **UNKEPT_SORTS}
+KINDS = "".join(BASIC_SORTS)
+
+# How many rows of a hundred are of each kind, roughly as in an international edition without its
+# reference sets.
 SHARES = {"C": 15, "D": 45, "R": 34, "A": 5, "V": 1}
+# How many of ten thousand rows of a package are of each sort that has a row a concept or more.
+PACKAGE_SHARES = {
+    "C": 435, "D": 1295, "TextDefinition": 10, "R": 3014, "V": 30, "A": 130, "OWLExpression": 640,
+    "AttributeValue": 420, "Simple": 40, "Language": 2610, "SimpleMap": 720, "ExtendedMap": 640,
+    "RefsetDescriptor": 4, "DescriptionType": 1, "ModuleDependency": 2, "MRCMDomain": 2,
+    "MRCMAttributeDomain": 3, "MRCMAttributeRange": 3, "MRCMModuleScope": 1}
+PACKAGE_PARTS = 10_000
+# How many components of a sort are remembered, for a Delta to have versions of.
+MOST_KEPT = 10_000
+# How many rows the files have that no store keeps.
+UNKEPT_ROWS = 20
+# The sorts of the rows of a Delta, one after the other, again and again.
+DELTA_SORTS = "CCDDDDDRRRRAV"
+PACKAGE_DELTA_SORTS = (
+    "C", "Language", "D", "D", "R", "R", "Language", "SimpleMap", "OWLExpression", "A", "V",
+    "ExtendedMap", "AttributeValue", "Simple", "TextDefinition", "Language", "RefsetDescriptor",
+    "ModuleDependency", "MRCMAttributeRange")
+DELTA_ROWS = 100
+FULL_DATE, DELTA_DATE = "20250731", "20260131"
 DATES = ["%d%s31" % (year, month) for year in range(2010, 2026) for month in ("01", "07")]
 WORDS = (
     "acute chronic left right structure finding disorder procedure entire fracture of bone heart "
@@ -67,9 +181,22 @@ PLACES = [
     [2, 7, 9, 3, 8, 0, 6, 4, 1, 5], [7, 0, 4, 6, 9, 1, 3, 2, 5, 8],
 ]
 INVERSE = [0, 4, 3, 2, 1, 5, 6, 7, 8, 9]
+# The digits before the check digit that say what an SCTID identifies.
+PARTITIONS = {"C": "00", "D": "01", "R": "02", "V": "02"}
+
+Columns = list[object]
 
 
-def sctid(item, partition):
+class Component(NamedTuple):
+    """A component's identifier, its sort, and the columns of its first version behind the four
+    that each row has."""
+
+    name: object
+    sort: str
+    body: Columns
+
+
+def sctid(item: int, partition: str) -> int:
     """The SCTID of an item, with its Verhoeff check digit."""
     text = "%d%s" % (item, partition)
     check = 0
@@ -81,112 +208,336 @@ def sctid(item, partition):
 class Edition:
     """The components made so far, and the columns behind the first four of each."""
 
-    def __init__(self, seed):
+    def __init__(self, seed: int) -> None:
         self.random = random.Random(seed)
         self.shift = (seed - 1) % 7
         self.concepts = [ROOT]
-        self.made = {kind: [] for kind in KINDS}
+        self.made: dict[str, list[Component]] = {sort: [] for sort in SORTS}
         # Relationships with and without values share one row of numbers, as they share a partition.
         self.items = {"00": 1000, "01": 1000, "02": 1000}
 
-    def name(self, kind):
-        if kind == "A":
+    def name(self, sort: str) -> object:
+        kind = SORTS[sort].kind
+        if kind not in PARTITIONS:
             return str(uuid.UUID(int=self.random.getrandbits(128)))
-        partition = {"C": "00", "D": "01", "R": "02", "V": "02"}[kind]
+        partition = PARTITIONS[kind]
         self.items[partition] += 1
         return sctid(self.items[partition] * 7 + self.shift, partition)
 
-    def body(self, kind):
+    def body(self, sort: str) -> Columns:
+        if sort in MEMBER_BODIES:
+            return MEMBER_BODIES[sort](self)
         chance = self.random
         concept = chance.choice(self.concepts)
-        if kind == "C":
+        if sort == "C":
             return [chance.choice([PRIMITIVE, PRIMITIVE, DEFINED])]
-        if kind == "D":
-            term = " ".join(chance.choice(WORDS) for _ in range(chance.randint(2, 7)))
-            term = term[0].upper() + term[1:]
-            return [concept, "en", chance.choice([SYNONYM, FULLY_SPECIFIED]), term, CASE_INSENSITIVE]
-        if kind == "R":
+        if sort == "D":
+            term, what = self.term(chance.randint(2, 7)), chance.choice([SYNONYM, FULLY_SPECIFIED])
+            return [concept, "en", what, term, CASE_INSENSITIVE]
+        if sort == "TextDefinition":
+            return [concept, "en", DEFINITION, self.term(30) + ".", CASE_INSENSITIVE]
+        if sort == "R":
             # Few parents have many children, as in a real hierarchy.
             place = int(len(self.concepts) * chance.random() ** 3)
             what = IS_A if chance.random() < 0.6 else chance.choice(self.concepts)
-            return [concept, self.concepts[place], chance.choice([0, 0, 1, 2]), what, INFERRED, MODIFIER]
-        if kind == "V":
+            group = chance.choice([0, 0, 1, 2])
+            return [concept, self.concepts[place], group, what, INFERRED, MODIFIER]
+        if sort == "V":
             value = "#%s" % chance.choice(["5", "0.5", "12.5", "250", "1000"])
             what = chance.choice(self.concepts)
             return [concept, value, chance.choice([0, 1, 2]), what, INFERRED, MODIFIER]
         return [chance.choice([SAME_AS, REPLACED_BY]), concept, chance.choice(self.concepts)]
 
-    def component(self, kind):
-        made = (self.name(kind), kind, self.body(kind))
-        self.made[kind].append(made)
-        if kind == "C":
-            self.concepts.append(made[0])
+    def term(self, words: int) -> str:
+        """So many words, with a capital at the beginning."""
+        text = " ".join(self.random.choice(WORDS) for _ in range(words))
+        return text[0].upper() + text[1:]
+
+    def a_concept(self) -> int:
+        return self.random.choice(self.concepts)
+
+    def a_description(self) -> object:
+        """A description; a concept as long as none was made."""
+        made = self.made["D"]
+        return self.random.choice(made).name if made else self.a_concept()
+
+    def later_body(self, made: Component) -> Optional[Columns]:
+        """The columns of a later version; None where they are those of the first one."""
+        if made.sort not in "CD":
+            return None
+        body = self.body(made.sort)
+        if made.sort == "D":
+            body[0] = made.body[0]
+        return body
+
+    def component(self, sort: str) -> Component:
+        made = Component(self.name(sort), sort, self.body(sort))
+        self.keep(made)
         return made
 
+    def keep(self, made: Component) -> None:
+        self.made[made.sort].append(made)
+        if made.sort == "C":
+            assert isinstance(made.name, int)
+            self.concepts.append(made.name)
 
-def line(made, date, active, body=None):
+
+def map_body(edition: Edition) -> Columns:
+    chance = edition.random
+    target = "".join(chance.choice("ABCDXYZabc0123456789.") for _ in range(5))
+    return [chance.choice(MAPS), edition.a_concept(), target]
+
+
+def extended_map_body(edition: Edition) -> Columns:
+    chance = edition.random
+    code = "%s%02d.%d" % (chance.choice("ABCDEFGHIJKLMNST"), chance.randrange(100),
+                          chance.randrange(10))
+    if chance.random() < 0.2:
+        rule = "IFA %d | %s |" % (edition.a_concept(), edition.term(3))
+        advice = "IF %s CHOOSE %s | MAP OF SOURCE CONCEPT IS CONTEXT DEPENDENT" % (rule[4:], code)
+    else:
+        rule, advice = "TRUE", "ALWAYS %s" % code
+    group, priority = chance.choice([1, 1, 1, 2]), chance.choice([1, 1, 2, 3])
+    return [ICD_10, edition.a_concept(), group, priority, rule, advice, code, CORRELATION,
+            chance.choice(CATEGORIES)]
+
+
+def axiom_body(edition: Edition) -> Columns:
+    chance, concept = edition.random, edition.a_concept()
+    parts = [":%d" % edition.a_concept()]
+    for _ in range(chance.randint(0, 3)):
+        parts.append("ObjectSomeValuesFrom(:%d ObjectSomeValuesFrom(:%d :%d))"
+                     % (ROLE_GROUP, chance.choice(ATTRIBUTES), edition.a_concept()))
+    what = parts[0] if len(parts) == 1 else "ObjectIntersectionOf(%s)" % " ".join(parts)
+    return [AXIOMS, concept, "SubClassOf(:%d %s)" % (concept, what)]
+
+
+def reason_body(edition: Edition) -> Columns:
+    if edition.random.random() < 0.5:
+        what, component = WHY_CONCEPTS_ARE_INACTIVE, edition.a_concept()
+    else:
+        what, component = WHY_DESCRIPTIONS_ARE_INACTIVE, edition.a_description()
+    return [what, component, edition.random.choice(REASONS)]
+
+
+def language_body(edition: Edition) -> Columns:
+    return [edition.random.choice(LANGUAGES), edition.a_description(),
+            edition.random.choice([PREFERRED, ACCEPTABLE])]
+
+
+def domain_body(edition: Edition) -> Columns:
+    concept = edition.a_concept()
+    constraint = "<< %d | %s |" % (concept, edition.term(4))
+    template = "[[+id(%s)]]: [[0..*]] { %s }" % (constraint, ", ".join(
+        "[[0..1]] %d = [[+id(<< %d | %s |)]]" % (attribute, edition.a_concept(), edition.term(4))
+        for attribute in ATTRIBUTES))
+    return [DOMAINS, concept, constraint, "", constraint, "", template, template,
+            "http://snomed.org/dom%d" % concept]
+
+
+def attribute_domain_body(edition: Edition) -> Columns:
+    return [ATTRIBUTE_DOMAINS, edition.random.choice(ATTRIBUTES), edition.a_concept(),
+            edition.random.choice("01"), "0..*", "0..1", MANDATORY, ALL_CONTENT]
+
+
+def attribute_range_body(edition: Edition) -> Columns:
+    attribute = edition.random.choice(ATTRIBUTES)
+    constraint = " OR ".join(
+        "<< %d | %s |" % (edition.a_concept(), edition.term(4)) for _ in range(4))
+    rule = "(<< %d: [0..*] { [0..1] %d = (%s) })" % (edition.a_concept(), attribute, constraint)
+    return [ATTRIBUTE_RANGES, attribute, constraint, rule, MANDATORY, ALL_CONTENT]
+
+
+def dependency_body(edition: Edition) -> Columns:
+    date = edition.random.choice(DATES)
+    return [DEPENDENCIES, MODEL, date, date]
+
+
+# What a member of each sort says.
+MEMBER_BODIES: dict[str, Callable[[Edition], Columns]] = {
+    "OWLExpression": axiom_body,
+    "Simple": lambda edition: [edition.random.choice(VALUE_SETS), edition.a_concept()],
+    "AttributeValue": reason_body,
+    "Language": language_body,
+    "SimpleMap": map_body,
+    "ExtendedMap": extended_map_body,
+    "RefsetDescriptor": lambda edition: [
+        DESCRIPTORS, edition.a_concept(), DESCRIBED, DESCRIBED_TYPE, edition.random.randrange(9)],
+    "DescriptionType": lambda edition: [
+        FORMATS, edition.random.choice([SYNONYM, FULLY_SPECIFIED, DEFINITION]), PLAIN_TEXT,
+        edition.random.choice([255, 4096])],
+    "ModuleDependency": dependency_body,
+    "MRCMDomain": domain_body,
+    "MRCMAttributeDomain": attribute_domain_body,
+    "MRCMAttributeRange": attribute_range_body,
+    "MRCMModuleScope": lambda edition: [
+        SCOPES, CORE, edition.random.choice([DOMAINS, ATTRIBUTE_DOMAINS, ATTRIBUTE_RANGES])],
+}
+
+
+class Package(Edition):
+    """An edition whose rows fit one another. Each concept has a fully specified name, a parent and
+    a synonym that is preferred; what isn't so is drawn."""
+
+    def __init__(self, seed: int) -> None:
+        super().__init__(seed)
+        self.counts = dict.fromkeys(SORTS, 0)
+        # Of each description its identifier, and whether it is the first of its concept and type.
+        self.descriptions: list[tuple[int, bool]] = []
+
+    def keep(self, made: Component) -> None:
+        self.counts[made.sort] += 1
+        if made.sort == "C":
+            assert isinstance(made.name, int)
+            self.concepts.append(made.name)
+        elif made.sort == "D":
+            assert isinstance(made.name, int)
+            # The first two descriptions of each concept are made before all others.
+            self.descriptions.append((made.name, self.counts["D"] <= 2 * len(self.concepts)))
+        if len(self.made[made.sort]) < MOST_KEPT:
+            self.made[made.sort].append(made)
+
+    def a_description(self) -> object:
+        return self.random.choice(self.descriptions)[0] if self.descriptions else self.a_concept()
+
+    def body(self, sort: str) -> Columns:
+        number, all_of = self.counts[sort], len(self.concepts)
+        if sort == "D":
+            concept = self.concepts[number % all_of] if number < 2 * all_of else self.a_concept()
+            what = FULLY_SPECIFIED if number < all_of else SYNONYM
+            term = self.term(self.random.randint(2, 7))
+            return [concept, "en", what, term, CASE_INSENSITIVE]
+        if sort == "R":
+            if number < all_of - 1:
+                parent = self.concepts[int((number + 1) * self.random.random() ** 1.5)]
+                return [self.concepts[number + 1], parent, 0, IS_A, INFERRED, MODIFIER]
+            what = self.random.choice(ATTRIBUTES)
+            group = self.random.choice([0, 1, 2])
+            return [self.a_concept(), self.a_concept(), group, what, INFERRED, MODIFIER]
+        if sort == "Language" and number < len(LANGUAGES) * len(self.descriptions):
+            place, language = divmod(number, len(LANGUAGES))
+            name, is_first = self.descriptions[place]
+            return [LANGUAGES[language], name, PREFERRED if is_first else ACCEPTABLE]
+        if sort == "SimpleMap" and number < all_of:
+            return [MAPS[0], self.concepts[number], *map_body(self)[2:]]
+        return super().body(sort)
+
+    def later_body(self, made: Component) -> Optional[Columns]:
+        if made.sort == "D":
+            return [*made.body[:3], self.term(self.random.randint(2, 7)), CASE_INSENSITIVE]
+        if SORTS[made.sort].kind != "M":
+            return super().later_body(made)
+        # A version says something else in its further columns alone.
+        return [*made.body[:2], *self.body(made.sort)[2:]]
+
+
+def line(made: Component | tuple[object, str, Columns], date: str, active: int,
+         body: Optional[Columns] = None) -> str:
     columns = [made[0], date, active, CORE] + (body or made[2])
     return "\t".join(str(column) for column in columns)
 
 
-def write(folder, release, date, rows):
-    for kind in KINDS:
-        path = os.path.join(folder, NAMES[kind].format(release, date))
-        os.makedirs(os.path.dirname(path), exist_ok=True)
-        with open(path, "w", encoding="utf-8", newline="") as file:
-            file.write(HEADERS[kind].replace(" ", "\t") + "\r\n")
-            for row in rows[kind]:
-                file.write(row + "\r\n")
+def write_file(folder: str, release: str, date: str, sort: Sort, rows: Iterable[str]) -> int:
+    """Writes a file of a sort, and tells how many rows it has."""
+    path = os.path.join(folder, sort.name.format(release, date))
+    os.makedirs(os.path.dirname(path), exist_ok=True)
+    count = 0
+    with open(path, "w", encoding="utf-8", newline="") as file:
+        file.write(sort.columns.replace(" ", "\t") + "\r\n")
+        for row in rows:
+            file.write(row + "\r\n")
+            count += 1
+    return count
 
 
-def full(edition, count):
-    """Rows of a Full release: each component's versions, one after the other."""
-    rows = {kind: [] for kind in KINDS}
-    left = {kind: count * SHARES[kind] // 100 for kind in KINDS}
-    for kind in KINDS:
-        while left[kind] > 0:
-            made = edition.component(kind)
-            versions = min(left[kind], edition.random.choice([1, 1, 1, 2, 2, 3]))
-            dates = sorted(edition.random.sample(DATES, versions))
-            for number, date in enumerate(dates):
-                retired = number > 0 and edition.random.random() < 0.3
-                body = edition.body(kind) if kind in "CD" and number > 0 else None
-                if kind == "D" and body:
-                    body[0] = made[2][0]
-                rows[kind].append(line(made, date, 0 if retired else 1, body))
-            left[kind] -= versions
-    return rows
+def write(folder: str, release: str, date: str, rows: Mapping[str, Iterable[str]]) -> None:
+    """Writes a file of each of the five kinds, and of each other sort that has rows."""
+    for name, sort in SORTS.items():
+        if name in KINDS or name in rows:
+            write_file(folder, release, date, sort, rows[name])
 
 
-def delta(edition):
+def versions_of(edition: Edition, sort: str, count: int) -> Iterator[str]:
+    """Rows of a sort: each component's versions, one after the other."""
+    left = count
+    while left > 0:
+        made = edition.component(sort)
+        versions = min(left, edition.random.choice([1, 1, 1, 2, 2, 3]))
+        dates = sorted(edition.random.sample(DATES, versions))
+        for number, date in enumerate(dates):
+            retired = number > 0 and edition.random.random() < 0.3
+            body = edition.later_body(made) if number > 0 else None
+            yield line(made, date, 0 if retired else 1, body)
+        left -= versions
+
+
+def full(edition: Edition, count: int) -> dict[str, list[str]]:
+    """Rows of a Full release of the five kinds."""
+    return {kind: list(versions_of(edition, kind, count * SHARES[kind] // 100)) for kind in KINDS}
+
+
+def delta(edition: Edition, sorts: Sequence[str] = DELTA_SORTS) -> dict[str, list[str]]:
     """A hundred rows: new versions of known components, and new components, each of another one."""
-    rows = {kind: [] for kind in KINDS}
+    rows: dict[str, list[str]] = {sort: [] for sort in (*KINDS, *sorts)}
     taken = set()
-    for number in range(100):
-        kind = "CCDDDDDRRRRAV"[number % 13]
+    for number in range(DELTA_ROWS):
+        sort = sorts[number % len(sorts)]
         if number % 2:
-            made = edition.component(kind)
-            rows[kind].append(line(made, "20260131", 1))
+            made = edition.component(sort)
+            rows[sort].append(line(made, DELTA_DATE, 1))
         else:
-            made = edition.made[kind][number * 7919 % len(edition.made[kind])]
-            if made[0] in taken:
-                made = edition.component(kind)
-            rows[kind].append(line(made, "20260131", number // 2 % 2))
-        taken.add(made[0])
+            made = edition.made[sort][number * 7919 % len(edition.made[sort])]
+            if made.name in taken:
+                made = edition.component(sort)
+            rows[sort].append(line(made, DELTA_DATE, number // 2 % 2))
+        taken.add(made.name)
     return rows
 
 
-def main(words):
+def identifiers(package: Package) -> Iterator[str]:
+    for number in range(UNKEPT_ROWS):
+        columns = ["%d-%d" % (1000 + number, number % 10), FULL_DATE, 1, CORE, ICD_10,
+                   package.a_concept()]
+        yield "\t".join(map(str, columns))
+
+
+def write_package(folder: str, package: Package, count: int) -> dict[str, int]:
+    """Writes a Full release of all sorts of files, a file at a time, and tells the rows of each."""
+    counts = {}
+    for sort, share in PACKAGE_SHARES.items():
+        wanted = max(1, count * share // PACKAGE_PARTS)
+        rows = versions_of(package, sort, wanted)
+        counts[sort] = write_file(folder, "Full", FULL_DATE, SORTS[sort], rows)
+    stated = (line(Component(package.name("R"), "R", Edition.body(package, "R")), DATES[0], 1)
+              for _ in range(UNKEPT_ROWS))
+    unkept = {"StatedRelationship": stated, "Identifier": identifiers(package)}
+    for name, lines in unkept.items():
+        write_file(folder, "Full", FULL_DATE, UNKEPT_SORTS[name], lines)
+    return counts
+
+
+def main(words: Sequence[str]) -> int:
+    assert __doc__
+    is_package = list(words[:1]) == ["--package"]
+    words = words[1:] if is_package else words
     if len(words) not in (2, 3):
         print(__doc__.strip(), file=sys.stderr)
         return 2
-    edition = Edition(int(words[2]) if len(words) == 3 else 1)
-    rows = full(edition, int(words[1]))
-    write(os.path.join(words[0], "full"), "Full", "20250731", rows)
-    new = delta(edition)
-    write(os.path.join(words[0], "delta"), "Delta", "20260131", new)
-    counts = " ".join("%s %d" % (kind, len(rows[kind])) for kind in KINDS)
-    print("full: %s; delta: %d rows" % (counts, sum(len(new[kind]) for kind in KINDS)))
+    seed = int(words[2]) if len(words) == 3 else 1
+    to_full, to_delta = (os.path.join(words[0], name) for name in ("full", "delta"))
+    if is_package:
+        package = Package(seed)
+        counts = write_package(to_full, package, int(words[1]))
+        new = delta(package, PACKAGE_DELTA_SORTS)
+    else:
+        edition = Edition(seed)
+        rows = full(edition, int(words[1]))
+        write(to_full, "Full", FULL_DATE, rows)
+        counts = {kind: len(rows[kind]) for kind in KINDS}
+        new = delta(edition)
+    write(to_delta, "Delta", DELTA_DATE, new)
+    told = " ".join("%s %d" % (sort, counts[sort]) for sort in counts)
+    print("full: %s; delta: %d rows" % (told, sum(map(len, new.values()))))
     return 0
 
 

@@ -1,7 +1,7 @@
 #!/usr/bin/env python3
 """Measures the gateway, the hub and the program below them while clients ask.
 
-measure_gateway.py PROGRAM [--rows N] [--seconds N] [--hub PATH] [--raw-only]
+measure_gateway.py PROGRAM [--rows N] [--seconds N] [--hub PATH] [--raw-only] [--package]
 
 A release of about N rows (2,350,000 if not said) is made and imported, which takes a minute or two.
 Then $lookup is asked by 1 and by 16 clients, of random codes on random days, and of 200 codes on
@@ -10,10 +10,17 @@ clients, one by one and four in one write. Each takes some seconds (5 if not sai
 table: how many a second, the median, and the microseconds of the processor a request in gateway,
 hub and program. --hub takes another hub than examples/hub.py. Clients are two processes, which need
 a processor of their own.
+
+With --package the release is a whole package in a store of layout 3, and the gateway has a language,
+so $lookup asks for preferred terms and members too. Then the reference set that has each concept is
+expanded page by page on the last day, twice, by one client: it prints how many codes there are, what
+the first page takes, for which all members are read, and what the others take.
 """
 
 import argparse
 import functools
+import http.client
+import json
 import multiprocessing
 import os
 import random
@@ -34,6 +41,8 @@ FEW_CODES = 200
 YEARS = range(2016, 2026)
 READ_BYTES = 1 << 18
 VERSION = "http://snomed.info/sct/900000000000207008/version/"
+US_ENGLISH, MAP_OF_ALL = "900000000000509007", "900000000000497000"
+PAGE = 1_000
 LAST_LINES = (b"OK", b"END", b"ERR")
 HEAD = """| Asked | Clients | a second | median ms | processor us: gateway / hub / program |
 |---|---|---|---|---|"""
@@ -159,6 +168,44 @@ def measured(name, pids, client, path, make, clients, seconds):
     print(line % (name, clients, len(waits) / seconds, median, spent, refused), flush=True)
 
 
+class UnixHttp(http.client.HTTPConnection):
+    """HTTP over a Unix socket."""
+
+    def __init__(self, path):
+        super().__init__("x")
+        self.path = path
+
+    def connect(self):
+        self.sock = socket.socket(socket.AF_UNIX)
+        self.sock.connect(self.path)
+
+
+def expanded(path, day):
+    """Expands a reference set page by page, and prints how long that takes."""
+    client, offset, codes, waits = UnixHttp(path), 0, set(), []
+    target = "/fhir/ValueSet/$expand?url=%s%s?fhir_vs=refset/%s&count=%d&offset=%d"
+    while True:
+        began = time.perf_counter()
+        client.request("GET", target % (VERSION, day, MAP_OF_ALL, PAGE, offset))
+        answer = client.getresponse()
+        said = json.loads(answer.read())
+        waits.append((time.perf_counter() - began) * 1e3)
+        if answer.status != 200:
+            raise SystemExit("$expand: %s" % said)
+        page = said["expansion"].get("contains", [])
+        codes.update(one["code"] for one in page)
+        offset += PAGE
+        if offset >= said["expansion"]["total"]:
+            break
+    client.close()
+    if len(codes) != said["expansion"]["total"]:
+        raise SystemExit("$expand: %d codes, and not %d" % (len(codes), said["expansion"]["total"]))
+    line = "$expand of %d codes in pages of %d: the first %.0f ms, the others %.0f ms (%.0f to %.0f)"
+    others = waits[1:] or waits
+    shown = (statistics.median(others), min(others), max(others))
+    print(line % (len(codes), PAGE, waits[0], *shown), flush=True)
+
+
 def begun(words, **more):
     process = subprocess.Popen(words, stdout=subprocess.PIPE, **more)
     said = process.stdout.readline()
@@ -181,11 +228,11 @@ def concepts(folder):
 
 def make_store(options, folder, store):
     """A store with a made release."""
-    make = [sys.executable, os.path.join(BENCH, "measurements", "make_release.py"), folder]
+    make = [sys.executable, os.path.join(BENCH, "measurements", "make_release.py")]
     release = os.path.join(folder, "full")
     for words in (
-        [*make, str(options.rows)],
-        [options.program, "init", "--store", store],
+        [*make, *["--package"] * options.package, folder, str(options.rows)],
+        [options.program, "init", "--layout", "3" if options.package else "2", "--store", store],
         [options.program, "import", "--quiet", "--store", store, release],
     ):
         subprocess.run(words, check=True, stdout=subprocess.DEVNULL)
@@ -196,31 +243,36 @@ def begin_hub(options, folder, store, python, path):
     return begun([python, options.hub, *words, "--socket", path])
 
 
-def begin_gateway(python, hub, path):
+def begin_gateway(options, python, hub, path):
     words = ["--socket", hub, "--edition", "900000000000207008", "--listen", path]
-    return begun([python, "-m", "sctd_gateway", *words], cwd=GATEWAY)
+    languages = ["--languages", US_ENGLISH] if options.package else []
+    return begun([python, "-m", "sctd_gateway", *words, *languages], cwd=GATEWAY)
 
 
 def tried(options, folder, python):
-    store, hub_socket, http = (os.path.join(folder, name) for name in ("store", "hub", "http"))
+    store, hub_socket, place = (os.path.join(folder, name) for name in ("store", "hub", "http"))
     make_store(options, folder, store)
     codes, days = concepts(folder), ["%d0731" % year for year in YEARS]
     hub = begin_hub(options, folder, store, python, hub_socket)
-    gateway = begin_gateway(python, hub_socket, http)
+    gateway = begin_gateway(options, python, hub_socket, place)
     try:
         below, seconds = [hub.pid, child_of(hub.pid)], options.seconds
         every = [gateway.pid, *below]
         print(HEAD)
         if not options.raw_only:
             any_code = functools.partial(lookup, codes, days)
-            few = random.Random(1).sample(codes, FEW_CODES)
+            few = random.Random(1).sample(codes, min(FEW_CODES, len(codes)))
             one_day = functools.partial(lookup, few, days[-1:])
-            measured("$lookup", every, HttpClient, http, any_code, 1, seconds)
-            measured("$lookup", every, HttpClient, http, any_code, 16, seconds)
-            measured("$lookup, remembered", every, HttpClient, http, one_day, 16, seconds)
+            measured("$lookup", every, HttpClient, place, any_code, 1, seconds)
+            measured("$lookup", every, HttpClient, place, any_code, 16, seconds)
+            measured("$lookup, remembered", every, HttpClient, place, one_day, 16, seconds)
         one, four = (functools.partial(make, codes, days) for make in (question, questions))
         measured("the hub, one question", below, SlowHubClient, hub_socket, one, 8, seconds)
         measured("the hub, four at once", below, HubClient, hub_socket, four, 8, seconds)
+        if options.package and not options.raw_only:
+            # (The second time the codes are remembered.)
+            for _ in range(2):
+                expanded(place, days[-1])
     finally:
         for process in (gateway, hub):
             process.terminate()
@@ -236,6 +288,7 @@ def main():
         "--hub", type=os.path.abspath, default=os.path.join(ROOT, "examples", "hub.py")
     )
     words.add_argument("--raw-only", action="store_true")
+    words.add_argument("--package", action="store_true")
     options = words.parse_args()
     python = python_with_h11()
     if python is None:

@@ -13,7 +13,7 @@ import time
 
 from hub_copies import begin_copy, slow_copies
 from hub_harness import RECORDER, ROOT, SECONDS, Client, Hub, Skipped, Wrong, concept
-from hub_harness import concept_id, content, mode, same, until, write_release
+from hub_harness import concept_id, content, mode, rf2, same, until, write_release
 
 NOT_A_QUESTION = ["ERR hub NotAQuestion"]
 STATUS = ["OK 2 10 2 -"]
@@ -63,6 +63,10 @@ AUDIT = [
     ("DELTA A 20200131 20210131 - 10", [MEMBER, "END 1"]),
     ("REPLACES 2000001 20210131", [MEMBER, "END 1"]),
     ("TIMELINE A 1000004", [MEMBER, "END 1"]),
+    # (A store of this version has no members of reference sets.)
+    ("MEMBERS 900000000000509007 20210131 - 10", ["END 0"]),
+    ("VALUES 900000000000509007 20210131 - 10", ["END 0"]),
+    ("CALLED 1000004 20210131 900000000000509007", ["END 0"]),
     ("DIGEST", ["OK " + DIGEST_IN_2021]),
 ]
 AT_A_PIN = [("AT 2 " + line, wanted) for line, wanted in AUDIT] + [
@@ -501,5 +505,24 @@ def types(place, store):
          (0, "Success: no issues found in %d source files\n" % len(files)))
 
 
-TRIALS = [questions_alone, what_arrives, pins_apart, rights, other_users, the_log, no_reply, nights,
-          full_store, steps, units, system_calls, types]
+def members(place, _store):
+    """Members of reference sets come as the release has them, whatever is in their columns."""
+    odd = "\t".join(["00000000-0000-4000-8000-000000000001", "20200131", "1", str(rf2.CORE),
+                     str(rf2.DESCRIPTORS), "1000015", "a\rROW b", "", "\u2028END 1\u0085OK"])
+    write_release(place.path("releases"), "odd", {"RefsetDescriptor": [odd]})
+    store = place.make_store(layout=3)
+    with Hub(place, store, "--questions", place.path("questions"),
+             releases=place.path("releases")) as hub:
+        own, asking = Client(hub.socket), Client(hub.questions)
+        same("the import of a member", own.ask("IMPORT odd"), ["OK 1 1 0"])
+        last = "%d 20200131 - 1" % rf2.DESCRIPTORS
+        for line in ("MEMBERS " + last, "VALUES " + last, "AT 1 VALUES " + last,
+                     "TIMELINE M 1000015", "PAGE M 20200131 - 1000"):
+            same(line, asking.ask(line), ["ROW " + odd, "END 1"])
+        same("a name", asking.ask("CALLED 1000004 20200131 %d" % rf2.DESCRIPTORS), ["END 0"])
+        same("a backup", own.ask("BACKUP " + place.path("copy")), ["OK 1 1 1"])
+        same("the end of the hub", hub.stop("a hub that is stopped"), 0)
+
+
+TRIALS = [questions_alone, what_arrives, members, pins_apart, rights, other_users, the_log,
+          no_reply, nights, full_store, steps, units, system_calls, types]

@@ -89,10 +89,11 @@ class Place:
     def script(self, name):
         return os.path.join(self.examples, name)
 
-    def make_store(self, name="store"):
+    def make_store(self, name="store", layout=2):
         path = self.path(name)
-        made = subprocess.run([self.program, "init", "--store", path], stdout=subprocess.PIPE,
-                              timeout=SECONDS, check=False)
+        words = ["init", "--store", path, "--layout", str(layout)]
+        made = subprocess.run([self.program, *words], stdout=subprocess.PIPE, timeout=SECONDS,
+                              check=False)
         same("init", (made.stdout, made.returncode), (b"OK\n", 0))
         return path
 
@@ -245,8 +246,8 @@ def until(what, is_so):
 
 
 def write_release(folder, name, rows, date="20250131"):
-    """Writes a Delta; the rows of each kind are texts with tabs, and a kind may lack."""
-    texts = {kind: rows.get(kind, []) for kind in rf2.KINDS}
+    """Writes a Delta; the rows of each sort of files are texts with tabs, and a sort may lack."""
+    texts = {kind: [] for kind in rf2.KINDS} | rows
     rf2.write(os.path.join(folder, name), "Delta", date, texts)
 
 

@@ -5,6 +5,7 @@ from __future__ import annotations
 import os
 import re
 import select
+import shutil
 import subprocess
 import sys
 from pathlib import Path
@@ -208,8 +209,28 @@ def write_edition(folder: Path, count: int, seed: int) -> tuple[Path, Path]:
     return full, delta
 
 
-def digest_of(*releases: Path) -> str:
-    """The digest that examples/digest.py computes from releases."""
+def write_package(folder: Path, count: int, seed: int) -> tuple[Path, Path]:
+    """The same of all sorts of files of a package."""
+    package = rf2.Package(seed)
+    full, delta = folder / "full", folder / "delta"
+    rf2.write_package(str(full), package, count)
+    rf2.write(str(delta), "Delta", rf2.DELTA_DATE, rf2.delta(package, rf2.PACKAGE_DELTA_SORTS))
+    return full, delta
+
+
+def basic_files(release: Path, to: Path) -> Path:
+    """A copy of a release that has only the files which each store keeps."""
+    for sort in rf2.BASIC_SORTS.values():
+        folder, _, name = sort.name.partition("{}")[0].rpartition("/")
+        (to / folder).mkdir(parents=True, exist_ok=True)
+        for path in (release / folder).glob(name + "*"):
+            shutil.copy(path, to / folder)
+    return to
+
+
+def digest_of(*releases: Path | str) -> str:
+    """The digest that examples/digest.py computes from releases; those behind `--all` were imported
+    into a store that keeps all their files."""
     words = [sys.executable, str(EXAMPLES / "digest.py"), *map(str, releases)]
     done = subprocess.run(words, stdout=subprocess.PIPE, timeout=SECONDS, check=True)
     return done.stdout.decode().rstrip("\n")

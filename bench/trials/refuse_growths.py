@@ -4,11 +4,13 @@
 refuse_growths.py PROGRAM [LINES [SEED]]
 refuse_growths.py PROGRAM script
 
-A store is made, and a session of LINES random lines (40 where none are given), as those of soak.py,
-is served again and again on a copy of it; behind them it asks for the terms of each first letter,
-the children and the replacements of each component that has any, what is above, below and about
-some components, some histories, what changed, each receipt and the days that each import left, so
-that what a refusal made the program forget shows. In the Nth
+A store is made, of version 3 where the rest of SEED divided by 3 is 2 (SEED is 2 where none is
+given) and else of version 2, and a session of LINES random lines (40 where none are given), as
+those of soak.py, is served again and again on a copy of it; behind them it asks for the terms of
+each first letter, the children and the replacements of each component that has any, what is above,
+below and about some components, some histories, what changed, members of each reference set, what
+some concepts were called, each receipt and the days that each import left, so that what a refusal
+made the program forget shows. In the Nth
 run the Nth call of malloc, calloc or realloc gets no memory, for N = 1, 2, .. until a run makes
 fewer calls. What has to hold of each run: the program refuses to start with `ERR 1 OutOfMemory` (on
 standard error as long as its words aren't read, and then as its reply, with a line that names the
@@ -38,6 +40,7 @@ import soak  # noqa: E402
 
 # How long a run may take.
 SECONDS = 60
+SEED = 2
 REFUSED = ["ERR 1 OutOfMemory"]
 # The lines that take no memory: they are never refused.
 NEVER = re.compile(
@@ -101,7 +104,9 @@ class Session:
         self.made = soak.Soak(program, seed, folder)
         self.releases, self.files = self.made.releases.folder, self.made.releases.files
         self.store = self.made.store
-        subprocess.run([program, "init", "--store", self.store], check=True)
+        made = self.made.is_of_version_three()
+        subprocess.run([program, "init", "--store", self.store, "--layout", "3" if made else "2"],
+                       check=True)
         self.lines = []
         for _ in range(count):
             self.lines.append(self.made.line())
@@ -111,7 +116,7 @@ class Session:
     def questions(self):
         """What is asked behind the random lines, by a session that they don't pin."""
         model, day = self.made.model, soak.LAST_DATE
-        shown = {kind: self.versions(kind) for kind in "CDVRA"}
+        shown = {kind: self.versions(kind) for kind in soak.KINDS}
         letters = sorted({columns[7][0].casefold() for columns in shown["D"]})
         parents = sorted({columns[5] for columns in shown["R"]})
         children = sorted({columns[4] for columns in shown["R"]})
@@ -127,7 +132,8 @@ class Session:
             subjects = sorted({columns[place] for columns in shown[kind]})
             lines += ["10 ABOUT %s %s %s" % (kind, subject, day) for subject in subjects[:20]]
             lines += ["10 TIMELINE %s %s" % (kind, subject) for subject in subjects[:5]]
-        for kind in "CDVRA":
+        lines += self.of_reference_sets(shown)
+        for kind in soak.KINDS:
             lines += ["10 HISTORY %s %s" % (kind, name) for name in self.made.names(kind)[:20]]
             lines.append("10 DELTA %s 20191231 %s - 10" % (kind, day))
         lines += ["10 RECEIPT %d" % number for number in range(1, model.state.imports + 1)]
@@ -135,6 +141,15 @@ class Session:
         for line in lines:
             model.reply(line)
         return lines
+
+    def of_reference_sets(self, shown):
+        """The members of each reference set and its values, and what some concepts were called."""
+        day, refsets = soak.LAST_DATE, sorted({columns[4] for columns in shown["M"]})
+        concepts = sorted({columns[4] for columns in shown["D"]})
+        lines = ["10 MEMBERS %s %s - 10" % (refset, day) for refset in refsets]
+        lines += ["10 VALUES %s %s - 3" % (refset, day) for refset in refsets]
+        return lines + ["10 CALLED %s %s %d" % (concept, day, language)
+                        for concept in concepts[:20] for language in soak.rf2.LANGUAGES]
 
     def versions(self, kind):
         """The columns of each version of each component."""
@@ -145,9 +160,11 @@ class Session:
 class Runs:
     """All runs on the same lines."""
 
-    def __init__(self, program, folder, library, releases, files, lines, store, before=()):
+    def __init__(self, program, folder, library, releases, files, lines, store, before=(),
+                 keeps_all=False):
         self.program, self.folder, self.library = program, folder, library
         self.releases, self.files, self.lines = releases, files, lines
+        self.keeps_all = keeps_all
         # The store that each run begins with, and the lines that made it.
         self.store, self.before = store, before
         self.refused_lines = self.refused_starts = 0
@@ -157,7 +174,7 @@ class Runs:
 
     def model(self):
         """The model of the store that a run begins with."""
-        model = soak.Model(self.files)
+        model = soak.Model(self.files, self.keeps_all)
         for line in self.before:
             model.reply(line)
         model.state, model.pins = model.state.reopened(), {}
@@ -219,7 +236,7 @@ class Runs:
     def look(self, store, model):
         """Opens the store once more, and compares what it holds."""
         model.state, model.pins = model.state.reopened(), {}
-        lines = ["0 STATUS"] + ["0 PAGE %s 99991231 - 1000" % kind for kind in "CDVRA"]
+        lines = ["0 STATUS"] + ["0 PAGE %s 99991231 - 1000" % kind for kind in soak.KINDS]
         done, _ = self.serve(store, lines, 0)
         said = [model.reply(line) for line in lines]
         if list(replies_in(done.stdout)) != said:
@@ -309,10 +326,10 @@ def samples_in(releases):
     """Writes the samples as folders; the files of each, as the model takes them."""
     files = {}
     for name, rows in SAMPLES.items():
-        of = {kind: [row.split() for k, row in rows if k == kind] for kind in soak.KINDS}
-        texts = {kind: ["\t".join(columns) for columns in of[kind]] for kind in soak.KINDS}
+        of = {kind: [row.split() for k, row in rows if k == kind] for kind in soak.rf2.KINDS}
+        texts = {kind: ["\t".join(columns) for columns in of[kind]] for kind in of}
         soak.rf2.write(os.path.join(releases, name), "Delta", "20200131", texts)
-        files[name] = (None, [(kind, of[kind]) for kind in soak.KINDS])
+        files[name] = [soak.File(kind, True, of[kind]) for kind in sorted(of, key=soak.place_of)]
     return files
 
 
@@ -344,10 +361,11 @@ def main(words):
             runs = runs_of_script(program, folder, library)
         else:
             count = int(words[2]) if len(words) > 2 else 40
-            seed = int(words[3]) if len(words) > 3 else 1
+            seed = int(words[3]) if len(words) > 3 else SEED
             made = Session(program, folder, count, seed)
             known = (made.releases, made.files, made.lines, made.store)
-            runs = [Runs(program, folder, library, *known)]
+            runs = [Runs(program, folder, library, *known,
+                         keeps_all=made.made.is_of_version_three())]
         return 0 if all([each.all_of_them() for each in runs]) else 1
     finally:
         shutil.rmtree(folder)

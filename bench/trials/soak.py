@@ -6,11 +6,12 @@ soak.py PROGRAM [SECONDS [SEED [FOLDER]]]
 PROGRAM is the built `sctd` (crates/sctd/out/sctd). It serves a store in FOLDER (a fresh folder
 below the system's temporary one, where none is given) for SECONDS (60 where none are given).
 A run begins with a store of version 2, 1 or 3 of the layout, by the rest of SEED divided by 3.
-Sessions import random releases, some of them faulty or contradicting, ask at random dates and pins,
-merge in steps and trim, in batches of lines that are sent at once. From time to time a second `sctd
-import` is tried on the file, and the store is upgraded, in version 3 to no effect. Some upgrades,
-some batches, and some openings, are cut short by `kill -9` at a random moment; then the program
-serves the same file again. The model in soak_model.py answers each line too. What has to hold:
+Sessions import random releases of all sorts of files, some of them faulty or contradicting, and
+some once more, ask at random dates and pins, merge in steps and trim, in batches of lines that are
+sent at once. From time to time a second `sctd import` is tried on the file, and the store is
+upgraded, in version 3 to no effect. Some upgrades, some batches, and some openings, are cut short
+by `kill -9` at a random moment; then the program serves the same file again. The model in
+soak_model.py answers each line too. What has to hold:
 
 - each reply is the model's, byte for byte, as far as replies came;
 - after a kill the store is what the model is after the first so many of the lines that were sent,
@@ -18,14 +19,18 @@ serves the same file again. The model in soak_model.py answers each line too. Wh
 - the second `sctd` is refused, and the file is as it was;
 - then all that two pins show at two dates is the model's, with their days and the receipts of the
   first and the last import that they show, and at the end each version of each component, each
-  receipt, the days that each import left, and what is around some concepts.
+  receipt, the days that each import left, what is around some concepts, all members of each
+  reference set and all its values, and the digest.
 
 It ends by itself, prints its figures, and has the status 1 at the first reply that is another one
-and at bytes behind the last reply, and 3 where no import or no publication was cut short: until
-both were, a run goes on for up to four times SECONDS. The same SEED gives the same lines up to the
-first kill: the moments of the kills are those of the machine, and what comes behind one goes on
-from what it left. Standard library alone.
+and at bytes behind the last reply, and 3 where no import or no publication was cut short, or no
+MEMBERS, VALUES or CALLED was answered by a row: until all were, a run goes on for up to four times
+SECONDS, and its store is upgraded after SECONDS. The same SEED gives the same lines up to the first
+kill: the moments of the kills are those of the machine, and what comes behind one goes on from what
+it left. Standard library alone.
 """
+
+from __future__ import annotations
 
 import os
 import random
@@ -35,17 +40,24 @@ import subprocess
 import sys
 import tempfile
 import time
+import uuid
+from typing import Optional
 
 BENCH = os.path.dirname(os.path.dirname(os.path.abspath(__file__)))
 sys.path += [os.path.join(BENCH, "measurements"), os.path.join(BENCH, "trials")]
 import make_release as rf2  # noqa: E402
-from soak_model import KINDS, SUBJECTS, TARGET, Model, publications  # noqa: E402
+from soak_model import CONCEPT, KINDS, REFERENCED, REFSET, SUBJECTS, TARGET  # noqa: E402
+from soak_model import Columns, Fault, File, Model, publications  # noqa: E402
 
 DATES = ["%d%s31" % (year, month) for year in range(2015, 2026) for month in ("01", "07")]
 LAST_DATE = "99991231"
 # What is asked of some concepts at the end, and how often.
 AROUND = ("ANCESTORS", "DESCENDANTS", "REPLACED", "REPLACES")
 ASKED_AROUND = 200
+# The questions of members that have to be answered by a row, each with what is counted.
+ANSWERED = {"members_answered": "MEMBERS", "values_answered": "VALUES", "called_answered": "CALLED"}
+# How many members of a reference set are asked for at a time.
+MEMBERS_AT_ONCE = 50
 # How long a reply may take, and a program that ends by itself.
 SECONDS = 60
 # Where the versions of the layout stand in the two directories of a store, and version 1.
@@ -57,63 +69,181 @@ class Wrong(Exception):
     """Something was answered or kept that the model doesn't allow."""
 
 
+def odd_members(count: int) -> rf2.Sort:
+    """A sort of files that no package has, with so many further columns."""
+    letters = "cis" * count
+    name = "der2_%sRefset_Odd%d" % (letters[:count], count)
+    return rf2.members("Refset/Odd/" + name + "{}", " odd" * count)
+
+
+# The sorts of the files of a release: those of a package, members with other columns, associations
+# in another folder, and relationships that no store keeps.
+ODD_SORTS = {"Odd%d" % count: odd_members(count) for count in (0, 1, 3)}
+OTHER_ASSOCIATIONS = "OtherAssociations"
+UNKEPT = "StatedRelationship"
+SORTS = {
+    **rf2.BASIC_SORTS, **rf2.FURTHER_SORTS, **ODD_SORTS, UNKEPT: rf2.UNKEPT_SORTS[UNKEPT],
+    OTHER_ASSOCIATIONS: rf2.BASIC_SORTS["A"]._replace(
+        name="Refset/More/der2_cRefset_AssociationOther{}_INT_{}.txt")}
+# Of which sorts rows are made, each as likely as another.
+DRAWN = [*"CCDDDDRRRRAV", *["Language"] * 4, *SORTS]
+# What may stand in a further column that no package has.
+ODD_TEXTS = ("", "", "0", "x", "Straße", "a b ", "#5", "\r", "\ufeff", "TRUE | IFA", "-")
+# How much of what a member says is changed in a release that is faulty: the column, its new text,
+# and how that is refused. None stands for a column that is left out.
+SPOILED = ((None, "", "23 Columns"), (0, "0b6a0c2e5d0f4c539f6e8d9d2a7b1c01", "30 MemberId"),
+           (1, "20201301", "26 Time"), (2, "2", "27 Active"), (REFSET, "1000015", "28 Reference"),
+           (REFERENCED, "1000005", "28 Reference"))
+
+
+def place_of(sort: str) -> tuple[bool, str]:
+    """Where the files of a sort stand among those of a release: first those of Terminology, then
+    those of each folder of Refset, by the name of the folder, and in a folder by their names."""
+    name = SORTS[sort].name.format("Delta", DATES[0])
+    return (not name.startswith("Terminology/"), name)
+
+
+def is_written(sort: str, rows: dict[str, list[Columns]]) -> bool:
+    """Whether a release has a file of a sort: each has those that every store keeps."""
+    return sort in rf2.BASIC_SORTS or bool(rows[sort])
+
+
 class Releases:
     """Random releases, written as folders."""
 
-    def __init__(self, chance, folder):
+    def __init__(self, chance: random.Random, folder: str) -> None:
         self.chance, self.folder = chance, folder
         self.edition = rf2.Edition(chance.getrandbits(32))
-        self.lines = {kind: [] for kind in KINDS}
-        self.files = {}
+        self.edition.made.update({sort: [] for sort in SORTS})
+        self.lines: dict[str, list[Columns]] = {sort: [] for sort in SORTS}
+        self.known: dict[tuple[str, str], Columns] = {}
+        self.files: dict[str, list[File]] = {}
 
-    def columns(self, kind):
-        """A new component, a new version of one, or a row that was written before."""
-        what, made = self.chance.random(), self.edition.made[kind]
-        if what < 0.15 and self.lines[kind]:
-            return self.chance.choice(self.lines[kind])
-        component = self.edition.component(kind)
+    def body(self, sort: str) -> list[object]:
+        """What a row of a sort says behind its first four columns."""
+        if sort == UNKEPT:
+            return self.edition.body("R")
+        if sort == OTHER_ASSOCIATIONS:
+            return self.edition.body("A")
+        if sort not in ODD_SORTS:
+            return self.edition.body(sort)
+        count = int(sort.removeprefix("Odd"))
+        texts = [self.chance.choice(ODD_TEXTS) for _ in range(count)]
+        refset = self.chance.choice([*rf2.VALUE_SETS, rf2.US_ENGLISH])
+        referenced = self.edition.a_description() if count else self.edition.a_concept()
+        return [refset, referenced, *texts]
+
+    def component(self, sort: str) -> rf2.Component:
+        """A new component."""
+        if sort in rf2.BASIC_SORTS or sort in rf2.FURTHER_SORTS:
+            return self.edition.component(sort)
+        name = self.edition.name("R") if sort == UNKEPT else self.unique()
+        made = rf2.Component(name, sort, self.body(sort))
+        self.edition.made[sort].append(made)
+        return made
+
+    def unique(self) -> str:
+        return str(uuid.UUID(int=self.chance.getrandbits(128)))
+
+    def columns(self, sort: str) -> Columns:
+        """A new component, a new version of one, or a row that was written before. A new version
+        may be about something else."""
+        what, made = self.chance.random(), self.edition.made[sort]
+        if what < 0.15 and self.lines[sort]:
+            return self.chance.choice(self.lines[sort])
+        component = self.component(sort)
         if what < 0.55 and len(made) > 1:
             made.pop()
             component = self.chance.choice(made)
+        body = self.body(sort) if what < 0.3 else None
         active = self.chance.choice([1, 1, 1, 0])
-        columns = rf2.line(component, self.chance.choice(DATES), active).split("\t")
-        return columns
+        return rf2.line(component, self.chance.choice(DATES), active, body).split("\t")
 
-    def make(self):
+    def make(self) -> str:
         """The name of a new release; a few are faulty."""
         name = "r%d" % (len(self.files) + 1)
-        rows = {kind: [] for kind in KINDS}
+        rows: dict[str, list[Columns]] = {sort: [] for sort in SORTS}
         for _ in range(self.chance.choice([0, 1, 5, 20, 60, 200])):
-            kind = self.chance.choice("CDDDRRRAV")
-            rows[kind].append(self.columns(kind))
+            sort = self.chance.choice(DRAWN)
+            rows[sort].append(self.columns(sort))
         if self.chance.random() < 0.9:
-            rows = {kind: self.consistent(rows[kind]) for kind in KINDS}
-        fault = self.spoil(rows) if self.chance.random() < 0.1 else None
-        texts = {kind: ["\t".join(columns) for columns in rows[kind]] for kind in KINDS}
-        rf2.write(os.path.join(self.folder, name), "Delta", self.chance.choice(DATES), texts)
-        self.files[name] = (fault, [(kind, rows[kind]) for kind in KINDS])
-        if not fault:
-            for kind in KINDS:
-                self.lines[kind] += rows[kind]
+            rows = {sort: self.consistent(rows[sort]) for sort in SORTS}
+        faults = self.spoil(rows) if self.chance.random() < 0.1 else {}
+        self.write(name, rows)
+        self.files[name] = [
+            File(SORTS[sort].kind, sort in rf2.BASIC_SORTS, rows[sort], faults.get(sort))
+            for sort in sorted(SORTS, key=place_of) if sort != UNKEPT and is_written(sort, rows)]
+        if not faults:
+            for sort in SORTS:
+                self.lines[sort] += rows[sort]
+                self.known.update({(columns[0], columns[1]): columns for columns in rows[sort]})
         return name
 
-    def consistent(self, rows):
+    def write(self, name: str, rows: dict[str, list[Columns]]) -> None:
+        """Writes a release; some UUIDs are in capitals."""
+        date = self.chance.choice(DATES)
+        for sort in filter(lambda sort: is_written(sort, rows), SORTS):
+            texts = ("\t".join([self.spelled(first), *others]) for first, *others in rows[sort])
+            rf2.write_file(os.path.join(self.folder, name), "Delta", date, self.headed(sort), texts)
+
+    def spelled(self, name: str) -> str:
+        return name.upper() if self.chance.random() < 0.05 else name
+
+    def headed(self, sort: str) -> rf2.Sort:
+        """The sort with other names of the columns that may have any."""
+        if sort not in ODD_SORTS:
+            return SORTS[sort]
+        count = int(sort.removeprefix("Odd"))
+        names = [self.chance.choice(["", "valueId", "mapTarget", "Ü"]) for _ in range(count)]
+        columns = " ".join([rf2.MEMBER_COLUMNS, *names])
+        return SORTS[sort]._replace(columns=columns)
+
+    def consistent(self, rows: list[Columns]) -> list[Columns]:
         """Without the rows that say otherwise than one that was written before."""
-        known = {(c[0], c[1]): c for kind in KINDS for c in self.lines[kind]}
-        kept = []
+        kept, here = [], {}
         for columns in rows:
-            if known.setdefault((columns[0], columns[1]), columns) == columns:
+            key = (columns[0], columns[1])
+            if here.setdefault(key, self.known.get(key, columns)) == columns:
                 kept.append(columns)
         return kept
 
-    def spoil(self, rows):
-        """Puts a wrong check digit into the first concept, if there is one."""
-        if not rows["C"]:
+    def spoil(self, rows: dict[str, list[Columns]]) -> dict[str, Fault]:
+        """Puts a wrong check digit into the first concept, or a fault into a row of a member, if
+        there is one."""
+        sorts = [sort for sort in rows if SORTS[sort].kind == "M" and rows[sort]]
+        if rows["C"] and (not sorts or self.chance.random() < 0.5):
+            first = list(rows["C"][0])
+            first[0] = first[0][:-1] + str((int(first[0][-1]) + 1) % 10)
+            rows["C"][0] = first
+            return {"C": Fault(2, "24 Id")}
+        if not sorts:
+            return {}
+        sort = self.chance.choice(sorts)
+        place = self.chance.randrange(len(rows[sort]))
+        column, text, refusal = self.chance.choice(SPOILED)
+        columns = list(rows[sort][place])
+        if column is None:
+            columns.pop()
+        else:
+            columns[column] = text
+        rows[sort][place] = columns
+        return {sort: Fault(place + 2, refusal)}
+
+    def named(self) -> Optional[tuple[str, str]]:
+        """A concept of which a description has a member, and the member's reference set."""
+        if not self.lines["Language"]:
             return None
-        first = list(rows["C"][0])
-        first[0] = first[0][:-1] + str((int(first[0][-1]) + 1) % 10)
-        rows["C"][0] = first
-        return "ERR 24 Id 1 2"
+        member = self.chance.choice(self.lines["Language"])
+        descriptions = [row for row in self.lines["D"] if row[0] == member[REFERENCED]]
+        if not descriptions:
+            return None
+        return self.chance.choice(descriptions)[CONCEPT], member[REFSET]
+
+    def row_of(self, kind: str) -> Optional[Columns]:
+        """A row of a kind that was written, if there is one."""
+        found = [self.lines[sort] for sort in SORTS
+                 if SORTS[sort].kind == kind and sort != UNKEPT and self.lines[sort]]
+        return self.chance.choice(self.chance.choice(found)) if found else None
 
 
 class Program:
@@ -177,6 +307,11 @@ class Program:
         self.process.wait()
 
 
+def fields(line: str) -> Columns:
+    """The columns of a row in a reply."""
+    return line.removeprefix("ROW ").split("\t")
+
+
 class Soak:
     """One run."""
 
@@ -184,16 +319,20 @@ class Soak:
         self.program, self.folder, self.seed = program, folder, seed
         self.chance = random.Random(seed)
         self.releases = Releases(self.chance, os.path.join(folder, "releases"))
-        self.model = Model(self.releases.files)
+        self.model = Model(self.releases.files, keeps_all=self.is_of_version_three())
         self.store = os.path.join(folder, "store")
         self.served = None
         self.took = 0.05
         self.counts = dict.fromkeys(
             "openings kills_in_openings kills_in_batches lines imports imports_cut_kept "
             "imports_cut_lost publications publications_cut_kept publications_cut_lost trims "
-            "dumps seconds_refused upgrades upgrades_cut".split(),
+            "dumps seconds_refused upgrades upgrades_cut releases_again".split() + list(ANSWERED),
             0,
         )
+
+    def is_of_version_three(self) -> bool:
+        """Whether the run begins with a store of version 3."""
+        return self.seed % 3 == 2
 
     def start(self):
         words = [self.program, "serve", "--store", self.store, "--releases", self.releases.folder]
@@ -203,15 +342,15 @@ class Soak:
     def component(self, kind):
         ids = self.model.kinds[kind].ids
         if not ids or self.chance.random() < 0.05:
-            return "00000000-0000-4000-8000-000000000000" if kind == "A" else self.strange(kind)
+            return self.strange(kind)
         name = self.chance.choice(ids)
-        text = "%032x" % name
-        cut = [text[:8], text[8:12], text[12:16], text[16:20], text[20:]]
-        return "-".join(cut) if kind == "A" else str(name)
+        return str(name) if kind in rf2.PARTITIONS else str(uuid.UUID(int=name))
 
-    def strange(self, kind):
+    def strange(self, kind: str) -> str:
         """An identifier that no release has."""
-        return str(rf2.sctid(3000, {"C": "00", "D": "01", "R": "02", "V": "02"}[kind]))
+        if kind not in rf2.PARTITIONS:
+            return "00000000-0000-4000-8000-000000000000"
+        return str(rf2.sctid(3000, rf2.PARTITIONS[kind]))
 
     def question(self, session):
         """A question, now and then of an import that the session isn't pinned to."""
@@ -224,7 +363,7 @@ class Soak:
         chance = self.chance
         date = chance.choice(DATES + [LAST_DATE])
         kind = chance.choice(KINDS)
-        what = chance.randrange(23)
+        what = chance.randrange(29)
         if what < 4:
             return "GET %s %s %s" % (kind, self.component(kind), date)
         if what < 6:
@@ -242,9 +381,33 @@ class Soak:
             return "ABOUT %s %s %s" % (kind, self.subject(kind), date)
         if what < 21:
             return "TIMELINE %s %s" % (kind, self.subject(kind))
-        if what == 21:
-            return "DATES"
+        if what < 27:
+            return self.of_reference_sets(what, date)
+        if what == 27:
+            return chance.choice(["DATES", "DATES", "DIGEST"])
         return "RECEIPT %d" % chance.randint(0, self.model.state.imports + 1)
+
+    def of_reference_sets(self, what: int, date: str) -> str:
+        """The members of a reference set, its values, or what a concept was called."""
+        chance, limit = self.chance, self.chance.choice([1, 7, 50])
+        if what < 23:
+            after = chance.choice(["-", "-", self.component("M"), str(rf2.ROOT)])
+            return "MEMBERS %s %s %s %d" % (self.refset(), date, after, limit)
+        if what < 25:
+            member = self.releases.row_of("M")
+            after = chance.choice(["-", member[REFERENCED] if member else "-", self.component("D")])
+            return "VALUES %s %s %s %d" % (self.refset(), date, after, limit)
+        concept, refset = self.releases.named() or (self.component("C"), self.refset())
+        return "CALLED %s %s %s" % (concept, chance.choice([date, LAST_DATE]), refset)
+
+    def refset(self) -> str:
+        """A reference set that has members, as a rule; now and then what is none."""
+        member = self.releases.row_of("M")
+        if self.chance.random() < 0.1 or member is None:
+            return self.chance.choice([self.component("C"), self.component("D")])
+        if self.chance.random() < 0.4:
+            return str(self.chance.choice(rf2.LANGUAGES))
+        return member[REFSET]
 
     def page(self, what, kind, date):
         """A page of a kind, of what changed in it, or of descriptions."""
@@ -260,9 +423,9 @@ class Soak:
         """What stands in the place of a component, or what it stands in the place of."""
         if what == 14:
             return "REPLACED %s %s" % (self.component("C"), date)
-        rows = self.releases.lines["A"]
-        if rows and self.chance.random() < 0.7:
-            return "REPLACES %s %s" % (self.chance.choice(rows)[TARGET], date)
+        association = self.releases.row_of("A")
+        if association and self.chance.random() < 0.7:
+            return "REPLACES %s %s" % (association[TARGET], date)
         return "REPLACES %s %s" % (self.component("C"), date)
 
     def prefix(self):
@@ -271,9 +434,9 @@ class Soak:
 
     def subject(self, kind):
         """What a row of a kind is about, as a rule, or a concept that there is."""
-        rows = self.releases.lines[kind]
-        if kind in SUBJECTS and rows and self.chance.random() < 0.7:
-            return self.chance.choice(rows)[SUBJECTS[kind]]
+        found = self.releases.row_of(kind)
+        if kind in SUBJECTS and found and self.chance.random() < 0.7:
+            return found[SUBJECTS[kind]]
         return self.component("C")
 
     def line(self):
@@ -281,7 +444,7 @@ class Soak:
         chance, session = self.chance, self.chance.randrange(8)
         what = chance.random()
         if what < 0.16:
-            return "%d IMPORT %s" % (session, self.releases.make())
+            return "%d IMPORT %s" % (session, self.release())
         if what < 0.42:
             return self.question(session)
         if what < 0.47:
@@ -301,12 +464,22 @@ class Soak:
         strange += ["0 AT 0 PIN", "1 AT 0 STATUS", "2 AT 0 AT 0 DATES", "3 AT 1", "4 AT 1 get"]
         return chance.choice(strange + ["", "x" * 5000])
 
+    def release(self) -> str:
+        """The name of a new release, or now and then of one that was made before: a store that was
+        upgraded meanwhile may take more of it."""
+        if self.releases.files and self.chance.random() < 0.1:
+            self.counts["releases_again"] += 1
+            return self.chance.choice(list(self.releases.files))
+        return self.releases.make()
+
     def batch(self):
         """Lines, the replies that the model gives, and the model's state after each."""
         lines, replies, states = [], [], [self.model.state]
         for _ in range(self.chance.choice([1, 3, 10, 30])):
             line = self.line()
             said = self.model.reply(line)
+            for count, word in ANSWERED.items():
+                self.counts[count] += " %s " % word in line and len(said) > 1
             lines.append(line)
             replies.append("".join(part + "\n" for part in said).encode())
             states.append(self.model.state)
@@ -399,7 +572,7 @@ class Soak:
             said = self.check("9 PAGE %s %s %s 1000" % (kind, date, after))
             if len(said) <= 1000:
                 return
-            after = said[-2][4:].split("\t")[0]
+            after = fields(said[-2])[0]
 
     def check(self, line):
         said = self.model.reply(line)
@@ -414,15 +587,40 @@ class Soak:
         imports = self.model.state.imports
         self.check_all(["0 RECEIPT %d" % number for number in range(1, imports + 1)])
         self.check_all(["0 AT %d DATES" % number for number in range(imports + 1)])
+        self.check_all(["0 AT %d DIGEST" % number for number in (0, imports // 2, imports)])
         self.check_all([self.around() for _ in range(ASKED_AROUND)])
+        for refset in self.refsets():
+            for date in (self.chance.choice(DATES), LAST_DATE):
+                self.all_members(refset, date)
+                self.all_values(refset, date)
 
     def around(self):
         """A question about what is around a concept on any day, as an import left it."""
         concept, day = self.component("C"), self.chance.choice(DATES + [LAST_DATE])
         asked = ["%s %s %s" % (word, concept, day) for word in AROUND]
         asked += ["TIMELINE %s %s" % (kind, concept) for kind in SUBJECTS]
+        asked += ["CALLED %s %s %d" % (concept, day, language) for language in rf2.LANGUAGES]
         at = self.chance.randint(0, self.model.state.imports)
         return "0 AT %d %s" % (at, self.chance.choice(asked))
+
+    def refsets(self) -> list[str]:
+        """All reference sets that any version of a member is of."""
+        members = self.model.kinds["M"].of.values()
+        return sorted({columns[REFSET] for dates in members for _, columns in dates.values()})
+
+    def all_members(self, refset: str, date: str) -> None:
+        """Asks for all members of a reference set, as a client does."""
+        asked = "0 MEMBERS %s %s %%s %d" % (refset, date, MEMBERS_AT_ONCE)
+        said = self.check(asked % "-")
+        while len(said) > MEMBERS_AT_ONCE:
+            said = self.check(asked % fields(said[-2])[0])
+
+    def all_values(self, refset: str, date: str) -> None:
+        """Asks for all values of a reference set, each from behind the last component."""
+        said = self.check("0 VALUES %s %s - %d" % (refset, date, MEMBERS_AT_ONCE))
+        while len(said) > 1:
+            after = fields(said[-2])[REFERENCED]
+            said = self.check("0 VALUES %s %s %s %d" % (refset, date, after, MEMBERS_AT_ONCE))
 
     def check_all(self, lines):
         """Asks lines, fifty at a time."""
@@ -436,7 +634,7 @@ class Soak:
         return [next(iter(shown[name].values()))[1][0] for name in self.model.kinds[kind].ids]
 
     def run(self, seconds):
-        layout = ["--layout", "3"] if self.seed % 3 == 2 else []
+        layout = ["--layout", "3"] if self.is_of_version_three() else []
         made = self.ended(["init", "--store", self.store] + layout)
         if made.returncode or made.stdout != b"OK\n":
             raise Wrong("init: %r, status %d" % (made.stdout, made.returncode))
@@ -450,7 +648,7 @@ class Soak:
                 self.killed_batch()
             elif what < 0.3:
                 self.second_import()
-            elif what < 0.31:
+            elif what < 0.31 or time.monotonic() > begun + seconds and not self.model.keeps_all:
                 self.upgrade()
             else:
                 lines, replies, states = self.batch()
@@ -488,6 +686,7 @@ class Soak:
         if (done.returncode, done.stdout) != (0, b"OK\n"):
             raise Wrong("upgrade: %r, status %d" % (done.stdout, done.returncode))
         self.counts["upgrades"] += 1
+        self.model.keeps_all = True
         self.start_again([self.model.state], 0)
 
     def second_import(self):
@@ -521,13 +720,15 @@ class Soak:
         print("at the end: imports %d, rows %d, segments %d" % state.counts())
         print("bytes of the store %d" % os.path.getsize(self.store))
 
-    def untried(self):
-        """What was to be cut short and never was."""
+    def untried(self) -> list[str]:
+        """What was to be cut short and never was, or asked and never answered by a row."""
         cut = {
             name: self.counts[name + "_cut_kept"] + self.counts[name + "_cut_lost"]
             for name in ("imports", "publications")
         }
-        return [name for name in cut if not cut[name]]
+        missed = ["no kill cut any %s short" % name for name in cut if not cut[name]]
+        return missed + ["no %s was answered by a row" % ANSWERED[count]
+                         for count in ANSWERED if not self.counts[count]]
 
 
 def main(words):
@@ -550,8 +751,8 @@ def main(words):
     soak.figures(seconds)
     if len(words) <= 4:
         shutil.rmtree(folder)
-    for name in soak.untried():
-        print("NOT TRIED: no kill cut any %s short" % name)
+    for what in soak.untried():
+        print("NOT TRIED: %s" % what)
     return 3 if soak.untried() else 0
 
 

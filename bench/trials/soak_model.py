@@ -1,57 +1,90 @@
 """What each line is answered, by the definitions: slow and plain. Part of soak.py and of
 refuse_growths.py. It shares nothing with the program. Standard library alone."""
 
-import bisect
+from __future__ import annotations
 
-# The kinds in the order of their files in a release.
-KINDS = "CDVRA"
+import bisect
+import hashlib
+from typing import Callable, Iterable, Iterator, Mapping, NamedTuple, Optional, Sequence
+
+Columns = list[str]
+Reply = list[str]
+
+# The kinds in the order of their keys, by which a digest goes.
+KINDS = "CDRAVM"
 # The column that says what a row of a kind is about; a concept's row has none.
-SUBJECTS = {"D": 4, "V": 4, "R": 4, "A": 5}
-# The columns of a relationship and of an association.
+SUBJECTS = {"D": 4, "V": 4, "R": 4, "A": 5, "M": 5}
+# The columns of a relationship, and of an association or another member of a reference set.
 SOURCE, DESTINATION, TYPE = 4, 5, 7
 REFSET, REFERENCED, TARGET = 4, 5, 6
+# The column of a description that has its concept, and the one that has its term.
+CONCEPT, TERM = 4, 7
 IS_A = "116680003"
+# What stands before the check digit of a concept's SCTID, and of any component's.
+OF_CONCEPTS = ("00", "10")
+OF_COMPONENTS = (*OF_CONCEPTS, "01", "11", "02", "12")
 MOST_SEGMENTS = 250
 LINE_LIMIT = 4096
 # What may stand behind AT.
 QUESTIONS = frozenset(
     "GET HISTORY CHILDREN ANCESTORS DESCENDANTS TERMS SEARCH REPLACED REPLACES ABOUT TIMELINE PAGE "
-    "DELTA DATES RECEIPT".split()
+    "DELTA DATES DIGEST RECEIPT MEMBERS VALUES CALLED".split()
 )
 NO_ARGUMENTS, NO_SUCH_IMPORT = ["ERR 43 Arguments"], ["ERR 44 PinRange"]
+
+
+class Fault(NamedTuple):
+    """What is wrong with a line of a file: its number, and the number and name of the refusal."""
+
+    line: int
+    name: str
+
+
+class File(NamedTuple):
+    """A file of a release: the letter of its rows, whether each store keeps it or only one of
+    version 3 of the layout, its rows, and its first fault."""
+
+    kind: str
+    is_basic: bool
+    rows: list[Columns]
+    fault: Optional[Fault] = None
+
+
+class Contradicts(Exception):
+    """A line says otherwise than another one of the same id and date: the reply."""
 
 
 class Versions:
     """The rows of one kind: of each component its versions, with the numbers of their imports."""
 
-    def __init__(self):
-        self.of = {}
-        self.ids = []
+    def __init__(self) -> None:
+        self.of: dict[int, dict[str, tuple[int, Columns]]] = {}
+        self.ids: list[int] = []
 
-    def add(self, name, date, number, columns):
+    def add(self, name: int, date: str, number: int, columns: Columns) -> None:
         if name not in self.of:
             self.of[name] = {}
             bisect.insort(self.ids, name)
         self.of[name][date] = (number, columns)
 
-    def at(self, name, date, pin):
+    def at(self, name: int, date: str, pin: int) -> Optional[Columns]:
         """The latest version up to a date that a pin shows."""
         shown = [d for d, v in self.of.get(name, {}).items() if d <= date and v[0] <= pin]
         return self.of[name][max(shown)][1] if shown else None
 
-    def all_of(self, name, pin):
+    def all_of(self, name: int, pin: int) -> list[Columns]:
         found = sorted(self.of.get(name, {}).items())
         return [v[1] for _, v in found if v[0] <= pin]
 
-    def dates_of(self, number):
+    def dates_of(self, number: int) -> list[str]:
         """The dates of the rows that an import brought, one for each row."""
         return [d for dates in self.of.values() for d, v in dates.items() if v[0] == number]
 
-    def dates_up_to(self, pin):
+    def dates_up_to(self, pin: int) -> set[str]:
         """The dates of the rows that a pin shows."""
         return {d for dates in self.of.values() for d, v in dates.items() if v[0] <= pin}
 
-    def keep_first(self, imports):
+    def keep_first(self, imports: int) -> None:
         """Forgets what later imports brought."""
         for name in list(self.of):
             kept = {d: v for d, v in self.of[name].items() if v[0] <= imports}
@@ -62,61 +95,83 @@ class Versions:
                 self.ids.remove(name)
 
 
+class Merge(NamedTuple):
+    """A merge: the places of its two segments, how many rows are left, and how many there are."""
+
+    first: int
+    second: int
+    left: int
+    both: int
+
+
 class State:
     """What a store shows beside its rows; plain values, so that it can be kept for each line."""
 
-    def __init__(self, imports=0, rows=0, segments=(), merge=None):
+    def __init__(self, imports: int = 0, rows: int = 0, segments: tuple[int, ...] = (),
+                 merge: Optional[Merge] = None) -> None:
         self.imports, self.rows, self.segments, self.merge = imports, rows, segments, merge
 
-    def reopened(self):
+    def reopened(self) -> State:
         return State(self.imports, self.rows, self.segments)
 
-    def counts(self):
+    def counts(self) -> tuple[int, int, int]:
         return (self.imports, self.rows, len(self.segments))
 
-    def status(self):
-        left = "-" if self.merge is None else str(self.merge[2])
+    def status(self) -> str:
+        left = "-" if self.merge is None else str(self.merge.left)
         return "OK %d %d %d %s" % (*self.counts(), left)
 
 
-def publications(states):
+def publications(states: Sequence[State]) -> int:
     """How many merges were published from the first of these states to the last one."""
     pairs = zip(states, states[1:])
     return sum(len(new.segments) < len(old.segments) for old, new in pairs if old.merge is not None)
 
 
-def name_of(kind, text):
+def name_of(kind: str, text: str) -> int:
     """An identifier in its order: that of numbers."""
-    return int(text.replace("-", ""), 16) if kind == "A" else int(text)
+    return int(text.replace("-", ""), 16) if kind in "AM" else int(text)
 
 
-def row(columns):
+def is_sctid_of(partitions: Sequence[str], text: str) -> bool:
+    """Whether an SCTID, whose check digit is right, is one of these partitions."""
+    return text.isdigit() and text[-3:-1] in partitions
+
+
+def row(columns: Columns) -> str:
     return "ROW " + "\t".join(columns)
 
 
-def ids_and_end(found):
-    return ["ID %d" % name for name in sorted(found)] + ["END %d" % len(found)]
+def ids_and_end(found: Iterable[int]) -> Reply:
+    ids = sorted(found)
+    return ["ID %d" % name for name in ids] + ["END %d" % len(ids)]
 
 
-def reached(first, steps):
+def rows_and_end(found: Sequence[Columns]) -> Reply:
+    return [row(columns) for columns in found] + ["END %d" % len(found)]
+
+
+def reached(first: int, steps: Iterable[tuple[int, int]]) -> set[int]:
     """What is reached from a concept by one step or more, each from one concept to another."""
-    found, turn = set(), {first}
+    found: set[int] = set()
+    turn, pairs = {first}, list(steps)
     while turn:
-        turn = {after for before, after in steps if before in turn} - found
+        turn = {after for before, after in pairs if before in turn} - found
         found |= turn
     return found
 
 
 class Model:
-    """What each line is answered, by the definitions: slow and plain."""
+    """What each line is answered, by the definitions: slow and plain. A store of version 3 asks for
+    all files of a release, one of a version below for the basic ones alone."""
 
-    def __init__(self, releases):
-        self.releases = releases
+    def __init__(self, releases: Mapping[str, Sequence[File]], keeps_all: bool = False) -> None:
+        self.releases, self.keeps_all = releases, keeps_all
         self.kinds = {kind: Versions() for kind in KINDS}
         self.state = State()
-        self.pins = {}
+        self.pins: dict[Optional[int], int] = {}
 
-    def reply(self, line):
+    def reply(self, line: str) -> Reply:
         """The lines of the reply."""
         if len(line.encode()) > LINE_LIMIT:
             return ["ERR 40 Long"]
@@ -124,27 +179,29 @@ class Model:
         command, _, words = rest.partition(" ")
         if not session.isdigit() or int(session) > 1023:
             return ["ERR 41 Session"]
-        call = getattr(self, "do_" + command.lower(), None)
+        call = self.call_of(command)
         if call is None or not command.isupper():
             return ["ERR 42 Command"]
         return call(int(session), words)
 
-    def pin(self, session):
+    def call_of(self, command: str) -> Optional[Callable[[Optional[int], str], Reply]]:
+        """What answers a command."""
+        return getattr(self, "do_" + command.lower(), None)
+
+    def pin(self, session: Optional[int]) -> int:
         return self.pins.get(session, self.state.imports)
 
-    def rows_and_end(self, found):
-        return [row(columns) for columns in found] + ["END %d" % len(found)]
-
-    def do_get(self, session, words):
+    def do_get(self, session: Optional[int], words: str) -> Reply:
         kind, name, date = words.split(" ")
         found = self.kinds[kind].at(name_of(kind, name), date, self.pin(session))
-        return self.rows_and_end([found] if found else [])
+        return rows_and_end([found] if found else [])
 
-    def do_history(self, session, words):
+    def do_history(self, session: Optional[int], words: str) -> Reply:
         kind, name = words.split(" ")
-        return self.rows_and_end(self.kinds[kind].all_of(name_of(kind, name), self.pin(session)))
+        return rows_and_end(self.kinds[kind].all_of(name_of(kind, name), self.pin(session)))
 
-    def page(self, session, kind, date, after, limit, is_wanted):
+    def page(self, session: Optional[int], kind: str, date: str, after: str, limit: str,
+             is_wanted: Callable[[Columns], bool]) -> Reply:
         """The first so many rows that are wanted, of components after an identifier."""
         table, found = self.kinds[kind], []
         start = 0 if after == "-" else bisect.bisect_right(table.ids, name_of(kind, after))
@@ -154,42 +211,79 @@ class Model:
             shown = table.at(name, date, self.pin(session))
             if shown and is_wanted(shown):
                 found.append(shown)
-        return self.rows_and_end(found)
+        return rows_and_end(found)
 
-    def do_page(self, session, words):
+    def do_page(self, session: Optional[int], words: str) -> Reply:
         kind, date, after, limit = words.split(" ")
         return self.page(session, kind, date, after, limit, lambda columns: True)
 
-    def do_delta(self, session, words):
+    def do_delta(self, session: Optional[int], words: str) -> Reply:
         kind, begin, date, after, limit = words.split(" ")
         return self.page(session, kind, date, after, limit, lambda columns: columns[1] > begin)
 
-    def active(self, session, kind, date):
+    def do_members(self, session: Optional[int], words: str) -> Reply:
+        refset, date, after, limit = words.split(" ")
+        if not is_sctid_of(OF_CONCEPTS, refset) or is_sctid_of(OF_COMPONENTS, after):
+            return NO_ARGUMENTS
+        return self.page(
+            session, "M", date, after, limit, lambda columns: columns[REFSET] == refset)
+
+    def active(self, session: Optional[int], kind: str, date: str) -> Iterator[Columns]:
         """The active rows of a kind at a date, ascending."""
         table = self.kinds[kind]
         shown = (table.at(name, date, self.pin(session)) for name in table.ids)
         return (columns for columns in shown if columns and columns[2] == "1")
 
-    def do_terms(self, session, words):
+    def active_members(self, session: Optional[int], refset: str, date: str) -> list[Columns]:
+        return [c for c in self.active(session, "M", date) if c[REFSET] == refset]
+
+    def do_values(self, session: Optional[int], words: str) -> Reply:
+        refset, date, after, limit = words.split(" ")
+        if not is_sctid_of(OF_CONCEPTS, refset):
+            return NO_ARGUMENTS
+        if after != "-" and not is_sctid_of(OF_COMPONENTS, after):
+            return NO_ARGUMENTS
+        least = 0 if after == "-" else int(after)
+        members = self.active_members(session, refset, date)
+        found = [c for c in members if int(c[REFERENCED]) > least]
+        found.sort(key=lambda c: (int(c[REFERENCED]), name_of("M", c[0])))
+        # A row is answered if fewer than the limit refer to a component before its own.
+        components = [int(c[REFERENCED]) for c in found]
+        return rows_and_end([c for c, component in zip(found, components)
+                             if bisect.bisect_left(components, component) < int(limit)])
+
+    def do_called(self, session: Optional[int], words: str) -> Reply:
+        concept, date, refset = words.split(" ")
+        if not all(is_sctid_of(OF_CONCEPTS, text) for text in (concept, refset)):
+            return NO_ARGUMENTS
+        found, members = [], self.active_members(session, refset, date)
+        for description in self.active(session, "D", date):
+            if description[CONCEPT] == concept:
+                its = [c for c in members if c[REFERENCED] == description[0]]
+                found += [description, *its] if its else []
+        return rows_and_end(found)
+
+    def do_terms(self, session: Optional[int], words: str) -> Reply:
         date, limit, prefix = words.split(" ", 2)
         return self.do_search(session, "%s - %s %s" % (date, limit, prefix))
 
-    def do_search(self, session, words):
+    def do_search(self, session: Optional[int], words: str) -> Reply:
         date, after, limit, prefix = words.split(" ", 3)
         folded = prefix.casefold()
-        found = [c for c in self.active(session, "D", date) if c[7].casefold().startswith(folded)]
+        found = [c for c in self.active(session, "D", date)
+                 if c[TERM].casefold().startswith(folded)]
         if after != "-":
             found = [c for c in found if int(c[0]) > int(after)]
-        return self.rows_and_end(found[: int(limit)])
+        return rows_and_end(found[: int(limit)])
 
-    def do_about(self, session, words):
+    def do_about(self, session: Optional[int], words: str) -> Reply:
         kind, name, date = words.split(" ")
         if kind not in SUBJECTS:
             return NO_ARGUMENTS
         place = SUBJECTS[kind]
-        return self.rows_and_end([c for c in self.active(session, kind, date) if c[place] == name])
+        return rows_and_end([c for c in self.active(session, kind, date) if c[place] == name])
 
-    def do_timeline(self, session, words):
+    def do_timeline(self, session: Optional[int], words: str) -> Reply:
         kind, name = words.split(" ")
         if kind not in SUBJECTS:
             return NO_ARGUMENTS
@@ -198,14 +292,23 @@ class Model:
             versions = self.kinds[kind].all_of(component, self.pin(session))
             if any(c[2] == "1" and c[place] == name for c in versions):
                 found += versions
-        return self.rows_and_end(found)
+        return rows_and_end(found)
 
-    def do_dates(self, session, _words):
-        pin = self.pin(session)
-        found = sorted(set().union(*(self.kinds[kind].dates_up_to(pin) for kind in KINDS)))
-        return ["DATE " + date for date in found] + ["END %d" % len(found)]
+    def do_dates(self, session: Optional[int], _words: str) -> Reply:
+        pin, found = self.pin(session), set()
+        for kind in KINDS:
+            found |= self.kinds[kind].dates_up_to(pin)
+        return ["DATE " + date for date in sorted(found)] + ["END %d" % len(found)]
 
-    def do_receipt(self, session, words):
+    def do_digest(self, session: Optional[int], _words: str) -> Reply:
+        digest = hashlib.sha256()
+        for kind in KINDS:
+            for name in self.kinds[kind].ids:
+                for columns in self.kinds[kind].all_of(name, self.pin(session)):
+                    digest.update(("%s %s\n" % (kind, "\t".join(columns))).encode())
+        return ["OK " + digest.hexdigest()]
+
+    def do_receipt(self, session: Optional[int], words: str) -> Reply:
         number = int(words)
         if number == 0:
             return NO_ARGUMENTS
@@ -214,101 +317,105 @@ class Model:
         dates = [date for kind in KINDS for date in self.kinds[kind].dates_of(number)]
         return ["OK %d %d %s" % (number, len(dates), max(dates, default="-"))]
 
-    def links(self, session, date):
+    def links(self, session: Optional[int], date: str) -> list[tuple[int, int]]:
         """Each active "is a" at a date: a child and its parent."""
         found = self.active(session, "R", date)
         return [(int(c[SOURCE]), int(c[DESTINATION])) for c in found if c[TYPE] == IS_A]
 
-    def do_children(self, session, words):
+    def do_children(self, session: Optional[int], words: str) -> Reply:
         concept, date = words.split(" ")
         links = self.links(session, date)
         return ids_and_end({child for child, parent in links if parent == int(concept)})
 
-    def do_ancestors(self, session, words):
+    def do_ancestors(self, session: Optional[int], words: str) -> Reply:
         concept, date = words.split(" ")
         return ids_and_end(reached(int(concept), self.links(session, date)))
 
-    def do_descendants(self, session, words):
+    def do_descendants(self, session: Optional[int], words: str) -> Reply:
         concept, date = words.split(" ")
         links = [(parent, child) for child, parent in self.links(session, date)]
         return ids_and_end(reached(int(concept), links))
 
-    def associations(self, session, date, place, name, other):
+    def associations(self, session: Optional[int], date: str, place: int, name: str,
+                     other: int) -> Reply:
         """The active ones with a component in one column, by refset, the other column, member."""
         found = [c for c in self.active(session, "A", date) if c[place] == name]
         found.sort(key=lambda c: (int(c[REFSET]), int(c[other]), name_of("A", c[0])))
-        return self.rows_and_end(found)
+        return rows_and_end(found)
 
-    def do_replaced(self, session, words):
+    def do_replaced(self, session: Optional[int], words: str) -> Reply:
         name, date = words.split(" ")
         return self.associations(session, date, REFERENCED, name, TARGET)
 
-    def do_replaces(self, session, words):
+    def do_replaces(self, session: Optional[int], words: str) -> Reply:
         name, date = words.split(" ")
         return self.associations(session, date, TARGET, name, REFERENCED)
 
-    def do_at(self, _session, words):
+    def do_at(self, _session: Optional[int], words: str) -> Reply:
         """What a session is answered that is pinned so: one without a number, for this line."""
         number, _, question = words.partition(" ")
         command, _, rest = question.partition(" ")
-        if command not in QUESTIONS:
+        call = self.call_of(command)
+        if command not in QUESTIONS or call is None:
             return NO_ARGUMENTS
         self.pins[None] = int(number)
-        said = getattr(self, "do_" + command.lower())(None, rest)
+        said = call(None, rest)
         del self.pins[None]
         # A question that is none is refused before its number is looked at.
         return NO_SUCH_IMPORT if int(number) > self.state.imports and said != NO_ARGUMENTS else said
 
-    def do_pin(self, session, words):
+    def do_pin(self, session: Optional[int], words: str) -> Reply:
         number = self.state.imports if words == "" else int(words)
         if number > self.state.imports:
             return NO_SUCH_IMPORT
         self.pins[session] = number
         return ["OK %d" % number]
 
-    def do_unpin(self, session, _):
+    def do_unpin(self, session: Optional[int], _words: str) -> Reply:
         self.pins.pop(session, None)
         return ["OK"]
 
-    def do_status(self, _session, _words):
+    def do_status(self, _session: Optional[int], _words: str) -> Reply:
         return [self.state.status()]
 
-    def new_rows(self, files):
-        """The rows that aren't known, or the place of the first that says otherwise."""
-        new, lines = {}, 0
-        for file, (kind, rows) in enumerate(files, 1):
-            for line, columns in enumerate(rows, 2):
-                lines += 1
-                key = (kind, name_of(kind, columns[0]), columns[1])
-                known = self.kinds[kind].of.get(key[1], {}).get(columns[1])
+    def new_rows(self, files: Sequence[File]) -> dict[tuple[str, int, str], Columns]:
+        """The rows that aren't known. A line that says otherwise than a known one, or than one
+        before it, is a `Contradicts`."""
+        new: dict[tuple[str, int, str], Columns] = {}
+        for number, file in enumerate(files, 1):
+            for line, columns in enumerate(file.rows, 2):
+                key = (file.kind, name_of(file.kind, columns[0]), columns[1])
+                known = self.kinds[file.kind].of.get(key[1], {}).get(columns[1])
                 if known is None or known[0] > self.state.imports:
                     said = new.setdefault(key, columns)
                 else:
                     said = known[1]
                 if said != columns:
-                    return None, (file, line)
-        return new, lines
+                    raise Contradicts("ERR 32 Contradiction %d %d" % (number, line))
+        return new
 
-    def do_import(self, _session, name):
+    def do_import(self, _session: Optional[int], name: str) -> Reply:
         if name not in self.releases:
             return ["ERR 45 NoFolder"]
-        fault, files = self.releases[name]
-        if fault:
-            return [fault]
-        new, lines = self.new_rows(files)
-        if new is None:
-            return ["ERR 32 Contradiction %d %d" % lines]
+        files = [file for file in self.releases[name] if file.is_basic or self.keeps_all]
+        for place, file in enumerate(files, 1):
+            if file.fault:
+                return ["ERR %s %d %d" % (file.fault.name, place, file.fault.line)]
+        try:
+            new = self.new_rows(files)
+        except Contradicts as reply:
+            return [str(reply)]
         old = self.state
         if new and len(old.segments) == MOST_SEGMENTS:
             return ["ERR 6 TooManySegments"]
-        number = old.imports + 1
+        number, lines = old.imports + 1, sum(len(file.rows) for file in files)
         for (kind, ident, date), columns in new.items():
             self.kinds[kind].add(ident, date, number, columns)
         segments = old.segments + ((len(new),) if new else ())
         self.state = State(number, old.rows + len(new), segments, old.merge)
         return ["OK %d %d %d" % (number, len(new), lines - len(new))]
 
-    def do_merge(self, _session, _words):
+    def do_merge(self, _session: Optional[int], _words: str) -> Reply:
         old = self.state
         if old.merge is not None:
             return ["ERR 10 MergeBusy"]
@@ -317,42 +424,40 @@ class Model:
         order = sorted(range(len(old.segments)), key=lambda place: (old.segments[place], place))
         i, j = sorted(order[:2])
         left = old.segments[i] + old.segments[j]
-        self.state = State(old.imports, old.rows, old.segments, (i, j, left, left))
+        self.state = State(old.imports, old.rows, old.segments, Merge(i, j, left, left))
         return ["OK %d" % left]
 
-    def do_step(self, _session, words):
+    def do_step(self, _session: Optional[int], words: str) -> Reply:
         old = self.state
         if old.merge is None:
             return ["ERR 11 NoMerge"]
-        i, j, left, both = old.merge
-        left -= min(left, int(words))
-        self.state = State(old.imports, old.rows, old.segments, (i, j, left, both))
+        left = old.merge.left - min(old.merge.left, int(words))
+        self.state = State(old.imports, old.rows, old.segments, old.merge._replace(left=left))
         return ["OK %d" % left]
 
-    def do_publish(self, _session, _words):
+    def do_publish(self, _session: Optional[int], _words: str) -> Reply:
         old = self.state
         if old.merge is None:
             return ["ERR 11 NoMerge"]
-        i, j, left, both = old.merge
-        if left:
+        if old.merge.left:
             return ["ERR 12 MergeUnfinished"]
         segments = list(old.segments)
-        segments[i] = both
-        del segments[j]
+        segments[old.merge.first] = old.merge.both
+        del segments[old.merge.second]
         self.state = State(old.imports, old.rows, tuple(segments))
         return ["OK"]
 
-    def do_abandon(self, _session, _words):
+    def do_abandon(self, _session: Optional[int], _words: str) -> Reply:
         old = self.state
         if old.merge is None:
             return ["ERR 11 NoMerge"]
         self.state = State(old.imports, old.rows, old.segments)
         return ["OK"]
 
-    def do_trim(self, _session, _words):
+    def do_trim(self, _session: Optional[int], _words: str) -> Reply:
         return ["OK"]
 
-    def go_back(self, state):
+    def go_back(self, state: State) -> None:
         """As it was at a state, and opened again: no merge, no pins."""
         self.state = state.reopened()
         self.pins = {}

@@ -3,10 +3,11 @@
 
 try_flips.py PROGRAM [ROWS [BITS [SEED]]]
 
-PROGRAM is the built `sctd`. It makes a store of version 3 of a Full release of ROWS rows (20,000
-where none are given) and of a Delta. Each bit of the directory's epoch is turned over by itself,
-and each of some random bits of both directories and of BITS random ones of the file (200 where none
-are given): the program is asked, and the bit is turned back. What has to hold:
+PROGRAM is the built `sctd`. It makes a store of version 3 of a whole package, a Full release of
+ROWS rows (20,000 where none are given) of all sorts of files, and of a Delta. Each bit of the
+directory's epoch is turned over by itself, and each of some random bits of both directories and of
+BITS random ones of the file (200 where none are given): the program is asked, and the bit is turned
+back. What has to hold:
 
 - a store of which a bit that is read was changed is refused with ERR 8, whichever command opens it:
   one of the directory with its epoch, of a record, or of the older directory in the other slot;
@@ -29,6 +30,8 @@ BENCH = os.path.dirname(os.path.dirname(os.path.abspath(__file__)))
 sys.path.append(os.path.join(BENCH, "measurements"))
 import make_release  # noqa: E402
 
+# How many components of a sort of files are asked for.
+ASKED_OF_A_SORT = 10
 BLOCK = 4096
 GATES = (0, 2 * BLOCK)
 DIRECTORIES = (BLOCK, 3 * BLOCK)
@@ -189,7 +192,7 @@ def main(words):
     path = os.path.join(folder, "store")
     counts = {}
     try:
-        make_release.main([folder, str(rows)])
+        make_release.main(["--package", folder, str(rows)])
         shown = []
         run(program, ["init", "--layout", "3", "--store", path])
         lines = list(some_questions(os.path.join(folder, "full"), chance))
@@ -224,19 +227,37 @@ def main(words):
 
 def some_questions(folder, chance):
     """What is asked of some components of a release: their versions, and of concepts what is above
-    them and what was ever said of them, for which many rows are read."""
-    for kind, name in make_release.NAMES.items():
-        where, file = os.path.split(name)
-        start = file.split("{}")[0]
-        for found in sorted(os.listdir(os.path.join(folder, where))):
-            if found.startswith(start):
-                with open(os.path.join(folder, where, found), encoding="utf-8") as rows:
-                    ids = [row.split("\t")[0] for row in rows][1:]
-                for one in chance.sample(ids, min(20, len(ids))):
-                    yield "HISTORY %s %s" % (kind, one)
-                    if kind == "C":
-                        yield "ANCESTORS %s 20991231" % one
-                        yield "TIMELINE D %s" % one
+    them, what was ever said of them and what they were called, and of reference sets the members
+    and the values, for which many rows are read."""
+    for sort, (kind, name, _) in make_release.SORTS.items():
+        if sort not in make_release.UNKEPT_SORTS:
+            rows = list(rows_in(folder, name))
+            for row in chance.sample(rows, min(ASKED_OF_A_SORT, len(rows))):
+                yield "HISTORY %s %s" % (kind, row[0])
+                yield from questions_about(kind, row)
+
+
+def rows_in(folder, name):
+    """The columns of the rows in a file of a release."""
+    where, file = os.path.split(name)
+    start = file.split("{}")[0]
+    for found in sorted(os.listdir(os.path.join(folder, where))):
+        if found.startswith(start):
+            with open(os.path.join(folder, where, found), encoding="utf-8") as rows:
+                yield from (row.rstrip("\n").split("\t") for row in list(rows)[1:])
+
+
+def questions_about(kind, row):
+    """What is asked of a row beside its versions."""
+    if kind == "C":
+        yield "ANCESTORS %s 20991231" % row[0]
+        yield "TIMELINE D %s" % row[0]
+    if kind == "D":
+        for language in make_release.LANGUAGES:
+            yield "CALLED %s 20991231 %d" % (row[4], language)
+    if kind == "M":
+        yield "MEMBERS %s 20991231 %s 10" % (row[4], row[0])
+        yield "VALUES %s 20991231 %s 10" % (row[4], row[5])
 
 
 if __name__ == "__main__":

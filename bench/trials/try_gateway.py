@@ -36,6 +36,7 @@ RUNS = [
         "test_recorded",
     ),
     ("test_hub", "test_releases", "test_large_answers"),
+    ("test_members",),
 ]
 
 

@@ -4,13 +4,13 @@
 try_mistakes.py PROGRAM
 
 PROGRAM is the built `sctd`. In a fresh folder below the system's temporary one it is given wrong
-paths, folders that are no release, files that never end, names with control characters, a full
-disk, too few files that may be open, a store that is in use and one whose file is replaced. Each
-time its reply, its status and the line on standard error have to be as wanted within ten seconds,
-and the store has to be left as it was. Then four imports run on one store at once, and again beside
-a server: each release that was answered OK has to be there after the next opening, and no other.
-What the machine lacks for a try is said and not counted. The status is 1 where something isn't as
-wanted. Standard library alone.
+paths, folders that are no release, whole packages, files that never end, names with control
+characters, a full disk, too few files that may be open, a store that is in use and one whose file
+is replaced. Each time its reply, its status and the line on standard error have to be as wanted
+within ten seconds, and the store has to be left as it was. Then four imports run on one store at
+once, and again beside a server: each release that was answered OK has to be there after the next
+opening, and no other. What the machine lacks for a try is said and not counted. The status is 1
+where something isn't as wanted. Standard library alone.
 """
 
 import os
@@ -37,6 +37,18 @@ ROOT_ROW = "138875005\t%s\t1\t900000000000207008\t900000000000074008\n"
 HOLDER = re.compile(r"in use by another process, whose id is (\d+)\n$")
 # The number of a user who owns nothing.
 OTHER_USER = 65534
+# A row of a language reference set, and one of a text definition, of the root concept.
+LANGUAGE = "der2_cRefset_LanguageDelta-en_INT_20200131.txt"
+LANGUAGE_ROWS = (
+    "id\teffectiveTime\tactive\tmoduleId\trefsetId\treferencedComponentId\tacceptabilityId\n"
+    "0b6a0c2e-5d0f-4c53-9f6e-8d9d2a7b1c01\t20200131\t1\t900000000000207008\t900000000000509007\t"
+    "1000015\t900000000000548007\n")
+DEFINITIONS = "sct2_TextDefinition_Delta-en_INT_20200131.txt"
+DEFINITION_ROWS = (
+    "id\teffectiveTime\tactive\tmoduleId\tconceptId\tlanguageCode\ttypeId\tterm\t"
+    "caseSignificanceId\n"
+    "1000015\t20200131\t1\t900000000000207008\t138875005\ten\t900000000000550004\tAll of it.\t"
+    "900000000000448009\n")
 PARTS = "no folder Terminology or Refset/Content in it"
 
 
@@ -195,6 +207,54 @@ def try_lacking(tries):
     for kind in ("Description", "Relationship"):
         wanted += "sctd: warning: a Full file of concepts was taken, and no %s file\n" % kind
     tries.check("what a Full release lacks", got[0] == 0 and got[2] == wanted, got)
+
+
+def write_package(tries, name, files):
+    """A release of one concept, and of further files at these places."""
+    write_release(tries, name, "20200131")
+    for path, text in files.items():
+        write(tries.path("releases", name, path), text)
+
+
+def import_told(tries, what, store, name, reply, lines):
+    """An import that has to be answered so, and to tell these lines among others."""
+    words = ["import", "--store", store, "--releases", "releases", name]
+    got = tries.run(words)
+    told = got[2].splitlines()
+    missing = ["sctd: " + line for line in lines if "sctd: " + line not in told]
+    tries.check(what, got[:2] == (0, reply + "\n") and not missing, (got, missing))
+    return told
+
+
+def try_packages(tries):
+    """A whole package, which a store of version 2 takes in part, and files of it in a folder in
+    which no package has them."""
+    for layout in ("2", "3"):
+        made = tries.run(["init", "--store", "layout" + layout, "--layout", layout])
+        tries.check("init", made[1] == "OK\n", made)
+    write_package(tries, "whole", {"Refset/Language/" + LANGUAGE: LANGUAGE_ROWS,
+                                   "Terminology/" + DEFINITIONS: DEFINITION_ROWS})
+    told = import_told(tries, "members into version 2", "layout2", "whole", "OK 1 1 0", [
+        "passed over Refset/Language/" + LANGUAGE, "passed over Terminology/" + DEFINITIONS])
+    tries.check("its warnings", not any("warning" in line for line in told), told)
+    told = import_told(tries, "members into version 3", "layout3", "whole", "OK 1 3 0", [
+        "took %s: Refset, rows: 1" % LANGUAGE, "took %s: Description, rows: 1" % DEFINITIONS])
+    tries.check("its warnings", not any("warning" in line for line in told), told)
+    for number, wrong in enumerate(("Refset", "refset/Language", "Language", "Refset/Language/en")):
+        name = "misplaced%d" % number
+        write_package(tries, name, {wrong + "/" + LANGUAGE: LANGUAGE_ROWS})
+        reply = "OK %d 0 1" % (number + 2)
+        told = import_told(tries, "members in " + wrong, "layout3", name, reply, [])
+        warning = OUT_OF_PLACE % (wrong + "/" + LANGUAGE)
+        warned = [line for line in told if line.startswith(warning)]
+        tries.check("the warning of " + wrong, len(warned) == 1, told)
+    write_package(tries, "beta", {"Refset/Language/x" + LANGUAGE: LANGUAGE_ROWS})
+    told = import_told(tries, "members of a beta release", "layout3", "beta", "OK 6 0 1", [])
+    warning = "sctd: warning: passed over Refset/Language/x%s, " % LANGUAGE
+    tries.check("its warning", any(line.startswith(warning) for line in told), told)
+    got = tries.run(["upgrade", "--store", "layout2"])
+    tries.check("an upgrade", got[:2] == (0, "OK\n"), got)
+    import_told(tries, "a package imported again", "layout2", "whole", "OK 2 2 1", [])
 
 
 def try_forged(tries):
@@ -541,8 +601,8 @@ def main(words):
             write_release(tries, "r%d" % number, "%d0131" % (2019 + number))
         made = tries.run(["init", "--store", "store"])
         tries.check("init", made == (0, "OK\n", ""), made)
-        for part in (try_folders, try_names, try_telling, try_lacking, try_forged, try_new_rights,
-                     try_demonstration, try_traps, try_stores, try_rights,
+        for part in (try_folders, try_names, try_telling, try_lacking, try_packages, try_forged,
+                     try_new_rights, try_demonstration, try_traps, try_stores, try_rights,
                      try_full_disk, try_few_files, try_replaced, try_other_user, try_at_once):
             part(tries)
     print("%d tried, %d not as wanted, %d skipped" % (tries.done, tries.wrong, tries.skipped))

@@ -5,12 +5,13 @@ try_operators.py PROGRAM [TRIAL ..]
 
 PROGRAM is the built `sctd`, and TRIAL the name of one of the functions below, all if none is given.
 Tried are releases that are checked before they count, a wrong release that is taken back, copies
-that are refused or killed, the digest against examples/digest.py, and damage under a served store.
-What many clients and a year of nights do to the hub, try_hub.py tries; other files in the store's
-place, forged names and locks, try_mistakes.py. A trial that can't be done on this machine says so
-in a line that begins with `skipped`, and one that isn't as it has to be in a line that begins with
-`WRONG`. The last line is `N passed, M failed`, and `, K skipped` where there are any; the status is
-1 where one failed. Standard library alone.
+that are refused or killed, the digest against examples/digest.py, packages in stores that keep all
+their files and in such as don't, and damage under a served store. What many clients and a year of
+nights do to the hub, try_hub.py tries; other files in the store's place, forged names and locks,
+try_mistakes.py. A trial that can't be done on this machine says so in a line that begins with
+`skipped`, and one that isn't as it has to be in a line that begins with `WRONG`. The last line is
+`N passed, M failed`, and `, K skipped` where there are any; the status is 1 where one failed.
+Standard library alone.
 """
 
 from __future__ import annotations
@@ -29,10 +30,10 @@ from pathlib import Path
 from typing import Callable, Iterator, NamedTuple, Optional, Sequence
 
 from operators_harness import BLOCK, FIRST_ROW, RELEASES, SECONDS, Place, Ran, Server, Skipped
-from operators_harness import Wrong, concept, concept_id, digest_of, flip, put_back, rf2, same
-from operators_harness import write_edition, write_release
+from operators_harness import Wrong, basic_files, concept, concept_id, digest_of, flip, put_back
+from operators_harness import rf2, same, write_edition, write_package, write_release
 
-KINDS = "CDRAV"
+KINDS = "CDRAVM"
 # How many rows the releases have whose digests are compared, and whose copies are killed.
 DIGEST_ROWS, KILLED_ROWS = 3_000, 10_000
 SEED = 48
@@ -54,6 +55,13 @@ OTHER_QUESTION = "GET C 2000001 20210131"
 PINNED = ["GET C 1000004 20211231", "HISTORY C 1000004", "ABOUT D 1000004 20211231", "DATES",
           "ANCESTORS 1000004 20200630", "DELTA C 20200131 20211231 - 1000"]
 PINNED += ["PAGE %s 20211231 - 1000" % kind for kind in KINDS]
+# What a store of version 3 answers of a package, and one of version 2 doesn't.
+LATE = "20991231"
+OF_MEMBERS = ["MEMBERS %d %s - 1000" % (rf2.US_ENGLISH, LATE), "PAGE M %s - 1000" % LATE,
+              "VALUES %d %s - 1000" % (rf2.WHY_CONCEPTS_ARE_INACTIVE, LATE)]
+# How many concepts are asked what they were called.
+ASKED_NAMES = 20
+ALL = "--all"
 NO_ROWS = hashlib.sha256(b"").hexdigest()
 
 
@@ -126,7 +134,7 @@ def contradictions_told(place: Place, store: Path, numbers: range) -> tuple[list
     told = check_told(place, store, what)
     same("a check of %d contradictions" % len(numbers), (told.status, told.output),
          (1, "ERR 32 Contradiction 1 3\n"))
-    name = rf2.NAMES["C"].format("Delta", DATE).rpartition("/")[2]
+    name = rf2.SORTS["C"].name.format("Delta", DATE).rpartition("/")[2]
     lines = told.faults.splitlines()
     places = [line for line in lines if line.startswith("sctd: %s, line " % name)]
     starts = ["sctd: %s, line %d: " % (name, number) for number in range(3, len(places) + 3)]
@@ -440,6 +448,76 @@ def digests(place: Place) -> None:
     each_digest(place, other, [NO_ROWS, digest_of(delta), wanted[2]])
 
 
+def digests_of_members(place: Place) -> None:
+    """The same of a store of version 3 that has all files of a package."""
+    full, delta = write_package(place.path("package"), DIGEST_ROWS, SEED)
+    wanted = [NO_ROWS, digest_of(ALL, full), digest_of(ALL, full, delta)]
+    store = place.make_store(layout=3)
+    place.import_all(store, [full, delta])
+    each_digest(place, store, wanted)
+    each_digest(place, place.copy(store, "first", imports=1), wanted[:2])
+    place.done("merge", "--store", store)
+    each_digest(place, store, wanted)
+    each_digest(place, place.copy(store, "copy"), wanted)
+    other = place.make_store("other", layout=3)
+    place.import_all(other, [delta, full])
+    each_digest(place, other, [NO_ROWS, digest_of(ALL, delta), wanted[2]])
+
+
+# ---- A package in stores of each version
+
+
+def of_members(full: Path) -> list[str]:
+    """Lines that ask for members, and what some concepts of a release were called."""
+    path = full / rf2.SORTS["C"].name.format("Full", rf2.FULL_DATE)
+    rows = path.read_text(encoding="utf-8").splitlines()[1 : ASKED_NAMES + 1]
+    return OF_MEMBERS + ["CALLED %s %s %d" % (row.split("\t")[0], LATE, language)
+                         for row in rows for language in rf2.LANGUAGES]
+
+
+def packages_below(place: Place) -> None:
+    """A store of version 2 takes from a package what it keeps, as if nothing else was there."""
+    full, delta = write_package(place.path("package"), DIGEST_ROWS, SEED)
+    basic = [basic_files(one, place.path("basic-" + one.name)) for one in (full, delta)]
+    seen = []
+    for name, releases in (("whole", [full, delta]), ("basic", basic)):
+        here = place.below(name)
+        store = here.make_store()
+        told = [here.import_one(store, release) for release in releases]
+        same("members in version 2", here.ask(store, OF_MEMBERS), [["END 0"]] * len(OF_MEMBERS))
+        seen.append((told, here.status(store), here.digest(store), reports(here, store, 2)))
+    same("with and without the further files", *seen)
+    same("their digest", seen[0][2], digest_of(full, delta))
+
+
+def the_rest(place: Place) -> None:
+    """A store of version 2 takes the rest of a package once it was upgraded and the Full release is
+    imported again; what was reported before stays as it was."""
+    full, delta = write_package(place.path("package"), DIGEST_ROWS, SEED)
+    store, lines = place.make_store(), of_members(full)
+    place.import_all(store, [full, delta])
+    before, digest = reports(place, store, 2), place.digest(store)
+    for command in ("upgrade", "merge"):
+        place.done(command, "--store", store)
+    same("the digest after an upgrade", place.digest(store), digest)
+    place.import_all(store, [full, delta])
+    same("reports on the first imports", reports(place, store, 2), before)
+    each_digest(place, store, [
+        NO_ROWS, digest_of(full), digest, digest_of(full, delta, ALL, full),
+        digest_of(ALL, full, delta)])
+    at_once = place.make_store("at once", layout=3)
+    place.import_all(at_once, [full, delta])
+    rows = [place.status(one).split(" ")[2] for one in (store, at_once)]
+    same("the rows", rows[0], rows[1])
+    answers = place.ask(store, lines)
+    same("members", answers, place.ask(at_once, lines))
+    same("that there are any", ["END 0"] in answers[: len(OF_MEMBERS)], False)
+    same("that there are names", sum(reply != ["END 0"] for reply in answers) > ASKED_NAMES, True)
+    pinned = place.ask(store, ["AT 2 " + line for line in lines])
+    same("members at the second import", pinned, [["END 0"]] * len(lines))
+    same("an import once more", place.import_one(store, full).split(" ")[:3], ["OK", "5", "0"])
+
+
 def digest_refused(place: Place) -> None:
     """A digest of what isn't there is refused, and the store stays as it is."""
     store = place.small_store()
@@ -494,7 +572,7 @@ def damage(place: Place) -> None:
 
 TRIALS: list[Callable[[Place], None]] = [
     checks, contradictions, warnings, wrong_release, whole_copies, refused_copies, full_disk,
-    killed_copies, digests, digest_refused, damage]
+    killed_copies, digests, digests_of_members, packages_below, the_rest, digest_refused, damage]
 
 
 def said_of(trial: Callable[[Place], None], place: Place) -> str:

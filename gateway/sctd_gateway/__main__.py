@@ -3,14 +3,17 @@
     python3 -m sctd_gateway --socket /run/sctd/questions.sock --edition 900000000000207008
 
 It asks through a socket of `examples/hub.py` and listens on 127.0.0.1:8080, or where `--listen`
-says. It prints `OK ready` once it does. TLS, users and the log of who asked what are those of the
-house's own proxy in front of it.
+says. It prints `OK ready` once it does. `--languages` has the SCTIDs of the language reference sets
+whose preferred terms are shown, such as 900000000000509007,900000000000508004, the most wanted
+first; without it fully specified names are. TLS, users and the log of who asked what are those of
+the house's own proxy in front of it.
 """
 
 import argparse
 import asyncio
 import contextlib
 import os
+import re
 import signal
 import socket
 import stat
@@ -20,7 +23,10 @@ from . import http, limits
 from .app import App, refused_request
 from .fhir.versions import Edition
 from .pool import Pool
-from .snomed import is_concept_id
+from .snomed import distinct, is_concept_id
+
+# A URI that names a code system: a scheme, and no space or control character.
+SYSTEM = re.compile(r"[A-Za-z][A-Za-z0-9+.-]*:[\x21-\x7e]+\Z", re.ASCII)
 
 
 def options() -> argparse.Namespace:
@@ -35,16 +41,49 @@ def options() -> argparse.Namespace:
         "--listen", default="127.0.0.1:8080", help="HOST:PORT, or the path of a socket"
     )
     words.add_argument(
+        "--languages",
+        type=refsets_of,
+        default=(),
+        metavar="SCTID,..",
+        help="the language reference sets whose preferred terms are shown, the most wanted first",
+    )
+    words.add_argument(
+        "--map",
+        type=map_of,
+        action="append",
+        default=[],
+        metavar="SCTID=URI",
+        help="the code system to which the simple map of this reference set leads",
+    )
+    words.add_argument(
         "--log", action="store_true", help="a line of each request to standard error"
     )
     found = words.parse_args()
     if not is_concept_id(found.edition):
         words.error("the edition is the SCTID of a module, such as 900000000000207008")
+    if len(dict(found.map)) < len(found.map):
+        words.error("--map names a reference set twice")
     # (Without a host it would listen on every address of the machine.)
     host, _, port = found.listen.rpartition(":")
     if "/" not in found.listen and not (host and port.isdecimal() and int(port) < 1 << 16):
         words.error("--listen is HOST:PORT, or the path of a socket with a slash in it")
     return found
+
+
+def refsets_of(text: str) -> tuple[str, ...]:
+    found = tuple(distinct(text.split(",")))
+    if not all(map(is_concept_id, found)):
+        raise argparse.ArgumentTypeError("they are SCTIDs of reference sets, separated by commas")
+    if len(found) > limits.LANGUAGES:
+        raise argparse.ArgumentTypeError("there may be %d at most" % limits.LANGUAGES)
+    return found
+
+
+def map_of(text: str) -> tuple[str, str]:
+    refset, _, system = text.partition("=")
+    if not is_concept_id(refset) or not SYSTEM.match(system):
+        raise argparse.ArgumentTypeError("it is the SCTID of a reference set, =, and a URI")
+    return refset, system
 
 
 async def listening(server: http.Server, place: str) -> asyncio.Server:
@@ -81,7 +120,8 @@ def file_of(path: str) -> tuple[int, int] | None:
 
 
 async def serve(found: argparse.Namespace) -> int:
-    app = App(Pool(found.socket), Edition(found.edition))
+    edition = Edition(found.edition, found.languages, dict(found.map))
+    app = App(Pool(found.socket), edition)
     server = http.Server(app.answer, refused_request, log=found.log)
     try:
         listens = await listening(server, found.listen)

@@ -42,12 +42,20 @@ MEMORY_BYTES = 64 << 20
 REMEMBERED_BYTES = 1 << 20
 SUBTREES = 64
 SUBTREE_CONCEPTS = 200_000
+REFSETS = 64
+REFSET_CONCEPTS = 200_000
+# Language reference sets of the house, each of which is a question more for a concept.
+LANGUAGES = 8
 
 # Of questions.
 PAGE_CONCEPTS = 1_000
 WALK_CONCEPTS = 20_000
 FILTER_TERMS = 2_000
 FILTER_CHARACTERS = 200
+# Members of a reference set that are read for one expansion, and reference sets that are looked at
+# to see which have members.
+REFSET_MEMBERS = 200_000
+REFSET_CHOICE = 4_000
 # Of more concepts it is asked which lie below another one, and of fewer what lies above them.
 ASKED_UPWARDS = 40
 # `sctd` answers at most so many rows of one SEARCH or PAGE.
@@ -55,6 +63,9 @@ QUESTION_ROWS = 1_000
 
 # Of the page.
 RESULT_TERMS = 100
+# Reference sets that a record tells of, and members of each.
+TOLD_REFSETS = 100
+TOLD_MEMBERS = 20
 SUGGESTED_TERMS = 20
 # Terms among which the shortest are suggested.
 SUGGESTION_TERMS = 200

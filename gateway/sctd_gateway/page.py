@@ -12,7 +12,7 @@ from . import limits
 from .fhir.versions import Edition
 from .markup import Html, address, aside, joined, tag, term, time, verdict
 from .page_record import Question, record
-from .snomed import SEARCHED, distinct, is_concept_id, is_day, with_hyphens
+from .snomed import SEARCHED, distinct, is_concept_id, is_day, names_of, with_hyphens
 from .problems import invalid
 from .store import FIRST, View
 
@@ -67,7 +67,8 @@ async def results(view: View, form: Form, day: str) -> Html:
     """The terms that begin with what was typed."""
     if not SEARCHED.match(form.q):
         return verdict("A term\u2019s beginning has 1 to %d characters." % limits.FILTER_CHARACTERS)
-    found = await view.search(day, FIRST, limits.RESULT_TERMS, form.q)
+    searched = await view.search(day, FIRST, limits.RESULT_TERMS, form.q)
+    found = names_of(searched)
     rows = await view.concepts(distinct(row.concept for row in found), day)
     concepts = {row.id: row for row in rows if row}
     entries = []
@@ -84,12 +85,13 @@ async def results(view: View, form: Form, day: str) -> Html:
                 else [" ", tag("span", "inactive", class_="inactive")]
             )
             entries.append(tag("li", link, " ", aside(row.concept), *inactive))
-    head = verdict(counted(len(found)), " with \u201c", term(form.q), "\u201d on ", time(day), ".")
+    said = counted(len(found), len(searched) < limits.RESULT_TERMS)
+    head = verdict(said, " with \u201c", term(form.q), "\u201d on ", time(day), ".")
     return joined(head, tag("ul", *entries, class_="results")) if entries else head
 
 
-def counted(count: int) -> str:
-    if count == limits.RESULT_TERMS:
+def counted(count: int, are_all: bool) -> str:
+    if not are_all:
         return "The first %d terms begin" % count
     if count == 1:
         return "1 term begins"
@@ -101,7 +103,7 @@ async def suggestions(view: View, text: str, date: str) -> list[dict[str, str | 
     if not SEARCHED.match(text) or not view.latest:
         raise invalid("a term\u2019s beginning has 1 to %d characters" % limits.FILTER_CHARACTERS)
     day = min(day_of(date, view.latest), view.latest)
-    rows = await view.search(day, FIRST, limits.SUGGESTION_TERMS, text)
+    rows = names_of(await view.search(day, FIRST, limits.SUGGESTION_TERMS, text))
     found = sorted(rows, key=lambda row: (len(row.term), row.term))[: limits.SUGGESTED_TERMS]
     concepts = await view.concepts([row.concept for row in found], day)
     return [

@@ -8,14 +8,20 @@ from .snomed import (
     DEFINED,
     FULLY_SPECIFIED_NAME,
     IS_A,
+    TEXT_DEFINITION,
     Association,
     Concept,
     Description,
+    RefsetMember,
     Relationship,
+    is_concept_id,
 )
 from .store import AnyRow, Versions, View
 
 ARROW = " \u2192 "
+BESIDE = " \u00b7 "
+METADATA_TAG = " (foundation metadata concept)"
+WHAT = {FULLY_SPECIFIED_NAME: "Name", TEXT_DEFINITION: "Text definition"}
 
 
 class Names:
@@ -33,14 +39,23 @@ class Names:
         return "Parent" if code == IS_A else self.of(code).removesuffix(" (attribute)")
 
     def of_refset(self, code: str) -> str:
-        return self.refsets.get(code, code)
+        return self.refsets.get(code) or self.of_metadata(code)
+
+    def of_metadata(self, code: str) -> str:
+        return self.of(code).removesuffix(METADATA_TAG)
+
+    def of_further(self, further: Iterable[str]) -> str:
+        """What a member says beside what it refers to."""
+        return BESIDE.join(map(self.of_metadata, further))
 
 
 async def history(
-    view: View, code: str, marks: Mapping[str, str], refsets: Mapping[str, str]
+    view: View,
+    timeline: Iterable[Versions],
+    marks: Mapping[str, str],
+    refsets: Mapping[str, str],
 ) -> Html:
     """The changes by day, oldest first, with the days that are marked among them."""
-    timeline = await view.timeline(code)
     names = Names(await view.names(other_codes(timeline), view.latest), refsets)
     events: dict[str, list[Html]] = {day: [tag("em", said)] for day, said in marks.items()}
     for versions in timeline:
@@ -65,6 +80,13 @@ def other_codes(timeline: Iterable[Versions]) -> Iterable[str]:
                 yield from (row.type, row.target)
             elif isinstance(row, Association):
                 yield row.target
+            elif isinstance(row, RefsetMember):
+                yield from codes_of_member(row)
+
+
+def codes_of_member(row: RefsetMember) -> list[str]:
+    """The reference set, and the concepts that its own columns name."""
+    return [row.refset, *filter(is_concept_id, row.further)]
 
 
 class Said(NamedTuple):
@@ -80,8 +102,12 @@ def said_by(row: AnyRow | None, names: Names) -> Said | None:
     if row is None or isinstance(row, Concept) or row.active != "1":
         return None
     if isinstance(row, Description):
-        what = "Name" if row.type == FULLY_SPECIFIED_NAME else "Synonym"
-        return Said(what, row.term, row.term)
+        return Said(WHAT.get(row.type, "Synonym"), row.term, row.term)
+    if isinstance(row, RefsetMember):
+        refset = names.of_refset(row.refset)
+        if not row.further:
+            return Said("Reference set", row.refset, refset)
+        return Said(refset, "\t".join(row.further), names.of_further(row.further))
     if isinstance(row, Association):
         what = names.of_refset(row.refset)
     else:

@@ -1,28 +1,33 @@
 """One record on the page: the concept on both days, what took its place, and its history."""
 
 import datetime
-from collections.abc import Iterable
+from collections.abc import Iterable, Sequence
 from typing import NamedTuple
 
 from . import limits
 from .fhir.translation import MAPS
 from .fhir.versions import Edition
 from .markup import Html, address, aside, joined, tag, term, time, verdict, visible
-from .page_history import history
+from .page_history import Names, codes_of_member, history
+from .page_members import Membership, memberships, refset_entries
 from .snomed import (
     DEFINED,
     FULLY_SPECIFIED_NAME,
     IS_A,
+    TEXT_DEFINITION,
     Association,
     Concept,
     Facts,
+    Language,
     Relationship,
     display_of,
     distinct,
     is_concept_id,
+    preferred_term,
+    reasons_of,
     with_hyphens,
 )
-from .store import View
+from .store import Versions, View
 
 REFSETS = {refset: one.name.capitalize() for refset, one in MAPS.items()} | {
     "900000000000525002": "Moved from",
@@ -30,6 +35,8 @@ REFSETS = {refset: one.name.capitalize() for refset, one in MAPS.items()} | {
 }
 REFSET_ORDER = {refset: place for place, refset in enumerate(REFSETS)}
 ATTRIBUTE_TAG = " (attribute)"
+# Rows of the table that are left out where there is nothing on either day.
+OPTIONAL = ("Preferred term", "Text definition", "Why retired", "Reference sets")
 MORE_STEPS = "This isn\u2019t whole: inactive concepts at its end may lead further."
 
 # The entries of one row of the table: what tells each from others, and what is shown.
@@ -53,10 +60,25 @@ class Side(NamedTuple):
     day: str
     facts: Facts | None
     names: dict[str, str]
+    members: list[Membership]
 
     @property
     def name(self) -> str:
         return display_of("", self.facts.descriptions) if self.facts else ""
+
+    @property
+    def short_name(self) -> str:
+        """The preferred term of the first language of the house that has one, or nothing."""
+        called = self.facts.called.values() if self.facts else []
+        return next(filter(None, map(preferred_term, called)), "")
+
+    @property
+    def reasons(self) -> list[str]:
+        return reasons_of(one.row for one in self.members)
+
+    def called(self, code: str) -> str:
+        """A concept of the metadata by its name."""
+        return Names(self.names, {}).of_refset(code)
 
     @property
     def status(self) -> str:
@@ -72,6 +94,7 @@ class Side(NamedTuple):
         is_defined = concept.definition_status == DEFINED
         return {
             "Status": {concept.active: tag("span", self.status.capitalize(), class_=self.status)},
+            "Preferred term": self.preferred(self.facts),
             "Fully specified name": {
                 row.term: term(row.term, row.language)
                 for row in terms
@@ -81,7 +104,16 @@ class Side(NamedTuple):
                 row.language
                 + row.term: joined(term(row.term, row.language), " ", aside(row.language))
                 for row in terms
-                if row.type != FULLY_SPECIFIED_NAME
+                if row.type not in (FULLY_SPECIFIED_NAME, TEXT_DEFINITION)
+            },
+            "Text definition": {
+                row.term: term(row.term, row.language)
+                for row in terms
+                if row.type == TEXT_DEFINITION
+            },
+            "Why retired": {
+                reason: joined(term(self.called(reason)), " ", aside(reason))
+                for reason in self.reasons
             },
             "Parents": {code + self.names[code]: self.link(code) for code in self.facts.parents},
             "Attributes": self.attributes(self.facts.relationships, False),
@@ -90,8 +122,18 @@ class Side(NamedTuple):
                 concept.definition_status: joined("Fully defined" if is_defined else "Primitive")
             },
             "Module": {concept.module: joined(term(self.names[concept.module]))},
+            "Reference sets": refset_entries(self.members, Names(self.names, {})),
             "Concept row of": {concept.time: time(concept.time)},
         }
+
+    def preferred(self, facts: Facts) -> Entries:
+        """What the concept is called in each language of the house."""
+        found = {}
+        for refset, called in facts.called.items():
+            if (shown := preferred_term(called)) is not None:
+                language = aside(term(self.called(refset)))
+                found[refset + shown] = joined(term(shown), " ", language)
+        return found
 
     def attributes(self, chosen: Iterable[Relationship], have_values: bool) -> Entries:
         found = {}
@@ -113,21 +155,29 @@ class Side(NamedTuple):
         return joined(tag("a", term(self.names[code]), href=href), " ", aside(code))
 
 
-async def side_of(view: View, code: str, day: str) -> Side:
-    facts = await view.facts(code, day)
+async def side_of(
+    view: View, code: str, day: str, language: Language, timeline: Sequence[Versions]
+) -> Side:
+    facts = await view.facts(code, day, language)
     if facts is None:
-        return Side(day, None, {})
-    codes = [facts.concept.module]
+        return Side(day, None, {}, [])
+    members = memberships(timeline, code, day)
+    codes = [facts.concept.module, *facts.called]
     for row in facts.relationships:
         codes += [row.type, row.target]
     codes += [row.type for row in facts.values]
-    return Side(day, facts, await view.names(codes, day))
+    for member in members:
+        codes += codes_of_member(member.row)
+    return Side(day, facts, await view.names(codes, day), members)
 
 
 async def record(view: View, question: Question) -> Html:
     code, latest = question.code, view.latest
-    then = await side_of(view, code, min(question.date, latest))
-    now = await side_of(view, code, min(question.other, latest))
+    language, timeline = Language("", question.edition.languages), await view.timeline(code)
+    then, now = [
+        await side_of(view, code, min(day, latest), language, timeline)
+        for day in (question.date, question.other)
+    ]
     if then.facts is None and now.facts is None:
         last = max(then.day, now.day)
         return verdict(
@@ -152,7 +202,8 @@ async def record(view: View, question: Question) -> Html:
                 )
             )
     marks = {now.day: "The day compared with", then.day: "The record\u2019s day"}
-    parts.append(tag("section", tag("h3", "History"), await history(view, code, marks, REFSETS)))
+    told = await history(view, timeline, marks, REFSETS)
+    parts.append(tag("section", tag("h3", "History"), told))
     parts.append(report(view, question, then))
     return joined(*parts)
 
@@ -179,7 +230,9 @@ def sentence(side: Side, versions: Iterable[Concept]) -> Html:
     for row in versions:
         if row.time <= side.day:
             since = "" if row.is_active else since or row.time
-    retired = [" (since ", time(since), ")"] if since else []
+    reasons = [name for reason in side.reasons for name in (": ", term(side.called(reason)))]
+    retired = [" (since ", time(since), *reasons, ")"] if since else []
+    short = [", in short \u201c", term(side.short_name), "\u201d"] if side.short_name else []
     return joined(
         "On ",
         time(side.day),
@@ -188,7 +241,9 @@ def sentence(side: Side, versions: Iterable[Concept]) -> Html:
         *retired,
         " and its name was \u201c",
         term(side.name),
-        "\u201d. ",
+        "\u201d",
+        *short,
+        ". ",
     )
 
 
@@ -197,6 +252,8 @@ def compared(then: Side, now: Side, latest: str) -> Html:
     left, right = then.entries(), now.entries()
     body = []
     for title in left or right:
+        if title in OPTIONAL and not left.get(title) and not right.get(title):
+            continue
         cells = [
             cell(left.get(title, {}), right.get(title, {}), bool(left and right), "only then"),
             cell(right.get(title, {}), left.get(title, {}), bool(left and right), "not then"),

@@ -13,7 +13,7 @@ import re
 from collections import OrderedDict
 from collections.abc import AsyncIterator, Sequence
 from contextlib import asynccontextmanager
-from typing import NamedTuple
+from typing import Generic, NamedTuple, TypeVar
 
 from . import limits
 from .hub import Connection, HubGone, HubIdentity, Reply
@@ -69,28 +69,36 @@ class Member(NamedTuple):
 
 
 Members = tuple[Member, ...]
-# A subtree's pin, its day and its top.
-SubtreeKey = tuple[int, str, str]
+Codes = tuple[str, ...]
+# The pin of a value set, its day, and its top or its reference set.
+SetKey = tuple[int, str, str]
+Kept = TypeVar("Kept", Members, Codes)
 
 
-class Subtrees:
-    """The subtrees that were used last."""
+class Sets(Generic[Kept]):
+    """The value sets that were used last: so many, with so many concepts together."""
 
-    def __init__(self) -> None:
-        self.kept: OrderedDict[SubtreeKey, Members] = OrderedDict()
+    def __init__(self, sets: int, concepts: int) -> None:
+        self.sets, self.concepts = sets, concepts
+        self.kept: OrderedDict[SetKey, Kept] = OrderedDict()
 
-    def get(self, key: SubtreeKey) -> Members | None:
+    def get(self, key: SetKey) -> Kept | None:
         if key in self.kept:
             self.kept.move_to_end(key)
         return self.kept.get(key)
 
-    def put(self, key: SubtreeKey, members: Members) -> None:
-        self.kept[key] = members
-        while (
-            len(self.kept) > limits.SUBTREES
-            or sum(map(len, self.kept.values())) > limits.SUBTREE_CONCEPTS
-        ):
+    def put(self, key: SetKey, found: Kept) -> None:
+        self.kept[key] = found
+        while len(self.kept) > self.sets or sum(map(len, self.kept.values())) > self.concepts:
             self.kept.popitem(last=False)
+
+
+def no_subtrees() -> Sets[Members]:
+    return Sets(limits.SUBTREES, limits.SUBTREE_CONCEPTS)
+
+
+def no_refsets() -> Sets[Codes]:
+    return Sets(limits.REFSETS, limits.REFSET_CONCEPTS)
 
 
 class Pool:
@@ -101,7 +109,7 @@ class Pool:
         self.places = asyncio.Semaphore(limits.HUB_CONNECTIONS)
         self.idle: list[Connection] = []
         self.identity: HubIdentity | None = None
-        self.memory, self.subtrees = Memory(memory), Subtrees()
+        self.memory, self.subtrees, self.refsets = Memory(memory), no_subtrees(), no_refsets()
         # The number of imports, as far as it is known.
         self.present: int | None = None
 
@@ -112,7 +120,7 @@ class Pool:
         """What comes next may be told of another store."""
         self.identity = None
         self.memory.clear()
-        self.subtrees, self.present = Subtrees(), None
+        self.subtrees, self.refsets, self.present = no_subtrees(), no_refsets(), None
         for connection in self.idle:
             connection.close()
         self.idle.clear()
@@ -238,14 +246,14 @@ class Session:
             known = [next(new) if reply is None else reply for reply in known]
         return [reply for reply in known if reply is not None]
 
-    def remembered_subtree(self, day: str, top: str) -> Members | None:
+    def remembered_set(self, sets: Sets[Kept], day: str, code: str) -> Kept | None:
         if not self.sure or not self.pool.is_of_this_hub(self.connection):
             return None
-        return self.pool.subtrees.get((self.pin, day, top))
+        return sets.get((self.pin, day, code))
 
-    def remember_subtree(self, day: str, top: str, members: Members) -> None:
+    def remember_set(self, sets: Sets[Kept], day: str, code: str, found: Kept) -> None:
         if self.pool.is_of_this_hub(self.connection):
-            self.pool.subtrees.put((self.pin, day, top), members)
+            sets.put((self.pin, day, code), found)
 
     async def told(self, lines: Sequence[str]) -> list[Reply]:
         """What the hub replies at the pin. In the same round trip it says how many imports there

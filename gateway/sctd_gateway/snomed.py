@@ -10,6 +10,15 @@ from . import limits
 IS_A = "116680003"
 FULLY_SPECIFIED_NAME = "900000000000003001"
 SYNONYM = "900000000000013009"
+# What a concept is, in sentences. No name of it.
+TEXT_DEFINITION = "900000000000550004"
+# How a language reference set has a description.
+PREFERRED = "900000000000548007"
+ACCEPTABLE = "900000000000549004"
+# All reference sets, those of simple maps, and the one that says why concepts were retired.
+REFERENCE_SET = "900000000000455006"
+SIMPLE_MAP = "900000000000496009"
+INACTIVATION_INDICATOR = "900000000000489007"
 DEFINED = "900000000000073002"
 CASE_INSENSITIVE = "900000000000448009"
 INITIAL_CASE_INSENSITIVE = "900000000000020002"
@@ -82,13 +91,59 @@ class Association(NamedTuple):
     target: str
 
 
+class RefsetMember(NamedTuple):
+    """A row of any other reference set, with the columns that are its own."""
+
+    id: str
+    time: str
+    active: str
+    module: str
+    refset: str
+    component: str
+    further: tuple[str, ...]
+
+
+class Called(NamedTuple):
+    """A description that a language reference set has, and how: as PREFERRED, or ACCEPTABLE."""
+
+    description: Description
+    acceptabilities: tuple[str, ...]
+
+    @property
+    def is_preferred_term(self) -> bool:
+        """Whether it is by what the concept is called. A fully specified name is preferred among
+        those of its kind alone."""
+        return self.description.type == SYNONYM and PREFERRED in self.acceptabilities
+
+
+class Language(NamedTuple):
+    """In which language a concept is shown: that of its descriptions, nothing for any, and the
+    language reference sets that say which of them is preferred, the first that has one."""
+
+    code: str = ""
+    refsets: tuple[str, ...] = ()
+
+
 class Facts(NamedTuple):
-    """What the store says of a concept on one day."""
+    """What the store says of a concept on one day. `called` has what each of the reference sets of
+    a language says, and `members` is empty where it wasn't asked for."""
 
     concept: Concept
     descriptions: list[Description]
     relationships: list[Relationship]
     values: list[Relationship]
+    called: dict[str, list[Called]]
+    members: list[RefsetMember]
+
+    def display(self, language: Language) -> str:
+        for refset in language.refsets:
+            if (preferred := preferred_term(self.called[refset])) is not None:
+                return preferred
+        return display_of(self.concept.id, self.descriptions, language.code)
+
+    @property
+    def reasons(self) -> list[str]:
+        return reasons_of(self.members)
 
     @property
     def parents(self) -> list[str]:
@@ -144,6 +199,22 @@ def with_hyphens(day: str) -> str:
     return "%s-%s-%s" % (day[:4], day[4:6], day[6:])
 
 
+def reasons_of(members: Iterable[RefsetMember]) -> list[str]:
+    """Why a concept was retired, in codes, as the reference set of the indicators has it."""
+    own = (row.further[:1] for row in members if row.refset == INACTIVATION_INDICATOR)
+    return distinct(value for further in own for value in further if value)
+
+
+def preferred_term(called: Iterable[Called]) -> str | None:
+    """The term that a language prefers, if it has one: that of the least id."""
+    return next((one.description.term for one in called if one.is_preferred_term), None)
+
+
+def names_of(descriptions: Iterable[Description]) -> list[Description]:
+    """Those that name the concept."""
+    return [row for row in descriptions if row.type != TEXT_DEFINITION]
+
+
 def display_of(code: str, descriptions: Sequence[Description], language: str = "") -> str:
     """The fully specified name, of the wanted language where there is one in it. A concept without
     one is shown by a synonym, or else by its code."""
@@ -152,15 +223,15 @@ def display_of(code: str, descriptions: Sequence[Description], language: str = "
         other_language = row.language != (language or "en")
         return row.type != FULLY_SPECIFIED_NAME, other_language, int(row.id)
 
-    ordered = sorted(descriptions, key=order)
+    ordered = sorted(names_of(descriptions), key=order)
     wanted = [row for row in ordered if row.language == language]
     shown = wanted or ordered
     return shown[0].term if shown else code
 
 
 def is_display(text: str, descriptions: Iterable[Description]) -> bool:
-    """Whether it is a term of the concept, each with the case that its description allows."""
-    return any(is_written_as(text, row) for row in descriptions)
+    """Whether it is a name of the concept, each with the case that its description allows."""
+    return any(is_written_as(text, row) for row in names_of(descriptions))
 
 
 def is_written_as(text: str, row: Description) -> bool:
@@ -175,3 +246,8 @@ def is_written_as(text: str, row: Description) -> bool:
 def distinct(words: Iterable[str]) -> list[str]:
     """Each word once, in their order."""
     return list(dict.fromkeys(words))
+
+
+def is_id_of_concept(component: str) -> bool:
+    """Whether an SCTID that the store has checked is a concept's."""
+    return component[-2:-1] == CONCEPT_ID

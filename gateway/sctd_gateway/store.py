@@ -2,6 +2,7 @@
 receipts are made elsewhere, in pool.py."""
 
 import itertools
+import re
 from collections.abc import Iterable, Sequence
 from typing import TypeVar
 
@@ -11,30 +12,79 @@ from .pool import Member, Members, Session
 from .snomed import (
     SEARCHED,
     Association,
+    Called,
     Concept,
     Description,
     Facts,
+    Language,
+    RefsetMember,
     Relationship,
     distinct,
     display_of,
     is_concept_id,
+    is_id_of_concept,
+    names_of,
+    preferred_term,
 )
 
 Row = TypeVar("Row", Concept, Description, Relationship, Association)
 # A row of any kind, and all versions of one component, oldest first.
-AnyRow = Concept | Description | Relationship | Association
+AnyRow = Concept | Description | Relationship | Association | RefsetMember
 # The kinds of rows that are about a concept.
-ABOUT = "DRVA"
+ABOUT = "DRVAM"
 Versions = Sequence[AnyRow]
 FIRST = "-"
+# The identifier of a member, where that of any other row but an association has digits alone.
+MEMBER_ID = re.compile(r"[0-9a-f]{8}(-[0-9a-f]{4}){3}-[0-9a-f]{12}\Z", re.ASCII)
+# The columns that each member has.
+MEMBER_COLUMNS = 6
+# Of the languages of no house.
+ANY = Language()
 
 
 def rows(kind: type[Row], reply: Reply) -> list[Row]:
     """The rows of a reply."""
     try:
-        return [kind(*line.removeprefix("ROW ").split("\t")) for line in reply[:-1]]
+        return [kind(*columns) for columns in columns_of(reply)]
     except TypeError:
-        raise HubGone("the hub says what isn't a row of its kind", True) from None
+        raise not_of_its_kind() from None
+
+
+def columns_of(reply: Reply) -> list[list[str]]:
+    return [line.removeprefix("ROW ").split("\t") for line in reply[:-1]]
+
+
+def not_of_its_kind() -> HubGone:
+    return HubGone("the hub says what isn't a row of its kind", True)
+
+
+def member_of(columns: list[str]) -> RefsetMember:
+    try:
+        name, time, active, module, refset, component = columns[:MEMBER_COLUMNS]
+    except ValueError:
+        raise not_of_its_kind() from None
+    further = tuple(columns[MEMBER_COLUMNS:])
+    return RefsetMember(name, time, active, module, refset, component, further)
+
+
+def members_of(reply: Reply) -> list[RefsetMember]:
+    """The members of a reply."""
+    return [member_of(columns) for columns in columns_of(reply)]
+
+
+def called_of(reply: Reply) -> list[Called]:
+    """The descriptions of a reply to CALLED, each with what its members behind it say last."""
+    found: list[Called] = []
+    try:
+        for columns in columns_of(reply):
+            if not MEMBER_ID.match(columns[0]):
+                found.append(Called(Description(*columns), ()))
+            else:
+                description, said = found.pop()
+                found.append(Called(description, said + member_of(columns).further[-1:]))
+    except (TypeError, IndexError):
+        raise not_of_its_kind() from None
+    return found
 
 
 class View:
@@ -65,16 +115,16 @@ class View:
     async def ask(self, lines: Sequence[str], keep: bool = True) -> list[Reply]:
         return await self.session.ask(lines, keep)
 
-    async def facts(self, code: str, day: str) -> Facts | None:
+    async def facts(
+        self, code: str, day: str, language: Language = ANY, with_members: bool = False
+    ) -> Facts | None:
         """All that is said of a concept; None where it isn't there on that day."""
         if not is_concept_id(code):
             return None
-        concept, descriptions, relationships, values = await self.ask(
-            [
-                "%s %s %s" % (question, code, day)
-                for question in ("GET C", "ABOUT D", "ABOUT R", "ABOUT V")
-            ]
-        )
+        questions = ["GET C", "ABOUT D", "ABOUT R", "ABOUT V", *["ABOUT M"] * with_members]
+        lines = ["%s %s %s" % (question, code, day) for question in questions]
+        told = await self.ask(lines + [called(code, day, one) for one in language.refsets])
+        concept, descriptions, relationships, values, *others = told
         found = rows(Concept, concept)
         if not found:
             return None
@@ -83,6 +133,8 @@ class View:
             rows(Description, descriptions),
             rows(Relationship, relationships),
             rows(Relationship, values),
+            dict(zip(language.refsets, map(called_of, others[with_members:]))),
+            members_of(others[0]) if with_members else [],
         )
 
     async def concepts(
@@ -99,19 +151,53 @@ class View:
         replies = await self.ask(["ABOUT D %s %s" % (code, day) for code in codes])
         return [rows(Description, reply) for reply in replies]
 
-    async def names(self, codes: Iterable[str], day: str) -> dict[str, str]:
+    async def called(self, codes: Sequence[str], day: str, refset: str) -> list[list[Called]]:
+        """By what each of the concepts is called in a language."""
+        replies = await self.ask([called(code, day, refset) for code in codes])
+        return [called_of(reply) for reply in replies]
+
+    async def names(
+        self, codes: Iterable[str], day: str, language: Language = ANY
+    ) -> dict[str, str]:
         """What each of the codes is called. One that is no concept's is called by itself."""
         codes = distinct(codes)
-        known = [code for code in codes if is_concept_id(code)]
-        described = zip(known, await self.descriptions(known, day))
-        return dict(zip(codes, codes)) | {
-            code: display_of(code, terms) for code, terms in described
-        }
+        left = [code for code in codes if is_concept_id(code)]
+        found: dict[str, str] = dict(zip(codes, codes))
+        for refset in language.refsets:
+            told = zip(left, await self.called(left, day, refset))
+            preferred = {code: term for code, one in told if (term := preferred_term(one))}
+            found |= preferred
+            left = [code for code in left if code not in preferred]
+        described = zip(left, await self.descriptions(left, day))
+        return found | {code: display_of(code, terms, language.code) for code, terms in described}
 
     async def associations(self, codes: Sequence[str], day: str) -> list[list[Association]]:
         """What took the place of each of the concepts."""
         replies = await self.ask(["REPLACED %s %s" % (code, day) for code in codes])
         return [rows(Association, reply) for reply in replies]
+
+    async def members_about(self, codes: Sequence[str], day: str) -> list[list[RefsetMember]]:
+        """The active members of all reference sets that refer to each of the components."""
+        replies = await self.ask(["ABOUT M %s %s" % (code, day) for code in codes])
+        return [members_of(reply) for reply in replies]
+
+    async def values(
+        self, refset: str, day: str, after: str, keep: bool = True
+    ) -> list[RefsetMember]:
+        """Active members of a reference set by what they refer to, from the first behind `after`
+        on: with the last of so many all that refer to the same."""
+        line = "VALUES %s %s %s %d" % (refset, day, after, limits.QUESTION_ROWS)
+        return members_of((await self.ask([line], keep))[0])
+
+    async def have_values(self, refsets: Sequence[str], day: str) -> list[str]:
+        """Those of the reference sets that have an active member."""
+        told = await self.ask(["VALUES %s %s %s 1" % (one, day, FIRST) for one in refsets])
+        return [refset for refset, reply in zip(refsets, told) if members_of(reply)]
+
+    async def was_kept(self, refset: str) -> bool:
+        """Whether the store has any member of a reference set, of whichever day."""
+        line = "MEMBERS %s %s %s 1" % (refset, self.latest, FIRST)
+        return bool(members_of((await self.ask([line]))[0]))
 
     async def children(self, code: str, day: str) -> list[str]:
         return ids((await self.ask(["CHILDREN %s %s" % (code, day)]))[0])
@@ -140,7 +226,7 @@ class View:
         after, count = FIRST, 0
         while True:
             page = await self.search(day, after, limits.QUESTION_ROWS, text)
-            for row in page:
+            for row in names_of(page):
                 shortest[row.concept] = min(shortest.get(row.concept, len(row.term)), len(row.term))
             count += len(page)
             if count > limits.FILTER_TERMS:
@@ -180,7 +266,7 @@ class View:
 
     async def those_within(self, codes: Sequence[str], top: str, day: str) -> set[str]:
         """Those of the concepts that are the top, or that the top is an ancestor of."""
-        known = self.session.remembered_subtree(day, top)
+        known = self.session.remembered_set(self.session.pool.subtrees, day, top)
         if known is not None:
             return {member.code for member in known}.intersection(codes)
         others = [code for code in distinct(codes) if code != top]
@@ -193,7 +279,7 @@ class View:
 
     async def subtree(self, top: str, day: str) -> Members:
         """The concept and all below it, by id."""
-        known = self.session.remembered_subtree(day, top)
+        known = self.session.remembered_set(self.session.pool.subtrees, day, top)
         if known is not None:
             return known
         codes = {top, *await self.descendants(top, day)}
@@ -203,7 +289,7 @@ class View:
                 % (limits.WALK_CONCEPTS, top)
             )
         found = tuple(await self.members(sorted(codes, key=int), day, keep=False))
-        self.session.remember_subtree(day, top, found)
+        self.session.remember_set(self.session.pool.subtrees, day, top, found)
         return found
 
     async def timeline(self, code: str) -> list[Versions]:
@@ -218,6 +304,10 @@ class View:
         return [await self.versions(code), *about]
 
 
+def called(code: str, day: str, refset: str) -> str:
+    return "CALLED %s %s %s" % (code, day, refset)
+
+
 def ids(reply: Reply) -> list[str]:
     return [line.removeprefix("ID ") for line in reply[:-1]]
 
@@ -227,6 +317,8 @@ def rows_about(kind: str, reply: Reply) -> Sequence[AnyRow]:
         return rows(Description, reply)
     if kind == "A":
         return rows(Association, reply)
+    if kind == "M":
+        return members_of(reply)
     return rows(Relationship, reply)
 
 

@@ -1,10 +1,12 @@
 """Compares the gateway's answers with what a reading of a release's own files says.
 
-    python3 -m tests.compare_releases PROGRAM HUB [ROWS [DAYS [SEED]]]
+    python3 -m tests.compare_releases [--package] PROGRAM HUB [ROWS [DAYS [SEED]]]
 
 A Full release of about ROWS rows is made and imported (20,000 if not said). Of each of DAYS days
 (12) 240 $lookup are compared, 36 $subsumes, 18 expansions, as many with a filter, and 28
-$translate. It ends with the number of each, or at the first that differs with status 1.
+$translate. With --package it is a whole package in a store of layout 3, and the gateway has two
+languages and a map: preferred terms, reasons, two reference sets and 28 $translate by the map are
+compared too. It ends with the number of each, or at the first that differs with status 1.
 """
 
 import http.client
@@ -20,13 +22,29 @@ from typing import Any
 from urllib.parse import urlencode
 
 from .house import PROGRAM_AND_HUB, SCT, SECONDS, Gateway, Json, parts_of, told, version
-from .release_files import DEFINED, FULLY_SPECIFIED, IS_A, Rows, Snapshot, read
+from .release_files import (
+    DEFINED,
+    FULLY_SPECIFIED,
+    FURTHER,
+    IS_A,
+    REFSET,
+    Rows,
+    Snapshot,
+    read,
+)
 
 ROWS, DAYS, SEED = 20_000, 12, 1
 # Of each day.
 LOOKUPS, SUBSUMPTIONS, EXPANSIONS, TRANSLATIONS = 240, 36, 18, 28
 LARGEST_EXPANSION = 900
 SAME_AS, REPLACED_BY = "900000000000527005", "900000000000526001"
+# Of a package: the languages in their order, the sets, the map and its code system.
+LANGUAGES = GB, US = "900000000000508004", "900000000000509007"
+INDICATORS = "900000000000489007"
+VALUE_SETS = ("723264001", "733990004")
+MAP, MAP_SYSTEM = "900000000000497000", "urn:of:the:map"
+PACKAGE_WORDS = ("--languages", ",".join(LANGUAGES), "--map", "%s=%s" % (MAP, MAP_SYSTEM))
+CONTEXT_PARTS = ("context", "role", "type")
 
 
 class Differs(Exception):
@@ -36,8 +54,11 @@ class Differs(Exception):
 class Comparison:
     """One gateway, one release, and how many answers of each operation were alike."""
 
-    def __init__(self, gateway: Gateway, rows: Rows, seed: int) -> None:
+    def __init__(
+        self, gateway: Gateway, rows: Rows, seed: int, languages: tuple[str, ...]
+    ) -> None:
         self.rows, self.chance, self.counts = rows, random.Random(seed), Counter[str]()
+        self.languages = languages
         self.connection = http.client.HTTPConnection("x", timeout=SECONDS)
         self.connection.sock = gateway.connect()
         self.concepts = rows.concepts()
@@ -77,6 +98,21 @@ class Comparison:
         retired = sorted(snapshot.about["A"].keys() & snapshot.concepts.keys())
         for number, code in enumerate(self.chance.sample(retired, min(TRANSLATIONS, len(retired)))):
             self.translate(snapshot, code, (SAME_AS, REPLACED_BY)[number % 2])
+        if self.languages:
+            for refset in VALUE_SETS:
+                self.expand_refset(snapshot, refset)
+            for code in self.chance.sample(known, min(TRANSLATIONS, len(known))):
+                self.translate_by_the_map(snapshot, code)
+
+    def display(self, snapshot: Snapshot, code: str) -> str:
+        """The first preferred term, or the fully specified name of the least id, or else the
+        synonym of the least id, or the code."""
+        for refset in self.languages:
+            if preferred := snapshot.preferred(code, refset):
+                return preferred[0]
+        names = snapshot.names(code)
+        names.sort(key=lambda row: (row[6] != FULLY_SPECIFIED, int(row[0])))
+        return names[0][7] if names else code
 
     def lookup(self, snapshot: Snapshot, code: str) -> None:
         status, said = self.ask(
@@ -98,12 +134,23 @@ class Comparison:
             sorted((row[7], row[5], row[6]) for row in snapshot.terms(code)),
             *where,
         )
-        self.alike("display", told(said, "display"), [display(snapshot, code)], *where)
+        self.alike("display", told(said, "display"), [self.display(snapshot, code)], *where)
+        self.alike("contexts", contexts(said), self.contexts(snapshot, code), *where)
         found: dict[str, set[str]] = {}
         for words in parts_of(said, "property"):
             found.setdefault(words["code"], set()).add(str(words["value"]))
         self.alike("property", found, properties(snapshot, code), *where)
         self.counts["$lookup"] += 1
+
+    def contexts(self, snapshot: Snapshot, code: str) -> list[tuple[str, ...]]:
+        """Each term with each of the languages that have it, how, and as what."""
+        found = []
+        for row in snapshot.terms(code):
+            for refset in self.languages:
+                # Two members may say the same.
+                said = {member[FURTHER] for member in snapshot.members(refset, row[0])}
+                found += [(row[7], refset, how, row[6]) for how in said]
+        return sorted(found)
 
     def subsumes(self, snapshot: Snapshot, first: str, second: str) -> None:
         is_above, is_below = first in snapshot.above[second], second in snapshot.above[first]
@@ -138,14 +185,14 @@ class Comparison:
         self.alike(
             "display",
             {code: one["display"] for code, one in found.items()},
-            {code: display(snapshot, code) for code in members},
+            {code: self.display(snapshot, code) for code in members},
             *where,
         )
         self.counts["$expand"] += 1
 
     def expand_with_a_filter(self, snapshot: Snapshot, top: str) -> None:
         members = snapshot.within(top) & snapshot.concepts.keys()
-        terms = [row[7] for code in sorted(members) for row in snapshot.terms(code)]
+        terms = [row[7] for code in sorted(members) for row in snapshot.names(code)]
         if not terms:
             return
         text = self.chance.choice(terms)[: self.chance.randint(3, 9)].strip()
@@ -186,11 +233,59 @@ class Comparison:
         self.counts["$translate"] += 1
 
 
-def display(snapshot: Snapshot, code: str) -> str:
-    """The fully specified name of the least id, or else the synonym of the least id, or the
-    code."""
-    terms = sorted(snapshot.terms(code), key=lambda row: (row[6] != FULLY_SPECIFIED, int(row[0])))
-    return terms[0][7] if terms else code
+    def expand_refset(self, snapshot: Snapshot, refset: str) -> None:
+        """A reference set page by page, and one concept of it and one of all."""
+        url = "%s?fhir_vs=refset/%s" % (version(snapshot.day), refset)
+        wanted = snapshot.referred(refset)
+        is_kept = any(row[REFSET] == refset for row in self.rows.by_kind["M"])
+        found: list[Json] = []
+        while True:
+            words = {"url": url, "count": 50, "offset": len(found)}
+            status, said = self.ask("ValueSet/$expand", **words)
+            self.alike("status", status, 200 if is_kept else 404, refset, snapshot.day)
+            if not is_kept:
+                return
+            page = said["expansion"].get("contains", [])
+            self.alike("total", said["expansion"]["total"], str(len(wanted)), refset, snapshot.day)
+            found += page
+            if not page:
+                break
+        where = (refset, snapshot.day)
+        codes = sorted(wanted, key=int)
+        self.alike("$expand refset", [one["code"] for one in found], codes, *where)
+        displays = [self.display(snapshot, code) for code in codes]
+        self.alike("display", [one["display"] for one in found], displays, *where)
+        known = sorted(snapshot.concepts)
+        for code in (self.chance.choice(known), self.chance.choice(codes) if codes else known[0]):
+            said = self.ask("ValueSet/$validate-code", url=url, system=SCT, code=code)[1]
+            is_in = code in wanted and code in snapshot.concepts
+            self.alike("$validate-code", told(said, "result"), [is_in], code, *where)
+        self.counts["$expand of a reference set"] += 1
+
+    def translate_by_the_map(self, snapshot: Snapshot, code: str) -> None:
+        url = "%s?fhir_cm=%s" % (SCT, MAP)
+        words = {"url": url, "system": SCT, "code": code, "version": version(snapshot.day)}
+        said = self.ask("ConceptMap/$translate", **words)[1]
+        targets = dict.fromkeys(row[FURTHER] for row in snapshot.members(MAP, code))
+        self.alike(
+            "$translate by the map",
+            [one["concept"] for one in parts_of(said, "match")],
+            [{"system": MAP_SYSTEM, "code": target} for target in targets],
+            code,
+            snapshot.day,
+        )
+        self.counts["$translate by a map"] += 1
+
+
+def contexts(said: Json) -> list[tuple[str, ...]]:
+    found = []
+    for one in said["parameter"]:
+        if one["name"] == "designation":
+            term = next(part["valueString"] for part in one["part"] if part["name"] == "value")
+            for extension in one.get("extension", []):
+                parts = {part["url"]: part["valueCoding"] for part in extension["extension"]}
+                found.append((term, *(parts[name]["code"] for name in CONTEXT_PARTS)))
+    return sorted(found)
 
 
 def properties(snapshot: Snapshot, code: str) -> dict[str, set[str]]:
@@ -203,19 +298,24 @@ def properties(snapshot: Snapshot, code: str) -> dict[str, set[str]]:
     }
     for row in snapshot.about["R"].get(code, []):
         found.setdefault("parent" if row[7] == IS_A else row[7], set()).add(row[5])
+    if reasons := {row[FURTHER] for row in snapshot.members(INDICATORS, code)}:
+        found["inactivationIndicator"] = reasons
     for row in snapshot.about["V"].get(code, []):
         found.setdefault(row[7], set()).add(row[5].removeprefix("#"))
     return found
 
 
-def compared(program: str, hub: str, rows: int, days: int, seed: int) -> Counter[str]:
+def compared(
+    program: str, hub: str, rows: int, days: int, seed: int, is_package: bool = False
+) -> Counter[str]:
     """How many answers were alike, of a made release on so many days."""
+    words = ["--package"] if is_package else []
     make = Path(__file__).resolve().parents[2] / "bench" / "measurements" / "make_release.py"
     with tempfile.TemporaryDirectory() as folder:
         root = Path(folder)
         store, questions = str(root / "store"), str(root / "questions")
-        run(sys.executable, str(make), folder, str(rows), str(seed))
-        run(program, "init", "--store", store)
+        run(sys.executable, str(make), *words, folder, str(rows), str(seed))
+        run(program, "init", "--layout", "3" if is_package else "2", "--store", store)
         run(program, "import", "--quiet", "--store", store, str(root / "full"))
         serving = subprocess.Popen(
             [
@@ -236,8 +336,9 @@ def compared(program: str, hub: str, rows: int, days: int, seed: int) -> Counter
         gateway: Gateway | None = None
         try:
             assert serving.stdout and serving.stdout.readline() == "OK ready\n"
-            gateway = Gateway(questions, root)
-            comparison = Comparison(gateway, read(root / "full"), seed)
+            gateway = Gateway(questions, root, words=PACKAGE_WORDS if is_package else ())
+            languages = LANGUAGES if is_package else ()
+            comparison = Comparison(gateway, read(root / "full"), seed, languages)
             for _ in range(days):
                 comparison.compare(comparison.day())
             return comparison.counts
@@ -253,13 +354,15 @@ def run(*words: str) -> None:
 
 
 def main(words: list[str]) -> int:
+    is_package = words[:1] == ["--package"]
+    words = words[is_package:]
     if not 2 <= len(words) <= 5:
         print((__doc__ or "").strip(), file=sys.stderr)
         return 2
     os.environ.update(zip(PROGRAM_AND_HUB, words))
     rows, days, seed = [int(word) for word in words[2:]] + [ROWS, DAYS, SEED][len(words) - 2 :]
     try:
-        counts = compared(words[0], words[1], rows, days, seed)
+        counts = compared(words[0], words[1], rows, days, seed, is_package)
     except Differs as differs:
         print("DIFFERS: %s" % differs)
         return 1

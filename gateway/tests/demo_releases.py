@@ -129,6 +129,12 @@ class Maker:
 def make(folder: Path) -> dict[str, str]:
     """Writes the releases, and returns the codes of their concepts by name."""
     maker = Maker()
+    fill(maker)
+    maker.write(folder)
+    return maker.codes
+
+
+def fill(maker: Maker) -> None:
     metadata(maker)
     hierarchy(maker)
     wrist(maker)
@@ -136,8 +142,6 @@ def make(folder: Path) -> dict[str, str]:
     drug(maker)
     hostile(maker)
     vague_associations(maker)
-    maker.write(folder)
-    return maker.codes
 
 
 def metadata(maker: Maker) -> None:

@@ -9,12 +9,12 @@ import sys
 import tempfile
 import threading
 import time
-from collections.abc import Callable, Iterable
+from collections.abc import Callable, Iterable, Sequence
 from pathlib import Path
 from typing import Any
 from urllib.parse import urlencode
 
-from . import demo_releases
+from . import demo_members, demo_releases
 from .recorder import Recorder
 
 Json = dict[str, Any]
@@ -39,7 +39,9 @@ def program_and_hub() -> tuple[str, str]:
 class Gateway:
     """A gateway that runs, and what it writes to standard error."""
 
-    def __init__(self, hub: str, folder: Path, listen: str = "") -> None:
+    def __init__(
+        self, hub: str, folder: Path, listen: str = "", words: Sequence[str] = ()
+    ) -> None:
         self.socket = listen or str(folder / "http")
         self.log = folder / "log"
         with open(self.log, "wb") as log:
@@ -54,6 +56,7 @@ class Gateway:
                     EDITION,
                     "--listen",
                     self.socket,
+                    *words,
                 ],
                 cwd=GATEWAY,
                 stdout=subprocess.PIPE,
@@ -139,26 +142,36 @@ class Answer:
 
 
 class House:
-    """A store, its hub and its gateway. What the gateway asks is recorded, if that is wanted."""
+    """A store, its hub and its gateway. What the gateway asks is recorded, if that is wanted. The
+    store is of a version of the layout, and the releases are whole packages, if that is wanted."""
 
-    def __init__(self, is_recorded: bool = False) -> None:
+    def __init__(
+        self,
+        is_recorded: bool = False,
+        layout: int = 2,
+        is_whole: bool = False,
+        words: Sequence[str] = (),
+    ) -> None:
         self.program, self.hub_script = program_and_hub()
         self.folder = tempfile.TemporaryDirectory()
         root = Path(self.folder.name)
         self.socket, self.questions = str(root / "hub"), str(root / "questions")
         self.store, self.releases = str(root / "store"), root / "releases"
-        self.codes = demo_releases.make(self.releases)
+        self.layout = layout
+        demo = demo_members if is_whole else demo_releases
+        self.codes: dict[str, str] = demo.make(self.releases)
         self.make_store(*demo_releases.RELEASES)
         self.hub: subprocess.Popen[str] | None = None
         self.start_hub()
         self.recorder = Recorder(str(root / "recorded"), self.questions) if is_recorded else None
-        self.gateway = Gateway(self.recorder.path if self.recorder else self.questions, root)
+        asked = self.recorder.path if self.recorder else self.questions
+        self.gateway = Gateway(asked, root, words=words)
 
     def run(self, *words: str) -> None:
         subprocess.run([self.program, *words], check=True, capture_output=True, timeout=SECONDS)
 
     def make_store(self, *releases: str) -> None:
-        self.run("init", "--store", self.store)
+        self.run("init", "--layout", str(self.layout), "--store", self.store)
         for name in releases:
             self.run("import", "--quiet", "--store", self.store, str(self.releases / name))
 

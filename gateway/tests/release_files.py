@@ -1,19 +1,25 @@
-"""A release's own files, read without the program: what they say of a day."""
+"""A release's own files, read without the program: what they say of a day. Those of a package have
+text definitions, and members (M) of all reference sets but those of associations."""
 
 from collections.abc import Iterable
 from pathlib import Path
 from typing import NamedTuple
 
 IS_A, FULLY_SPECIFIED, DEFINED = "116680003", "900000000000003001", "900000000000073002"
+SYNONYM, TEXT_DEFINITION = "900000000000013009", "900000000000550004"
+PREFERRED = "900000000000548007"
 FILES = {
-    "C": "Terminology/sct2_Concept_*",
-    "D": "Terminology/sct2_Description_*",
-    "R": "Terminology/sct2_Relationship_*",
-    "V": "Terminology/sct2_RelationshipConcreteValues_*",
-    "A": "Refset/Content/der2_cRefset_Association*",
+    "C": ["Terminology/sct2_Concept_*"],
+    "D": ["Terminology/sct2_Description_*", "Terminology/sct2_TextDefinition_*"],
+    "R": ["Terminology/sct2_Relationship_*"],
+    "V": ["Terminology/sct2_RelationshipConcreteValues_*"],
+    "A": ["Refset/Content/der2_cRefset_Association*"],
+    "M": ["Terminology/sct2_*Refset_*", "Refset/*/der2_*Refset_*"],
 }
-# The column that says which concept a row is about.
-ABOUT = {"D": 4, "R": 4, "V": 4, "A": 5}
+# The column that says which component a row is about.
+ABOUT = {"D": 4, "R": 4, "V": 4, "A": 5, "M": 5}
+# Those of a member: its reference set, and the first of its own.
+REFSET, REFERENCED, FURTHER = 4, 5, 6
 
 Row = list[str]
 
@@ -68,8 +74,32 @@ class Snapshot:
     def terms(self, code: str) -> list[Row]:
         return self.about["D"].get(code, [])
 
+    def names(self, code: str) -> list[Row]:
+        return [row for row in self.terms(code) if row[6] != TEXT_DEFINITION]
+
     def begins(self, code: str, text: str) -> bool:
-        return any(row[7].casefold().startswith(text.casefold()) for row in self.terms(code))
+        return any(row[7].casefold().startswith(text.casefold()) for row in self.names(code))
+
+    def members(self, refset: str, component: str) -> list[Row]:
+        """The active members of a reference set that refer to a component, by their ids."""
+        found = [row for row in self.about["M"].get(component, []) if row[REFSET] == refset]
+        return sorted(found, key=lambda row: row[0])
+
+    def referred(self, refset: str) -> set[str]:
+        """What the active members of a reference set refer to."""
+        every = (row for rows in self.about["M"].values() for row in rows)
+        return {row[REFERENCED] for row in every if row[REFSET] == refset}
+
+    def preferred(self, code: str, refset: str) -> list[str]:
+        """The synonyms that a language prefers, by their ids."""
+        synonyms = sorted(
+            (row for row in self.terms(code) if row[6] == SYNONYM), key=lambda row: int(row[0])
+        )
+        return [
+            row[7]
+            for row in synonyms
+            if any(one[FURTHER] == PREFERRED for one in self.members(refset, row[0]))
+        ]
 
 
 def latest(rows: Iterable[Row], day: str) -> dict[str, Row]:
@@ -82,8 +112,10 @@ def latest(rows: Iterable[Row], day: str) -> dict[str, Row]:
 
 def read(folder: Path) -> Rows:
     found: dict[str, list[Row]] = {kind: [] for kind in FILES}
-    for kind, pattern in FILES.items():
-        for path in folder.glob(pattern):
+    for kind, patterns in FILES.items():
+        for path in sorted(path for pattern in patterns for path in folder.glob(pattern)):
+            if kind == "M" and "der2_cRefset_Association" in path.name:
+                continue
             lines = path.read_bytes().decode().split("\n")[1:]
             found[kind] += [line.rstrip("\r").split("\t") for line in lines if line]
     return Rows(found)

@@ -12,6 +12,7 @@ import tempfile
 import unittest
 from pathlib import Path
 
+from sctd_gateway.languages import DIALECTS
 from sctd_gateway.pool import Pool
 from sctd_gateway.store import View
 
@@ -186,6 +187,25 @@ class Start(unittest.TestCase):
             ("--socket", "/nowhere", "--edition", "900000000000207008", "--listen", ":8080"),
         ):
             done = self.start(*words)
+            self.assertEqual((done.returncode, done.stdout), (2, ""), words)
+
+    def test_languages_and_maps_that_are_refused(self) -> None:
+        whole = ("--socket", "/nowhere", "--edition", "900000000000207008")
+        nine = ",".join(sorted(DIALECTS.values())[:9])
+        twice = ("--map", "900000000000497000=urn:a", "--map", "900000000000497000=urn:b")
+        for words in (
+            ("--languages", ""),
+            ("--languages", "en-US"),
+            ("--languages", "900000000000509008"),
+            ("--languages", "900000000000509007,"),
+            ("--languages", nine),
+            ("--map", "900000000000497000"),
+            ("--map", "900000000000497001=urn:a"),
+            ("--map", "900000000000497000=ctv3"),
+            ("--map", "900000000000497000=urn:a b"),
+            twice,
+        ):
+            done = self.start(*whole, *words)
             self.assertEqual((done.returncode, done.stdout), (2, ""), words)
 
     def test_end_where_the_socket_is_removed_already(self) -> None:

@@ -11,8 +11,8 @@ from make_release import sctid
 from sctd_gateway import limits
 from sctd_gateway.page_history import Names, changes
 from sctd_gateway.page_record import replacements
-from sctd_gateway.snomed import IS_A, Association, Concept, Relationship
-from sctd_gateway.store import AnyRow, View
+from sctd_gateway.snomed import IS_A, Association, Concept, Language, Relationship
+from sctd_gateway.store import ANY, AnyRow, View
 
 from .demo_releases import REPLACED_BY
 from .house import Shared
@@ -36,7 +36,9 @@ class Chain(View):
         last = self.codes[-1]
         return [Concept(one, "20200101", str(int(one == last)), "1", "1") for one in codes]
 
-    async def names(self, codes: Iterable[str], day: str) -> dict[str, str]:
+    async def names(
+        self, codes: Iterable[str], day: str, language: Language = ANY
+    ) -> dict[str, str]:
         return {code: code for code in codes}
 
 

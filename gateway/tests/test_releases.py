@@ -20,7 +20,20 @@ AT_LEAST = {
 }
 
 
+# Of a package, whose rows are of other proportions.
+PACKAGE_AT_LEAST = {
+    "$lookup": 1_500,
+    "$expand of a reference set": 12,
+    "$translate by a map": 300,
+}
+
+
 class Releases(unittest.TestCase):
+    def test_answers_are_those_of_the_packages_files(self) -> None:
+        counts = compared(*program_and_hub(), ROWS, DAYS, SEED, is_package=True)
+        for what, least in PACKAGE_AT_LEAST.items():
+            self.assertGreaterEqual(counts[what], least, counts)
+
     def test_answers_are_those_of_the_files(self) -> None:
         counts = compared(*program_and_hub(), ROWS, DAYS, SEED)
         for what, least in AT_LEAST.items():

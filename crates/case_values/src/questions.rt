@@ -3,11 +3,12 @@
 //!
 //! `get KIND ID DATE` asks for the component's row at the date, `versions KIND ID`, `replacements
 //! ID DATE`, `replaces ID DATE`, `about KIND ID DATE`, `timeline KIND ID`, `page KIND DATE AFTER
-//! LIMIT`, `delta KIND FROM DATE AFTER LIMIT`, `terms DATE LIMIT "PREFIX"` and `search DATE AFTER
+//! LIMIT`, `delta KIND FROM DATE AFTER LIMIT`, `members REFSET DATE AFTER LIMIT`, `values REFSET
+//! DATE AFTER LIMIT`, `called ID DATE REFSET`, `terms DATE LIMIT "PREFIX"` and `search DATE AFTER
 //! LIMIT "PREFIX"` ask for rows, `children ID DATE`, `descendants ID DATE` and `ancestors ID DATE`
 //! for identifiers, and `dates` for days. AFTER is a number or `-`.
 
-use crate::words::{above, day_of, kind_of, number, sctid_of};
+use crate::words::{above, component_above, day_of, kind_of, number, sctid_of};
 use case_files::NoAnswer;
 use rf2_rows::{EffectiveTime, Kind, Sctid};
 use std::alloc::Global;
@@ -23,6 +24,9 @@ pub enum Question {
     Timeline(Kind, Sctid),
     Page(Kind, EffectiveTime, Option<u128>, u32),
     Delta(Kind, EffectiveTime, EffectiveTime, Option<u128>, u32),
+    Members(Sctid, EffectiveTime, Option<u128>, u32),
+    Values(Sctid, EffectiveTime, Option<u64>, u32),
+    Called(Sctid, EffectiveTime, Sctid),
     Terms(EffectiveTime, u32),
     Search(EffectiveTime, Option<u128>, u32),
     Children(Sctid, EffectiveTime),
@@ -80,6 +84,24 @@ fn ask_for_delta(words: &[&str]) -> Result<Question, NoAnswer> {
     Ok(Question::Delta(kind, from, date, after, limit))
 }
 
+/// A question about a reference set.
+fn ask_of_refset(word: &str, words: &[&str]) -> Result<Question, NoAnswer> {
+    match (word, words) {
+        ("members", [refset, date, after, limit]) => {
+            let (refset, date) = (sctid_of(*refset)?, day_of(*date)?);
+            Ok(Question::Members(refset, date, above(*after)?, number(*limit)?))
+        }
+        ("values", [refset, date, after, limit]) => {
+            let (refset, date) = (sctid_of(*refset)?, day_of(*date)?);
+            Ok(Question::Values(refset, date, component_above(*after)?, number(*limit)?))
+        }
+        ("called", [id, date, refset]) => {
+            Ok(Question::Called(sctid_of(*id)?, day_of(*date)?, sctid_of(*refset)?))
+        }
+        _ => Err(NoAnswer::NoQuestion),
+    }
+}
+
 /// A question for descriptions.
 fn ask_for_terms(words: &[&str]) -> Result<Question, NoAnswer> {
     match words {
@@ -98,6 +120,7 @@ fn question_of(word: &str, words: &[&str]) -> Result<Question, NoAnswer> {
         ("children" | "descendants" | "ancestors", _) => ask_of_component(word, words),
         ("page", _) => ask_for_page(words),
         ("delta", _) => ask_for_delta(words),
+        ("members" | "values" | "called", _) => ask_of_refset(word, words),
         ("dates", 0) => Ok(Question::Dates),
         ("terms", 2) | ("search", 3) => ask_for_terms(words),
         _ => ask_of_kind(word, words),

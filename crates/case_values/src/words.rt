@@ -63,6 +63,14 @@ pub fn above(word: &str) -> Result<Option<u128>, NoAnswer> {
     }
 }
 
+/// The component above which is asked, or none for `-`.
+pub fn component_above(word: &str) -> Result<Option<u64>, NoAnswer> {
+    match word {
+        "-" => Ok(None),
+        _ => Ok(Some(number(word)?)),
+    }
+}
+
 /// The words of a question, and the prefix that stands behind them in quotes, empty without one.
 pub fn split_prefix(words: &str) -> Result<(&str, &str), NoAnswer> {
     match words.split_once(" \"") {

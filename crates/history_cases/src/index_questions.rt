@@ -5,7 +5,10 @@ use crate::spelled::{spell_dates, spell_ids, spell_rows};
 use as_of_index::{ReadFault, RowReader};
 use case_files::{Answer, NoAnswer};
 use case_values::Question;
-use links::{about, ancestors, children, descendants, replacements, replaces, timeline};
+use links::{
+    about, ancestors, called, children, descendants, members, replacements, replaces, timeline,
+    values,
+};
 use rf2_values::{EffectiveTime, Row};
 use std::alloc::{AllocError, Global};
 use term_prefix::{Search, find};
@@ -78,6 +81,19 @@ pub fn rows_found<R: RowReader>(
         Question::Replaces(id, time) => replaces(alloc, links, index, reader, id, time, pin),
         Question::About(kind, id, time) => about(alloc, links, index, reader, kind, id, time, pin),
         Question::Timeline(kind, id) => timeline(alloc, links, index, reader, kind, id, pin),
+        Question::Members(refset, time, after, limit) => {
+            members(
+                alloc, links, index, reader, refset, time, after, limit, pin,
+            )
+        }
+        Question::Values(refset, time, after, limit) => {
+            values(
+                alloc, links, index, reader, refset, time, after, limit, pin,
+            )
+        }
+        Question::Called(id, time, refset) => {
+            called(alloc, links, index, reader, id, time, refset, pin)
+        }
         Question::Terms(time, limit) => {
             search(alloc, made, reader, prefix, (time, pin), (None, limit))
         }
@@ -131,6 +147,18 @@ fn find_concepts(alloc: Global, made: &Indexed, request: Request) -> Answer {
     let mut reader = made.reader();
     match concepts_found(alloc, made, &mut reader, request) {
         Ok(ids) => spell_ids(alloc, &ids),
+        Err(ReadFault::OutOfMemory) => Err(NoAnswer::OutOfMemory),
+        Err(fault) => Ok(format!(in alloc; "{fault:?}")?),
+    }
+}
+
+/// How many rows are read for the concepts that are found.
+pub fn count_reads(alloc: Global, made: &Indexed, request: Request) -> Answer {
+    let mut reader = made.reader();
+    let found = concepts_found(alloc, made, &mut reader, request);
+    let reads = reader.reads;
+    match found {
+        Ok(_found) => Ok(format!(in alloc; "{reads}")?),
         Err(ReadFault::OutOfMemory) => Err(NoAnswer::OutOfMemory),
         Err(fault) => Ok(format!(in alloc; "{fault:?}")?),
     }

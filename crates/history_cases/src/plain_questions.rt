@@ -39,6 +39,15 @@ fn find<'a>(
         Question::Delta(kind, from, date, after, limit) => {
             plain_history::delta(alloc, shown, kind, from, date, after, limit)?
         }
+        Question::Members(refset, date, after, limit) => {
+            plain_history::members(alloc, shown, refset, date, after, limit)?
+        }
+        Question::Values(refset, date, after, limit) => {
+            plain_history::values(alloc, shown, refset, date, after, limit)?
+        }
+        Question::Called(id, date, refset) => {
+            plain_history::called(alloc, shown, id, date, refset)?
+        }
         Question::Terms(date, limit) => plain_history::terms(alloc, shown, prefix, date, limit)?,
         Question::Search(date, after, limit) => {
             plain_history::search_terms(alloc, shown, prefix, date, after, limit)?

@@ -179,7 +179,7 @@ about_row kind id row e =
     let q = both row.active (is_kind kind row) p.0 in
     record { active = q.0; kind_is = kind_from_test kind row q.1; subject_is = subject_from_test id (subject_of row) p.1 }
 
-all_three : (a b c : Bool) → a ≡ true → b ≡ true → c ≡ true → (a && b && c) ≡ true
+pub all_three : (a b c : Bool) → a ≡ true → b ≡ true → c ≡ true → (a && b && c) ≡ true
 all_three true true true e f g = refl
 all_three true true false e f g = g
 all_three true false c e f g = absurd (cc)

@@ -13,7 +13,7 @@ use Rattle.history_model.specs.Laws.{AreSearches, SearchFromTheFirst, SearchAndT
 use Rattle.history_model.proofs.Snapshots.{page_cons, above_cons, and-true}
 use Rattle.history_model.proofs.Ascents.{Rises-terms}
 
-take_short : {X : Type 0} (n : ℕ) (xs : List X) → length (take n xs) < n → xs ≡ take n xs
+pub take_short : {X : Type 0} (n : ℕ) (xs : List X) → length (take n xs) < n → xs ≡ take n xs
 take_short zero xs lt = absurd (omega arith)
 take_short (suc n) [] lt = refl
 take_short (suc n) (x ∷ xs) lt = ap (λ ys. x ∷ ys) (take_short n xs (omega arith))
@@ -37,7 +37,7 @@ first_has_some (suc n) x xs le = omega arith
 
 -- all rows from behind an id: the first, and then all from behind that one
 module _ (all : Option ℕ → List RowValue) (split : (after : Option ℕ) (b : RowValue) (ys : List RowValue) → all after ≡ b ∷ ys → all after ≡ b ∷ all (Some b.id)) where
-  goes_on : (limit : ℕ) (after : Option ℕ) → all after ≡ take limit (all after) ++ all (last_id after (take limit (all after)))
+  pub goes_on : (limit : ℕ) (after : Option ℕ) → all after ≡ take limit (all after) ++ all (last_id after (take limit (all after)))
   goes_on zero after = refl
   goes_on (suc n) after =
       elim (all after) as (λ xs. all after ≡ xs → all after ≡ take (suc n) (all after) ++ all (last_id after (take (suc n) (all after)))) [
@@ -50,7 +50,7 @@ module _ (all : Option ℕ → List RowValue) (split : (after : Option ℕ) (b :
 
   -- lists of which each is the first so many from behind the one before
   module _ (limit : ℕ) (some : 1 ≤ limit) (Are : Option ℕ → List (List RowValue) → Type 0) (last : (after : Option ℕ) → Are after [] ↔ (take limit (all after) ≡ [])) (more : (after : Option ℕ) (first : List RowValue) (pages : List (List RowValue)) → Are after (first ∷ pages) ↔ ((first ≡ take limit (all after)) × Are (last_id after first) pages)) where
-    are_all : (after : Option ℕ) (pages : List (List RowValue)) → Are after pages → joined pages ≡ all after
+    pub are_all : (after : Option ℕ) (pages : List (List RowValue)) → Are after pages → joined pages ≡ all after
     are_all after [] e = sym (none_left limit (all after) some ((last after).0 e))
     are_all after (first ∷ pages) e =
         let w = (more after first pages).0 e in
@@ -71,7 +71,7 @@ module _ (all : Option ℕ → List RowValue) (split : (after : Option ℕ) (b :
         let others = shorter (last_id after first) (omega (arith, has_some, sum)) in
         (first ∷ others.0, (more after first others.0).1 (refl, others.1), λ h. elim h [ inl none ↦ (let no = ap length none in omega (arith, no, has_some)) | inr t ↦ others.2 t ])
 
-    ends : (n : ℕ) (after : Option ℕ) → length (all after) ≤ n → AreLeft after
+    pub ends : (n : ℕ) (after : Option ℕ) → length (all after) ≤ n → AreLeft after
     ends zero after le = next after (all after) refl (λ later lt. absurd (omega (arith, lt, le)))
     ends (suc n) after le = next after (all after) refl (λ later lt. ends n later (omega (arith, lt, le)))
 
@@ -122,7 +122,7 @@ pub search_from_the_first : SearchFromTheFirst
 unfolding search_terms terms
 search_from_the_first prefix date limit rows = ap (take limit) (terms_above-none prefix date rows)
 
-length-filter_le : {X : Type 0} (p : X → Bool) (xs : List X) → length (filter p xs) ≤ length xs
+pub length-filter_le : {X : Type 0} (p : X → Bool) (xs : List X) → length (filter p xs) ≤ length xs
 length-filter_le p xs = omega (arith, length-filter p xs, count_by-le-length p xs)
 
 few_terms : (prefix : List ℕ) (date : ℕ) (rows : List RowValue) → length (filter (is_term prefix) (snapshot rows date)) ≤ length rows

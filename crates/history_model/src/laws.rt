@@ -32,6 +32,18 @@ ghost use Rattle.history_model.specs.Audit.{TimelineAscends, TimelineStays};
 ghost use Rattle.history_model.specs.Audit.{ReplacesAreAll, BothEndsAreOne, ReplacesAscend};
 ghost use Rattle.history_model.specs.Audit.{ReplacesStay};
 ghost use Rattle.history_model.specs.Audit.{DatesAreThoseOfVersions, DatesAscend, DatesStay};
+ghost use Rattle.history_model.specs.Membership.{MembersAreOfTheKind, EachIsOfOneSet};
+ghost use Rattle.history_model.specs.Membership.{MembersAscend, MembersAndTheRest};
+ghost use Rattle.history_model.specs.Membership.{FewMembersAreLast, PagesOfMembersAreAll};
+ghost use Rattle.history_model.specs.Membership.{PagesOfMembersEnd, ValuesAreAll};
+ghost use Rattle.history_model.specs.Membership.{ValuesAreTheActiveMembers, ValuesAscend};
+ghost use Rattle.history_model.specs.Membership.{ValuesAreTheFirstWithTies};
+ghost use Rattle.history_model.specs.Membership.{ValuesOfOneComponentStayTogether};
+ghost use Rattle.history_model.specs.Membership.{ValuesFillTheLimit, FewValuesAreAll};
+ghost use Rattle.history_model.specs.Membership.{ValuesAndTheRest, PagesOfValuesAreAll};
+ghost use Rattle.history_model.specs.Membership.{PagesOfValuesEnd, CalledAreNames, CalledAscend};
+ghost use Rattle.history_model.specs.Membership.{CalledAreAmongValues, MembersStay, ValuesStay};
+ghost use Rattle.history_model.specs.Membership.{CalledStays};
 
 /// A history is a chain of row sets, each within the next.
 pub fn each_history_is_a_chain()
@@ -374,4 +386,122 @@ pub fn dates_ascend()
 /// The dates at a pin are unchanged by later imports.
 pub fn dates_stay()
     ensures { DatesStay }
+{}
+
+/// The members of a reference set are those of all members that are of it.
+pub fn members_are_of_the_kind()
+    ensures { MembersAreOfTheKind }
+{}
+
+/// Each member is of one reference set.
+pub fn each_is_of_one_set()
+    ensures { EachIsOfOneSet }
+{}
+
+/// Members ascend by id.
+pub fn members_ascend()
+    ensures { MembersAscend }
+{}
+
+/// The members are an answer of any limit, and then all from behind its last one.
+pub fn members_and_the_rest()
+    ensures { MembersAndTheRest }
+{}
+
+/// Nothing stands behind an answer that has fewer members than its limit.
+pub fn few_members_are_last()
+    ensures { FewMembersAreLast }
+{}
+
+/// Answers of any limit, each from behind the last member
+/// of the one before, give all members of a reference set.
+pub fn pages_of_members_are_all()
+    ensures { PagesOfMembersAreAll }
+{}
+
+/// Answers of any limit, one after the other, come to an end.
+pub fn pages_of_members_end()
+    ensures { PagesOfMembersEnd }
+{}
+
+/// No active member of a reference set is left out.
+pub fn values_are_all()
+    ensures { ValuesAreAll }
+{}
+
+/// The values of all reference sets together are the active members.
+pub fn values_are_the_active_members()
+    ensures { ValuesAreTheActiveMembers }
+{}
+
+/// Values ascend by component, then by member.
+pub fn values_ascend()
+    ensures { ValuesAscend }
+{}
+
+/// Values are the first so many, and with these all that refer to the same components.
+pub fn values_are_the_first_with_ties()
+    ensures { ValuesAreTheFirstWithTies }
+{}
+
+/// No answer cuts the members of one component apart.
+pub fn values_of_one_component_stay_together()
+    ensures { ValuesOfOneComponentStayTogether }
+{}
+
+/// An answer has as many values as its limit, if there are as many.
+pub fn values_fill_the_limit()
+    ensures { ValuesFillTheLimit }
+{}
+
+/// An answer that has fewer values than its limit is all of them.
+pub fn few_values_are_all()
+    ensures { FewValuesAreAll }
+{}
+
+/// The values are an answer of any limit, and then all above its last component.
+pub fn values_and_the_rest()
+    ensures { ValuesAndTheRest }
+{}
+
+/// Answers of any limit, each above the last component
+/// of the one before, give all values of a reference set.
+pub fn pages_of_values_are_all()
+    ensures { PagesOfValuesAreAll }
+{}
+
+/// Answers of any limit, one after the other, come to an end.
+pub fn pages_of_values_end()
+    ensures { PagesOfValuesEnd }
+{}
+
+/// What a concept is called are the descriptions about it that have members of the reference
+/// set, and these members.
+pub fn called_are_names()
+    ensures { CalledAreNames }
+{}
+
+/// The descriptions that a concept is called by ascend by id.
+pub fn called_ascend()
+    ensures { CalledAscend }
+{}
+
+/// The members that say what a concept is called are values of the reference set.
+pub fn called_are_among_values()
+    ensures { CalledAreAmongValues }
+{}
+
+/// Members at a pin are unchanged by later imports.
+pub fn members_stay()
+    ensures { MembersStay }
+{}
+
+/// Values at a pin are unchanged by later imports.
+pub fn values_stay()
+    ensures { ValuesStay }
+{}
+
+/// What a concept is called at a pin is unchanged by later imports.
+pub fn called_stays()
+    ensures { CalledStays }
 {}

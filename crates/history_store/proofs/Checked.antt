@@ -1,5 +1,5 @@
 -- What the check of a release answers, and what it leaves.
-use Rattle.std.proofs.Common.{◌≡◌, ◌↔◌, inl, ℕ, ◌+◌, ◌≤◌, false, List, length, Result, Ok, refl, sym, ap, subst, ◌∙◌}
+use Rattle.std.proofs.Common.{◌≡◌, ◌↔◌, inl, ℕ, ◌+◌, ◌≤◌, Bool, false, IsTrue, List, length, Result, Ok, refl, sym, ap, subst, ◌∙◌}
 use Rattle.std.specs.List.{sum_by}
 use Rattle.std.proofs.lemmas.Bool.{false≢true}
 use Rattle.disk_model.specs.Disk.{Moments}
@@ -20,7 +20,7 @@ use Rattle.history_store.specs.declared.checking.Next.TheVariants as nexts
 use Rattle.history_store.specs.Catalog.{Catalog, IsCatalogAfter, catalog_of}
 use Rattle.history_store.specs.Reading.{row_cost}
 use Rattle.history_store.specs.StoreValue.{StoreValue, IsAcknowledged}
-use Rattle.history_store.specs.Prepared.{IsNotSpent}
+use Rattle.history_store.specs.Prepared.{IsNotSpent, IsForLater, IsAdmitted}
 use Rattle.history_store.specs.Queries.{ReadsThroughCache}
 use Rattle.history_store.specs.Answers.{Counts, CountsRefusal, IsImportRefusal, IsStill}
 use Rattle.history_store.specs.Checking.{IsChecking, IsCheckingOf, IsCheckingOnAnyDisk, IsCheckingRefusal}
@@ -51,15 +51,19 @@ not_device rows catalog e why device = subst (λ x. IsUnprepared x rows catalog)
 
 -- ---- what is ready
 
-pub ready_at : {D : Type 0} (honest : Type 0) (u old w mid : StoreValue D) (release : Release) (fresh : NewRows) (next : Next) (number new : ℕ) → u ≡ old → IsNotSpent u.history.imports u.catalog.epoch → w ≡ mid → IsHistory w.history → IsStill old mid
+-- a release is read once it is known that the counts have room and that it isn't for a later version
+pub admitted : (h : History) (catalog : Catalog) (release : Release) (later : Bool) → IsNotSpent h.imports catalog.epoch → (IsTrue later ↔ IsForLater catalog.layout release) → later ≡ false → IsAdmitted h catalog release
+admitted h catalog release later room tests no = record { room = room; version = λ is. absurd (false≢true (sym no ∙ tests.1 is)) }
+
+pub ready_at : {D : Type 0} (honest : Type 0) (u old w mid : StoreValue D) (release : Release) (fresh : NewRows) (next : Next) (number new : ℕ) → u ≡ old → IsAdmitted u.history u.catalog release → w ≡ mid → IsHistory w.history → IsStill old mid
     → BringsByKey (full old.history) release fresh → (honest → IsAcceptedAs (full old.history) release fresh) → number ≡ w.history.imports + 1 → new ≡ length fresh.rows.items → IsNext w fresh next
     → IsMadeReady honest mid release (record { receipt = record { number = number; new = new; repeated = fresh.repeated }; next = next })
 ready_at {D} honest u old w mid release fresh next number new first left second is still brings accepted number_is count next_is =
-    let room : IsNotSpent old.history.imports old.catalog.epoch = subst (λ (x : StoreValue D). IsNotSpent x.history.imports x.catalog.epoch) first left in
+    let room : IsAdmitted old.history old.catalog release = subst (λ (x : StoreValue D). IsAdmitted x.history x.catalog release) first left in
     let numbers : number ≡ mid.history.imports + 1 = number_is ∙ ap (λ (x : StoreValue D). x.history.imports + 1) second in
     record {
       history = subst (λ (x : StoreValue D). IsHistory x.history) second is;
-      room = subst (λ (h : History). IsNotSpent h.imports mid.catalog.epoch) (sym still.history) (subst (λ (c : Catalog). IsNotSpent old.history.imports c.epoch) (sym still.catalog) room);
+      room = subst (λ (h : History). IsAdmitted h mid.catalog release) (sym still.history) (subst (λ (c : Catalog). IsAdmitted old.history c release) (sym still.catalog) room);
       fresh = fresh;
       brings = subst (λ (h : History). BringsByKey (full h) release fresh) (sym still.history) brings;
       accepted = λ up. subst (λ (h : History). IsAcceptedAs (full h) release fresh) (sym still.history) (accepted up);
@@ -82,8 +86,8 @@ module _ {D : Type 0} (honest : Type 0) (s : StoreValue D) (release : Release) (
     each (nexts.WithSegment prepared) so = (catalog_of prepared.directory s.catalog.merge, extended_catalog s s is.fresh prepared refl so.1.placed so.0)
 
   module _ (old : StoreValue D) (still : IsStill old s) where
-    pub room_ready : IsNotSpent old.history.imports old.catalog.epoch
-    room_ready = subst (λ (h : History). IsNotSpent h.imports old.catalog.epoch) still.history (subst (λ (c : Catalog). IsNotSpent s.history.imports c.epoch) still.catalog is.room)
+    pub room_ready : IsAdmitted old.history old.catalog release
+    room_ready = subst (λ (h : History). IsAdmitted h old.catalog release) still.history (subst (λ (c : Catalog). IsAdmitted s.history c release) still.catalog is.room)
 
     pub brings_ready : BringsByKey (full old.history) release is.fresh
     brings_ready = subst (λ (h : History). BringsByKey (full h) release is.fresh) still.history is.brings
@@ -109,6 +113,7 @@ module _ {D : Type 0} (is_honest : D → Type 0) (moments_of : D → Moments) (f
   -- what the reading of known rows leaves
   pub record HasRead : Type 0 where
     pub still : IsStill old mid
+    pub version : IsForLater old.catalog.layout release → ⊥
     pub moments : is_honest old.disk → moments_of mid.disk ≡ moments_of old.disk
     pub acknowledged : is_honest mid.disk → mid.needs_reopen ≡ false → IsAcknowledged moments_of mid
     pub honesty : is_honest old.disk ↔ is_honest mid.disk
@@ -124,6 +129,7 @@ module _ {D : Type 0} (is_honest : D → Type 0) (moments_of : D → Moments) (f
     answer = answer;
     kept = kept;
     closed = λ closed. absurd (false≢true (sym read.still.open_before ∙ closed));
+    later = λ later. absurd (read.version later);
     moments = read.moments;
     acknowledged = λ up. read.acknowledged (read.honesty.0 up);
     honesty = read.honesty;

@@ -56,7 +56,8 @@ module _ (h : History) (catalog : Catalog) (release : Release) (taken : WouldBeT
   taken_anyway : (e : Refusal) → IsNotTaken e h catalog release → HasFailed (Err e)
   taken_anyway refusals.OutOfMemory why = tt
   taken_anyway refusals.DiskFault why = tt
-  taken_anyway refusals.CountSpent why = not_both h.imports catalog.epoch taken.room why
+  taken_anyway refusals.LaterVersion why = taken.room.version why.1
+  taken_anyway refusals.CountSpent why = not_both h.imports catalog.epoch taken.room.room why
   taken_anyway (refusals.Line file line fault) why = read_has_no_fault release file line fault (was_read release taken.rows taken.is_release) why.1
   taken_anyway (refusals.Contradiction file line) why = consistent_has_none (full h) release taken.rows taken.is_release taken.accepted file line why.1 why.2
   taken_anyway refusals.TooManySegments why = has_entry (new_rows h taken.rows) catalog taken.next taken.catalog_is (subst (λ rows. HasNoEntry rows catalog) (same_rows why.rows why.is_release) why.lacks)
@@ -75,16 +76,29 @@ module _ (h : History) (catalog : Catalog) (release : Release) where
   spent_alone refusals.OutOfMemory why also = inr (inr tt)
   spent_alone refusals.DiskFault why also = inr (inr tt)
   spent_alone refusals.CountSpent why also = inl refl
-  spent_alone (refusals.Line file line fault) why also = absurd (not_both h.imports catalog.epoch also.0 why)
-  spent_alone (refusals.Contradiction file line) why also = absurd (not_both h.imports catalog.epoch also.0 why)
-  spent_alone refusals.TooManySegments why also = absurd (not_both h.imports catalog.epoch also.room why)
-  spent_alone refusals.Full why also = absurd (not_both h.imports catalog.epoch also.room why)
+  spent_alone refusals.LaterVersion why also = absurd (not_both h.imports catalog.epoch also.0 why)
+  spent_alone (refusals.Line file line fault) why also = absurd (not_both h.imports catalog.epoch also.0.room why)
+  spent_alone (refusals.Contradiction file line) why also = absurd (not_both h.imports catalog.epoch also.0.room why)
+  spent_alone refusals.TooManySegments why also = absurd (not_both h.imports catalog.epoch also.room.room why)
+  spent_alone refusals.Full why also = absurd (not_both h.imports catalog.epoch also.room.room why)
   spent_alone _ why also = absurd also
+
+  later_alone : (f : Refusal) → IsNotTaken refusals.LaterVersion h catalog release → IsNotTaken f h catalog release → OneRefusal refusals.LaterVersion f
+  later_alone refusals.OutOfMemory why also = inr (inr tt)
+  later_alone refusals.DiskFault why also = inr (inr tt)
+  later_alone refusals.CountSpent why also = absurd (not_both h.imports catalog.epoch why.0 also)
+  later_alone refusals.LaterVersion why also = inl refl
+  later_alone (refusals.Line file line fault) why also = absurd (also.0.version why.1)
+  later_alone (refusals.Contradiction file line) why also = absurd (also.0.version why.1)
+  later_alone refusals.TooManySegments why also = absurd (also.room.version why.1)
+  later_alone refusals.Full why also = absurd (also.room.version why.1)
+  later_alone _ why also = absurd also
 
   fault_alone : (file line : ℕ) (fault : LineFault) (f : Refusal) → IsNotTaken (refusals.Line file line fault) h catalog release → IsNotTaken f h catalog release → OneRefusal (refusals.Line file line fault) f
   fault_alone file line fault refusals.OutOfMemory why also = inr (inr tt)
   fault_alone file line fault refusals.DiskFault why also = inr (inr tt)
-  fault_alone file line fault refusals.CountSpent why also = absurd (not_both h.imports catalog.epoch why.0 also)
+  fault_alone file line fault refusals.LaterVersion why also = absurd (why.0.version also.1)
+  fault_alone file line fault refusals.CountSpent why also = absurd (not_both h.imports catalog.epoch why.0.room also)
   fault_alone file line fault (refusals.Line n l other) why also =
       let one = one_fault release n l other file line fault also.1 why.1 in
       inl (λ i. refusals.Line (one.0 i) (one.1 i) (one.2 i))
@@ -96,7 +110,8 @@ module _ (h : History) (catalog : Catalog) (release : Release) where
   contradiction_alone : (file line : ℕ) (f : Refusal) → IsNotTaken (refusals.Contradiction file line) h catalog release → IsNotTaken f h catalog release → OneRefusal (refusals.Contradiction file line) f
   contradiction_alone file line refusals.OutOfMemory why also = inr (inr tt)
   contradiction_alone file line refusals.DiskFault why also = inr (inr tt)
-  contradiction_alone file line refusals.CountSpent why also = absurd (not_both h.imports catalog.epoch why.0 also)
+  contradiction_alone file line refusals.LaterVersion why also = absurd (why.0.version also.1)
+  contradiction_alone file line refusals.CountSpent why also = absurd (not_both h.imports catalog.epoch why.0.room also)
   contradiction_alone file line (refusals.Line n l other) why also = absurd (read_has_no_fault release n l other (contradicts file line why) also.1)
   contradiction_alone file line (refusals.Contradiction n l) why also =
       let one = one_first_contradiction (full h) release n l also.1 file line why.1 also.2 why.2 in
@@ -108,7 +123,8 @@ module _ (h : History) (catalog : Catalog) (release : Release) where
   entry_alone : (f : Refusal) → IsNotTaken refusals.TooManySegments h catalog release → IsNotTaken f h catalog release → OneRefusal refusals.TooManySegments f
   entry_alone refusals.OutOfMemory why also = inr (inr tt)
   entry_alone refusals.DiskFault why also = inr (inr tt)
-  entry_alone refusals.CountSpent why also = absurd (not_both h.imports catalog.epoch why.room also)
+  entry_alone refusals.LaterVersion why also = absurd (why.room.version also.1)
+  entry_alone refusals.CountSpent why also = absurd (not_both h.imports catalog.epoch why.room.room also)
   entry_alone (refusals.Line n l other) why also = absurd (read_has_no_fault release n l other (was_read release why.rows why.is_release) also.1)
   entry_alone (refusals.Contradiction n l) why also = absurd (consistent_has_none (full h) release why.rows why.is_release why.accepted n l also.1 also.2)
   entry_alone refusals.TooManySegments why also = inl refl
@@ -118,7 +134,8 @@ module _ (h : History) (catalog : Catalog) (release : Release) where
   place_alone : (f : Refusal) → IsNotTaken refusals.Full h catalog release → IsNotTaken f h catalog release → OneRefusal refusals.Full f
   place_alone refusals.OutOfMemory why also = inr (inr tt)
   place_alone refusals.DiskFault why also = inr (inr tt)
-  place_alone refusals.CountSpent why also = absurd (not_both h.imports catalog.epoch why.room also)
+  place_alone refusals.LaterVersion why also = absurd (why.room.version also.1)
+  place_alone refusals.CountSpent why also = absurd (not_both h.imports catalog.epoch why.room.room also)
   place_alone (refusals.Line n l other) why also = absurd (read_has_no_fault release n l other (was_read release why.rows why.is_release) also.1)
   place_alone (refusals.Contradiction n l) why also = absurd (consistent_has_none (full h) release why.rows why.is_release why.accepted n l also.1 also.2)
   place_alone refusals.TooManySegments why also = absurd (omega (arith, why.lacks.few, also.lacks.all_taken))
@@ -129,6 +146,7 @@ module _ (h : History) (catalog : Catalog) (release : Release) where
   one_refusal refusals.OutOfMemory f why also = inr (inl tt)
   one_refusal refusals.DiskFault f why also = inr (inl tt)
   one_refusal refusals.CountSpent f why also = spent_alone f why also
+  one_refusal refusals.LaterVersion f why also = later_alone f why also
   one_refusal (refusals.Line file line fault) f why also = fault_alone file line fault f why also
   one_refusal (refusals.Contradiction file line) f why also = contradiction_alone file line f why also
   one_refusal refusals.TooManySegments f why also = entry_alone f why also
@@ -173,6 +191,7 @@ stays_so old checked release e refused other why = each e refused other why wher
   each refusals.ReopenNeeded is other reason = is.still other ∙ reason
   each refusals.OutOfMemory is other reason = (is.still other ∙ reason.0, moved refusals.OutOfMemory is reason.1)
   each refusals.CountSpent is other reason = (is.still other ∙ reason.0, moved refusals.CountSpent is reason.1)
+  each refusals.LaterVersion is other reason = (is.still other ∙ reason.0, moved refusals.LaterVersion is reason.1)
   each (refusals.Line file line fault) is other reason = (is.still other ∙ reason.0, moved (refusals.Line file line fault) is reason.1)
   each (refusals.Contradiction file line) is other reason = (is.still other ∙ reason.0, moved (refusals.Contradiction file line) is reason.1)
   each refusals.TooManySegments is other reason = (is.still other ∙ reason.0, moved refusals.TooManySegments is reason.1)

@@ -18,7 +18,7 @@ use Rattle.history_store.specs.declared.refusal.Refusal.{Refusal}
 use Rattle.history_store.specs.declared.refusal.Refusal.TheVariants as refusals
 use Rattle.history_store.specs.Catalog.{Catalog, HasNoEntry, HasNoPlace}
 use Rattle.history_store.specs.StoreValue.{StoreValue, last_import, last_epoch}
-use Rattle.history_store.specs.Prepared.{IsNotSpent}
+use Rattle.history_store.specs.Prepared.{IsNotSpent, IsForLater, IsAdmitted}
 use Rattle.history_store.specs.Answers.{IsTakenByKey, LacksByKey, IsRefusalOnAnyDisk, IsImportOnAnyDisk}
 use Rattle.history_store.specs.Checking.{DependsOnReading, CheckedIsImportedOnAnyDisk}
 use Rattle.history_store.proofs.Foreseen.{not_both, was_read, has_entry, has_place}
@@ -38,7 +38,8 @@ one_fresh known release first second is also =
 -- why it is refused
 abbrev IsOutByKey : Refusal → History → Catalog → Release → Type 0
 IsOutByKey refusals.CountSpent h catalog release = (h.imports ≡ last_import) ⊎ (catalog.epoch ≡ last_epoch)
-IsOutByKey (refusals.Line file line fault) h catalog release = IsNotSpent h.imports catalog.epoch × IsFaultOfRelease release file line fault
+IsOutByKey refusals.LaterVersion h catalog release = IsNotSpent h.imports catalog.epoch × IsForLater catalog.layout release
+IsOutByKey (refusals.Line file line fault) h catalog release = IsAdmitted h catalog release × IsFaultOfRelease release file line fault
 IsOutByKey refusals.TooManySegments h catalog release = LacksByKey h catalog release HasNoEntry
 IsOutByKey refusals.Full h catalog release = LacksByKey h catalog release HasNoPlace
 IsOutByKey _ h catalog release = ⊥
@@ -49,23 +50,33 @@ module _ (h : History) (catalog : Catalog) (release : Release) where
 
   one_reason : (e f : Refusal) → IsOutByKey e h catalog release → IsOutByKey f h catalog release → f ≡ e
   one_reason refusals.CountSpent refusals.CountSpent why also = refl
-  one_reason refusals.CountSpent (refusals.Line file line fault) why also = absurd (not_both h.imports catalog.epoch also.0 why)
-  one_reason refusals.CountSpent refusals.TooManySegments why also = absurd (not_both h.imports catalog.epoch also.room why)
-  one_reason refusals.CountSpent refusals.Full why also = absurd (not_both h.imports catalog.epoch also.room why)
+  one_reason refusals.CountSpent (refusals.Line file line fault) why also = absurd (not_both h.imports catalog.epoch also.0.room why)
+  one_reason refusals.CountSpent refusals.LaterVersion why also = absurd (not_both h.imports catalog.epoch also.0 why)
+  one_reason refusals.CountSpent refusals.TooManySegments why also = absurd (not_both h.imports catalog.epoch also.room.room why)
+  one_reason refusals.CountSpent refusals.Full why also = absurd (not_both h.imports catalog.epoch also.room.room why)
   one_reason refusals.CountSpent _ why also = absurd also
-  one_reason (refusals.Line file line fault) refusals.CountSpent why also = absurd (not_both h.imports catalog.epoch why.0 also)
+  one_reason refusals.LaterVersion refusals.LaterVersion why also = refl
+  one_reason refusals.LaterVersion refusals.CountSpent why also = absurd (not_both h.imports catalog.epoch why.0 also)
+  one_reason refusals.LaterVersion (refusals.Line file line fault) why also = absurd (also.0.version why.1)
+  one_reason refusals.LaterVersion refusals.TooManySegments why also = absurd (also.room.version why.1)
+  one_reason refusals.LaterVersion refusals.Full why also = absurd (also.room.version why.1)
+  one_reason refusals.LaterVersion _ why also = absurd also
+  one_reason (refusals.Line file line fault) refusals.CountSpent why also = absurd (not_both h.imports catalog.epoch why.0.room also)
+  one_reason (refusals.Line file line fault) refusals.LaterVersion why also = absurd (why.0.version also.1)
   one_reason (refusals.Line file line fault) (refusals.Line n l other) why also =
       let one = one_fault release n l other file line fault also.1 why.1 in
       λ i. refusals.Line (one.0 i) (one.1 i) (one.2 i)
   one_reason (refusals.Line file line fault) refusals.TooManySegments why also = absurd (no_fault file line fault also.fresh also.brings why.1)
   one_reason (refusals.Line file line fault) refusals.Full why also = absurd (no_fault file line fault also.fresh also.brings why.1)
   one_reason (refusals.Line file line fault) _ why also = absurd also
-  one_reason refusals.TooManySegments refusals.CountSpent why also = absurd (not_both h.imports catalog.epoch why.room also)
+  one_reason refusals.TooManySegments refusals.LaterVersion why also = absurd (why.room.version also.1)
+  one_reason refusals.TooManySegments refusals.CountSpent why also = absurd (not_both h.imports catalog.epoch why.room.room also)
   one_reason refusals.TooManySegments (refusals.Line n l other) why also = absurd (no_fault n l other why.fresh why.brings also.1)
   one_reason refusals.TooManySegments refusals.TooManySegments why also = refl
   one_reason refusals.TooManySegments refusals.Full why also = absurd (omega (arith, why.lacks.all_taken, also.lacks.few))
   one_reason refusals.TooManySegments _ why also = absurd also
-  one_reason refusals.Full refusals.CountSpent why also = absurd (not_both h.imports catalog.epoch why.room also)
+  one_reason refusals.Full refusals.LaterVersion why also = absurd (why.room.version also.1)
+  one_reason refusals.Full refusals.CountSpent why also = absurd (not_both h.imports catalog.epoch why.room.room also)
   one_reason refusals.Full (refusals.Line n l other) why also = absurd (no_fault n l other why.fresh why.brings also.1)
   one_reason refusals.Full refusals.TooManySegments why also = absurd (omega (arith, why.lacks.few, also.lacks.all_taken))
   one_reason refusals.Full refusals.Full why also = refl
@@ -79,7 +90,8 @@ module _ (h : History) (catalog : Catalog) (release : Release) where
         subst (λ (l : List RowValue). Lacks (stamped (h.imports + 1) l) catalog) one.0 why.lacks
 
     none_out : (e : Refusal) → IsOutByKey e h catalog release → ⊥
-    none_out refusals.CountSpent why = not_both h.imports catalog.epoch taken.room why
+    none_out refusals.CountSpent why = not_both h.imports catalog.epoch taken.room.room why
+    none_out refusals.LaterVersion why = taken.room.version why.1
     none_out (refusals.Line file line fault) why = no_fault file line fault taken.fresh taken.brings why.1
     none_out refusals.TooManySegments why = has_entry (stamped (h.imports + 1) taken.fresh.rows.items) catalog next taken.catalog_is (lacking HasNoEntry why)
     none_out refusals.Full why = has_place (stamped (h.imports + 1) taken.fresh.rows.items) catalog next taken.catalog_is (lacking HasNoPlace why)
@@ -99,6 +111,7 @@ Cause s release e = ((e ≡ refusals.ReopenNeeded) × (s.needs_reopen ≡ true))
 cause : {D : Type 0} (s : StoreValue D) (release : Release) (e : Refusal) → IsRefusalOnAnyDisk e s release → Cause s release e
 cause s release refusals.ReopenNeeded why = inl (refl, why)
 cause s release refusals.CountSpent why = inr (why.0, inl why.1)
+cause s release refusals.LaterVersion why = inr (why.0, inl (why.1, why.2))
 cause s release (refusals.Line file line fault) why = inr (why.0, inl (why.1, why.2))
 cause s release refusals.TooManySegments why = inr (why.0, inl why.1)
 cause s release refusals.Full why = inr (why.0, inl why.1)

@@ -18,6 +18,7 @@ pub mod MergePublished
 pub mod PutBack
 pub mod EndOf
 pub mod TrimmedStore
+pub mod AdmittedKinds
 pub mod Apart
 pub mod FreshRows
 pub mod Imported

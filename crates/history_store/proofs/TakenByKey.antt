@@ -15,7 +15,7 @@ use Rattle.history_store.specs.declared.refusal.Refusal.TheVariants as refusals
 use Rattle.history_store.specs.Catalog.{Catalog, IsCatalogAfter, IsPlaced, catalog_of}
 use Rattle.history_store.specs.StoreValue.{StoreValue}
 use Rattle.history_store.specs.Private.StoreValue.{with_rows}
-use Rattle.history_store.specs.Prepared.{IsNotSpent}
+use Rattle.history_store.specs.Prepared.{IsAdmitted}
 use Rattle.history_store.specs.Private.Prepared.{IsUnprepared}
 use Rattle.history_store.specs.Answers.{IsRefusalOnAnyDisk, IsStill, IsTakenByKey}
 use Rattle.history_store.proofs.FreshRows.{after_own}
@@ -50,10 +50,10 @@ module _ (h : History) (rows : List RowValue) (fresh : NewRows) (is : IsHistory 
 
 -- ---- what is refused because there is no place for them
 
-room_of : {D : Type 0} (u old : StoreValue D) → u ≡ old → IsNotSpent u.history.imports u.catalog.epoch → IsNotSpent old.history.imports old.catalog.epoch
-room_of {D} u old same left = subst (λ (x : StoreValue D). IsNotSpent x.history.imports x.catalog.epoch) same left
+room_of : {D : Type 0} (u old : StoreValue D) (release : Release) → u ≡ old → IsAdmitted u.history u.catalog release → IsAdmitted old.history old.catalog release
+room_of {D} u old release same left = subst (λ (x : StoreValue D). IsAdmitted x.history x.catalog release) same left
 
-lacking : {D : Type 0} (s : StoreValue D) (release : Release) (fresh : NewRows) (e : Refusal) → s.needs_reopen ≡ false → IsNotSpent s.history.imports s.catalog.epoch → BringsByKey (full s.history) release fresh → IsUnprepared e (stamped (s.history.imports + 1) fresh.rows.items) s.catalog → IsRefusalOnAnyDisk e s release
+lacking : {D : Type 0} (s : StoreValue D) (release : Release) (fresh : NewRows) (e : Refusal) → s.needs_reopen ≡ false → IsAdmitted s.history s.catalog release → BringsByKey (full s.history) release fresh → IsUnprepared e (stamped (s.history.imports + 1) fresh.rows.items) s.catalog → IsRefusalOnAnyDisk e s release
 lacking s release fresh refusals.OutOfMemory still room brings lacks = (still, room)
 lacking s release fresh refusals.DiskFault still room brings lacks = absurd lacks
 lacking s release fresh refusals.ReopenNeeded still room brings lacks = absurd lacks
@@ -68,26 +68,27 @@ lacking s release fresh refusals.MergeBusy still room brings lacks = absurd lack
 lacking s release fresh refusals.NoMerge still room brings lacks = absurd lacks
 lacking s release fresh refusals.MergeUnfinished still room brings lacks = absurd lacks
 lacking s release fresh refusals.CountSpent still room brings lacks = absurd lacks
+lacking s release fresh refusals.LaterVersion still room brings lacks = absurd lacks
 lacking s release fresh (refusals.Line file line fault) still room brings lacks = absurd lacks
 lacking s release fresh (refusals.Contradiction file line) still room brings lacks = absurd lacks
 
-pub not_prepared_at_all : {D : Type 0} (u old v mid : StoreValue D) (release : Release) (fresh : NewRows) (e : Refusal) → u ≡ old → IsNotSpent u.history.imports u.catalog.epoch → v ≡ mid → IsStill old mid → BringsByKey (full old.history) release fresh → IsUnprepared e (stamped (v.history.imports + 1) fresh.rows.items) v.catalog → IsRefusalOnAnyDisk e old release
+pub not_prepared_at_all : {D : Type 0} (u old v mid : StoreValue D) (release : Release) (fresh : NewRows) (e : Refusal) → u ≡ old → IsAdmitted u.history u.catalog release → v ≡ mid → IsStill old mid → BringsByKey (full old.history) release fresh → IsUnprepared e (stamped (v.history.imports + 1) fresh.rows.items) v.catalog → IsRefusalOnAnyDisk e old release
 not_prepared_at_all {D} u old v mid release fresh e first left same still brings why =
     let at_mid : IsUnprepared e (stamped (mid.history.imports + 1) fresh.rows.items) mid.catalog = subst (λ (x : StoreValue D). IsUnprepared e (stamped (x.history.imports + 1) fresh.rows.items) x.catalog) same why in
     let here : IsUnprepared e (stamped (old.history.imports + 1) fresh.rows.items) old.catalog =
     subst (λ (h : History). IsUnprepared e (stamped (h.imports + 1) fresh.rows.items) old.catalog) still.history
     (subst (λ (x : Catalog). IsUnprepared e (stamped (mid.history.imports + 1) fresh.rows.items) x) still.catalog at_mid) in
-    lacking old release fresh e still.open_before (room_of u old first left) brings here
+    lacking old release fresh e still.open_before (room_of u old release first left) brings here
 
 -- ---- what is taken
 
-pub taken_by_key : {D : Type 0} (u old s : StoreValue D) (release : Release) (fresh : NewRows) (after : History) (next : Catalog) (number new : ℕ) → u ≡ old → IsNotSpent u.history.imports u.catalog.epoch → IsStill old s → BringsByKey (full old.history) release fresh
+pub taken_by_key : {D : Type 0} (u old s : StoreValue D) (release : Release) (fresh : NewRows) (after : History) (next : Catalog) (number new : ℕ) → u ≡ old → IsAdmitted u.history u.catalog release → IsStill old s → BringsByKey (full old.history) release fresh
     → after ≡ after_release s.history fresh.rows.items → IsCatalogAfter (stamped (s.history.imports + 1) fresh.rows.items) s.catalog next → number ≡ s.history.imports + 1 → new ≡ length fresh.rows.items
     → IsTakenByKey old.history after old.catalog next release (record { number = number; new = new; repeated = fresh.repeated })
 taken_by_key u old s release fresh after next number new first left still brings history catalog number_is count =
     let numbers : number ≡ old.history.imports + 1 = number_is ∙ ap (λ (h : History). h.imports + 1) still.history in
     record {
-      room = room_of u old first left;
+      room = room_of u old release first left;
       fresh = fresh;
       brings = brings;
       history = history ∙ ap (λ (h : History). after_release h fresh.rows.items) still.history;
@@ -97,7 +98,7 @@ taken_by_key u old s release fresh after next number new first left still brings
           (subst (λ (x : Catalog). IsCatalogAfter (stamped (s.history.imports + 1) fresh.rows.items) x next) still.catalog catalog);
     }
 
-pub extended_by_key : {D : Type 0} (u old v s : StoreValue D) (release : Release) (fresh : NewRows) (p : Prepared) (after : History) (next : Catalog) (number new : ℕ) → u ≡ old → IsNotSpent u.history.imports u.catalog.epoch → v ≡ s → IsHistory v.history → IsStill old s → BringsByKey (full old.history) release fresh
+pub extended_by_key : {D : Type 0} (u old v s : StoreValue D) (release : Release) (fresh : NewRows) (p : Prepared) (after : History) (next : Catalog) (number new : ℕ) → u ≡ old → IsAdmitted u.history u.catalog release → v ≡ s → IsHistory v.history → IsStill old s → BringsByKey (full old.history) release fresh
     → p.index ≡ stamped (v.history.imports + 1) fresh.rows.items → IsPlaced (stamped (v.history.imports + 1) fresh.rows.items) v.catalog (catalog_of p.directory v.catalog.merge) → 1 ≤ length fresh.rows.items
     → after ≡ with_rows s.history p.index → next ≡ catalog_of p.directory s.catalog.merge → number ≡ v.history.imports + 1 → new ≡ length fresh.rows.items
     → IsTakenByKey old.history after old.catalog next release (record { number = number; new = new; repeated = fresh.repeated })

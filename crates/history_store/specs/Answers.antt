@@ -24,7 +24,7 @@ use Rattle.history_store.specs.declared.refusal.Refusal.{Refusal}
 use Rattle.history_store.specs.declared.refusal.Refusal.TheVariants as refusals
 use Rattle.history_store.specs.Catalog.{Catalog, IsCatalogAfter, HasNoEntry, HasNoPlace}
 use Rattle.history_store.specs.StoreValue.{StoreValue, last_import, last_epoch}
-use Rattle.history_store.specs.Prepared.{IsNotSpent}
+use Rattle.history_store.specs.Prepared.{IsNotSpent, IsForLater, IsAdmitted}
 use Rattle.history_store.specs.Written.{added_ranges, StemsWithinAll}
 use Rattle.history_store.specs.Refusals.{of_loading}
 
@@ -122,7 +122,7 @@ IsOpeningOf (Err e) bytes = IsNotOpened e.0 bytes
 -- any
 pub record IsTaken (h after : History) (catalog next : Catalog) (release : Release)
     (receipt : Receipt) : Type 0 where
-  pub room : IsNotSpent h.imports catalog.epoch
+  pub room : IsAdmitted h catalog release
   pub rows : List RowValue
   pub is_release : IsReleaseOf release rows
   pub accepted : Accepts h rows
@@ -135,7 +135,7 @@ pub record IsTaken (h after : History) (catalog next : Catalog) (release : Relea
 -- there are any.
 pub record IsTakenByKey (h after : History) (catalog next : Catalog) (release : Release)
     (receipt : Receipt) : Type 0 where
-  pub room : IsNotSpent h.imports catalog.epoch
+  pub room : IsAdmitted h catalog release
   pub fresh : NewRows
   pub brings : BringsByKey (full h) release fresh
   pub history : after ≡ after_release h fresh.rows.items
@@ -149,7 +149,7 @@ pub record IsTakenByKey (h after : History) (catalog next : Catalog) (release : 
 -- A release whose rows that are new by their keys lack something. This is said on every disk.
 pub record LacksByKey (h : History) (catalog : Catalog) (release : Release)
     (Lacks : List StampedRow → Catalog → Type 0) : Type 0 where
-  pub room : IsNotSpent h.imports catalog.epoch
+  pub room : IsAdmitted h catalog release
   pub fresh : NewRows
   pub brings : BringsByKey (full h) release fresh
   pub lacks : Lacks (stamped (h.imports + 1) fresh.rows.items) catalog
@@ -157,7 +157,7 @@ pub record LacksByKey (h : History) (catalog : Catalog) (release : Release)
 -- a release that would be taken, but for its new rows
 pub record WouldBeTakenBut (h : History) (catalog : Catalog) (release : Release)
     (Lacks : List StampedRow → Catalog → Type 0) : Type 0 where
-  pub room : IsNotSpent h.imports catalog.epoch
+  pub room : IsAdmitted h catalog release
   pub rows : List RowValue
   pub is_release : IsReleaseOf release rows
   pub accepted : Accepts h rows
@@ -165,7 +165,7 @@ pub record WouldBeTakenBut (h : History) (catalog : Catalog) (release : Release)
 
 -- a release that would be taken: its new rows have a place, or there are none
 pub record WouldBeTaken (h : History) (catalog : Catalog) (release : Release) : Type 0 where
-  pub room : IsNotSpent h.imports catalog.epoch
+  pub room : IsAdmitted h catalog release
   pub rows : List RowValue
   pub is_release : IsReleaseOf release rows
   pub accepted : Accepts h rows
@@ -176,17 +176,19 @@ pub record WouldBeTaken (h : History) (catalog : Catalog) (release : Release) : 
 -- release file, and it is written to only for a release that would be taken
 abbrev pub DeviceMayFail : History → Catalog → Release → Type 0
 DeviceMayFail h catalog release =
-    (IsNotSpent h.imports catalog.epoch × IsRead release) ⊎ WouldBeTaken h catalog release
+    (IsAdmitted h catalog release × IsRead release) ⊎ WouldBeTaken h catalog release
 
 -- why a release isn't taken at a history and a catalog, on an honest device
 abbrev pub IsNotTaken : Refusal → History → Catalog → Release → Type 0
-IsNotTaken refusals.OutOfMemory h catalog release = IsNotSpent h.imports catalog.epoch
+IsNotTaken refusals.OutOfMemory h catalog release = IsAdmitted h catalog release
 IsNotTaken refusals.DiskFault h catalog release = DeviceMayFail h catalog release
 IsNotTaken refusals.CountSpent h catalog release =
     (h.imports ≡ last_import) ⊎ (catalog.epoch ≡ last_epoch)
+IsNotTaken refusals.LaterVersion h catalog release =
+    IsNotSpent h.imports catalog.epoch × IsForLater catalog.layout release
 IsNotTaken (refusals.Line file line fault) h catalog release =
-    IsNotSpent h.imports catalog.epoch × IsFaultOfRelease release file line fault
-IsNotTaken (refusals.Contradiction file line) h catalog release = IsNotSpent h.imports catalog.epoch
+    IsAdmitted h catalog release × IsFaultOfRelease release file line fault
+IsNotTaken (refusals.Contradiction file line) h catalog release = IsAdmitted h catalog release
     × (key : Key) × HasContradiction (full h) release file line key
 IsNotTaken refusals.TooManySegments h catalog release = WouldBeTakenBut h catalog release HasNoEntry
 IsNotTaken refusals.Full h catalog release = WouldBeTakenBut h catalog release HasNoPlace
@@ -258,13 +260,13 @@ abbrev pub IsReadingOf : {T D : Type 0} → Result T Refusal → StoreValue D �
 IsReadingOf (Ok x) old new = IsStill old new
 IsReadingOf (Err e) old new = IsReadRefusal e old × IsRefused e old new
 
--- Why an import is refused, on every disk: what the counts, the files, the directory and the keys
--- of the rows say. Whether a row contradicts the known ones is said on an honest disk alone.
+-- Why an import is refused, on every disk: what the counts, the version, the files, the directory
+-- and the keys of the rows say. Whether a row contradicts the known ones is said on an honest disk alone.
 abbrev pub IsRefusalOnAnyDisk : {D : Type 0} → Refusal → StoreValue D → Release → Type 0
 IsRefusalOnAnyDisk refusals.OutOfMemory s release =
-    (s.needs_reopen ≡ false) × IsNotSpent s.history.imports s.catalog.epoch
+    (s.needs_reopen ≡ false) × IsAdmitted s.history s.catalog release
 IsRefusalOnAnyDisk refusals.DiskFault s release =
-    (s.needs_reopen ≡ false) × IsNotSpent s.history.imports s.catalog.epoch × IsRead release
+    (s.needs_reopen ≡ false) × IsAdmitted s.history s.catalog release × IsRead release
 IsRefusalOnAnyDisk refusals.ReopenNeeded s release = s.needs_reopen ≡ true
 IsRefusalOnAnyDisk refusals.NotEmpty s release = ⊥
 IsRefusalOnAnyDisk refusals.Full s release =
@@ -273,7 +275,7 @@ IsRefusalOnAnyDisk refusals.TooManySegments s release =
     (s.needs_reopen ≡ false) × LacksByKey s.history s.catalog release HasNoEntry
 IsRefusalOnAnyDisk refusals.NotAStore s release = ⊥
 IsRefusalOnAnyDisk refusals.Damaged s release =
-    (s.needs_reopen ≡ false) × IsNotSpent s.history.imports s.catalog.epoch × IsRead release
+    (s.needs_reopen ≡ false) × IsAdmitted s.history s.catalog release × IsRead release
 IsRefusalOnAnyDisk (refusals.Unreadable damage) s release = ⊥
 IsRefusalOnAnyDisk refusals.NothingToMerge s release = ⊥
 IsRefusalOnAnyDisk refusals.MergeBusy s release = ⊥
@@ -281,10 +283,12 @@ IsRefusalOnAnyDisk refusals.NoMerge s release = ⊥
 IsRefusalOnAnyDisk refusals.MergeUnfinished s release = ⊥
 IsRefusalOnAnyDisk refusals.CountSpent s release = (s.needs_reopen ≡ false)
     × ((s.history.imports ≡ last_import) ⊎ (s.catalog.epoch ≡ last_epoch))
+IsRefusalOnAnyDisk refusals.LaterVersion s release = (s.needs_reopen ≡ false)
+    × IsNotSpent s.history.imports s.catalog.epoch × IsForLater s.catalog.layout release
 IsRefusalOnAnyDisk (refusals.Line file line fault) s release = (s.needs_reopen ≡ false)
-    × IsNotSpent s.history.imports s.catalog.epoch × IsFaultOfRelease release file line fault
-IsRefusalOnAnyDisk (refusals.Contradiction file line) s release = (s.needs_reopen ≡ false)
-    × IsNotSpent s.history.imports s.catalog.epoch × IsRead release
+    × IsAdmitted s.history s.catalog release × IsFaultOfRelease release file line fault
+IsRefusalOnAnyDisk (refusals.Contradiction file line) s release =
+    (s.needs_reopen ≡ false) × IsAdmitted s.history s.catalog release × IsRead release
 
 -- what an import answers on every disk, and the store after it; a failure of the device alone closes
 -- it

@@ -15,7 +15,7 @@ use Rattle.history_store.specs.declared.refusal.Refusal.TheVariants as refusals
 use Rattle.history_store.specs.Catalog.{Catalog}
 use Rattle.history_store.specs.Reading.{row_cost}
 use Rattle.history_store.specs.StoreValue.{StoreValue, IsAcknowledged}
-use Rattle.history_store.specs.Prepared.{IsNotSpent}
+use Rattle.history_store.specs.Prepared.{IsForLater, IsAdmitted}
 use Rattle.history_store.specs.Queries.{ReadsThroughCache}
 use Rattle.history_store.specs.Answers.{Counts, IsTaken, IsTakenByKey, IsRefused, IsStill}
 use Rattle.history_store.specs.Answers.{IsImportRefusal, IsRefusalOnAnyDisk}
@@ -25,7 +25,7 @@ use Rattle.history_store.specs.Answers.{IsImportOf, IsImportOnAnyDisk}
 -- known rows are read: a disk that is full, or that refuses a write, isn't found out.
 abbrev pub IsCheckingRefusal : {D : Type 0} → Refusal → StoreValue D → Release → Type 0
 IsCheckingRefusal refusals.DiskFault s release =
-    (s.needs_reopen ≡ false) × IsNotSpent s.history.imports s.catalog.epoch × IsRead release
+    (s.needs_reopen ≡ false) × IsAdmitted s.history s.catalog release × IsRead release
 IsCheckingRefusal e s release = IsImportRefusal e s release
 
 -- The receipt is that of an import which takes the release, and nothing is taken. A failure of the
@@ -47,16 +47,18 @@ IsCheckingOnAnyDisk (Err e) old new release =
     IsRefusalOnAnyDisk e old release × IsRefused e old new
 
 -- A release was checked. Whatever is answered, history and catalog stay, and a failed device alone
--- closes the store. A store that has to be opened again leaves everything as it is. Only reads are
--- made: each row of the store whose key the release has is read once at most, through the blocks in
--- memory, and no other; where a file is no release file, nothing is read. What a stop may leave
--- stays, and as long as no call has failed it represents what the store holds.
+-- closes the store. A store that has to be opened again leaves everything as it is, and so does one
+-- to which a release for a later version is given. Only reads are made: each row of the store whose
+-- key the release has is read once at most, through the blocks in memory, and no other; where a file
+-- is no release file, nothing is read. What a stop may leave stays, and as long as no call has failed
+-- it represents what the store holds.
 pub record IsChecking {D : Type 0} (result : Result Receipt Refusal) (release : Release)
     (is_honest : D → Type 0) (moments_of : D → Moments)
     (failures_of bytes_read_of other_calls_of : D → ℕ) (old new : StoreValue D) : Type 0 where
   pub answer : is_honest old.disk → IsCheckingOf result old new release
   pub kept : IsCheckingOnAnyDisk result old new release
   pub closed : old.needs_reopen ≡ true → new ≡ old
+  pub later : IsForLater old.catalog.layout release → new ≡ old
   pub moments : is_honest old.disk → moments_of new.disk ≡ moments_of old.disk
   pub acknowledged : is_honest old.disk → new.needs_reopen ≡ false → IsAcknowledged moments_of new
   pub honesty : is_honest old.disk ↔ is_honest new.disk

@@ -2,7 +2,7 @@
 
 ghost use Rattle.std.specs.Prelude.{◌≡◌, IfOk, true, false};
 
-use crate::preparing::{Prepared, is_spent, prepare, with_next_import};
+use crate::preparing::{Prepared, is_for_later, is_spent, prepare, with_next_import};
 use crate::refusal::Refusal;
 use crate::store::Store;
 use directory::Directory;
@@ -45,6 +45,9 @@ impl<D: Disk> Store<D> {
         }
         if is_spent(&self.directory) {
             return Err(Refusal::CountSpent);
+        }
+        if is_for_later(&self.directory, &release) {
+            return Err(Refusal::LaterVersion);
         }
         let fresh = self.find_new_rows(release)?;
         let receipt = Receipt {

@@ -15,6 +15,7 @@ mod key_order;
 mod known;
 mod latest;
 pub mod laws;
+mod membership;
 mod merge_calls;
 mod merge_in_progress;
 mod placing;

@@ -78,6 +78,7 @@ impl<D: Disk> Store<D> {
     ghost use Rattle.store_image.specs.Images.{Represents, RepresentsAs};
     ghost use Rattle.history_store.specs.Catalog.{catalog_of, blocks_in_use, plain_count};
     ghost use Rattle.history_store.specs.StoreValue.{IsAcknowledged};
+    ghost use Rattle.history_store.specs.Prepared.{IsForLater};
     ghost use Rattle.history_store.specs.Private.StoreValue.{directory_of, with_imports, with_rows};
     ghost use Rattle.history_store.specs.Private.Publishing.{IsRelisting};
     ghost use Rattle.history_store.specs.Private.Prepared.{IsPreparedFor};
@@ -364,6 +365,8 @@ impl<D: Disk> Store<D> {
             (D.moments self.old.disk).state c) }
         // A store that has to be opened again leaves everything as it is.
         ensures closed { self.old.needs_reopen ≡ true → self.new ≡ self.old }
+        // So does a store below version 3 to which a release with members of reference sets is given.
+        ensures later { IsForLater self.old.catalog.layout release → self.new ≡ self.old }
         // Eight calls that may change the disk where a row is new,
         // and else six; where it is refused, no more.
         ensures calls { D.is_honest self.old.disk → MakesImportCalls result

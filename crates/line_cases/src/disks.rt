@@ -40,6 +40,7 @@ impl CaseStore {
         match word {
             "close" => self.close(),
             "open" => self.open(),
+            "upgrade" => self.upgrade(),
             _ => match &mut self.disk {
                 Some(disk) => take_of_disk(self.alloc, disk, word, rest, shown),
                 None => Err(Fault::Line("no word of a case whose store is open")),
@@ -54,6 +55,17 @@ impl CaseStore {
                 self.disk = Some(server.close());
                 Ok(())
             }
+            None => Err(Fault::Line("the store is closed")),
+        }
+    }
+
+    /// Puts the store into version 3 of the layout.
+    fn upgrade(&mut self) -> Result<(), Fault> {
+        match &mut self.server {
+            Some(server) => match server.upgrade() {
+                Ok(()) => Ok(()),
+                Err(_) => Err(Fault::Line("the upgrade is refused")),
+            },
             None => Err(Fault::Line("the store is closed")),
         }
     }

@@ -14,7 +14,7 @@ use Rattle.rf2_values.specs.Member.{IsMemberByte}
 use Rattle.rf2_values.proofs.Decimals.{own}
 use Rattle.line_commands.specs.declared.words.QuestionWord.{QuestionWord}
 use Rattle.line_commands.specs.declared.words.QuestionWord.TheVariants as asking
-use Rattle.line_commands.specs.Questions.{Question, Get, History, Children, Ancestors, Descendants, Terms, Search, Replaced, Replaces, About, Timeline, Page, Delta, Dates, Digest, Receipt, word_of_question, letter}
+use Rattle.line_commands.specs.Questions.{Question, Get, History, Children, Ancestors, Descendants, Terms, Search, Replaced, Replaces, About, Timeline, Page, Delta, Members, Values, Called, Dates, Digest, Receipt, word_of_question, letter}
 use Rattle.line_commands.specs.Commands.{Command, Ask, At, Import, Check, Pin, Unpin, Merge, Step, Publish, Abandon, Trim, Status, word_of}
 use Rattle.line_commands.specs.Requests.{with_rest, spaced}
 use Rattle.line_commands.specs.Private.{IsWord, IsOther, text_of_question, behind}
@@ -61,6 +61,9 @@ question_is_word (About kind id date) = from_test (codes "ABOUT") refl
 question_is_word (Timeline kind id) = from_test (codes "TIMELINE") refl
 question_is_word (Page kind date after limit) = from_test (codes "PAGE") refl
 question_is_word (Delta kind from date after limit) = from_test (codes "DELTA") refl
+question_is_word (Members refset date after limit) = from_test (codes "MEMBERS") refl
+question_is_word (Values refset date after limit) = from_test (codes "VALUES") refl
+question_is_word (Called concept date refset) = from_test (codes "CALLED") refl
 question_is_word Dates = from_test (codes "DATES") refl
 question_is_word Digest = from_test (codes "DIGEST") refl
 question_is_word (Receipt number) = from_test (codes "RECEIPT") refl
@@ -130,7 +133,7 @@ spaced_is word (t ∷ ts) = refl
 
 -- the words of questions
 question_words : List (List ℕ)
-question_words = codes "GET" ∷ codes "HISTORY" ∷ codes "CHILDREN" ∷ codes "ANCESTORS" ∷ codes "DESCENDANTS" ∷ codes "TERMS" ∷ codes "SEARCH" ∷ codes "REPLACED" ∷ codes "REPLACES" ∷ codes "ABOUT" ∷ codes "TIMELINE" ∷ codes "PAGE" ∷ codes "DELTA" ∷ codes "DATES" ∷ codes "DIGEST" ∷ codes "RECEIPT" ∷ []
+question_words = codes "GET" ∷ codes "HISTORY" ∷ codes "CHILDREN" ∷ codes "ANCESTORS" ∷ codes "DESCENDANTS" ∷ codes "TERMS" ∷ codes "SEARCH" ∷ codes "REPLACED" ∷ codes "REPLACES" ∷ codes "ABOUT" ∷ codes "TIMELINE" ∷ codes "PAGE" ∷ codes "DELTA" ∷ codes "MEMBERS" ∷ codes "VALUES" ∷ codes "CALLED" ∷ codes "DATES" ∷ codes "DIGEST" ∷ codes "RECEIPT" ∷ []
 
 among : List ℕ → List (List ℕ) → Bool
 among word [] = false
@@ -151,6 +154,9 @@ is_among (About kind id date) = refl
 is_among (Timeline kind id) = refl
 is_among (Page kind date after limit) = refl
 is_among (Delta kind from date after limit) = refl
+is_among (Members refset date after limit) = refl
+is_among (Values refset date after limit) = refl
+is_among (Called concept date refset) = refl
 is_among Dates = refl
 is_among Digest = refl
 is_among (Receipt number) = refl
@@ -180,6 +186,9 @@ some_question asking.About = (About kinds.Concept 0 0, refl)
 some_question asking.Timeline = (Timeline kinds.Concept 0, refl)
 some_question asking.Page = (Page kinds.Concept 0 None 0, refl)
 some_question asking.Delta = (Delta kinds.Concept 0 0 None 0, refl)
+some_question asking.Members = (Members 0 0 None 0, refl)
+some_question asking.Values = (Values 0 0 None 0, refl)
+some_question asking.Called = (Called 0 0 0, refl)
 some_question asking.Dates = (Dates, refl)
 some_question asking.Digest = (Digest, refl)
 some_question asking.Receipt = (Receipt 0, refl)
@@ -195,7 +204,7 @@ one_letter k l e = absurd (false≢true (sym (ap (bytes_eq (letter k)) e)))
 
 -- `-` is no number, and no identifier
 
-no_dash_number : (n : ℕ) (t : List ℕ) → n < 2 ^ 64 → t ≡ codes "-" → t ≡ decimal n → ⊥
+pub no_dash_number : (n : ℕ) (t : List ℕ) → n < 2 ^ 64 → t ≡ codes "-" → t ≡ decimal n → ⊥
 no_dash_number n t lt dash e =
     let same : decimal n ≡ 45 ∷ [] = sym e ∙ dash in
     let some : length (decimal n) ≡ 1 = ap length same in

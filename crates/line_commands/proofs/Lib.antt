@@ -4,4 +4,5 @@ pub mod FirstWords
 pub mod Forms
 pub mod NameTexts
 pub mod Readings
+pub mod Refsets
 pub mod Refusing

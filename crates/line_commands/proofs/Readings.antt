@@ -1,5 +1,5 @@
 -- A line is read in one way.
-use Rattle.std.proofs.Common.{◌≡◌, ℕ, ◌<◌, ◌^◌, Option, Some, None, List, ◌∷◌, ◌++◌, refl, sym, ap, subst, ◌∙◌, arith, append_assoc}
+use Rattle.std.proofs.Common.{◌≡◌, ℕ, ◌<◌, ◌≤◌, ◌^◌, Option, Some, None, List, ◌∷◌, ◌++◌, refl, sym, ap, subst, ◌∙◌, arith, append_assoc}
 use Rattle.std.specs.Prelude.{decimal}
 use Rattle.std.specs.Str.{bytes_eq}
 use Rattle.std.proofs.lemmas.Bool.{false≢true}
@@ -11,12 +11,12 @@ use Rattle.rf2_values.specs.Time.{IsTime}
 use Rattle.rf2_values.specs.Row.{IsIdOf, SpellsId, IsConcept, IsComponent}
 use Rattle.rf2_values.proofs.Ids.{same_ids}
 use Rattle.line_commands.specs.declared.unread.Unread.TheVariants as unread
-use Rattle.line_commands.specs.Questions.{Question, Get, History, Children, Ancestors, Descendants, Terms, Search, Replaced, Replaces, About, Timeline, Page, Delta, Dates, Digest, Receipt, word_of_question, letter, IsSubjectOf, SpellsQuestion, SpellsAfter}
+use Rattle.line_commands.specs.Questions.{Question, Get, History, Children, Ancestors, Descendants, Terms, Search, Replaced, Replaces, About, Timeline, Page, Delta, Members, Values, Called, Dates, Digest, Receipt, word_of_question, letter, IsSubjectOf, SpellsQuestion, SpellsAfter, SpellsComponentAfter, most_rows}
 use Rattle.line_commands.specs.Commands.{Command, Ask, At, Import, Check, Pin, Unpin, Merge, Step, Publish, Abandon, Trim, Status, word_of, SpellsArguments}
 use Rattle.line_commands.specs.Requests.{with_rest, sessions, Asks, HasSession, HasCommand}
 use Rattle.line_commands.specs.Private.{IsWord, behind}
 use Rattle.line_commands.specs.Laws.{OneReading, AskedIsRead, OneRefusal}
-use Rattle.line_commands.proofs.FirstWords.{decimal_word, letter_word, question_is_word, command_is_word, none_word, id_word, peel, one_head, spaced_is, not_asked, one_letter, not_dash}
+use Rattle.line_commands.proofs.FirstWords.{decimal_word, letter_word, question_is_word, command_is_word, none_word, id_word, peel, one_head, spaced_is, not_asked, one_letter, not_dash, no_dash_number}
 
 -- ---- one number, one identifier
 
@@ -68,6 +68,13 @@ same_after k l None (Some id) t u kind text s h = absurd (not_dash l id u (sym t
 same_after k l (Some id) None t u kind text s h = absurd (not_dash k id t (text ∙ h) s.0 s.1)
 same_after k l (Some id) (Some jd) t u kind text s h = ap (λ (x : ℕ). Some x) (same_ids_of k l id jd t u kind text s.0 h.0 s.1 h.1)
 
+-- so is a component or none
+same_component_after : (a b : Option ℕ) (t u : List ℕ) → t ≡ u → SpellsComponentAfter a t → SpellsComponentAfter b u → a ≡ b
+same_component_after None None t u text s h = refl
+same_component_after None (Some id) t u text s h = let high = h.0.sctid.high in absurd (no_dash_number id u (omega arith) (sym text ∙ s) h.1)
+same_component_after (Some id) None t u text s h = let high = s.0.sctid.high in absurd (no_dash_number id t (omega arith) (text ∙ h) s.1)
+same_component_after (Some id) (Some jd) t u text s h = ap (λ (x : ℕ). Some x) (same_components id jd s.0 h.0 (sym s.1 ∙ text ∙ h.1))
+
 pub subject_below : (kind : Kind) (id : ℕ) → IsSubjectOf kind id → id < 2 ^ 64
 subject_below kinds.Concept id h = absurd h
 subject_below kinds.Description id h = let high = h.sctid.high in omega arith
@@ -81,6 +88,21 @@ subject_below kinds.Member id h = let high = h.sctid.high in omega arith
 pub after_word : (k : Kind) (after : Option ℕ) (t : List ℕ) → SpellsAfter k after t → IsWord t
 after_word k None t h = subst IsWord (sym h) none_word
 after_word k (Some id) t h = id_word k id t h.0 h.1
+
+pub component_after_word : (after : Option ℕ) (t : List ℕ) → SpellsComponentAfter after t → IsWord t
+component_after_word None t h = subst IsWord (sym h) none_word
+component_after_word (Some id) t h = let high = h.0.sctid.high in subst IsWord (sym h.1) (decimal_word id (omega arith))
+
+-- a reference set, a date, a word and a limit are spelled in one way
+same_refset_words : (refset other date day : ℕ) (a b : List ℕ) (limit most : ℕ) → IsConcept refset → IsConcept other → IsTime date → IsTime day → IsWord a → IsWord b → limit ≤ most_rows → most ≤ most_rows
+    → decimal refset ++ 32 ∷ (decimal date ++ 32 ∷ (a ++ 32 ∷ decimal limit)) ≡ decimal other ++ 32 ∷ (decimal day ++ 32 ∷ (b ++ 32 ∷ decimal most)) → (refset ≡ other) × (date ≡ day) × (a ≡ b) × (limit ≡ most)
+same_refset_words refset other date day a b limit most h g time also is_word other_word low high e =
+    let below = h.sctid.high in
+    let under = g.sctid.high in
+    let first = peel (decimal refset) (decimal other) _ _ (decimal_word refset (omega arith)) (decimal_word other (omega arith)) e in
+    let second = peel (decimal date) (decimal day) _ _ (decimal_word date (time_below date time)) (decimal_word day (time_below day also)) first.1 in
+    let third = peel a b _ _ is_word other_word second.1 in
+    (same_concepts refset other h g first.0, same_times date day time also second.0, third.0, same_numbers limit most (omega arith) (omega arith) third.1)
 
 rest_same : (xs ys : List (List ℕ)) (x y : List (List ℕ)) → xs ≡ x → ys ≡ y → behind xs ≡ behind ys → behind x ≡ behind y
 rest_same xs ys x y e f same = sym (ap behind e) ∙ same ∙ ap behind f
@@ -175,6 +197,24 @@ one_question (Delta k from date after limit) (Delta l since day last most) xs ys
     let limits = same_numbers limit most (omega arith) (omega arith) fourth.1 in
     let afters = same_after k l after last s.0 t.0 kind fourth.0 s.1 t.1 in
     ap (λ (x : Kind). Delta x from date after limit) kind ∙ ap (λ (x : ℕ). Delta l x date after limit) froms ∙ ap (λ (x : ℕ). Delta l since x after limit) days ∙ ap (λ (x : Option ℕ). Delta l since day x limit) afters ∙ ap (λ (x : ℕ). Delta l since day last x) limits
+one_question (Members refset date after limit) (Members other day since most) xs ys w s t same =
+    let e = same_refset_words refset other date day s.0 t.0 limit most s.2 t.2 s.3 t.3 (after_word kinds.Member after s.0 s.1) (after_word kinds.Member since t.0 t.1) s.5 t.5 (same_Some _ _ (rest_same xs ys _ _ s.6 t.6 same)) in
+    let afters = same_after kinds.Member kinds.Member after since s.0 t.0 refl e.2 s.1 t.1 in
+    ap (λ (x : ℕ). Members x date after limit) e.0 ∙ ap (λ (x : ℕ). Members other x after limit) e.1 ∙ ap (λ (x : Option ℕ). Members other day x limit) afters ∙ ap (λ (x : ℕ). Members other day since x) e.3
+one_question (Values refset date after limit) (Values other day since most) xs ys w s t same =
+    let e = same_refset_words refset other date day s.0 t.0 limit most s.2 t.2 s.3 t.3 (component_after_word after s.0 s.1) (component_after_word since t.0 t.1) s.5 t.5 (same_Some _ _ (rest_same xs ys _ _ s.6 t.6 same)) in
+    let afters = same_component_after after since s.0 t.0 e.2 s.1 t.1 in
+    ap (λ (x : ℕ). Values x date after limit) e.0 ∙ ap (λ (x : ℕ). Values other x after limit) e.1 ∙ ap (λ (x : Option ℕ). Values other day x limit) afters ∙ ap (λ (x : ℕ). Values other day since x) e.3
+one_question (Called concept date refset) (Called other day also) xs ys w s t same =
+    let whole = same_Some _ _ (rest_same xs ys _ _ s.3 t.3 same) in
+    let below = s.0.sctid.high in
+    let under = t.0.sctid.high in
+    let first = peel (decimal concept) (decimal other) _ _ (decimal_word concept (omega arith)) (decimal_word other (omega arith)) whole in
+    let second = peel (decimal date) (decimal day) _ _ (decimal_word date (time_below date s.1)) (decimal_word day (time_below day t.1)) first.1 in
+    let concepts = same_concepts concept other s.0 t.0 first.0 in
+    let days = same_times date day s.1 t.1 second.0 in
+    let refsets = same_concepts refset also s.2 t.2 second.1 in
+    ap (λ (x : ℕ). Called x date refset) concepts ∙ ap (λ (x : ℕ). Called other x refset) days ∙ ap (λ (x : ℕ). Called other day x) refsets
 one_question Dates Dates xs ys w s t same = refl
 one_question Digest Digest xs ys w s t same = refl
 one_question (Receipt m) (Receipt n) xs ys w s t same =

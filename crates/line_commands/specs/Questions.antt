@@ -23,6 +23,9 @@ pub data Question : Type 0 where
   Timeline : (kind : Kind) (id : ℕ) → Question
   Page : (kind : Kind) (date : ℕ) (after : Option ℕ) (limit : ℕ) → Question
   Delta : (kind : Kind) (from date : ℕ) (after : Option ℕ) (limit : ℕ) → Question
+  Members : (refset date : ℕ) (after : Option ℕ) (limit : ℕ) → Question
+  Values : (refset date : ℕ) (after : Option ℕ) (limit : ℕ) → Question
+  Called : (concept date refset : ℕ) → Question
   Dates : Question
   Digest : Question
   Receipt : (number : ℕ) → Question
@@ -42,6 +45,9 @@ word_of_question (About kind id date) = codes "ABOUT"
 word_of_question (Timeline kind id) = codes "TIMELINE"
 word_of_question (Page kind date after limit) = codes "PAGE"
 word_of_question (Delta kind from date after limit) = codes "DELTA"
+word_of_question (Members refset date after limit) = codes "MEMBERS"
+word_of_question (Values refset date after limit) = codes "VALUES"
+word_of_question (Called concept date refset) = codes "CALLED"
 word_of_question Dates = codes "DATES"
 word_of_question Digest = codes "DIGEST"
 word_of_question (Receipt number) = codes "RECEIPT"
@@ -73,6 +79,11 @@ IsSubjectOf kinds.Member id = IsComponent id
 abbrev pub SpellsAfter : Kind → Option ℕ → List ℕ → Type 0
 SpellsAfter kind None text = text ≡ codes "-"
 SpellsAfter kind (Some id) text = IsIdOf kind id × SpellsId kind id text
+
+-- the identifier of a component, or `-` for none
+abbrev pub SpellsComponentAfter : Option ℕ → List ℕ → Type 0
+SpellsComponentAfter None text = text ≡ codes "-"
+SpellsComponentAfter (Some id) text = IsComponent id × (text ≡ decimal id)
 
 -- How the arguments of a question are spelled. The last one of TERMS and SEARCH may hold spaces.
 abbrev pub SpellsQuestion : Question → List (List ℕ) → Type 0
@@ -109,6 +120,17 @@ SpellsQuestion (Delta kind from date after limit) texts =
     (text : List ℕ) × SpellsAfter kind after text × IsTime from × IsTime date × (1 ≤ limit)
     × (limit ≤ most_rows)
     × (texts ≡ letter kind ∷ decimal from ∷ decimal date ∷ text ∷ decimal limit ∷ [])
+SpellsQuestion (Members refset date after limit) texts =
+    (text : List ℕ) × SpellsAfter kinds.Member after text × IsConcept refset × IsTime date
+    × (1 ≤ limit) × (limit ≤ most_rows)
+    × (texts ≡ decimal refset ∷ decimal date ∷ text ∷ decimal limit ∷ [])
+SpellsQuestion (Values refset date after limit) texts =
+    (text : List ℕ) × SpellsComponentAfter after text × IsConcept refset × IsTime date
+    × (1 ≤ limit) × (limit ≤ most_rows)
+    × (texts ≡ decimal refset ∷ decimal date ∷ text ∷ decimal limit ∷ [])
+SpellsQuestion (Called concept date refset) texts =
+    IsConcept concept × IsTime date × IsConcept refset
+    × (texts ≡ decimal concept ∷ decimal date ∷ decimal refset ∷ [])
 SpellsQuestion Dates texts = texts ≡ []
 SpellsQuestion Digest texts = texts ≡ []
 SpellsQuestion (Receipt number) texts =

@@ -8,6 +8,7 @@ ghost use Rattle.rf2_values.specs.Time.{IsTime};
 ghost use Rattle.rf2_values.specs.Member.{SpellsMember};
 ghost use Rattle.rf2_values.specs.Row.{IsOfClass, IsComponent, IsIdOf, SpellsId};
 ghost use Rattle.line_commands.specs.Questions.{letter, IsSubjectOf, SpellsAfter};
+ghost use Rattle.line_commands.specs.Questions.{SpellsComponentAfter};
 ghost use Rattle.line_commands.specs.Requests.{sessions};
 
 use crate::command::SESSIONS;
@@ -153,6 +154,20 @@ pub(crate) fn after(kind: Kind, text: &[u8]) -> Option<Option<u128>>
     }
     match identifier(kind, text) {
         Some(id) => Some(Some(id)),
+        None => None,
+    }
+}
+
+/// The identifier of a component, or `-` for none.
+pub(crate) fn component_after(text: &[u8]) -> Option<Option<u64>>
+    ensures { MatchOption result ((o : Option ℕ) → SpellsComponentAfter o text.now → ⊥)
+        (λ o. SpellsComponentAfter o text.now) }
+{
+    if text == b"-".as_slice() {
+        return Some(None);
+    }
+    match component(text) {
+        Some(id) => Some(Some(id.value())),
         None => None,
     }
 }

@@ -85,6 +85,29 @@ pub enum Question<'a> {
         after: Option<u128>,
         limit: u32,
     },
+    /// The members of a reference set on a date, active or not, by identifier, from the one after
+    /// `after`.
+    Members {
+        refset: Sctid,
+        time: EffectiveTime,
+        after: Option<u128>,
+        limit: u32,
+    },
+    /// The active members of a reference set on a date, by the component that they refer to, from
+    /// the component after `after`.
+    Values {
+        refset: Sctid,
+        time: EffectiveTime,
+        after: Option<u64>,
+        limit: u32,
+    },
+    /// The descriptions by which a concept was called on a date in the language of a reference
+    /// set, each with its members.
+    Called {
+        concept: Sctid,
+        time: EffectiveTime,
+        refset: Sctid,
+    },
     /// The effective times of all rows.
     Dates,
     /// The digest of all rows.

@@ -7,9 +7,11 @@ ghost use Rattle.rf2_values.specs.Row.{IsConcept, IsComponent};
 ghost use Rattle.rf2_values.specs.Time.{IsTime};
 ghost use Rattle.line_commands.specs.Private.{IsQuestionReadAs, text_of_question};
 
-use crate::columns::{after, component, date, identifier, kind, limit, prefix, sctid_of, subject};
+use crate::columns::{
+    after, component, component_after, date, identifier, kind, limit, prefix, sctid_of, subject,
+};
 use crate::question::Question;
-use crate::words::{QuestionWord, cut, cut_twice};
+use crate::words::{QuestionWord, cut, cut_thrice, cut_twice};
 use rf2_values::{Class, EffectiveTime, Kind, Sctid};
 
 /// The most rows that one answer may be asked for.
@@ -179,6 +181,52 @@ fn delta(text: &[u8]) -> Option<Question<'_>>
     })
 }
 
+fn members(text: &[u8]) -> Option<Question<'_>>
+    ensures { IsQuestionReadAs (codes "MEMBERS") (Some text.now) result }
+{
+    let (refset, time, from, count) = cut_thrice(text)?;
+    let refset = sctid_of(refset, Class::Concept)?;
+    let time = date(time)?;
+    let after = after(Kind::Member, from)?;
+    let limit = limit(count, MOST_ROWS)?;
+    Some(Question::Members {
+        refset,
+        time,
+        after,
+        limit,
+    })
+}
+
+fn values(text: &[u8]) -> Option<Question<'_>>
+    ensures { IsQuestionReadAs (codes "VALUES") (Some text.now) result }
+{
+    let (set, time, from, count) = cut_thrice(text)?;
+    let refset = sctid_of(set, Class::Concept)?;
+    let time = date(time)?;
+    let after = component_after(from)?;
+    let limit = limit(count, MOST_ROWS)?;
+    Some(Question::Values {
+        refset,
+        time,
+        after,
+        limit,
+    })
+}
+
+fn called(text: &[u8]) -> Option<Question<'_>>
+    ensures { IsQuestionReadAs (codes "CALLED") (Some text.now) result }
+{
+    let (named, time, language) = cut_twice(text)?;
+    let concept = sctid_of(named, Class::Concept)?;
+    let time = date(time)?;
+    let refset = sctid_of(language, Class::Concept)?;
+    Some(Question::Called {
+        concept,
+        time,
+        refset,
+    })
+}
+
 fn receipt(text: &[u8]) -> Option<Question<'_>>
     ensures { IsQuestionReadAs (codes "RECEIPT") (Some text.now) result }
 {
@@ -217,6 +265,9 @@ fn with_arguments(word: QuestionWord, text: &[u8]) -> Option<Question<'_>>
         QuestionWord::Timeline => timeline(text),
         QuestionWord::Page => page(text),
         QuestionWord::Delta => delta(text),
+        QuestionWord::Members => members(text),
+        QuestionWord::Values => values(text),
+        QuestionWord::Called => called(text),
         QuestionWord::Receipt => receipt(text),
         QuestionWord::Dates | QuestionWord::Digest => None,
     }

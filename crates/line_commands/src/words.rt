@@ -24,6 +24,9 @@ pub(crate) enum QuestionWord {
     Timeline,
     Page,
     Delta,
+    Members,
+    Values,
+    Called,
     Dates,
     Digest,
     Receipt,
@@ -78,6 +81,18 @@ pub(crate) fn cut_twice(text: &[u8]) -> Option<(&[u8], &[u8], &[u8])>
     Some((first, second, rest))
 }
 
+/// Three words, and what stands behind the spaces after them.
+pub(crate) fn cut_thrice(text: &[u8]) -> Option<(&[u8], &[u8], &[u8], &[u8])>
+    ensures { MatchOption result ((a b c x : List ℕ) → IsWord a → IsWord b → IsWord c
+        → text.now ≢ a ++ 32 ∷ (b ++ 32 ∷ (c ++ 32 ∷ x)))
+        (λ x. IsWord x.0.now × IsWord x.1.now × IsWord x.2.now
+        × (text.now ≡ x.0.now ++ 32 ∷ (x.1.now ++ 32 ∷ (x.2.now ++ 32 ∷ x.3.now)))) }
+{
+    let (first, rest) = cut(text)?;
+    let (second, third, rest) = cut_twice(rest)?;
+    Some((first, second, third, rest))
+}
+
 /// The question that the text names.
 pub(crate) fn question_word(text: &[u8]) -> Option<QuestionWord>
     ensures { MatchOption result ((question : Asked) → text.now ≢ word_of_question question)
@@ -97,6 +112,9 @@ pub(crate) fn question_word(text: &[u8]) -> Option<QuestionWord>
         b"TIMELINE" => Some(QuestionWord::Timeline),
         b"PAGE" => Some(QuestionWord::Page),
         b"DELTA" => Some(QuestionWord::Delta),
+        b"MEMBERS" => Some(QuestionWord::Members),
+        b"VALUES" => Some(QuestionWord::Values),
+        b"CALLED" => Some(QuestionWord::Called),
         b"DATES" => Some(QuestionWord::Dates),
         b"DIGEST" => Some(QuestionWord::Digest),
         b"RECEIPT" => Some(QuestionWord::Receipt),

@@ -1,12 +1,13 @@
 -- Lines that are too long are answered alike.
 use Rattle.std.proofs.Common.{◌≡◌, ℕ, ◌<◌, List, [], ◌∷◌, length, Result, subst, arith, inl, inr}
 use Rattle.store_life.specs.DeviceView.{DeviceView}
+use Rattle.import_check.specs.declared.scope.Scope.{Scope}
 use Rattle.import_check.specs.declared.release.Release.{Release}
 use Rattle.line_commands.specs.declared.unread.Unread.{Unread}
 use Rattle.line_commands.specs.declared.unread.Unread.TheVariants as unread
 use Rattle.line_commands.specs.Requests.{IsUnread}
 use Rattle.line_server.specs.declared.refusal.LineRefusal.{LineRefusal}
-use Rattle.line_server.specs.Sources.{Releases, SourceView, source_view}
+use Rattle.line_server.specs.Sources.{Releases, SourceView, source_view, scope_of}
 use Rattle.line_server.specs.ReplyValue.{Answer}
 use Rattle.line_server.specs.Replies.{Server, Replies}
 use Rattle.store_life.specs.Life.{Call, Imported, Failed, Other}
@@ -18,13 +19,13 @@ unread_alike x y unread.Session long other h = let short = h.0 in absurd (omega 
 unread_alike x y unread.Command long other h = let short = h.0 in absurd (omega arith)
 unread_alike x y unread.Arguments long other h = let short = h.0 in absurd (omega arith)
 
-none_asked_for : (releases : Releases) (x : List ℕ) (release : Release) → 4096 < length x → IsAskedFor releases x release → ⊥
-none_asked_for releases x release long h = let short = h.2.short in absurd (omega arith)
+none_asked_for : (releases : Releases) (scope : Scope) (x : List ℕ) (release : Release) → 4096 < length x → IsAskedFor releases scope x release → ⊥
+none_asked_for releases scope x release long h = let short = h.2.short in absurd (omega arith)
 
-asked_alike : (releases : Releases) (x y : List ℕ) (call : Call) → 4096 < length x → IsOfAsked releases x call → IsOfAsked releases y call
-asked_alike releases x y (Imported release) long h = absurd (none_asked_for releases x release long h)
-asked_alike releases x y (Failed release) long h = absurd (none_asked_for releases x release long h)
-asked_alike releases x y Other long h = tt
+asked_alike : (releases : Releases) (scope : Scope) (x y : List ℕ) (call : Call) → 4096 < length x → IsOfAsked releases scope x call → IsOfAsked releases scope y call
+asked_alike releases scope x y (Imported release) long h = absurd (none_asked_for releases scope x release long h)
+asked_alike releases scope x y (Failed release) long h = absurd (none_asked_for releases scope x release long h)
+asked_alike releases scope x y Other long h = tt
 
 module _ {D : Type 0} (outcome : Result Answer LineRefusal) (call : Call) (old new : Server D) where
   abbrev pub turn_of : List ℕ → Turn
@@ -37,7 +38,7 @@ module _ {D : Type 0} (outcome : Result Answer LineRefusal) (call : Call) (old n
   goes_alike : (honest : Type 0) (releases : Releases) (x y : List ℕ) → 4096 < length x → 4096 < length y → GoesBy honest releases old (turn_of x) new → GoesBy honest releases old (turn_of y) new
   goes_alike honest releases x y long other g = record {
     replies = replies_alike honest releases x y long other g.replies;
-    asked = asked_alike releases x y call long g.asked;
+    asked = asked_alike releases (scope_of old.store.catalog.layout) x y call long g.asked;
   }
 
   module _ (source : SourceView) (view : DeviceView D) where

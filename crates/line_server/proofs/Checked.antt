@@ -15,7 +15,8 @@ use Rattle.line_commands.specs.Commands.{Check}
 use Rattle.line_server.specs.declared.refusal.LineRefusal.TheVariants as refusals
 use Rattle.line_server.specs.declared.source.SourceFault.{SourceFault}
 use Rattle.line_server.specs.declared.source.SourceFault.TheVariants as faults
-use Rattle.line_server.specs.Sources.{Releases, SourceView, IsGiven, of_source}
+use Rattle.import_check.specs.declared.scope.Scope.{Scope}
+use Rattle.line_server.specs.Sources.{Releases, SourceView, IsGiven, of_source, scope_of}
 use Rattle.line_server.specs.ReplyValue.{Done, ReplyValue, reply_value}
 use Rattle.line_server.specs.StateValue.{StateValue, HoldsBack}
 use Rattle.line_server.specs.Replies.{IsChecked, IsStoreRefusal, import_words, server}
@@ -40,25 +41,29 @@ module _ {D : Type 0} (source : SourceView) (view : DeviceView D) (name : List �
       (unmade view s) refl (unread s) (omega arith)
 
   -- it has no release under the name
-  missing : (s : StoreValue D) → (source.is_honest → source.releases name ≡ None) → IsResponse (Err refusals.NoFolder) source view session (Check name) (server state s) (server state s)
+  missing : (s : StoreValue D) → (source.is_honest → source.releases (scope_of s.catalog.layout) name ≡ None) → IsResponse (Err refusals.NoFolder) source view session (Check name) (server state s) (server state s)
   missing s none =
-      carried_out source view (Err refusals.NoFolder) session (Check name) (Err refusals.NoFolder) Other (server state s) (server state s) (λ n. None) refl
+      carried_out source view (Err refusals.NoFolder) session (Check name) (Err refusals.NoFolder) Other (server state s) (server state s) (λ k n. None) refl
       (λ line asks. record { replies = inl (session, Check name, asks, inr (record { free = free; comes_out = (name, refl, refl, refl); damage = refl })); asked = tt })
       (λ h line asks. record { replies = inl (session, Check name, asks, inr (record { free = free; comes_out = (name, refl, none h, refl); damage = refl })); asked = tt })
       (unmade view s) refl (unread s) (omega arith)
 
   -- no release was had, for this reason
-  pub unhad : (s : StoreValue D) (fault : SourceFault) → (source.is_honest → IsGiven (Err fault) (source.releases name)) → IsResponse (Err (of_source fault)) source view session (Check name) (server state s) (server (refused_as (of_source fault) state) s)
-  unhad s faults.OutOfMemory given = lacking s
-  unhad s faults.NoFolder given = missing s given
+  pub unhad : (s : StoreValue D) (scope : Scope) → scope ≡ scope_of s.catalog.layout → (fault : SourceFault) → (source.is_honest → IsGiven (Err fault) (source.releases scope name)) → IsResponse (Err (of_source fault)) source view session (Check name) (server state s) (server (refused_as (of_source fault) state) s)
+  unhad s scope is faults.OutOfMemory given = lacking s
+  unhad s scope is faults.NoFolder given = missing s (λ h. ap (λ (k : Scope). source.releases k name) (sym is) ∙ given h)
 
-  module _ (old new : StoreValue D) (release : Release) (given : source.is_honest → source.releases name ≡ Some (files_of release)) {other_calls : D → ℕ} where
+  module _ (old new : StoreValue D) (release : Release) (scope : Scope) (scope_is : scope ≡ scope_of old.catalog.layout) (had : source.is_honest → source.releases scope name ≡ Some (files_of release)) {other_calls : D → ℕ} where
+    -- what was given, in the scope of the store's version
+    given : source.is_honest → source.releases (scope_of old.catalog.layout) name ≡ Some (files_of release)
+    given h = ap (λ (k : Scope). source.releases k name) (sym scope_is) ∙ had h
+
     -- an import of it would be taken
     pub checked : (receipt : Receipt) (reply : ReplyValue) → IsChecking (Ok receipt) release view.is_honest view.moments view.failures view.bytes_read other_calls old new
         → reply ≡ reply_value (Ok (Done (import_words receipt))) → IsResponse (Ok reply) source view session (Check name) (server state old) (server state new)
     checked receipt reply c told =
         let same : new.history.imports ≡ old.history.imports = ap (λ (h : History). h.imports) c.kept.1.history in
-        carried_out source view (Ok reply) session (Check name) (Ok (Done (import_words receipt))) Other (server state old) (server state new) (λ n. Some (files_of release)) told
+        carried_out source view (Ok reply) session (Check name) (Ok (Done (import_words receipt))) Other (server state old) (server state new) (λ k n. Some (files_of release)) told
         (λ line asks. record {
           replies = inl (session, Check name, asks, inr (record { free = free; comes_out = (receipt, record { release = release; has = refl; at_all = c.kept; checked = c.answer; pins = refl }, refl); damage = refl }));
           asked = tt;
@@ -73,11 +78,11 @@ module _ {D : Type 0} (source : SourceView) (view : DeviceView D) (name : List �
     pub unchecked : (e : Refusal) → IsChecking (Err e) release view.is_honest view.moments view.failures view.bytes_read other_calls old new
         → IsResponse (Err (refusals.Store e)) source view session (Check name) (server state old) (server (refused_by e state) new)
     unchecked e c =
-        carried_out source view (Err (refusals.Store e)) session (Check name) (Err (refusals.Store e)) Other (server state old) (server (refused_by e state) new) (λ n. Some (files_of release)) refl
-        (λ line asks. record { replies = inl (session, Check name, asks, inr (record { free = free; comes_out = refused (λ n. Some (files_of release)) e refl refl; damage = refl })); asked = tt })
+        carried_out source view (Err (refusals.Store e)) session (Check name) (Err (refusals.Store e)) Other (server state old) (server (refused_by e state) new) (λ k n. Some (files_of release)) refl
+        (λ line asks. record { replies = inl (session, Check name, asks, inr (record { free = free; comes_out = refused (λ k n. Some (files_of release)) e refl refl; damage = refl })); asked = tt })
         (λ h line asks. record { replies = inl (session, Check name, asks, inr (record { free = free; comes_out = refused source.releases e refl (given h); damage = refl })); asked = tt })
         (check_made view other_calls old new release (Err e) c) c.failures (c.moments, c.looked_up) (refused_imports e old new c.kept.1) where
-          refused : (releases : Releases) (r : Refusal) → r ≡ e → releases name ≡ Some (files_of release) → IsStoreRefusal (view.is_honest old.disk) releases session (Check name) r (server state old) (server (refused_by e state) new)
+          refused : (releases : Releases) (r : Refusal) → r ≡ e → releases (scope_of old.catalog.layout) name ≡ Some (files_of release) → IsStoreRefusal (view.is_honest old.disk) releases session (Check name) r (server state old) (server (refused_by e state) new)
           refused releases store.OutOfMemory is has_it =
               record { pins = refl; store = record { history = c.kept.1.history; catalog = c.kept.1.catalog; needs_reopen = c.kept.1.still (λ f. lack_is_no_fault (is ∙ f)) } }
           refused releases r is has_it =

@@ -6,7 +6,7 @@ use Rattle.history_model.specs.History.{rows_at}
 use Rattle.history_model.proofs.Hierarchy.{one_list_of_ancestors, one_list_of_descendants}
 use Rattle.history_store.specs.declared.refusal.Refusal.{Refusal}
 use Rattle.history_store.specs.declared.refusal.Refusal.TheVariants as store
-use Rattle.line_commands.specs.Questions.{Question, Get, History, Children, Ancestors, Descendants, Terms, Search, Replaced, Replaces, About, Timeline, Page, Delta, Dates, Digest, Receipt}
+use Rattle.line_commands.specs.Questions.{Question, Get, History, Children, Ancestors, Descendants, Terms, Search, Replaced, Replaces, About, Timeline, Page, Delta, Members, Values, Called, Dates, Digest, Receipt}
 use Rattle.line_server.specs.declared.refusal.LineRefusal.{LineRefusal}
 use Rattle.line_server.specs.declared.refusal.LineRefusal.TheVariants as refusals
 use Rattle.line_server.specs.ReplyValue.{Answer, Ids}
@@ -68,6 +68,9 @@ one_found (About kind id date) rows x y h k = h ∙ sym k
 one_found (Timeline kind id) rows x y h k = h ∙ sym k
 one_found (Page kind date after limit) rows x y h k = h ∙ sym k
 one_found (Delta kind from date after limit) rows x y h k = h ∙ sym k
+one_found (Members refset date after limit) rows x y h k = h ∙ sym k
+one_found (Values refset date after limit) rows x y h k = h ∙ sym k
+one_found (Called concept date refset) rows x y h k = h ∙ sym k
 one_found Dates rows x y h k = h ∙ sym k
 one_found Digest rows x y h k = h ∙ sym k
 

@@ -20,7 +20,7 @@ use Rattle.line_commands.proofs.Readings.{one_reading, asked_is_read, one_refusa
 use Rattle.line_server.specs.declared.refusal.LineRefusal.{LineRefusal}
 use Rattle.line_server.specs.declared.refusal.LineRefusal.TheVariants as refusals
 use Rattle.line_server.specs.Pins.{pin_of}
-use Rattle.line_server.specs.Sources.{Releases}
+use Rattle.line_server.specs.Sources.{Releases, scope_of}
 use Rattle.import_check.specs.declared.release.Release.{Release}
 use Rattle.import_check.specs.Release.{files_of}
 use Rattle.line_server.specs.ReplyValue.{Answer, Done}
@@ -228,7 +228,7 @@ then_same a b after next same h k = record {
 -- an import without a release, and one with a release
 pub record NoRelease {D : Type 0} (releases : Releases) (name : List ℕ) (x : Result Answer LineRefusal) (old new : Server D) : Type 0 where
   pub is : x ≡ Err refusals.NoFolder
-  pub none : releases name ≡ None
+  pub none : releases (scope_of old.store.catalog.layout) name ≡ None
   pub stays : Same old new
 
 pub record WithRelease {D : Type 0} (honest : Type 0) (releases : Releases) (name : List ℕ) (x : Result Answer LineRefusal) (old new : Server D) : Type 0 where
@@ -244,9 +244,13 @@ pub record WithCheck {D : Type 0} (honest : Type 0) (releases : Releases) (name 
   pub checked : IsChecked honest releases name result old new
   pub is : x ≡ said result
 
-named : {D : Type 0} (releases : Releases) (name : List ℕ) (old new : Server D) → (other : List ℕ) × (other ≡ name) × (releases other ≡ None) × (new ≡ old) → NoRelease releases name (Err refusals.NoFolder) old new
+named : {D : Type 0} (releases : Releases) (name : List ℕ) (old new : Server D) → (other : List ℕ) × (other ≡ name) × (releases (scope_of old.store.catalog.layout) other ≡ None) × (new ≡ old) → NoRelease releases name (Err refusals.NoFolder) old new
 named releases name old new h =
-    record { is = refl; none = ap releases (sym h.1) ∙ h.2; stays = same_from old new h.3 }
+    record { is = refl; none = ap (releases (scope_of old.store.catalog.layout)) (sym h.1) ∙ h.2; stays = same_from old new h.3 }
+
+-- where the catalogs are the same, a source is asked for the same
+pub same_release : {D : Type 0} (releases : Releases) (name : List ℕ) (a b : Server D) → b.store.catalog ≡ a.store.catalog → releases (scope_of a.store.catalog.layout) name ≡ releases (scope_of b.store.catalog.layout) name
+same_release releases name a b same = ap (λ (c : Catalog). releases (scope_of c.layout) name) (sym same)
 
 pub import_told : {D : Type 0} (honest : Type 0) (releases : Releases) (session : ℕ) (name : List ℕ) (x : Result Answer LineRefusal) (old new : Server D) → IsSure x → IsOutcome honest releases session (Import name) x old new
     → NoRelease releases name x old new ⊎ WithRelease honest releases name x old new
@@ -262,10 +266,10 @@ module _ {D : Type 0} (releases : Releases) (a b after next : Server D) (honest 
   one_imported : (name : List ℕ) (x y : Result Answer LineRefusal)
       → NoRelease releases name x a after ⊎ WithRelease honest releases name x a after → NoRelease releases name y b next ⊎ WithRelease also releases name y b next → (x ≡ y) × Same after next
   one_imported name x y (inl h) (inl k) = (h.is ∙ sym k.is, then_same a b after next same h.stays k.stays)
-  one_imported name x y (inl h) (inr k) = absurd (none-some _ (sym h.none ∙ k.imported.has))
-  one_imported name x y (inr h) (inl k) = absurd (none-some _ (sym k.none ∙ h.imported.has))
+  one_imported name x y (inl h) (inr k) = absurd (none-some _ (sym h.none ∙ same_release releases name a b same.store.catalog ∙ k.imported.has))
+  one_imported name x y (inr h) (inl k) = absurd (none-some _ (sym k.none ∙ sym (same_release releases name a b same.store.catalog) ∙ h.imported.has))
   one_imported name x y (inr h) (inr k) =
-      let files : files_of k.imported.release ≡ files_of h.imported.release = same_Some _ _ (sym k.imported.has ∙ h.imported.has) in
+      let files : files_of k.imported.release ≡ files_of h.imported.release = same_Some _ _ (sym k.imported.has ∙ sym (same_release releases name a b same.store.catalog) ∙ h.imported.has) in
       let other = import_alike k.imported.release h.imported.release files k.result b.store next.store k.sure (k.imported.imported so) in
       let both = one_import D h.imported.release h.result k.result a.store b.store after.store next.store same.store.history same.store.catalog same.store.needs_reopen (h.imported.imported up) other h.sure k.sure in
       (h.is ∙ ap said both.0 ∙ sym k.is, record { pins = k.imported.pins ∙ same.pins ∙ sym h.imported.pins; store = record { history = both.1; catalog = both.2; needs_reopen = both.3 } })
@@ -299,10 +303,10 @@ module _ {D : Type 0} (releases : Releases) (a b after next : Server D) (honest 
   one_checked : (name : List ℕ) (x y : Result Answer LineRefusal)
       → NoRelease releases name x a after ⊎ WithCheck honest releases name x a after → NoRelease releases name y b next ⊎ WithCheck also releases name y b next → (x ≡ y) × Same after next
   one_checked name x y (inl h) (inl k) = (h.is ∙ sym k.is, then_same a b after next same h.stays k.stays)
-  one_checked name x y (inl h) (inr k) = absurd (none-some _ (sym h.none ∙ k.checked.has))
-  one_checked name x y (inr h) (inl k) = absurd (none-some _ (sym k.none ∙ h.checked.has))
+  one_checked name x y (inl h) (inr k) = absurd (none-some _ (sym h.none ∙ same_release releases name a b same.store.catalog ∙ k.checked.has))
+  one_checked name x y (inr h) (inl k) = absurd (none-some _ (sym k.none ∙ sym (same_release releases name a b same.store.catalog) ∙ h.checked.has))
   one_checked name x y (inr h) (inr k) =
-      let files : files_of k.checked.release ≡ files_of h.checked.release = same_Some _ _ (sym k.checked.has ∙ h.checked.has) in
+      let files : files_of k.checked.release ≡ files_of h.checked.release = same_Some _ _ (sym k.checked.has ∙ sym (same_release releases name a b same.store.catalog) ∙ h.checked.has) in
       let f = foreseen a.store after.store h.checked.release h.result h.sure (h.checked.checked up) in
       let g = foreseen b.store next.store k.checked.release k.result k.sure (k.checked.checked so) in
       let other = import_alike k.checked.release h.checked.release files k.result b.store g.0 k.sure g.1 in

@@ -9,6 +9,7 @@ use Rattle.history_model.specs.History.{rows_at}
 use Rattle.history_model.specs.Brought.{ImportReceiptOf}
 use Rattle.history_model.specs.Queries.{get, versions, page, delta, terms, search_terms, children}
 use Rattle.history_model.specs.Queries.{replacements, replaces, about, timeline, dates}
+use Rattle.history_model.specs.Queries.{members, values, called}
 use Rattle.history_model.specs.Hierarchy.{AreAncestors, AreDescendants}
 use Rattle.import_check.specs.declared.release.Release.{Release}
 use Rattle.import_check.specs.Release.{files_of}
@@ -24,7 +25,8 @@ use Rattle.history_store.specs.MergeAnswers.{IsAbandoningOf, IsTrimmingOf}
 use Rattle.line_commands.specs.declared.unread.Unread.{Unread}
 use Rattle.line_commands.specs.Questions.{Question, Get, History, Children, Ancestors, Descendants}
 use Rattle.line_commands.specs.Questions.{Terms, Search, Replaced, Replaces, About, Timeline, Page}
-use Rattle.line_commands.specs.Questions.{Delta, Dates as AskDates, Digest, Receipt as AskReceipt}
+use Rattle.line_commands.specs.Questions.{Delta, Members, Values, Called, Dates as AskDates}
+use Rattle.line_commands.specs.Questions.{Digest, Receipt as AskReceipt}
 use Rattle.line_commands.specs.Commands.{Command, Ask, At, Import, Check, Pin, Unpin, Merge, Step}
 use Rattle.line_commands.specs.Commands.{Publish, Abandon, Trim, Status}
 use Rattle.line_commands.specs.Requests.{Asks, IsUnread}
@@ -32,7 +34,7 @@ use Rattle.line_server.specs.declared.refusal.LineRefusal.{LineRefusal}
 use Rattle.line_server.specs.declared.refusal.LineRefusal.TheVariants as refusals
 use Rattle.line_server.specs.Pins.{pin_of}
 use Rattle.line_server.specs.StateValue.{StateValue, HoldsBack, met_after}
-use Rattle.line_server.specs.Sources.{Releases}
+use Rattle.line_server.specs.Sources.{Releases, scope_of}
 use Rattle.line_server.specs.ReplyValue.{Answer, Rows, Ids, Dates, Done, digits_of}
 
 -- what a reply rests on: what sessions are pinned to, the store, and whether a call of it has
@@ -85,6 +87,11 @@ IsFound (Timeline kind id) rows answer = answer ≡ Rows (timeline kind id rows)
 IsFound (Page kind date after limit) rows answer = answer ≡ Rows (page kind date after limit rows)
 IsFound (Delta kind from date after limit) rows answer =
     answer ≡ Rows (delta kind from date after limit rows)
+IsFound (Members refset date after limit) rows answer =
+    answer ≡ Rows (members refset date after limit rows)
+IsFound (Values refset date after limit) rows answer =
+    answer ≡ Rows (values refset date after limit rows)
+IsFound (Called concept date refset) rows answer = answer ≡ Rows (called concept date refset rows)
 IsFound AskDates rows answer = answer ≡ Dates (dates rows)
 IsFound Digest rows answer = answer ≡ digits_of (digest_of rows)
 IsFound (AskReceipt number) rows answer = ⊥
@@ -110,22 +117,22 @@ IsFinding honest question rows answer =
 abbrev pub IsPinned : {D : Type 0} → Server D → Server D → ℕ → Option ℕ → Type 0
 IsPinned old new session pin = new ≡ record old { pins = slice_set old.pins session pin }
 
--- An import answered this, for the release under the name: on every
--- disk as far as files and counts go, and on an honest disk altogether.
+-- An import answered this, for the release under the name in the scope of the store's version: on
+-- every disk as far as files and counts go, and on an honest disk altogether.
 pub record IsImported {D : Type 0} (honest : Type 0) (releases : Releases) (name : List ℕ)
     (result : Result Receipt Refusal) (old new : Server D) : Type 0 where
   pub release : Release
-  pub has : releases name ≡ Some (files_of release)
+  pub has : releases (scope_of old.store.catalog.layout) name ≡ Some (files_of release)
   pub at_all : IsImportOnAnyDisk result old.store new.store release
   pub imported : honest → IsImportOf result old.store new.store release
   pub pins : new.pins ≡ old.pins
 
--- A check answered this, for the release under the name: the same as of an import. Nothing is
--- imported by it.
+-- A check answered this, for the release under the name in the scope of the store's version: the
+-- same as of an import. Nothing is imported by it.
 pub record IsChecked {D : Type 0} (honest : Type 0) (releases : Releases) (name : List ℕ)
     (result : Result Receipt Refusal) (old new : Server D) : Type 0 where
   pub release : Release
-  pub has : releases name ≡ Some (files_of release)
+  pub has : releases (scope_of old.store.catalog.layout) name ≡ Some (files_of release)
   pub at_all : IsCheckingOnAnyDisk result old.store new.store release
   pub checked : honest → IsCheckingOf result old.store new.store release
   pub pins : new.pins ≡ old.pins
@@ -302,7 +309,8 @@ IsRefusal honest releases session command (refusals.Unread reason) old new = ⊥
 IsRefusal honest releases session command refusals.PinRange old new =
     IsOutOfRange session command old × (new ≡ old)
 IsRefusal honest releases session command refusals.NoFolder old new =
-    (name : List ℕ) × NamesRelease command name × (releases name ≡ None) × (new ≡ old)
+    (name : List ℕ) × NamesRelease command name
+    × (releases (scope_of old.store.catalog.layout) name ≡ None) × (new ≡ old)
 IsRefusal honest releases session command (refusals.Store refusal) old new =
     IsStoreRefusal honest releases session command refusal old new
 

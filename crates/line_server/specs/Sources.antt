@@ -1,6 +1,10 @@
 -- Where releases come from.
 use Rattle.std.specs.Prelude.{◌≡◌, ⊤, ℕ, List, Option, Some, None, Result, Ok, Err}
 use Rattle.rf2_values.specs.declared.row.Kind.{Kind}
+use Rattle.directory.specs.declared.layout.Layout.{Layout}
+use Rattle.directory.specs.declared.layout.Layout.TheVariants as layouts
+use Rattle.import_check.specs.declared.scope.Scope.{Scope}
+use Rattle.import_check.specs.declared.scope.Scope.TheVariants as scopes
 use Rattle.import_check.specs.declared.release.Release.{Release}
 use Rattle.import_check.specs.Release.{files_of}
 use Rattle.history_store.specs.declared.refusal.Refusal.TheVariants as store
@@ -9,9 +13,15 @@ use Rattle.line_server.specs.declared.refusal.LineRefusal.TheVariants as refusal
 use Rattle.line_server.specs.declared.source.SourceFault.{SourceFault}
 use Rattle.line_server.specs.declared.source.SourceFault.TheVariants as faults
 
--- the files of the release under each name that has one
+-- the files of the release under each name that has one: those that a scope asks for
 abbrev pub Releases : Type 0
-Releases = List ℕ → Option (List (Kind × List ℕ))
+Releases = Scope → List ℕ → Option (List (Kind × List ℕ))
+
+-- the scope of a version: members of reference sets and text definitions are kept from version 3 on
+abbrev pub scope_of : Layout → Scope
+scope_of layouts.One = scopes.Basic
+scope_of layouts.Two = scopes.Basic
+scope_of layouts.Three = scopes.Whole
 
 -- a source as clauses see it: whether it has the releases that it says it has, and these
 pub record SourceView : Type 1 where
@@ -23,7 +33,7 @@ source_view is_honest releases = record { is_honest = is_honest; releases = rele
 
 -- a source that has no release, and says so
 abbrev pub no_releases : SourceView
-no_releases = source_view ⊤ (λ _. None)
+no_releases = source_view ⊤ (λ _ _. None)
 
 -- the release under the name was given, or there is none; memory may run out
 abbrev pub IsGiven : Result Release SourceFault → Option (List (Kind × List ℕ)) → Type 0

@@ -3,6 +3,7 @@ use Rattle.std.specs.Prelude.{◌≡◌, ℕ, ◌≤◌, List, [], ◌∷◌, ma
 use Rattle.std.specs.Prelude.{Result, Ok, Err, OnOk, sum_by, ◌+◌}
 use Rattle.store_life.specs.DeviceView.{DeviceView}
 use Rattle.std.specs.List.{flat_map}
+use Rattle.import_check.specs.declared.scope.Scope.{Scope}
 use Rattle.import_check.specs.declared.release.Release.{Release}
 use Rattle.import_check.specs.Release.{files_of}
 use Rattle.history_store.specs.declared.refusal.Refusal.TheVariants as store
@@ -20,7 +21,7 @@ use Rattle.line_commands.specs.Commands.{Command, Ask, At, Import, Check, Step, 
 use Rattle.line_commands.specs.Requests.{Asks}
 use Rattle.line_server.specs.declared.refusal.LineRefusal.{LineRefusal}
 use Rattle.line_server.specs.declared.refusal.LineRefusal.TheVariants as refusals
-use Rattle.line_server.specs.Sources.{Releases, SourceView}
+use Rattle.line_server.specs.Sources.{Releases, SourceView, scope_of}
 use Rattle.line_server.specs.ReplyValue.{Answer, Rows, Ids, ReplyValue, reply_value, bytes_of}
 use Rattle.line_server.specs.Replies.{Server, Replies, imports_seen}
 use Rattle.store_life.specs.Life.{Call, Imported, Failed, Other, IsCall}
@@ -31,22 +32,24 @@ pub record Turn : Type 0 where
   pub outcome : Result Answer LineRefusal
   pub call : Call
 
--- the release is the one that the line asks to import
-abbrev pub IsAskedFor : Releases → List ℕ → Release → Type 0
-IsAskedFor releases line release = (session : ℕ) × (name : List ℕ) × Asks line session (Import name)
-    × (releases name ≡ Some (files_of release))
+-- the release is the one that the line asks to import, in this scope
+abbrev pub IsAskedFor : Releases → Scope → List ℕ → Release → Type 0
+IsAskedFor releases scope line release =
+    (session : ℕ) × (name : List ℕ) × Asks line session (Import name)
+    × (releases scope name ≡ Some (files_of release))
 
 -- the release that was imported, or in whose import the device failed, is the one that is asked for
-abbrev pub IsOfAsked : Releases → List ℕ → Call → Type 0
-IsOfAsked releases line (Imported release) = IsAskedFor releases line release
-IsOfAsked releases line (Failed release) = IsAskedFor releases line release
-IsOfAsked releases line Other = Unit {0}
+abbrev pub IsOfAsked : Releases → Scope → List ℕ → Call → Type 0
+IsOfAsked releases scope line (Imported release) = IsAskedFor releases scope line release
+IsOfAsked releases scope line (Failed release) = IsAskedFor releases scope line release
+IsOfAsked releases scope line Other = Unit {0}
 
--- the turn is one of a server whose source has these releases
+-- the turn is one of a server whose source has these releases, and is asked for what the store's
+-- version keeps of them
 pub record GoesBy {D : Type 0} (honest : Type 0) (releases : Releases) (old : Server D)
     (turn : Turn) (new : Server D) : Type 0 where
   pub replies : Replies honest releases turn.line turn.outcome old new
-  pub asked : IsOfAsked releases turn.line turn.call
+  pub asked : IsOfAsked releases (scope_of old.store.catalog.layout) turn.line turn.call
 
 -- the count of the device's failures: risen where `ERR 2` is said, and else as before
 abbrev pub CountsOutcome : Result Answer LineRefusal → ℕ → ℕ → Type 0

@@ -14,6 +14,7 @@ use crate::queries::{
     answer_about, answer_children, answer_get, answer_history, answer_page, answer_receipt,
     answer_replaced, answer_search, answer_terms,
 };
+use crate::refsets::{answer_called, answer_members, answer_values};
 use crate::refusal::LineRefusal;
 use crate::reply::Reply;
 use disk_model::Disk;
@@ -69,6 +70,23 @@ pub(crate) fn ask<D: Disk>(
             after,
             limit,
         } => answer_delta(alloc, kind, from, time, after, limit, pin, store),
+        Question::Members {
+            refset,
+            time,
+            after,
+            limit,
+        } => answer_members(alloc, refset, time, after, limit, pin, store),
+        Question::Values {
+            refset,
+            time,
+            after,
+            limit,
+        } => answer_values(alloc, refset, time, after, limit, pin, store),
+        Question::Called {
+            concept,
+            time,
+            refset,
+        } => answer_called(alloc, concept, time, refset, pin, store),
         Question::Dates => answer_dates(alloc, pin, store),
         Question::Digest => answer_digest(alloc, pin, store),
         Question::Receipt { number } => answer_receipt(alloc, number, pin, store),

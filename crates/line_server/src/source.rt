@@ -2,10 +2,11 @@
 
 ghost use Rattle.std.specs.Prelude.{◌≡◌, ℕ, List, Option};
 ghost use Rattle.rf2_values.specs.declared.row.Kind.{Kind};
-ghost use Rattle.line_server.specs.Sources.{Releases, IsGiven};
+ghost use Rattle.line_server.specs.Sources.{Releases, IsGiven, scope_of};
 
-use history_store::Refusal;
-use import_check::Release;
+use disk_model::Disk;
+use history_store::{Refusal, Store};
+use import_check::{Release, Scope};
 use std::alloc::Global;
 use thiserror::Error;
 
@@ -22,18 +23,35 @@ pub enum SourceFault {
 pub trait Source {
     /// It has the releases that it says it has, and they stay.
     ghost is_honest: { Self → Type 0 };
-    /// The release under a name: its files, by their kinds and bytes.
+    /// The release under a name: its files that a scope asks for, by their kinds and bytes.
     ghost releases: { Self → Releases };
 
-    /// The release under a name.
-    fn release(&mut self, alloc: Global, name: &str) -> Result<Release, SourceFault>
+    /// The release under a name, as far as the scope asks for its files.
+    fn release(
+        &mut self,
+        alloc: Global,
+        name: &str,
+        scope: Scope,
+    ) -> Result<Release, SourceFault>
         ensures honesty { is_honest self.old → is_honest self.new }
         ensures stays { is_honest self.old → releases self.new ≡ releases self.old }
-        ensures given { is_honest self.old → IsGiven result (releases self.old name.now) };
+        ensures given { is_honest self.old → IsGiven result (releases self.old scope name.now) };
 
-    /// The store has refused the release under a name, for an import or a check. It was had from
-    /// here and is no longer in memory: whoever has people to tell may read it once more to tell them why.
-    fn note_refusal(&mut self, alloc: Global, name: &str, refusal: Refusal)
+    /// The store has refused the release under a name that was had in this scope, for an import or
+    /// a check. It was had from here and is no longer in memory: whoever has people to tell may
+    /// read it once more to tell them why.
+    fn note_refusal(&mut self, alloc: Global, name: &str, scope: Scope, refusal: Refusal)
         ensures honesty { is_honest self.old → is_honest self.new }
         ensures stays { is_honest self.old → releases self.new ≡ releases self.old };
+}
+
+/// The scope in which releases are had for a store: what its version keeps.
+pub fn scope_for<D: Disk>(store: &Store<D>) -> Scope
+    ensures { result ≡ scope_of store.now.catalog.layout }
+{
+    if store.version() < 3 {
+        Scope::Basic
+    } else {
+        Scope::Whole
+    }
 }

@@ -2,6 +2,7 @@
 //! a store whose lines are served, and streams. Nothing here has a clause.
 #![tactic(auto)]
 
+mod refsets;
 mod releases;
 mod script;
 mod server;

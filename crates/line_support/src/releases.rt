@@ -1,7 +1,8 @@
 //! The releases that lines import by their names.
 
+use crate::refsets::refsets_of;
 use history_store::Refusal;
-use import_check::Release;
+use import_check::{Release, Scope};
 use line_server::{Source, SourceFault};
 use rf2_rows::{Kind, column_names};
 use samples::sample;
@@ -183,7 +184,10 @@ fn new_in(alloc: Global, year: &str) -> Result<Release, AllocError> {
 }
 
 /// The example or the sample under a name, if there is one.
-fn example(alloc: Global, name: &str) -> Result<Option<Release>, AllocError> {
+fn example(alloc: Global, name: &str, scope: Scope) -> Result<Option<Release>, AllocError> {
+    if let Some(release) = refsets_of(alloc, name, scope)? {
+        return Ok(Some(release));
+    }
     if let Some((kind, rows)) = file_of(name) {
         return Ok(Some(one_file(alloc, kind, rows)?));
     }
@@ -202,7 +206,7 @@ fn example(alloc: Global, name: &str) -> Result<Option<Release>, AllocError> {
     }
 }
 
-/// Has the example releases, each of one file, and the samples.
+/// Has the example releases and the samples.
 #[derive(Clone, Copy)]
 pub struct Examples;
 
@@ -211,15 +215,20 @@ impl Source for Examples {
 
     ghost is_honest = { λ _. ⊥ };
 
-    ghost releases = { λ _ _. None };
+    ghost releases = { λ _ _ _. None };
 
-    fn release(&mut self, alloc: Global, name: &str) -> Result<Release, SourceFault> {
-        match example(alloc, name) {
+    fn release(
+        &mut self,
+        alloc: Global,
+        name: &str,
+        scope: Scope,
+    ) -> Result<Release, SourceFault> {
+        match example(alloc, name, scope) {
             Ok(Some(release)) => Ok(release),
             Ok(None) => Err(SourceFault::NoFolder),
             Err(_) => Err(SourceFault::OutOfMemory),
         }
     }
 
-    fn note_refusal(&mut self, _alloc: Global, _name: &str, _refusal: Refusal) {}
+    fn note_refusal(&mut self, _alloc: Global, _name: &str, _scope: Scope, _refusal: Refusal) {}
 }

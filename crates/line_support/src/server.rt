@@ -106,6 +106,11 @@ impl Server {
         Ok(served == Ok(turns.len() as u64) && output == want)
     }
 
+    /// Puts the store into version 3 of the layout.
+    pub fn upgrade(&mut self) -> Result<(), Refusal> {
+        self.store.upgrade()
+    }
+
     /// Gives the disk back.
     pub fn close(self) -> MemDisk {
         Box::into_inner(self.store).close()

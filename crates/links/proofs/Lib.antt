@@ -11,3 +11,11 @@ pub mod AboutRows
 pub mod MergedEdges
 pub mod ParentRows
 pub mod Seen
+pub mod MemberPosts
+pub mod MemberRows
+pub mod MemberAnswers
+pub mod MemberPages
+pub mod Ties
+pub mod ValueRows
+pub mod NamedRows
+pub mod Between

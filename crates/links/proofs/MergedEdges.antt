@@ -16,8 +16,8 @@ use Rattle.as_of_index.specs.Merging.{moved}
 use Rattle.as_of_index.proofs.Unions.{merged_postings}
 use Rattle.as_of_index.proofs.Turns.{none_merged, all_merged}
 use Rattle.links.specs.declared.postings.Link.{Link}
-use Rattle.links.specs.Edges.{link, link_of_body, reference_of_body, target_of_body, subject_at, posted_link, posted_reference, posted_target, posted_subject}
-use Rattle.links.specs.MergedEdges.{link_kind, reference_kind, target_kind, subject_kind, AnyMergeBegins, PostingsAreFew, MergedArePosted}
+use Rattle.links.specs.Edges.{link, link_of_body, reference_of_body, target_of_body, subject_at, membership_of_body, posted_link, posted_reference, posted_target, posted_subject, posted_membership}
+use Rattle.links.specs.MergedEdges.{link_kind, reference_kind, target_kind, subject_kind, membership_kind, AnyMergeBegins, PostingsAreFew, MergedArePosted}
 
 -- ---- a row has one posting of a kind at most
 
@@ -44,6 +44,14 @@ target_body_few (body.Relationship r) i = omega arith
 target_body_few (body.Association a) i = omega arith
 target_body_few (body.Concrete c) i = omega arith
 target_body_few (body.Member m) i = omega arith
+
+membership_body_few : (active : Bool) (b : Body) (i : ℕ) → length (membership_of_body active b i) ≤ 1
+membership_body_few active (body.Concept c) i = omega arith
+membership_body_few active (body.Description d) i = omega arith
+membership_body_few active (body.Relationship r) i = omega arith
+membership_body_few active (body.Association a) i = omega arith
+membership_body_few active (body.Concrete c) i = omega arith
+membership_body_few active (body.Member m) i = omega arith
 
 subject_at_few : (o : Option ℕ) (kind : Kind) (i : ℕ) → length (subject_at o kind i) ≤ 1
 subject_at_few None kind i = omega arith
@@ -73,6 +81,7 @@ postings_are_few rows e are = record {
   references = permuted_few posted_reference (λ row i. few_if row.active (reference_of_body row.body i) (reference_body_few row.body i)) rows e.references are.references;
   targets = permuted_few posted_target (λ row i. few_if row.active (target_of_body row.body i) (target_body_few row.body i)) rows e.targets are.targets;
   subjects = permuted_few posted_subject (λ row i. few_if row.active (subject_at (subject_of row) (kind_of row) i) (subject_at_few (subject_of row) (kind_of row) i)) rows e.subjects are.subjects;
+  memberships = permuted_few posted_membership (λ row i. membership_body_few row.active row.body i) rows e.memberships are.memberships;
 }
 
 -- ---- what is posted of a row with another number
@@ -102,6 +111,14 @@ target_body_moved f (body.Association a) i = refl
 target_body_moved f (body.Concrete c) i = refl
 target_body_moved f (body.Member m) i = refl
 
+membership_moved : (f : ℕ → ℕ) (active : Bool) (b : Body) (i : ℕ) → map (moved membership_kind f) (membership_of_body active b i) ≡ membership_of_body active b (f i)
+membership_moved f active (body.Concept c) i = refl
+membership_moved f active (body.Description d) i = refl
+membership_moved f active (body.Relationship r) i = refl
+membership_moved f active (body.Association a) i = refl
+membership_moved f active (body.Concrete c) i = refl
+membership_moved f active (body.Member m) i = refl
+
 subject_at_moved : (f : ℕ → ℕ) (o : Option ℕ) (kind : Kind) (i : ℕ) → map (moved subject_kind f) (subject_at o kind i) ≡ subject_at o kind (f i)
 subject_at_moved f None kind i = refl
 subject_at_moved f (Some id) kind i = refl
@@ -130,6 +147,7 @@ any_merge_begins lists a b = record {
   references = none_merged reference_kind lists a.references b.references;
   targets = none_merged target_kind lists a.targets b.targets;
   subjects = none_merged subject_kind lists a.subjects b.subjects;
+  memberships = none_merged membership_kind lists a.memberships b.memberships;
 }
 
 pub merged_are_posted : MergedArePosted
@@ -139,6 +157,7 @@ merged_are_posted a_rows b_rows a b m are of_a of_b merged none =
     let references = none.references in
     let targets = none.targets in
     let subjects = none.subjects in
+    let memberships = none.memberships in
     record {
       links = merged_postings posted_link (moved link_kind) link_moved a_rows b_rows a.links b.links m.edges.links are of_a.links of_b.links
           (all_merged link_kind lists a.links b.links m.links m.edges.links merged.links (omega (arith, links)));
@@ -148,4 +167,6 @@ merged_are_posted a_rows b_rows a b m are of_a of_b merged none =
           (all_merged target_kind lists a.targets b.targets m.targets m.edges.targets merged.targets (omega (arith, targets)));
       subjects = merged_postings posted_subject (moved subject_kind) subject_moved a_rows b_rows a.subjects b.subjects m.edges.subjects are of_a.subjects of_b.subjects
           (all_merged subject_kind lists a.subjects b.subjects m.subjects m.edges.subjects merged.subjects (omega (arith, subjects)));
+      memberships = merged_postings posted_membership (moved membership_kind) (λ f row i. membership_moved f row.active row.body i) a_rows b_rows a.memberships b.memberships m.edges.memberships are of_a.memberships of_b.memberships
+          (all_merged membership_kind lists a.memberships b.memberships m.memberships m.edges.memberships merged.memberships (omega (arith, memberships)));
     }

@@ -10,7 +10,7 @@ use Rattle.history_model.specs.declared.stamped.StampedRow.{StampedRow}
 use Rattle.history_model.specs.InOrder.{Has}
 use Rattle.history_model.specs.History.{rows_at}
 use Rattle.history_model.specs.Lists.{listed}
-use Rattle.history_model.specs.Queries.{subject_of, is_a, is_child_of, says_is_a, source_of, is_replacement_of, refers_to, is_replaced_by, has_target, refset_of, target_of, referenced_of, snapshot}
+use Rattle.history_model.specs.Queries.{subject_of, is_a, is_child_of, says_is_a, source_of, is_replacement_of, refers_to, is_replaced_by, refset_of, target_of, referenced_of, snapshot}
 use Rattle.history_model.proofs.Filtered.{both}
 use Rattle.as_of_index.specs.Places.{item_at}
 use Rattle.as_of_index.specs.Postings.{posted_all, AllPosted}
@@ -20,7 +20,7 @@ use Rattle.links.specs.declared.postings.Link.{Link}
 use Rattle.links.specs.declared.postings.Reference.{Reference}
 use Rattle.links.specs.declared.postings.Target.{Target}
 use Rattle.links.specs.declared.postings.Subject.{Subject}
-use Rattle.links.specs.Edges.{Edges, link_of_body, reference_of_body, target_of_body, subject_at, posted_link, posted_reference, posted_target, posted_subject}
+use Rattle.links.specs.Edges.{Edges, link_of_body, reference_of_body, target_of_body, subject_at, posted_link, posted_reference, posted_target, posted_subject, posted_membership}
 use Rattle.links.specs.Private.{links_in, references_in, targets_in, subjects_in}
 use Rattle.links.specs.Laws.{EachPosted, ArePostingsOf, PushedOneByOne, EdgesMore, EdgesMerged}
 
@@ -243,6 +243,7 @@ pushed_one_by_one rows row = λ k.
       references = posted-push posted_reference rows row k;
       targets = posted-push posted_target rows row k;
       subjects = posted-push posted_subject rows row k;
+      memberships = posted-push posted_membership rows row k;
     }
 
 -- ---- lists that change

@@ -12,12 +12,12 @@ use Rattle.history_model.specs.declared.stamped.StampedRow.{StampedRow}
 use Rattle.history_model.specs.InOrder.{Has, IsAscending}
 use Rattle.history_model.specs.History.{row_cmp}
 use Rattle.history_model.specs.Lists.{listed}
-use Rattle.history_model.specs.Queries.{get, refset_of, referenced_of, refers_to, has_target, is_replaced_by, replaced_cmp, replaces}
+use Rattle.history_model.specs.Queries.{get, refset_of, referenced_of, has_target, is_replaced_by, replaced_cmp, replaces}
 use Rattle.history_model.proofs.InOrder.{same_ascending}
 use Rattle.history_model.proofs.Filtered.{both}
 use Rattle.history_model.proofs.Snapshots.{current_from_snapshot, IsAscending-listed, IsAscending-rows_at, Has-listed_cases, Has-rows_at_cases}
-use Rattle.history_model.proofs.Hierarchy.{both_true, same_number}
-use Rattle.history_model.proofs.Audits.{association_kind, other_end, replaces_are_all, replaces_ascend, replaced_total}
+use Rattle.history_model.proofs.Hierarchy.{same_number}
+use Rattle.history_model.proofs.Audits.{association_kind, replaces_are_all, replaces_ascend, replaced_total}
 use Rattle.segment.specs.Standing.{places_of, StandsAt}
 use Rattle.as_of_index.specs.declared.chosen.Chosen.{Chosen}
 use Rattle.as_of_index.specs.Places.{ArePlaces, item_at}

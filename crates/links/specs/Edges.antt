@@ -1,12 +1,13 @@
--- What is posted of rows: links of relationships, references and targets of associations, and what
--- any but a concept is about.
-use Rattle.std.specs.Prelude.{ℕ, ◌+◌, ◌*◌, ◌==◌, List, [], ◌∷◌, ◌++◌, length}
+-- What is posted of rows: links of relationships, references and targets of associations, what any
+-- but a concept is about, and memberships of reference sets.
+use Rattle.std.specs.Prelude.{ℕ, ◌+◌, ◌*◌, ◌==◌, min, Bool, List, [], ◌∷◌, ◌++◌, length}
 use Rattle.std.specs.Prelude.{if◌then◌else◌}
 use Rattle.std.specs.Prelude.{Option, Some, None}
 use Rattle.std.specs.List.Sorted.{IsNonDecreasingBy, IsPermutation}
 use Rattle.rf2_values.specs.declared.row.Association.{Association}
 use Rattle.rf2_values.specs.declared.row.Body.{Body}
 use Rattle.rf2_values.specs.declared.row.Relationship.{Relationship}
+use Rattle.rf2_values.specs.declared.row.RefsetMember.{RefsetMember}
 use Rattle.rf2_values.specs.declared.row.Body.TheVariants as body
 use Rattle.rf2_values.specs.declared.row.Kind.{Kind}
 use Rattle.rf2_values.specs.Key.{kind_place}
@@ -18,18 +19,23 @@ use Rattle.links.specs.declared.postings.Link.{Link}
 use Rattle.links.specs.declared.postings.Reference.{Reference}
 use Rattle.links.specs.declared.postings.Target.{Target}
 use Rattle.links.specs.declared.postings.Subject.{Subject}
+use Rattle.links.specs.declared.membership.Membership.{Membership}
 
--- links of relationships, references and targets of associations, and subjects of rows
+-- links of relationships, references and targets of associations, subjects of rows, and memberships
+-- of reference sets
 pub record Edges : Type 0 where
   pub links : List Link
   pub references : List Reference
   pub targets : List Target
   pub subjects : List Subject
+  pub memberships : List Membership
 
 abbrev pub no_edges : Edges
-no_edges = record { links = []; references = []; targets = []; subjects = [] }
+no_edges =
+    record { links = []; references = []; targets = []; subjects = []; memberships = [] }
 
--- the links, references, targets and subjects of one, each followed by those of the other
+-- the links, references, targets, subjects and memberships of one, each followed by those of the
+-- other
 abbrev pub joined_edges : Edges → Edges → Edges
 joined_edges a b =
     record {
@@ -37,14 +43,16 @@ joined_edges a b =
       references = a.references ++ b.references;
       targets = a.targets ++ b.targets;
       subjects = a.subjects ++ b.subjects;
+      memberships = a.memberships ++ b.memberships;
     }
 
--- how many links, references, targets and subjects there are
+-- how many links, references, targets, subjects and memberships there are
 pub record EdgeCount : Type 0 where
   pub links : ℕ
   pub references : ℕ
   pub targets : ℕ
   pub subjects : ℕ
+  pub memberships : ℕ
 
 abbrev pub count_of : Edges → EdgeCount
 count_of e =
@@ -53,27 +61,37 @@ count_of e =
       references = length e.references;
       targets = length e.targets;
       subjects = length e.subjects;
+      memberships = length e.memberships;
     }
 
--- the same links, references, targets and subjects, in whatever order
+-- the same links, references, targets, subjects and memberships, in whatever order
 pub record AreSameEdges (a b : Edges) : Type 0 where
   pub links : IsPermutation a.links b.links
   pub references : IsPermutation a.references b.references
   pub targets : IsPermutation a.targets b.targets
   pub subjects : IsPermutation a.subjects b.subjects
+  pub memberships : IsPermutation a.memberships b.memberships
 
 -- the place of a component's rows of a kind in the order of subjects: by the component, and then by
 -- the kind, of which there are six
 abbrev pub subject_rank : ℕ → Kind → ℕ
 subject_rank id kind = 6 * id + kind_place kind
 
+-- the place of a reference set's members of a component in the order of memberships: by the
+-- reference set, and then by the component, whose number has 64 bits
+abbrev pub membership_rank : ℕ → ℕ → ℕ
+membership_rank refset referenced =
+    18446744073709551616 * refset + min referenced 18446744073709551615
+
 -- the links ascend by destination, the references by what they refer to, the targets by themselves,
--- and the subjects by what the rows are about, and then by kind
+-- the subjects by what the rows are about, and then by kind, and the memberships by the reference
+-- set, and then by the component
 pub record IsSealed (e : Edges) : Type 0 where
   pub by_destination : IsNonDecreasingBy (λ l. l.destination) e.links
   pub by_referenced : IsNonDecreasingBy (λ r. r.referenced) e.references
   pub by_target : IsNonDecreasingBy (λ t. t.target) e.targets
   pub by_subject : IsNonDecreasingBy (λ x. subject_rank x.subject x.kind) e.subjects
+  pub by_refset : IsNonDecreasingBy (λ m. membership_rank m.refset m.referenced) e.memberships
 
 -- the link of a relationship that is row i, and the reference and the target of an association that
 -- is row i
@@ -85,6 +103,11 @@ reference a i = record { referenced = a.referenced; refset = a.refset; target = 
 
 abbrev pub target_at : Association → ℕ → Target
 target_at a i = record { target = a.target; refset = a.refset; referenced = a.referenced; row = i }
+
+-- the membership of a member that is row i, active or not
+abbrev pub membership : RefsetMember → Bool → ℕ → Membership
+membership m active i =
+    record { refset = m.refset; referenced = m.referenced; row = i; active = active }
 
 -- what the body of row i says: a relationship of the type "is a" is a link
 abbrev pub link_of_body : Body → ℕ → List Link
@@ -118,7 +141,17 @@ abbrev pub subject_at : Option ℕ → Kind → ℕ → List Subject
 subject_at None kind i = []
 subject_at (Some id) kind i = record { subject = id; kind = kind; row = i } ∷ []
 
--- what is posted of row i: what an active one says, and what it is about
+-- what the body of row i says: a member is a membership, whether it is active or not
+abbrev pub membership_of_body : Bool → Body → ℕ → List Membership
+membership_of_body active (body.Concept c) i = []
+membership_of_body active (body.Description d) i = []
+membership_of_body active (body.Relationship r) i = []
+membership_of_body active (body.Association a) i = []
+membership_of_body active (body.Concrete c) i = []
+membership_of_body active (body.Member m) i = membership m active i ∷ []
+
+-- what is posted of row i: what an active one says, and what it is about; and the membership of a
+-- member, active or not
 abbrev pub posted_link : RowValue → ℕ → List Link
 posted_link row i = if row.active then link_of_body row.body i else []
 
@@ -131,6 +164,9 @@ posted_target row i = if row.active then target_of_body row.body i else []
 abbrev pub posted_subject : RowValue → ℕ → List Subject
 posted_subject row i = if row.active then subject_at (subject_of row) (kind_of row) i else []
 
+abbrev pub posted_membership : RowValue → ℕ → List Membership
+posted_membership row i = membership_of_body row.active row.body i
+
 abbrev pub edges_of : RowValue → ℕ → Edges
 edges_of row i =
     record {
@@ -138,6 +174,7 @@ edges_of row i =
       references = posted_reference row i;
       targets = posted_target row i;
       subjects = posted_subject row i;
+      memberships = posted_membership row i;
     }
 
 -- what is posted of rows, each with its number from 0 on
@@ -148,4 +185,5 @@ posted_edges rows =
       references = posted_all posted_reference 0 rows;
       targets = posted_all posted_target 0 rows;
       subjects = posted_all posted_subject 0 rows;
+      memberships = posted_all posted_membership 0 rows;
     }

@@ -10,11 +10,12 @@ use Rattle.links.specs.declared.postings.Link.{Link}
 use Rattle.links.specs.declared.postings.Reference.{Reference}
 use Rattle.links.specs.declared.postings.Target.{Target}
 use Rattle.links.specs.declared.postings.Subject.{Subject}
-use Rattle.links.specs.Edges.{Edges, EdgeCount, no_edges, count_of, subject_rank}
+use Rattle.links.specs.declared.membership.Membership.{Membership}
+use Rattle.links.specs.Edges.{Edges, EdgeCount, no_edges, count_of, subject_rank, membership_rank}
 use Rattle.links.specs.Laws.{ArePostingsOf}
 
--- links by destination, references by what they refer to, targets by themselves, and subjects by
--- what the rows are about and then by kind
+-- links by destination, references by what they refer to, targets by themselves, subjects by what
+-- the rows are about and then by kind, and memberships by reference set and then by component
 abbrev pub link_kind : PostingKind Link
 link_kind =
     record {
@@ -49,14 +50,24 @@ subject_kind =
       renumbered = λ n x. record { subject = x.subject; kind = x.kind; row = n };
     }
 
--- what is merged so far, and how many links, references, targets and subjects of each of two
--- segments it has
+abbrev pub membership_kind : PostingKind Membership
+membership_kind =
+    record {
+      rank = λ m. membership_rank m.refset m.referenced;
+      number = λ m. m.row;
+      renumbered = λ n m. record
+          { refset = m.refset; referenced = m.referenced; row = n; active = m.active };
+    }
+
+-- what is merged so far, and how many links, references, targets, subjects and memberships of each
+-- of two segments it has
 pub record MergedEdges : Type 0 where
   pub edges : Edges
   pub links : TakenCount
   pub references : TakenCount
   pub targets : TakenCount
   pub subjects : TakenCount
+  pub memberships : TakenCount
 
 abbrev pub none_taken : TakenCount
 none_taken = record { first = 0; second = 0 }
@@ -70,6 +81,7 @@ nothing_merged =
       references = none_taken;
       targets = none_taken;
       subjects = none_taken;
+      memberships = none_taken;
     }
 
 -- of the postings of two segments so many are merged, with the numbers of their rows among the rows
@@ -80,6 +92,8 @@ pub record IsMergeOf (lists : TwoLists) (a b : Edges) (m : MergedEdges) : Type 0
       IsMerged reference_kind lists a.references b.references m.references m.edges.references
   pub targets : IsMerged target_kind lists a.targets b.targets m.targets m.edges.targets
   pub subjects : IsMerged subject_kind lists a.subjects b.subjects m.subjects m.edges.subjects
+  pub memberships :
+      IsMerged membership_kind lists a.memberships b.memberships m.memberships m.edges.memberships
 
 -- how many postings aren't merged yet
 abbrev pub edges_left : Edges → Edges → MergedEdges → EdgeCount
@@ -89,6 +103,7 @@ edges_left a b m =
       references = count_left a.references b.references m.references;
       targets = count_left a.targets b.targets m.targets;
       subjects = count_left a.subjects b.subjects m.subjects;
+      memberships = count_left a.memberships b.memberships m.memberships;
     }
 
 -- of each n less, or none
@@ -99,6 +114,7 @@ less_each count n =
       references = count.references - n;
       targets = count.targets - n;
       subjects = count.subjects - n;
+      memberships = count.memberships - n;
     }
 
 -- of each there are n at most
@@ -107,12 +123,14 @@ pub record AtMostEach (n : ℕ) (count : EdgeCount) : Type 0 where
   pub references : count.references ≤ n
   pub targets : count.targets ≤ n
   pub subjects : count.subjects ≤ n
+  pub memberships : count.memberships ≤ n
 
 -- where nothing is merged yet, a merge of any postings is so far
 abbrev pub AnyMergeBegins : Type 0
 AnyMergeBegins = (lists : TwoLists) (a b : Edges) → IsMergeOf lists a b nothing_merged
 
--- of rows there are no more links than rows, and no more references, targets and subjects
+-- of rows there are no more links than rows, and no more references, targets, subjects and
+-- memberships
 abbrev pub PostingsAreFew : Type 0
 PostingsAreFew = (rows : List StampedRow) (e : Edges)
     → ArePostingsOf rows e → AtMostEach (length rows) (count_of e)

@@ -1,5 +1,6 @@
 -- Words that private functions and proofs need, of this crate or of one above it.
 -- No public clause cites them.
+pub mod Memberships
 use Rattle.std.specs.Prelude.{◌≡◌, ◌≢◌, ◌≤◌, ◌⊎◌, ◌==◌, ℕ, Bool, true, false, nat_eq}
 use Rattle.std.specs.Prelude.{List, [], ◌∷◌, map}
 use Rattle.std.specs.List.{filter}

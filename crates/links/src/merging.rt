@@ -3,9 +3,10 @@
 ghost use Rattle.std.specs.Prelude.{◌≡◌, [], OnOk, OnErr};
 ghost use Rattle.std.proofs.Common.{refl};
 ghost use Rattle.links.specs.MergedEdges.{link_kind, reference_kind, target_kind, subject_kind};
-ghost use Rattle.links.specs.MergedEdges.{none_taken, nothing_merged};
+ghost use Rattle.links.specs.MergedEdges.{membership_kind, none_taken, nothing_merged};
 ghost use Rattle.links.specs.MergedEdges.{IsMergeOf, edges_left, less_each};
 
+use crate::membership::{Membership, rank_of};
 use crate::postings::{Link, Reference, Sealed, Subject, Target, compare};
 use as_of_index::{MergedList, Numbers, Posting, TakenCount, merge_on, reserve_left};
 use std::alloc::{AllocError, Global};
@@ -87,6 +88,24 @@ impl Posting for Subject {
     }
 }
 
+impl Posting for Membership {
+    ghost kind = { membership_kind };
+
+    ghost same_rank = { λ n x. refl };
+
+    fn row(&self) -> u32 {
+        self.row
+    }
+
+    fn with_row(self, row: u32) -> Self {
+        Membership { row, ..self }
+    }
+
+    fn is_below(&self, other: &Self) -> bool {
+        rank_of(self) < rank_of(other)
+    }
+}
+
 /// The postings of two segments' rows that are merged so far, each with the number that its row has
 /// among the rows of both.
 #[derive(Drop)]
@@ -95,6 +114,7 @@ pub struct Merging {
     references: MergedList<Reference>,
     targets: MergedList<Target>,
     subjects: MergedList<Subject>,
+    memberships: MergedList<Membership>,
 }
 
 impl Model for Merging {
@@ -109,11 +129,13 @@ impl Model for Merging {
         references = a.references.out.items;
         targets = a.targets.out.items;
         subjects = a.subjects.out.items;
+        memberships = a.memberships.out.items;
       };
       links = a.links.taken;
       references = a.references.taken;
       targets = a.targets.taken;
       subjects = a.subjects.taken;
+      memberships = a.memberships.taken;
     } };
 
     ghost invariant = { λ a. IsSealed (record {
@@ -121,6 +143,7 @@ impl Model for Merging {
       references = a.references.out.items;
       targets = a.targets.out.items;
       subjects = a.subjects.out.items;
+      memberships = a.memberships.out.items;
     }) };
 }
 
@@ -148,11 +171,12 @@ impl Merging {
             references: none_of(alloc),
             targets: none_of(alloc),
             subjects: none_of(alloc),
+            memberships: none_of(alloc),
         }
     }
 
-    /// Merges up to so many links, references, targets and subjects more. The first call takes the
-    /// memory for all of them. An `Err` changes nothing.
+    /// Merges up to so many links, references, targets, subjects and memberships more. The first call
+    /// takes the memory for all of them. An `Err` changes nothing.
     pub fn advance(
         &mut self,
         a: &Sealed,
@@ -170,6 +194,7 @@ impl Merging {
         reserve_left(a.references(), b.references(), &mut self.references)?;
         reserve_left(a.targets(), b.targets(), &mut self.targets)?;
         reserve_left(a.subjects(), b.subjects(), &mut self.subjects)?;
+        reserve_left(a.memberships(), b.memberships(), &mut self.memberships)?;
         merge_on(a.links(), b.links(), numbers, &mut self.links, n);
         merge_on(
             a.references(),
@@ -180,6 +205,13 @@ impl Merging {
         );
         merge_on(a.targets(), b.targets(), numbers, &mut self.targets, n);
         merge_on(a.subjects(), b.subjects(), numbers, &mut self.subjects, n);
+        merge_on(
+            a.memberships(),
+            b.memberships(),
+            numbers,
+            &mut self.memberships,
+            n,
+        );
         Ok(())
     }
 
@@ -192,7 +224,14 @@ impl Merging {
             references,
             targets,
             subjects,
+            memberships,
         } = self;
-        Sealed::of_parts(links.out, references.out, targets.out, subjects.out)
+        Sealed::of_parts(
+            links.out,
+            references.out,
+            targets.out,
+            subjects.out,
+            memberships.out,
+        )
     }
 }

@@ -1,5 +1,5 @@
-//! Postings of rows: of relationships, of associations, and of what rows are about. They are in the
-//! order in which rows were pushed, and sealed.
+//! Postings of rows: of relationships, of associations, of what rows are about, and of members of
+//! reference sets. They are in the order in which rows were pushed, and sealed.
 
 ghost use Rattle.std.specs.Prelude.{◌≡◌, ◌<◌, ◌++◌, length, vec_capacity, OnOk, OnErr};
 ghost use Rattle.std.specs.List.Sorted.{IsNonDecreasingBy, IsPermutation};
@@ -7,7 +7,9 @@ ghost use Rattle.std.specs.Ordering.{nat_cmp};
 ghost use Rattle.links.specs.Edges.{Edges, no_edges, link, reference, posted_link};
 ghost use Rattle.links.specs.Edges.{posted_reference, posted_target, posted_subject, edges_of};
 ghost use Rattle.links.specs.Edges.{AreSameEdges, IsSealed, joined_edges, subject_rank, target_at};
+ghost use Rattle.links.specs.Edges.{membership_rank};
 
+use crate::membership::{Membership, push_membership, sort_memberships};
 use history_model::{IS_A, StampedRow, subject_of};
 use rf2_values::{Association, Body, Kind, Relationship};
 use std::alloc::{AllocError, Global};
@@ -64,14 +66,15 @@ pub struct Subject {
     pub row: u32,
 }
 
-/// The links, references, targets and subjects of the rows of one segment, in the order in which
-/// they were pushed.
+/// The links, references, targets, subjects and memberships of the rows of one segment, in the order
+/// in which they were pushed.
 #[derive(Drop)]
 pub struct Postings {
     links: Vec<Link>,
     references: Vec<Reference>,
     targets: Vec<Target>,
     subjects: Vec<Subject>,
+    memberships: Vec<Membership>,
 }
 
 impl Model for Postings {
@@ -84,17 +87,20 @@ impl Model for Postings {
       references = a.references.items;
       targets = a.targets.items;
       subjects = a.subjects.items;
+      memberships = a.memberships.items;
     } };
 }
 
 /// The links of a segment, ascending by destination, its references, ascending by what they refer
-/// to, and its subjects, which ascend, those of one component by kind.
+/// to, its targets and its subjects, which ascend, those of one component by kind, and its
+/// memberships, ascending by reference set, those of one by the component.
 #[derive(Drop)]
 pub struct Sealed {
     links: Vec<Link>,
     references: Vec<Reference>,
     targets: Vec<Target>,
     subjects: Vec<Subject>,
+    memberships: Vec<Membership>,
 }
 
 impl Model for Sealed {
@@ -107,6 +113,7 @@ impl Model for Sealed {
       references = a.references.items;
       targets = a.targets.items;
       subjects = a.subjects.items;
+      memberships = a.memberships.items;
     } };
 
     ghost invariant = { λ a. IsSealed (record {
@@ -114,6 +121,7 @@ impl Model for Sealed {
       references = a.references.items;
       targets = a.targets.items;
       subjects = a.subjects.items;
+      memberships = a.memberships.items;
     }) };
 }
 
@@ -256,24 +264,28 @@ impl Postings {
             references: Vec::new(alloc),
             targets: Vec::new(alloc),
             subjects: Vec::new(alloc),
+            memberships: Vec::new(alloc),
         }
     }
 
     /// Adds the link, or the reference and the target, of the row with this number, and what the row
-    /// is about, if it is active and has them. An `Err` changes nothing.
+    /// is about, if it is active and has them, and the membership of a member, active or not. An `Err`
+    /// changes nothing.
     pub fn push(&mut self, row: &StampedRow, number: u32) -> Result<(), AllocError>
         ensures ok { OnOk result (self.new ≡ joined_edges self.old (edges_of row.now.row number)) }
         ensures err { OnErr result (self.new ≡ self.old) }
     {
         self.subjects.reserve(1)?;
         self.targets.reserve(1)?;
+        self.memberships.reserve(1)?;
         push_edge(&mut self.links, &mut self.references, row, number)?;
         push_target(&mut self.targets, row, number);
         push_subject(&mut self.subjects, row, number);
+        push_membership(&mut self.memberships, row, number);
         Ok(())
     }
 
-    /// The links, references, targets and subjects, each in order. It takes no memory.
+    /// The links, references, targets, subjects and memberships, each in order. It takes no memory.
     pub fn seal(self) -> Sealed
         ensures same { AreSameEdges self result }
         ensures rising { IsSealed result }
@@ -283,16 +295,19 @@ impl Postings {
             mut references,
             mut targets,
             mut subjects,
+            mut memberships,
         } = self;
         sort_links(&mut links);
         sort_references(&mut references);
         sort_targets(&mut targets);
         sort_subjects(&mut subjects);
+        sort_memberships(&mut memberships);
         Sealed {
             links,
             references,
             targets,
             subjects,
+            memberships,
         }
     }
 }
@@ -303,16 +318,19 @@ impl Sealed {
         references: Vec<Reference>,
         targets: Vec<Target>,
         subjects: Vec<Subject>,
+        memberships: Vec<Membership>,
     ) -> Sealed
         requires links { IsNonDecreasingBy (λ l. l.destination) links.items }
         requires references { IsNonDecreasingBy (λ r. r.referenced) references.items }
         requires targets { IsNonDecreasingBy (λ t. t.target) targets.items }
         requires subjects { IsNonDecreasingBy (λ x. subject_rank x.subject x.kind) subjects.items }
+        requires memberships { IsNonDecreasingBy (λ m. membership_rank m.refset m.referenced) memberships.items }
         ensures { result ≡ record {
           links = links.items;
           references = references.items;
           targets = targets.items;
           subjects = subjects.items;
+          memberships = memberships.items;
         } }
     {
         Sealed {
@@ -320,6 +338,7 @@ impl Sealed {
             references,
             targets,
             subjects,
+            memberships,
         }
     }
 
@@ -349,5 +368,13 @@ impl Sealed {
         ensures rising { IsNonDecreasingBy (λ x. subject_rank x.subject x.kind) self.now.subjects }
     {
         self.subjects.as_slice()
+    }
+
+    pub(crate) fn memberships(&self) -> &[Membership]
+        ensures memberships { result.now ≡ self.now.memberships }
+        ensures rising { IsNonDecreasingBy (λ m. membership_rank m.refset m.referenced)
+            self.now.memberships }
+    {
+        self.memberships.as_slice()
     }
 }

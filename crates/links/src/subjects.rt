@@ -80,7 +80,7 @@ fn is_same_id(a: &Chosen, b: &Chosen) -> bool
 }
 
 /// Sorts the rows by id, and keeps one of each id. It takes no memory.
-fn sort_once(kept: &mut Vec<Chosen>)
+pub(crate) fn sort_once(kept: &mut Vec<Chosen>)
     ensures { AreOnce chosen_cmp kept.old.items kept.new.items }
 {
     kept.sort_unstable_by(|a, b| compare(a, b));
@@ -108,7 +108,7 @@ fn add_current(
 }
 
 /// The places of the current rows of a kind that are about a component, by id.
-fn chosen_all(
+pub(crate) fn chosen_all(
     alloc: Global,
     links: &[Sealed],
     index: &Index,

@@ -8,6 +8,7 @@ mod descriptions;
 mod edges;
 mod hierarchy;
 mod known;
+mod membership;
 mod releases;
 mod snapshots;
 
@@ -16,5 +17,6 @@ pub use descriptions::{search_terms, terms};
 pub use edges::{about, children, replacements};
 pub use hierarchy::{ancestors, descendants, parents};
 pub use known::KnownRows;
+pub use membership::{called, members, values};
 pub use releases::{accepts, after_release, import_receipt, receipt, rows_at};
 pub use snapshots::{get, page, snapshot, versions};

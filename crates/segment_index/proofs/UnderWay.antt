@@ -187,6 +187,7 @@ module _ (lists : List (List StampedRow)) (places : List (List RowPlace)) (terms
         references = omega (arith, ap (λ (n : EdgeCount). n.references) left, x.references, y.references, few);
         targets = omega (arith, ap (λ (n : EdgeCount). n.targets) left, x.targets, y.targets, few);
         subjects = omega (arith, ap (λ (n : EdgeCount). n.subjects) left, x.subjects, y.subjects, few);
+        memberships = omega (arith, ap (λ (n : EdgeCount). n.memberships) left, x.memberships, y.memberships, few);
       } in
       merged_are_posted a b (edges_at links m.i) (edges_at links m.j) m.links both first second (subst (λ (l : TwoLists). IsMergeOf l (edges_at links m.i) (edges_at links m.j) m.links) two_are merged.links_are) none
 

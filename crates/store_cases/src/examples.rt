@@ -6,7 +6,7 @@
 use crate::calls::{call, spell_receipt, store_of};
 use crate::contradicting::ask_contradictions;
 use crate::devices::{ask_disk, changed, reopens};
-use crate::plain::{Plain, refuse, spell_sample};
+use crate::plain::{Plain, count_lookups, refuse, spell_sample};
 use crate::questions::ask_at;
 use crate::releases::Releases;
 use case_files::{Answer, NoAnswer, two_words};
@@ -126,6 +126,7 @@ impl Examples {
                 let (fault, words) = first_word(words)?;
                 refuse(self.alloc, fault, self.releases.find(words)?)
             }
+            "lookups" => count_lookups(self.alloc, self.releases.find(words)?),
             _ => spell_sample(self.alloc, words),
         }
     }
@@ -147,7 +148,7 @@ impl Examples {
         match word {
             "check" => self.check(rest),
             "contradictions" => self.contradictions(rest),
-            "fresh" | "order" | "lost" | "sample" => self.ask_plain(word, rest),
+            "fresh" | "order" | "lost" | "lookups" | "sample" => self.ask_plain(word, rest),
             "import" => self.import(rest),
             "new" => {
                 self.store = None;

@@ -17,6 +17,7 @@ mod refusals;
 mod releases;
 mod scripts;
 mod trials;
+mod unknown;
 
 use case_files::Asked;
 use std::process::ExitCode;

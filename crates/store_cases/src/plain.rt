@@ -7,9 +7,11 @@
 //! - `order RELEASE` answers the new rows in their order, a line each;
 //! - `lost FAULT RELEASE` answers why it is refused where what is known can't be had, and how many
 //!   faults of the disk and damages are counted then;
+//! - `lookups RELEASE` answers how often a known row is asked for, where nothing is known;
 //! - `sample NAME` answers the files of a sample: a line of the name and the kind, and its lines.
 
 use crate::lost::Lost;
+use crate::unknown::Unknown;
 use case_files::{Answer, NoAnswer};
 use case_values::{line_of, spell_text};
 use history_model::StampedRow;
@@ -158,6 +160,17 @@ pub fn refuse(alloc: Global, fault: &str, release: Release) -> Answer {
             Ok(format!(in alloc; "{fault:?}, {disk_faults}, {damages}")?)
         }
     }
+}
+
+/// How often a known row is asked for where nothing is known.
+pub fn count_lookups(alloc: Global, release: Release) -> Answer {
+    let mut unknown = Unknown::new();
+    let found = new_rows(alloc, release, &mut unknown);
+    if let Err(ImportFault::OutOfMemory) = found {
+        return Err(NoAnswer::OutOfMemory);
+    }
+    let asked = unknown.asked();
+    Ok(format!(in alloc; "{asked}")?)
 }
 
 /// The files of a sample.

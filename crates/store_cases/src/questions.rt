@@ -64,6 +64,15 @@ fn find(
         Question::Delta(kind, from, date, after, limit) => {
             store.delta(kind, from.value(), date.value(), after, limit, pin)
         }
+        Question::Members(refset, date, after, limit) => {
+            store.members(refset.value(), date.value(), after, limit, pin)
+        }
+        Question::Values(refset, date, after, limit) => {
+            store.values(refset.value(), date.value(), after, limit, pin)
+        }
+        Question::Called(id, date, refset) => {
+            store.called(id.value(), date.value(), refset.value(), pin)
+        }
         Question::Dates => store.dates(pin),
         Question::Terms(date, limit) => store.terms(prefix, date.value(), limit, pin),
         Question::Search(date, after, limit) => {

@@ -8,7 +8,7 @@ use rf2_rows::LineFault;
 use std::alloc::Global;
 
 /// Each refusal, one of those that have a part or a place.
-const REFUSALS: [Refusal; 15] = [
+const REFUSALS: [Refusal; 16] = [
     Refusal::OutOfMemory,
     Refusal::DiskFault,
     Refusal::ReopenNeeded,
@@ -23,6 +23,7 @@ const REFUSALS: [Refusal; 15] = [
     Refusal::NoMerge,
     Refusal::MergeUnfinished,
     Refusal::CountSpent,
+    Refusal::LaterVersion,
     Refusal::Contradiction { file: 1, line: 2 },
 ];
 

@@ -2,7 +2,8 @@
 //!
 //! A part is a release: its lines, each behind the kind of the file that it stands in, as in
 //! `concept 138875005|20200131|1|CORE|PRIM`. A file has the lines of one kind that follow each
-//! other, and a kind without a line begins another file. Besides there are
+//! other, and a kind without a line begins another file. Members with two further columns are of
+//! the kind `member+2`. Besides there are
 //! - `nothing`, without a file;
 //! - `r1`, `r2` and `r3`, the samples, and `cut BYTES`, the first file of `r1` without so many
 //!   bytes at its end;
@@ -12,10 +13,10 @@
 //!   names in its first line.
 
 use case_files::NoAnswer;
-use case_values::{first_word, kind_of, number, row_bytes, row_text};
+use case_values::{first_word, kind_of, number, row_bytes, row_text, shape_of};
 use history_store::Refusal;
 use import_check::{Release, ReleaseFile};
-use rf2_rows::{Kind, column_names};
+use rf2_rows::{Kind, Shape, column_names};
 use std::alloc::{AllocError, Global};
 use test_support::{of_bytes, one_file, root_years, sample_named};
 
@@ -23,7 +24,7 @@ use test_support::{of_bytes, one_file, root_years, sample_named};
 #[derive(Drop)]
 struct Given {
     release: String,
-    kind: Kind,
+    shape: Shape,
     line: String,
 }
 
@@ -35,24 +36,29 @@ pub struct Releases {
 }
 
 /// A file of column names.
-fn empty_file(alloc: Global, kind: Kind) -> Result<ReleaseFile, AllocError> {
-    let mut bytes = column_names(kind).to_vec(alloc)?;
+fn empty_file(alloc: Global, shape: Shape) -> Result<ReleaseFile, AllocError> {
+    let mut bytes = column_names(shape.kind).to_vec(alloc)?;
+    for number in 0..shape.further {
+        let name = format!(in alloc; "\tcolumn{number}")?;
+        bytes.extend_from_slice(name.as_bytes())?;
+    }
     bytes.extend_from_slice(b"\r\n")?;
     Ok(ReleaseFile {
         name: String::from_str(alloc, "example.txt")?,
-        kind,
+        kind: shape.kind,
         bytes,
     })
 }
 
 /// Adds a line to the last file, or to a new one of its kind.
-fn put_line(alloc: Global, files: &mut Vec<ReleaseFile>, given: &Given) -> Result<(), NoAnswer> {
-    let is_next = match files.last() {
-        Some(file) => file.kind == given.kind,
-        None => false,
-    };
-    if !is_next || given.line.is_empty() {
-        files.push(empty_file(alloc, given.kind)?)?;
+fn put_line(
+    alloc: Global,
+    files: &mut Vec<ReleaseFile>,
+    last: Option<Shape>,
+    given: &Given,
+) -> Result<(), NoAnswer> {
+    if last != Some(given.shape) || given.line.is_empty() {
+        files.push(empty_file(alloc, given.shape)?)?;
     }
     if given.line.is_empty() {
         return Ok(());
@@ -130,12 +136,12 @@ impl Releases {
 
     /// Takes a line of a release.
     pub fn give(&mut self, release: &str, kind: &str, line: &str) -> Result<(), NoAnswer> {
-        let kind = kind_of(kind)?;
+        let shape = shape_of(kind)?;
         let release = String::from_str(self.alloc, release)?;
         let line = row_text(self.alloc, line)?;
         self.given.push(Given {
             release,
-            kind,
+            shape,
             line,
         })?;
         Ok(())
@@ -144,9 +150,11 @@ impl Releases {
     /// The files of the release with this name, none if there is no such.
     fn files_of(&self, name: &str) -> Result<Vec<ReleaseFile>, NoAnswer> {
         let mut files = Vec::new(self.alloc);
+        let mut last = None;
         for given in &self.given {
             if given.release.as_str() == name {
-                put_line(self.alloc, &mut files, given)?;
+                put_line(self.alloc, &mut files, last, given)?;
+                last = Some(given.shape);
             }
         }
         Ok(files)

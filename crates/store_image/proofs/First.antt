@@ -9,7 +9,7 @@ use Rattle.directory.specs.declared.layout.Layout.TheVariants as layouts
 use Rattle.directory.specs.Listings.{DirectoryValue, IsListing}
 use Rattle.directory.specs.Content.{listing_bytes, header_bytes, mark}
 use Rattle.store_image.specs.Kept.{HasKind}
-use Rattle.store_image.specs.First.{FirstStillRepresents, SecondStillRepresents, IsFirstKind, bytes_then}
+use Rattle.store_image.specs.First.{FirstStillRepresents, SecondStillRepresents, IsFirstKind, IsSecondKind, bytes_then}
 
 of_then : Layout → ℕ → ℕ → List Entry → DirectoryValue
 of_then layout epoch imports entries = record { layout = layout; epoch = epoch; imports = imports; entries = entries }
@@ -26,6 +26,7 @@ was_kind kinds.Description is = tt
 was_kind kinds.Relationship is = tt
 was_kind kinds.Association is = tt
 was_kind kinds.Concrete is = absurd is
+was_kind kinds.Member is = absurd is
 
 is_kind : (k : Kind) → HasKind layouts.One k → IsFirstKind k
 is_kind kinds.Concept is = tt
@@ -33,6 +34,23 @@ is_kind kinds.Description is = tt
 is_kind kinds.Relationship is = tt
 is_kind kinds.Association is = tt
 is_kind kinds.Concrete is = absurd is
+is_kind kinds.Member is = absurd is
+
+was_second : (k : Kind) → IsSecondKind k → HasKind layouts.Two k
+was_second kinds.Concept is = tt
+was_second kinds.Description is = tt
+was_second kinds.Relationship is = tt
+was_second kinds.Association is = tt
+was_second kinds.Concrete is = tt
+was_second kinds.Member is = absurd is
+
+is_second : (k : Kind) → HasKind layouts.Two k → IsSecondKind k
+is_second kinds.Concept is = tt
+is_second kinds.Description is = tt
+is_second kinds.Relationship is = tt
+is_second kinds.Association is = tt
+is_second kinds.Concrete is = tt
+is_second kinds.Member is = absurd is
 
 pub first_still_represents : FirstStillRepresents
 unfolding of_then mark
@@ -91,7 +109,7 @@ second_still_represents file h epoch entries = (
         other_is_whole = s.no_third;
         says = record {
           lists_it = record { is = listing; front = subst P (same_bytes layouts.Two epoch h.imports entries) s.front; sum = tt };
-          kept = record { listing = listing; segments = s.segments; apart = s.apart; history = s.history; kinds = λ i rows below. λ j row lower. tt };
+          kept = record { listing = listing; segments = s.segments; apart = s.apart; history = s.history; kinds = λ i rows below. λ j row lower. was_second _ (s.kinds_were i rows below j row lower) };
         };
         rows = s.rows;
       },
@@ -114,7 +132,7 @@ second_still_represents file h epoch entries = (
         front = subst P (sym (same_bytes layouts.Two epoch h.imports entries)) s.says.lists_it.front;
         segments = s.says.kept.segments;
         apart = s.says.kept.apart;
-        kinds_were = λ i rows below. λ j row lower. tt;
+        kinds_were = λ i rows below. λ j row lower. is_second _ (s.says.kept.kinds i rows below j row lower);
         history = s.says.kept.history;
         rows = s.rows;
       },

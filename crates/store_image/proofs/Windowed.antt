@@ -28,6 +28,7 @@ least_of_kind kinds.Description = omega arith
 least_of_kind kinds.Relationship = omega arith
 least_of_kind kinds.Association = omega arith
 least_of_kind kinds.Concrete = omega arith
+least_of_kind kinds.Member = omega arith
 
 pub record_least : (s : StampedRow) → 46 ≤ length (record_of s)
 record_least s = omega (arith, record_size s, least_of_kind (kind_of s.row))

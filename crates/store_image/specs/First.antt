@@ -1,6 +1,6 @@
 -- What bytes represented before there was a second version of the layout, and before there was a
 -- third one: the definition of those times, on its own. In the first version rows were of the four
--- kinds that there were then.
+-- kinds that there were then, in the second one of five.
 use Rattle.std.specs.Prelude.{◌≡◌, ◌↔◌, ℕ, ◌^◌, ◌<◌, ◌≤◌, List, ◌++◌, length, take, drop, replicate}
 use Rattle.std.specs.Prelude.{codes, All}
 use Rattle.std.specs.List.{AllByRecursion, flat_map}
@@ -29,10 +29,18 @@ bytes_then mark epoch imports entries =
     to_be_bytes w64 epoch ++ (mark ++ (to_be_bytes w32 imports
     ++ (to_be_bytes w32 (length entries) ++ (replicate 8 0 ++ flat_map entry_bytes entries))))
 
--- the kinds that there were
+-- the kinds that there were at first
 abbrev pub IsFirstKind : Kind → Type 0
-IsFirstKind kinds.Concrete = ⊥
-IsFirstKind kind = Unit {0}
+IsFirstKind kinds.Concept = Unit {0}
+IsFirstKind kinds.Description = Unit {0}
+IsFirstKind kinds.Relationship = Unit {0}
+IsFirstKind kinds.Association = Unit {0}
+IsFirstKind kind = ⊥
+
+-- and those that there were in the second version: one more
+abbrev pub IsSecondKind : Kind → Type 0
+IsSecondKind kinds.Concrete = Unit {0}
+IsSecondKind kind = IsFirstKind kind
 
 -- What bytes represented whose content blocks had this mark and so many entries at most, and whose
 -- rows were of these kinds. No segment had checksums, and no content block that was published had
@@ -66,7 +74,7 @@ abbrev pub DidRepresent : List ℕ → History → ℕ → List Entry → Type 0
 DidRepresent = DidRepresentBy (codes "SCTHIST1") 128 IsFirstKind
 
 abbrev pub DidRepresentSecond : List ℕ → History → ℕ → List Entry → Type 0
-DidRepresentSecond = DidRepresentBy (codes "SCTHIST2") 250 (λ kind. Unit {0})
+DidRepresentSecond = DidRepresentBy (codes "SCTHIST2") 250 IsSecondKind
 
 -- what represented a history then does so in version 1 still, and nothing else does in that version
 abbrev pub FirstStillRepresents : Type 0

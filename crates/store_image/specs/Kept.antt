@@ -32,10 +32,12 @@ AreSegments [] (rows ∷ lists) = ⊥
 AreSegments (entry ∷ entries) [] = ⊥
 AreSegments (entry ∷ entries) (rows ∷ lists) = IsSegmentOf entry rows × AreSegments entries lists
 
--- the version has rows of this kind
+-- the version has rows of this kind: concrete values from version 2 on, members from version 3 on
 abbrev pub HasKind : Layout → Kind → Type 0
 HasKind layouts.One kinds.Concrete = ⊥
+HasKind layouts.One kinds.Member = ⊥
 HasKind layouts.One kind = Unit {0}
+HasKind layouts.Two kinds.Member = ⊥
 HasKind layouts.Two kind = Unit {0}
 HasKind layouts.Three kind = Unit {0}
 

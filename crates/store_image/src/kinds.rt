@@ -15,6 +15,7 @@ fn has_kind(layout: Layout, kind: Kind) -> bool
 {
     match (layout, kind) {
         (Layout::One, Kind::Concrete) => false,
+        (Layout::One | Layout::Two, Kind::Member) => false,
         _ => true,
     }
 }

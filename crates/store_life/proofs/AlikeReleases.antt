@@ -2,6 +2,7 @@
 use Rattle.std.proofs.Common.{◌≡◌, ℕ, ◌+◌, Bool, true, false, arith, length, List, [], ◌∷◌, ◌++◌, map, refl, sym, ap, subst, ◌∙◌, Result, Ok, Err}
 use Rattle.std.proofs.lemmas.Bool.{false≢true}
 use Rattle.rf2_values.specs.declared.row.Kind.{Kind}
+use Rattle.rf2_values.specs.declared.row.Kind.TheVariants as kinds
 use Rattle.rf2_values.specs.Row.{RowValue}
 use Rattle.rf2_values.specs.declared.key.Key.{Key}
 use Rattle.rf2_rows.specs.declared.fault.LineFault.{LineFault}
@@ -9,6 +10,9 @@ use Rattle.rf2_rows.specs.File.{IsReleaseFile, IsFaultOfFile}
 use Rattle.history_model.specs.declared.stamped.StampedRow.{StampedRow}
 use Rattle.history_model.specs.declared.receipt.Receipt.{Receipt}
 use Rattle.history_model.specs.History.{History}
+use Rattle.history_model.specs.InOrder.{Has}
+use Rattle.directory.specs.declared.layout.Layout.{Layout}
+use Rattle.directory.specs.declared.layout.Layout.TheVariants as layouts
 use Rattle.import_check.specs.declared.release.ReleaseFile.{ReleaseFile}
 use Rattle.import_check.specs.declared.release.Release.{Release}
 use Rattle.import_check.specs.Release.{SpellFiles, IsReleaseOf, IsFaultOfRelease, HasContradiction}
@@ -17,6 +21,7 @@ use Rattle.history_store.specs.declared.refusal.Refusal.{Refusal}
 use Rattle.history_store.specs.declared.refusal.Refusal.TheVariants as store
 use Rattle.history_store.specs.Catalog.{Catalog}
 use Rattle.history_store.specs.StoreValue.{StoreValue}
+use Rattle.history_store.specs.Prepared.{IsForLater, IsAdmitted}
 use Rattle.history_store.specs.Answers.{IsTaken, WouldBeTakenBut, IsImportOf}
 use Rattle.store_life.specs.Laws.{IsSureImport}
 
@@ -60,6 +65,15 @@ spell_alike (x ∷ xs) [] lists e h = not_none x xs e
 spell_alike (x ∷ xs) (y ∷ ys) [] e h = absurd h
 spell_alike (x ∷ xs) (y ∷ ys) (rows ∷ lists) e h =
     (subst (λ (f : FileBytes). IsReleaseFile f.0 rows f.1) (same_file x y xs ys e) h.0, spell_alike xs ys lists (same_rest x y xs ys e) h.1)
+
+-- the files have the same kinds
+kinds_alike : (xs ys : List ReleaseFile) → all_bytes xs ≡ all_bytes ys → map (λ (file : ReleaseFile). file.kind) xs ≡ map (λ (file : ReleaseFile). file.kind) ys
+kinds_alike [] [] e = refl
+kinds_alike [] (y ∷ ys) e = not_some y ys e
+kinds_alike (x ∷ xs) [] e = not_none x xs e
+kinds_alike (x ∷ xs) (y ∷ ys) e =
+    ap (λ (k : Kind). k ∷ map (λ (file : ReleaseFile). file.kind) xs) (ap (λ (f : FileBytes). f.0) (same_file x y xs ys e))
+    ∙ ap (λ (l : List Kind). y.kind ∷ l) (kinds_alike xs ys (same_rest x y xs ys e))
 
 -- where one list is cut, the other is
 record Cut (before after : List ReleaseFile) (faulty : ReleaseFile) (files : List ReleaseFile) : Type 0 where
@@ -109,18 +123,32 @@ module _ (release other : Release) (same : files_of release ≡ files_of other) 
         fault_is = subst (λ (b : FileBytes). IsFaultOfFile b.0 b.1 line fault) c.middle_is f.fault_is;
       }
 
+  later_alike : {layout : Layout} → IsForLater layout release → IsForLater layout other
+  later_alike {layouts.One} is = subst (λ (l : List Kind). Has l kinds.Member) (kinds_alike release.files.items other.files.items same) is
+  later_alike {layouts.Two} is = subst (λ (l : List Kind). Has l kinds.Member) (kinds_alike release.files.items other.files.items same) is
+  later_alike {layouts.Three} is = is
+
+  earlier_alike : {layout : Layout} → IsForLater layout other → IsForLater layout release
+  earlier_alike {layouts.One} is = subst (λ (l : List Kind). Has l kinds.Member) (kinds_alike other.files.items release.files.items (sym same)) is
+  earlier_alike {layouts.Two} is = subst (λ (l : List Kind). Has l kinds.Member) (kinds_alike other.files.items release.files.items (sym same)) is
+  earlier_alike {layouts.Three} is = is
+
+  admitted_alike : {h : History} {catalog : Catalog} → IsAdmitted h catalog release → IsAdmitted h catalog other
+  admitted_alike {h} {catalog} a = record { room = a.room; version = λ is. a.version (earlier_alike {catalog.layout} is) }
+
   taken_alike : {h after : History} {catalog next : Catalog} {receipt : Receipt} → IsTaken h after catalog next release receipt → IsTaken h after catalog next other receipt
-  taken_alike t = record { room = t.room; rows = t.rows; is_release = release_alike t.is_release; accepted = t.accepted; history = t.history; receipt_is = t.receipt_is; catalog_is = t.catalog_is }
+  taken_alike t = record { room = admitted_alike t.room; rows = t.rows; is_release = release_alike t.is_release; accepted = t.accepted; history = t.history; receipt_is = t.receipt_is; catalog_is = t.catalog_is }
 
   unplaced_alike : {h : History} {catalog : Catalog} {Lacks : List StampedRow → Catalog → Type 0} → WouldBeTakenBut h catalog release Lacks → WouldBeTakenBut h catalog other Lacks
-  unplaced_alike u = record { room = u.room; rows = u.rows; is_release = release_alike u.is_release; accepted = u.accepted; lacks = u.lacks }
+  unplaced_alike u = record { room = admitted_alike u.room; rows = u.rows; is_release = release_alike u.is_release; accepted = u.accepted; lacks = u.lacks }
 
   pub import_alike : {D : Type 0} (result : Result Receipt Refusal) (old new : StoreValue D) → IsSureImport result → IsImportOf result old new release → IsImportOf result old new other
   import_alike (Ok receipt) old new sure i = (taken_alike i.0, i.1, i.2)
   import_alike (Err store.ReopenNeeded) old new sure i = i
   import_alike (Err store.CountSpent) old new sure i = i
-  import_alike (Err (store.Line file line fault)) old new sure i = ((i.0.0, (i.0.1.0, fault_alike i.0.1.1)), i.1)
-  import_alike (Err (store.Contradiction file line)) old new sure i = ((i.0.0, (i.0.1.0, i.0.1.1, contradiction_alike i.0.1.2)), i.1)
+  import_alike (Err store.LaterVersion) old new sure i = ((i.0.0, (i.0.1.0, later_alike {old.catalog.layout} i.0.1.1)), i.1)
+  import_alike (Err (store.Line file line fault)) old new sure i = ((i.0.0, (admitted_alike i.0.1.0, fault_alike i.0.1.1)), i.1)
+  import_alike (Err (store.Contradiction file line)) old new sure i = ((i.0.0, (admitted_alike i.0.1.0, i.0.1.1, contradiction_alike i.0.1.2)), i.1)
   import_alike (Err store.TooManySegments) old new sure i = ((i.0.0, unplaced_alike i.0.1), i.1)
   import_alike (Err store.Full) old new sure i = ((i.0.0, unplaced_alike i.0.1), i.1)
   import_alike (Err store.OutOfMemory) old new sure i = absurd sure

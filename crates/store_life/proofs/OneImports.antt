@@ -20,7 +20,7 @@ use Rattle.directory.specs.Listings.{form_of, next_layout}
 use Rattle.history_store.specs.Catalog.{Catalog, IsCatalogAfter, HasNoEntry, HasNoPlace, entry_at, place_for}
 use Rattle.segment.specs.Records.{segment_of}
 use Rattle.history_store.specs.StoreValue.{StoreValue, last_import, last_epoch}
-use Rattle.history_store.specs.Prepared.{IsNotSpent}
+use Rattle.history_store.specs.Prepared.{IsNotSpent, IsForLater, IsAdmitted}
 use Rattle.history_store.specs.Answers.{IsTaken, IsImportOf}
 use Rattle.store_life.specs.Laws.{OneImport, IsSureImport}
 
@@ -93,16 +93,18 @@ module _ (D : Type 0) (needs : Bool) (h : History) (catalog : Catalog) (release 
   data Cause (x : Result Receipt Refusal) (after : StoreValue D) : Type 0 where
     closed : x ≡ Err refusals.ReopenNeeded → needs ≡ true → Stays after → Cause x after
     spent : x ≡ Err refusals.CountSpent → needs ≡ false → (h.imports ≡ last_import) ⊎ (catalog.epoch ≡ last_epoch) → Stays after → Cause x after
-    faulty : (file line : ℕ) (fault : LineFault) → x ≡ Err (refusals.Line file line fault) → needs ≡ false → IsNotSpent h.imports catalog.epoch → IsFaultOfRelease release file line fault → Stays after → Cause x after
-    contradicting : (file line : ℕ) (key : Key) → x ≡ Err (refusals.Contradiction file line) → needs ≡ false → IsNotSpent h.imports catalog.epoch → HasContradiction (full h) release file line key → Stays after → Cause x after
-    entryless : x ≡ Err refusals.TooManySegments → needs ≡ false → IsNotSpent h.imports catalog.epoch → (rows : List RowValue) → IsReleaseOf release rows → Accepts h rows → HasNoEntry (new_rows h rows) catalog → Stays after → Cause x after
-    placeless : x ≡ Err refusals.Full → needs ≡ false → IsNotSpent h.imports catalog.epoch → (rows : List RowValue) → IsReleaseOf release rows → Accepts h rows → HasNoPlace (new_rows h rows) catalog → Stays after → Cause x after
+    later : x ≡ Err refusals.LaterVersion → needs ≡ false → IsNotSpent h.imports catalog.epoch → IsForLater catalog.layout release → Stays after → Cause x after
+    faulty : (file line : ℕ) (fault : LineFault) → x ≡ Err (refusals.Line file line fault) → needs ≡ false → IsAdmitted h catalog release → IsFaultOfRelease release file line fault → Stays after → Cause x after
+    contradicting : (file line : ℕ) (key : Key) → x ≡ Err (refusals.Contradiction file line) → needs ≡ false → IsAdmitted h catalog release → HasContradiction (full h) release file line key → Stays after → Cause x after
+    entryless : x ≡ Err refusals.TooManySegments → needs ≡ false → IsAdmitted h catalog release → (rows : List RowValue) → IsReleaseOf release rows → Accepts h rows → HasNoEntry (new_rows h rows) catalog → Stays after → Cause x after
+    placeless : x ≡ Err refusals.Full → needs ≡ false → IsAdmitted h catalog release → (rows : List RowValue) → IsReleaseOf release rows → Accepts h rows → HasNoPlace (new_rows h rows) catalog → Stays after → Cause x after
     taken : (receipt : Receipt) → x ≡ Ok receipt → needs ≡ false → IsTaken h after.history catalog after.catalog release receipt → after.needs_reopen ≡ false → Cause x after
 
   cause_of : (x : Result Receipt Refusal) (d : StoreValue D) (after : StoreValue D) → IsSureImport x → IsImportOf x (store_of d) after release → Cause x after
   cause_of (Ok receipt) d after sure i = taken receipt refl i.1 i.0 i.2
   cause_of (Err refusals.ReopenNeeded) d after sure i = closed refl i.0 (i.1.history, i.1.catalog, i.1.still (λ e. false≢true (ap is_fault e)))
   cause_of (Err refusals.CountSpent) d after sure i = spent refl i.0.0 i.0.1 (i.1.history, i.1.catalog, i.1.still (λ e. false≢true (ap is_fault e)))
+  cause_of (Err refusals.LaterVersion) d after sure i = later refl i.0.0 i.0.1.0 i.0.1.1 (i.1.history, i.1.catalog, i.1.still (λ e. false≢true (ap is_fault e)))
   cause_of (Err (refusals.Line file line fault)) d after sure i = faulty file line fault refl i.0.0 i.0.1.0 i.0.1.1 (i.1.history, i.1.catalog, i.1.still (λ e. false≢true (ap is_fault e)))
   cause_of (Err (refusals.Contradiction file line)) d after sure i = contradicting file line i.0.1.1 refl i.0.0 i.0.1.0 i.0.1.2 (i.1.history, i.1.catalog, i.1.still (λ e. false≢true (ap is_fault e)))
   cause_of (Err refusals.TooManySegments) d after sure i = entryless refl i.0.0 i.0.1.room i.0.1.rows i.0.1.is_release i.0.1.accepted i.0.1.lacks (i.1.history, i.1.catalog, i.1.still (λ e. false≢true (ap is_fault e)))
@@ -140,6 +142,7 @@ module _ (D : Type 0) (needs : Bool) (h : History) (catalog : Catalog) (release 
     agree : Cause x after → Cause y next → Agree x y after next
     agree (closed is needs stays) (closed is′ needs′ stays′) = let st = stay stays stays′ in (is ∙ sym is′, st.0, st.1, st.2)
     agree (closed is needs stays) (spent is′ needs′ spent_is′ stays′) = absurd (false≢true (sym needs′ ∙ needs))
+    agree (closed is needs stays) (later is′ needs′ room′ later_is′ stays′) = absurd (false≢true (sym needs′ ∙ needs))
     agree (closed is needs stays) (faulty file′ line′ fault′ is′ needs′ room′ fault_is′ stays′) = absurd (false≢true (sym needs′ ∙ needs))
     agree (closed is needs stays) (contradicting file′ line′ key′ is′ needs′ room′ contradiction′ stays′) = absurd (false≢true (sym needs′ ∙ needs))
     agree (closed is needs stays) (entryless is′ needs′ room′ rows′ release_is′ accepted′ lacks′ stays′) = absurd (false≢true (sym needs′ ∙ needs))
@@ -147,13 +150,23 @@ module _ (D : Type 0) (needs : Bool) (h : History) (catalog : Catalog) (release 
     agree (closed is needs stays) (taken receipt′ is′ needs′ t′ open_still′) = absurd (false≢true (sym needs′ ∙ needs))
     agree (spent is needs spent_is stays) (closed is′ needs′ stays′) = absurd (false≢true (sym needs ∙ needs′))
     agree (spent is needs spent_is stays) (spent is′ needs′ spent_is′ stays′) = let st = stay stays stays′ in (is ∙ sym is′, st.0, st.1, st.2)
-    agree (spent is needs spent_is stays) (faulty file′ line′ fault′ is′ needs′ room′ fault_is′ stays′) = absurd (unspent spent_is room′)
-    agree (spent is needs spent_is stays) (contradicting file′ line′ key′ is′ needs′ room′ contradiction′ stays′) = absurd (unspent spent_is room′)
-    agree (spent is needs spent_is stays) (entryless is′ needs′ room′ rows′ release_is′ accepted′ lacks′ stays′) = absurd (unspent spent_is room′)
-    agree (spent is needs spent_is stays) (placeless is′ needs′ room′ rows′ release_is′ accepted′ lacks′ stays′) = absurd (unspent spent_is room′)
-    agree (spent is needs spent_is stays) (taken receipt′ is′ needs′ t′ open_still′) = absurd (unspent spent_is t′.room)
+    agree (spent is needs spent_is stays) (later is′ needs′ room′ later_is′ stays′) = absurd (unspent spent_is room′)
+    agree (spent is needs spent_is stays) (faulty file′ line′ fault′ is′ needs′ room′ fault_is′ stays′) = absurd (unspent spent_is room′.room)
+    agree (spent is needs spent_is stays) (contradicting file′ line′ key′ is′ needs′ room′ contradiction′ stays′) = absurd (unspent spent_is room′.room)
+    agree (spent is needs spent_is stays) (entryless is′ needs′ room′ rows′ release_is′ accepted′ lacks′ stays′) = absurd (unspent spent_is room′.room)
+    agree (spent is needs spent_is stays) (placeless is′ needs′ room′ rows′ release_is′ accepted′ lacks′ stays′) = absurd (unspent spent_is room′.room)
+    agree (spent is needs spent_is stays) (taken receipt′ is′ needs′ t′ open_still′) = absurd (unspent spent_is t′.room.room)
+    agree (later is needs room later_is stays) (closed is′ needs′ stays′) = absurd (false≢true (sym needs ∙ needs′))
+    agree (later is needs room later_is stays) (spent is′ needs′ spent_is′ stays′) = absurd (unspent spent_is′ room)
+    agree (later is needs room later_is stays) (later is′ needs′ room′ later_is′ stays′) = let st = stay stays stays′ in (is ∙ sym is′, st.0, st.1, st.2)
+    agree (later is needs room later_is stays) (faulty file′ line′ fault′ is′ needs′ room′ fault_is′ stays′) = absurd (room′.version later_is)
+    agree (later is needs room later_is stays) (contradicting file′ line′ key′ is′ needs′ room′ contradiction′ stays′) = absurd (room′.version later_is)
+    agree (later is needs room later_is stays) (entryless is′ needs′ room′ rows′ release_is′ accepted′ lacks′ stays′) = absurd (room′.version later_is)
+    agree (later is needs room later_is stays) (placeless is′ needs′ room′ rows′ release_is′ accepted′ lacks′ stays′) = absurd (room′.version later_is)
+    agree (later is needs room later_is stays) (taken receipt′ is′ needs′ t′ open_still′) = absurd (t′.room.version later_is)
     agree (faulty file line fault is needs room fault_is stays) (closed is′ needs′ stays′) = absurd (false≢true (sym needs ∙ needs′))
-    agree (faulty file line fault is needs room fault_is stays) (spent is′ needs′ spent_is′ stays′) = absurd (unspent spent_is′ room)
+    agree (faulty file line fault is needs room fault_is stays) (spent is′ needs′ spent_is′ stays′) = absurd (unspent spent_is′ room.room)
+    agree (faulty file line fault is needs room fault_is stays) (later is′ needs′ room′ later_is′ stays′) = absurd (room.version later_is′)
     agree (faulty file line fault is needs room fault_is stays) (faulty file′ line′ fault′ is′ needs′ room′ fault_is′ stays′) = let one = one_fault release file line fault file′ line′ fault′ fault_is fault_is′ in
         let st = stay stays stays′ in (is ∙ same_line one.0 one.1 one.2 ∙ sym is′, st.0, st.1, st.2)
     agree (faulty file line fault is needs room fault_is stays) (contradicting file′ line′ key′ is′ needs′ room′ contradiction′ stays′) = absurd (read_has_no_fault release file line fault (record { lists = contradiction′.lists; spelled = contradiction′.spelled }) fault_is)
@@ -161,7 +174,8 @@ module _ (D : Type 0) (needs : Bool) (h : History) (catalog : Catalog) (release 
     agree (faulty file line fault is needs room fault_is stays) (placeless is′ needs′ room′ rows′ release_is′ accepted′ lacks′ stays′) = absurd (read_has_no_fault release file line fault (read_of release_is′) fault_is)
     agree (faulty file line fault is needs room fault_is stays) (taken receipt′ is′ needs′ t′ open_still′) = absurd (read_has_no_fault release file line fault (read_of t′.is_release) fault_is)
     agree (contradicting file line key is needs room contradiction stays) (closed is′ needs′ stays′) = absurd (false≢true (sym needs ∙ needs′))
-    agree (contradicting file line key is needs room contradiction stays) (spent is′ needs′ spent_is′ stays′) = absurd (unspent spent_is′ room)
+    agree (contradicting file line key is needs room contradiction stays) (spent is′ needs′ spent_is′ stays′) = absurd (unspent spent_is′ room.room)
+    agree (contradicting file line key is needs room contradiction stays) (later is′ needs′ room′ later_is′ stays′) = absurd (room.version later_is′)
     agree (contradicting file line key is needs room contradiction stays) (faulty file′ line′ fault′ is′ needs′ room′ fault_is′ stays′) = absurd (read_has_no_fault release file′ line′ fault′ (record { lists = contradiction.lists; spelled = contradiction.spelled }) fault_is′)
     agree (contradicting file line key is needs room contradiction stays) (contradicting file′ line′ key′ is′ needs′ room′ contradiction′ stays′) = let one = one_first_contradiction (full h) release file line key file′ line′ key′ contradiction contradiction′ in
         let st = stay stays stays′ in (is ∙ same_place one.0 one.1 ∙ sym is′, st.0, st.1, st.2)
@@ -169,21 +183,24 @@ module _ (D : Type 0) (needs : Bool) (h : History) (catalog : Catalog) (release 
     agree (contradicting file line key is needs room contradiction stays) (placeless is′ needs′ room′ rows′ release_is′ accepted′ lacks′ stays′) = absurd (consistent_has_none (full h) release rows′ release_is′ accepted′ file line key contradiction)
     agree (contradicting file line key is needs room contradiction stays) (taken receipt′ is′ needs′ t′ open_still′) = absurd (consistent_has_none (full h) release t′.rows t′.is_release t′.accepted file line key contradiction)
     agree (entryless is needs room rows release_is accepted lacks stays) (closed is′ needs′ stays′) = absurd (false≢true (sym needs ∙ needs′))
-    agree (entryless is needs room rows release_is accepted lacks stays) (spent is′ needs′ spent_is′ stays′) = absurd (unspent spent_is′ room)
+    agree (entryless is needs room rows release_is accepted lacks stays) (spent is′ needs′ spent_is′ stays′) = absurd (unspent spent_is′ room.room)
+    agree (entryless is needs room rows release_is accepted lacks stays) (later is′ needs′ room′ later_is′ stays′) = absurd (room.version later_is′)
     agree (entryless is needs room rows release_is accepted lacks stays) (faulty file′ line′ fault′ is′ needs′ room′ fault_is′ stays′) = absurd (read_has_no_fault release file′ line′ fault′ (read_of release_is) fault_is′)
     agree (entryless is needs room rows release_is accepted lacks stays) (contradicting file′ line′ key′ is′ needs′ room′ contradiction′ stays′) = absurd (consistent_has_none (full h) release rows release_is accepted file′ line′ key′ contradiction′)
     agree (entryless is needs room rows release_is accepted lacks stays) (entryless is′ needs′ room′ rows′ release_is′ accepted′ lacks′ stays′) = let st = stay stays stays′ in (is ∙ sym is′, st.0, st.1, st.2)
     agree (entryless is needs room rows release_is accepted lacks stays) (placeless is′ needs′ room′ rows′ release_is′ accepted′ lacks′ stays′) = absurd (omega (arith, lacks.all_taken, lacks′.few))
     agree (entryless is needs room rows release_is accepted lacks stays) (taken receipt′ is′ needs′ t′ open_still′) = absurd (no_entry _ rows t′.rows release_is t′.is_release lacks t′.catalog_is)
     agree (placeless is needs room rows release_is accepted lacks stays) (closed is′ needs′ stays′) = absurd (false≢true (sym needs ∙ needs′))
-    agree (placeless is needs room rows release_is accepted lacks stays) (spent is′ needs′ spent_is′ stays′) = absurd (unspent spent_is′ room)
+    agree (placeless is needs room rows release_is accepted lacks stays) (spent is′ needs′ spent_is′ stays′) = absurd (unspent spent_is′ room.room)
+    agree (placeless is needs room rows release_is accepted lacks stays) (later is′ needs′ room′ later_is′ stays′) = absurd (room.version later_is′)
     agree (placeless is needs room rows release_is accepted lacks stays) (faulty file′ line′ fault′ is′ needs′ room′ fault_is′ stays′) = absurd (read_has_no_fault release file′ line′ fault′ (read_of release_is) fault_is′)
     agree (placeless is needs room rows release_is accepted lacks stays) (contradicting file′ line′ key′ is′ needs′ room′ contradiction′ stays′) = absurd (consistent_has_none (full h) release rows release_is accepted file′ line′ key′ contradiction′)
     agree (placeless is needs room rows release_is accepted lacks stays) (entryless is′ needs′ room′ rows′ release_is′ accepted′ lacks′ stays′) = absurd (omega (arith, lacks′.all_taken, lacks.few))
     agree (placeless is needs room rows release_is accepted lacks stays) (placeless is′ needs′ room′ rows′ release_is′ accepted′ lacks′ stays′) = let st = stay stays stays′ in (is ∙ sym is′, st.0, st.1, st.2)
     agree (placeless is needs room rows release_is accepted lacks stays) (taken receipt′ is′ needs′ t′ open_still′) = absurd (no_place _ rows t′.rows release_is t′.is_release lacks t′.catalog_is)
     agree (taken receipt is needs t open_still) (closed is′ needs′ stays′) = absurd (false≢true (sym needs ∙ needs′))
-    agree (taken receipt is needs t open_still) (spent is′ needs′ spent_is′ stays′) = absurd (unspent spent_is′ t.room)
+    agree (taken receipt is needs t open_still) (spent is′ needs′ spent_is′ stays′) = absurd (unspent spent_is′ t.room.room)
+    agree (taken receipt is needs t open_still) (later is′ needs′ room′ later_is′ stays′) = absurd (t.room.version later_is′)
     agree (taken receipt is needs t open_still) (faulty file′ line′ fault′ is′ needs′ room′ fault_is′ stays′) = absurd (read_has_no_fault release file′ line′ fault′ (read_of t.is_release) fault_is′)
     agree (taken receipt is needs t open_still) (contradicting file′ line′ key′ is′ needs′ room′ contradiction′ stays′) = absurd (consistent_has_none (full h) release t.rows t.is_release t.accepted file′ line′ key′ contradiction′)
     agree (taken receipt is needs t open_still) (entryless is′ needs′ room′ rows′ release_is′ accepted′ lacks′ stays′) = absurd (no_entry _ rows′ t.rows release_is′ t.is_release lacks′ t.catalog_is)

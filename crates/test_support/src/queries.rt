@@ -205,6 +205,56 @@ impl Example {
         Ok(lines_of(self.alloc, &rows)?)
     }
 
+    /// The lines of the first members of a reference set, from above `after` on, each with an LF.
+    pub fn members(
+        &mut self,
+        refset: u64,
+        date: u32,
+        after: Option<u128>,
+        limit: u32,
+        pin: u32,
+    ) -> Result<Vec<u8>, Refusal> {
+        let (refset, time) = (id_of(refset)?, date_of(date)?);
+        self.check_pin(pin)?;
+        let pin = clamp_pin(&self.store, pin);
+        let rows = self.store.members(refset, time, after, limit, pin)?;
+        Ok(lines_of(self.alloc, &rows)?)
+    }
+
+    /// The lines of the first active members of a reference set that refer to a component above
+    /// `after`, each with an LF.
+    pub fn values(
+        &mut self,
+        refset: u64,
+        date: u32,
+        after: Option<u64>,
+        limit: u32,
+        pin: u32,
+    ) -> Result<Vec<u8>, Refusal> {
+        let (refset, time) = (id_of(refset)?, date_of(date)?);
+        self.check_pin(pin)?;
+        let pin = clamp_pin(&self.store, pin);
+        let rows = self.store.values(refset, time, after, limit, pin)?;
+        Ok(lines_of(self.alloc, &rows)?)
+    }
+
+    /// The lines of the descriptions by which a concept is called in a language, and of their
+    /// members, each with an LF.
+    pub fn called(
+        &mut self,
+        concept: u64,
+        date: u32,
+        refset: u64,
+        pin: u32,
+    ) -> Result<Vec<u8>, Refusal> {
+        let (concept, time) = (id_of(concept)?, date_of(date)?);
+        let refset = id_of(refset)?;
+        self.check_pin(pin)?;
+        let pin = clamp_pin(&self.store, pin);
+        let rows = self.store.called(concept, time, refset, pin)?;
+        Ok(lines_of(self.alloc, &rows)?)
+    }
+
     /// The days that have rows, each with an LF.
     pub fn dates(&mut self, pin: u32) -> Result<Vec<u8>, Refusal> {
         self.check_pin(pin)?;

@@ -1,10 +1,12 @@
 """What can be asked: `metadata` and the code system."""
 
+from ..languages import tag_of
 from ..problems import Json, invalid
 from ..snomed import with_hyphens
-from . import expansion
+from . import expansion, lookup
 from .inputs import SCT
 from .request import Request
+from .translation import MAPS
 
 METADATA_PARAMETERS = frozenset(["mode"])
 SEARCH_PARAMETERS = frozenset(["url", "_summary"])
@@ -19,6 +21,13 @@ OFFERED = {
     "ValueSet": ("expand", "validate-code"),
     "ConceptMap": ("translate",),
 }
+# What an operation may be asked of, where its definition leaves that open.
+OF_VALUE_SETS = (
+    "url is %s?fhir_vs, ?fhir_vs=isa/CODE, ?fhir_vs=refset or ?fhir_vs=refset/CODE, or a version "
+    "of it" % SCT
+)
+OF_MAPS = "url is %s?fhir_cm= and a simple map, or one of %s" % (SCT, ", ".join(MAPS))
+DOCUMENTATION = {"ValueSet": OF_VALUE_SETS, "ConceptMap": OF_MAPS}
 
 
 async def metadata(request: Request) -> Json:
@@ -58,10 +67,12 @@ def capability_statement(request: Request) -> Json:
 
 
 def resource_capabilities(kind: str, names: tuple[str, ...]) -> Json:
+    said = {"documentation": DOCUMENTATION[kind]} if kind in DOCUMENTATION else {}
     found: Json = {
         "type": kind,
         "operation": [
-            {"name": name, "definition": "%s%s-%s" % (DEFINITIONS, kind, name)} for name in names
+            {"name": name, "definition": "%s%s-%s" % (DEFINITIONS, kind, name), **said}
+            for name in names
         ],
     }
     if kind == "CodeSystem":
@@ -72,8 +83,16 @@ def resource_capabilities(kind: str, names: tuple[str, ...]) -> Json:
 
 def terminology_capabilities(request: Request) -> Json:
     latest = request.view.latest
+    tags = [tag_of(refset) for refset in request.edition.languages]
+    languages = {"language": tags} if tags else {}
     versions = [
-        {"code": request.edition.version(day), "isDefault": day == latest, "compositional": False}
+        {
+            "code": request.edition.version(day),
+            "isDefault": day == latest,
+            "compositional": False,
+            **languages,
+            "property": lookup.PROPERTIES,
+        }
         for day in request.view.days
     ]
     system: Json = {"uri": SCT, "subsumption": True}

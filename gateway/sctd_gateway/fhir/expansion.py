@@ -5,14 +5,14 @@ import uuid
 from collections.abc import Sequence
 from dataclasses import astuple, dataclass
 
-from .. import limits
+from .. import limits, refsets
 from ..pool import Member
 from ..problems import Json, invalid, not_found, too_costly
-from ..snomed import SEARCHED, Description, display_of
+from ..snomed import SEARCHED, Language
 from .inputs import SCT, Query
 from .outputs import designations, parameter
 from .request import Request
-from .valuesets import ValueSet, value_set_of
+from .valuesets import Sort, ValueSet, inside, must_be_kept, refsets_there, value_set_of
 from .versions import Moment
 
 PARAMETERS = frozenset(
@@ -29,7 +29,7 @@ class Wanted:
     active_only: bool
     offset: int
     count: int | None
-    language: str
+    language: Language
     with_designations: bool
 
     @property
@@ -42,15 +42,14 @@ class Wanted:
 async def expand(request: Request) -> Json:
     value_set = value_set_of(request.query.needed("url"))
     moment = request.moment(value_set.version, *system_versions(request.query))
-    wanted = wanted_of(request.query)
+    wanted = wanted_of(request)
     request.query.flag("excludeNested")  # Expansions are flat.
     found, total = await members(request, value_set, moment, wanted)
     if wanted.count is None and len(found) > limits.PAGE_CONCEPTS:
         raise too_costly(
             "there are more than %d concepts: ask with count and offset" % limits.PAGE_CONCEPTS
         )
-    described = await request.view.descriptions([member.code for member in found], moment.day)
-    entries = [entry(member, terms, wanted) for member, terms in zip(found, described)]
+    entries = await entries_of(request, found, moment, wanted)
     return {
         "resourceType": "ValueSet",
         "url": value_set.url,
@@ -72,7 +71,8 @@ def system_versions(query: Query) -> list[str]:
     return found
 
 
-def wanted_of(query: Query) -> Wanted:
+def wanted_of(request: Request) -> Wanted:
+    query = request.query
     text, count = query.text("filter"), query.number("count")
     if text is not None:
         text = text.strip()
@@ -88,7 +88,7 @@ def wanted_of(query: Query) -> Wanted:
         query.flag("activeOnly"),
         query.number("offset") or 0,
         count,
-        query.language(),
+        request.language(),
         query.flag("includeDesignations"),
     )
 
@@ -97,18 +97,19 @@ async def members(
     request: Request, value_set: ValueSet, moment: Moment, wanted: Wanted
 ) -> tuple[Sequence[Member], int | None]:
     """A page of the members, and how many there are where that is known."""
-    view, top = request.view, value_set.top
-    if top is not None:
-        await request.must_have(top, moment)
-    found: Sequence[Member]
+    view = request.view
+    if value_set.sort is Sort.WITHIN:
+        await request.must_have(value_set.code, moment)
     if wanted.filter is not None:
         codes = await view.with_a_term(wanted.filter, moment.day)
-        if top is not None:
-            inside = await view.those_within(codes, top, moment.day)
-            codes = [code for code in codes if code in inside]
-        found = await view.members(codes, moment.day)
-    elif top is not None:
-        found = await view.subtree(top, moment.day)
+        among = await inside(request, value_set, codes, moment)
+        found = await view.members([code for code in codes if code in among], moment.day)
+    elif value_set.sort is Sort.WITHIN:
+        found = [*await view.subtree(value_set.code, moment.day)]
+    elif value_set.sort is Sort.ARE_REFSETS:
+        found = await view.members(await refsets_there(request, moment), moment.day)
+    elif value_set.sort is Sort.IN_REFSET:
+        return await members_of_refset(request, value_set.code, moment, wanted)
     else:
         end = wanted.offset + wanted.most
         found = await view.first_concepts(moment.day, end, wanted.active_only)
@@ -118,16 +119,41 @@ async def members(
     return found[wanted.offset : wanted.offset + wanted.most], len(found)
 
 
-def entry(member: Member, terms: Sequence[Description], wanted: Wanted) -> Json:
-    found: Json = {
-        "system": SCT,
-        "code": member.code,
-        "display": display_of(member.code, terms, wanted.language),
-    }
+async def members_of_refset(
+    request: Request, refset: str, moment: Moment, wanted: Wanted
+) -> tuple[Sequence[Member], int]:
+    """A page of a reference set, of whose other concepts nothing has to be known. A code that the
+    store has no concept of is told as the reference set has it."""
+    choose = refsets.active_codes_of if wanted.active_only else refsets.codes_of
+    codes = await choose(request.view, refset, moment.day)
+    if not codes:
+        await must_be_kept(request, refset, moment)
+    page = codes[wanted.offset : wanted.offset + wanted.most]
+    there = {one.code: one for one in await request.view.members(page, moment.day)}
+    return [there.get(code, Member(code, True)) for code in page], len(codes)
+
+
+async def entries_of(
+    request: Request, found: Sequence[Member], moment: Moment, wanted: Wanted
+) -> list[Json]:
+    """The concepts of a page, as an expansion has them."""
+    codes, view = [member.code for member in found], request.view
+    displays = await view.names(codes, moment.day, wanted.language)
+    entries = [entry(member, displays[member.code]) for member in found]
+    if wanted.with_designations:
+        described = await view.descriptions(codes, moment.day)
+        told = [await view.called(codes, moment.day, one) for one in wanted.language.refsets]
+        for place, terms in enumerate(described):
+            called = {refset: one[place] for refset, one in zip(wanted.language.refsets, told)}
+            if terms:
+                entries[place]["designation"] = designations(terms, called)
+    return entries
+
+
+def entry(member: Member, display: str) -> Json:
+    found: Json = {"system": SCT, "code": member.code, "display": display}
     if not member.is_active:
         found["inactive"] = True
-    if wanted.with_designations and terms:
-        found["designation"] = designations(terms)
     return found
 
 

@@ -9,7 +9,6 @@ from .. import limits
 from ..problems import Json, Problem, conflict, invalid, missing, not_found
 
 SCT = "http://snomed.info/sct"
-LANGUAGE = re.compile(r"([A-Za-z]{2,8})(-[A-Za-z0-9]{1,8})*\Z", re.ASCII)
 NUMBER = re.compile(r"[0-9]{1,9}\Z", re.ASCII)
 
 Given = tuple[str, Any]
@@ -83,16 +82,6 @@ class Query:
         if isinstance(value, bool) or not NUMBER.match(str(value)):
             raise invalid("%s must be a number from 0 on" % name)
         return int(value)
-
-    def language(self) -> str:
-        """The language of `displayLanguage`, without its country; nothing where none is given."""
-        text = self.text("displayLanguage")
-        if text is None:
-            return ""
-        found = LANGUAGE.match(text)
-        if not found:
-            raise invalid("displayLanguage must be one language, such as de or de-CH")
-        return found[1].lower()
 
     def code_system(self, name: str) -> None:
         """Refuses another code system under this name."""

@@ -4,7 +4,7 @@ from collections.abc import Iterable
 from typing import Any
 
 from ..problems import Json
-from ..snomed import DEFINED, IS_A, Facts, display_of
+from ..snomed import DEFINED, IS_A, Facts
 from .inputs import CodeNames
 from .outputs import concrete, designations, parameter, parameters
 from .request import Request
@@ -13,37 +13,52 @@ PARAMETERS = frozenset("code system version coding date displayLanguage property
 ALL = "*"
 CHILD = "child"
 DESIGNATION = "designation"
+INACTIVATION = "inactivationIndicator"
 NORMAL_FORM = "normalFormTerse"
+# Those that have a name. An attribute is the property of its code.
+PROPERTIES = (
+    "inactive",
+    "sufficientlyDefined",
+    "moduleId",
+    "effectiveTime",
+    INACTIVATION,
+    "parent",
+    CHILD,
+    NORMAL_FORM,
+)
 
 
 async def lookup(request: Request) -> Json:
     query = request.query
     coding = query.coding(CodeNames())
     moment = request.moment(coding.version, query.text("version"))
-    language, wanted = query.language(), set(query.all("property"))
-    facts = await request.facts(coding.code, moment)
+    language, wanted = request.language(), set(query.all("property"))
+    facts = await request.facts(coding.code, moment, language, is_wanted(INACTIVATION, wanted))
     children: list[str] = []
     if wanted & {CHILD, ALL}:
         children = await request.view.children(coding.code, moment.day)
     parts = [
         parameter("name", valueString="SNOMED CT"),
         parameter("version", valueString=moment.version),
-        parameter("display", valueString=display_of(coding.code, facts.descriptions, language)),
+        parameter("display", valueString=facts.display(language)),
     ]
     if is_wanted(DESIGNATION, wanted):
-        parts += [designation_parts(one) for one in designations(facts.descriptions)]
+        found = designations(facts.descriptions, facts.called)
+        parts += [designation_parts(one) for one in found]
     return parameters(parts + properties(facts, children, wanted))
 
 
 def is_wanted(name: str, wanted: set[str]) -> bool:
-    """Whether a property is asked for; where none is named, all are that cost no further
-    question."""
+    """Whether a property is asked for; where none is named, all are that cost no further round
+    trip."""
     return not wanted or ALL in wanted or name in wanted
 
 
 def designation_parts(one: Json) -> Json:
+    said = {"extension": one["extension"]} if "extension" in one else {}
     return parameter(
         DESIGNATION,
+        **said,
         part=[
             parameter("language", valueCode=one["language"]),
             parameter("use", valueCoding=one["use"]),
@@ -60,6 +75,7 @@ def properties(facts: Facts, children: Iterable[str], wanted: set[str]) -> list[
         ("moduleId", {"valueCode": facts.concept.module}),
         ("effectiveTime", {"valueString": facts.concept.time}),
     ]
+    found += [(INACTIVATION, {"valueCode": code}) for code in facts.reasons]
     found += [("parent", {"valueCode": code}) for code in facts.parents]
     found += [(CHILD, {"valueCode": code}) for code in children]
     found += [

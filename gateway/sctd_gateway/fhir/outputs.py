@@ -3,14 +3,29 @@
 import json
 import re
 import secrets
-from collections.abc import Iterable
+from collections.abc import Iterable, Mapping
 from typing import Any
 
 from ..problems import Json
-from ..snomed import FULLY_SPECIFIED_NAME, SYNONYM, Description
+from ..snomed import (
+    ACCEPTABLE,
+    FULLY_SPECIFIED_NAME,
+    PREFERRED,
+    SYNONYM,
+    TEXT_DEFINITION,
+    Called,
+    Description,
+)
 from .inputs import SCT
 
-USES = {FULLY_SPECIFIED_NAME: "Fully specified name", SYNONYM: "Synonym"}
+USES = {
+    FULLY_SPECIFIED_NAME: "Fully specified name",
+    SYNONYM: "Synonym",
+    TEXT_DEFINITION: "Definition",
+}
+ROLES = {PREFERRED: "Preferred", ACCEPTABLE: "Acceptable"}
+# How SNOMED International says for FHIR in which language a designation is what.
+CONTEXT = "http://snomed.info/fhir/StructureDefinition/designation-use-context"
 # FHIR's integer has 32 bits.
 INTEGER = re.compile(r"#-?(0|[1-9][0-9]{0,8})\Z", re.ASCII)
 DECIMAL = re.compile(r"#-?(0|[1-9][0-9]{0,30})(\.[0-9]{1,30})?\Z", re.ASCII)
@@ -46,11 +61,35 @@ def concrete(value: str) -> Json:
     return {"valueString": value[1:-1] if is_quoted else value}
 
 
-def designations(descriptions: Iterable[Description]) -> list[Json]:
-    return [
-        {"language": row.language, "use": use_of(row.type), "value": row.term}
-        for row in descriptions
-    ]
+def designations(
+    descriptions: Iterable[Description], called: Mapping[str, Iterable[Called]]
+) -> list[Json]:
+    """The terms, each with what the language reference sets say of it."""
+    contexts: dict[str, list[Json]] = {}
+    for refset, found in called.items():
+        for description, said in found:
+            roles = [role for role in ROLES if role in said]
+            contexts.setdefault(description.id, []).extend(
+                context(refset, role, description.type) for role in roles
+            )
+    return [designation(row, contexts.get(row.id, [])) for row in descriptions]
+
+
+def designation(row: Description, contexts: list[Json]) -> Json:
+    said = {"extension": contexts} if contexts else {}
+    return {**said, "language": row.language, "use": use_of(row.type), "value": row.term}
+
+
+def context(refset: str, role: str, kind: str) -> Json:
+    parts = {
+        "context": {"system": SCT, "code": refset},
+        "role": {"system": SCT, "code": role, "display": ROLES[role]},
+        "type": use_of(kind),
+    }
+    return {
+        "url": CONTEXT,
+        "extension": [{"url": name, "valueCoding": one} for name, one in parts.items()],
+    }
 
 
 def use_of(code: str) -> Json:

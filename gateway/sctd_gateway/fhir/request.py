@@ -2,8 +2,9 @@
 
 from typing import NamedTuple
 
+from ..languages import language_of
 from ..problems import Problem, not_found
-from ..snomed import Facts
+from ..snomed import Facts, Language
 from ..store import View
 from .inputs import Query
 from .versions import Edition, Moment
@@ -20,9 +21,17 @@ class Request(NamedTuple):
         """The moment of the answer; `date` is that of the record where the operation knows it."""
         return self.edition.moment(self.view, versions, self.query.text("date"))
 
-    async def facts(self, code: str, moment: Moment) -> Facts:
+    def language(self) -> Language:
+        """The language of `displayLanguage`, or those of the house where none is given."""
+        tag = self.query.text("displayLanguage")
+        house = self.edition.languages
+        return Language("", house) if tag is None else language_of(tag, house)
+
+    async def facts(
+        self, code: str, moment: Moment, language: Language, with_members: bool
+    ) -> Facts:
         """What is said of a code that has to be there."""
-        found = await self.view.facts(code, moment.day)
+        found = await self.view.facts(code, moment.day, language, with_members)
         if found is None:
             raise not_there(code, moment)
         return found

@@ -1,12 +1,16 @@
-"""ConceptMap/$translate: what took the place of a retired code, as far as it was said by a day."""
+"""ConceptMap/$translate, as far as it was said by a day: what took the place of a retired code, and
+what a simple map has for a code."""
 
+from collections.abc import Sequence
 from typing import NamedTuple
 
-from ..problems import Json, not_found, not_supported
+from ..problems import Json, Problem, not_found, not_supported
+from ..snomed import SIMPLE_MAP, Language, distinct, is_concept_id
 from .inputs import SCT, CodeNames
 from .outputs import parameter, parameters
 from .request import Request
-from .valuesets import is_of_snomed
+from .valuesets import is_of_snomed, must_be_kept
+from .versions import Moment
 
 PARAMETERS = frozenset("url code system version coding reverse targetsystem date".split())
 
@@ -44,23 +48,50 @@ MAPS = {
 FORM = "fhir_cm="
 
 
+# Of a simple map the release says nothing but that code and target belong together.
+OF_SIMPLE_MAPS = RELATED
+# The one column of its own that a member of a simple map has.
+MAP_COLUMNS = 1
+
+
+class Asked(NamedTuple):
+    """A code that is to be translated, by which map, on which day."""
+
+    url: str
+    refset: str
+    code: str
+    moment: Moment
+
+
 async def translate(request: Request) -> Json:
-    query, view = request.query, request.view
+    query = request.query
     url = query.needed("url")
     version, refset = map_of(url)
     if query.flag("reverse"):
         raise not_supported("what a code took the place of isn't answered here")
-    query.code_system("targetsystem")
+    if refset in MAPS:
+        query.code_system("targetsystem")
     coding = query.coding(CodeNames())
     moment = request.moment(coding.version, query.text("version"), version)
+    asked = Asked(url, refset, coding.code, moment)
+    if refset not in MAPS:
+        return await mapped(request, asked)
     await request.must_have(coding.code, moment)
-    said = (await view.associations([coding.code], moment.day))[0]
-    targets = [row.target for row in said if row.refset == refset]
-    names = await view.names(targets, moment.day)
-    why = why_not(MAPS[refset], bool(targets))
-    message = [parameter("message", valueString=why)] if why else []
-    matches = [match(url, refset, moment.version, target, names[target]) for target in targets]
-    return parameters([parameter("result", valueBoolean=not why), *message, *matches])
+    return await replaced(request, asked)
+
+
+async def replaced(request: Request, asked: Asked) -> Json:
+    """What took the place of a code, by one of the historical associations."""
+    view, day, used = request.view, asked.moment.day, MAPS[asked.refset]
+    said = (await view.associations([asked.code], day))[0]
+    targets = [row.target for row in said if row.refset == asked.refset]
+    names = await view.names(targets, day, Language("", request.edition.languages))
+    version = asked.moment.version
+    concepts = [
+        {"system": SCT, "version": version, "code": target, "display": names[target]}
+        for target in targets
+    ]
+    return translated(asked, used.equivalence, concepts, why_not(used, bool(targets)))
 
 
 def why_not(used: Map, has_targets: bool) -> str:
@@ -72,23 +103,56 @@ def why_not(used: Map, has_targets: bool) -> str:
     return ""
 
 
+async def mapped(request: Request, asked: Asked) -> Json:
+    """What a simple map has for a code. The release doesn't say of which code system that is, so an
+    answer says it only where the house has said it."""
+    view, day, refset = request.view, asked.moment.day, asked.refset
+    system = request.edition.maps.get(refset)
+    if system is None and not await view.is_within(refset, SIMPLE_MAP, day):
+        raise not_a_map(asked.url)
+    wanted = request.query.text("targetsystem")
+    if wanted not in (None, system):
+        raise not_found("the code system %.100r isn't said to be that of the map" % wanted)
+    await request.must_have(asked.code, asked.moment)
+    members = (await view.members_about([asked.code], day))[0]
+    of_map = [row.further for row in members if row.refset == refset]
+    if not of_map:
+        await must_be_kept(request, refset, asked.moment)
+    if any(len(further) != MAP_COLUMNS for further in of_map):
+        raise not_supported("the members of %s have other columns than a simple map" % refset)
+    targets = distinct(further[0] for further in of_map if further[0])
+    named = {"system": system} if system else {}
+    why = "" if targets else "the map has no target for the code on that day"
+    return translated(asked, OF_SIMPLE_MAPS, [{**named, "code": one} for one in targets], why)
+
+
 def map_of(url: str) -> tuple[str, str]:
     """The version that the address of a map names, and its reference set."""
     base, _, what = url.partition("?")
     refset = what.removeprefix(FORM)
-    if not is_of_snomed(base) or refset == what or refset not in MAPS:
-        raise not_found(
-            "the map %.100r isn't known: %s?%s one of %s" % (url, SCT, FORM, ", ".join(MAPS))
-        )
+    if not is_of_snomed(base) or refset == what or not is_concept_id(refset):
+        raise not_a_map(url)
     return base, refset
 
 
-def match(url: str, refset: str, version: str, target: str, display: str) -> Json:
-    concept = {"system": SCT, "version": version, "code": target, "display": display}
+def not_a_map(url: str) -> Problem:
+    return not_found(
+        "the map %.100r isn't known: %s?%s a simple map, or one of %s"
+        % (url, SCT, FORM, ", ".join(MAPS))
+    )
+
+
+def translated(asked: Asked, equivalence: str, concepts: Sequence[Json], why: str) -> Json:
+    message = [parameter("message", valueString=why)] if why else []
+    matches = [match(asked.url, equivalence, concept) for concept in concepts]
+    return parameters([parameter("result", valueBoolean=not why), *message, *matches])
+
+
+def match(url: str, equivalence: str, concept: Json) -> Json:
     return parameter(
         "match",
         part=[
-            parameter("equivalence", valueCode=MAPS[refset].equivalence),
+            parameter("equivalence", valueCode=equivalence),
             parameter("concept", valueCoding=concept),
             parameter("source", valueUri=url),
         ],

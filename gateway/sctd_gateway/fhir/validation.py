@@ -2,11 +2,11 @@
 right on the day of a record."""
 
 from ..problems import Json
-from ..snomed import display_of, is_display
+from ..snomed import is_concept_id, is_display
 from .inputs import SCT, CodeNames, Coding
 from .outputs import parameter, parameters
 from .request import Request
-from .valuesets import ValueSet, value_set_of
+from .valuesets import Sort, ValueSet, inside, value_set_of
 from .versions import Moment
 
 OF_A_CODE = "code version display coding codeableConcept date displayLanguage"
@@ -14,6 +14,14 @@ CODE_PARAMETERS = frozenset(("url " + OF_A_CODE).split())
 MEMBER_PARAMETERS = frozenset(
     ("url system systemVersion " + OF_A_CODE).replace(" version", "").split()
 )
+
+
+# What a code isn't that is outside a value set.
+OUTSIDE = {
+    Sort.WITHIN: "%s and isn't below it",
+    Sort.IN_REFSET: "in the reference set %s",
+    Sort.ARE_REFSETS: "a reference set with members%s",
+}
 
 
 async def validate_code(request: Request) -> Json:
@@ -60,21 +68,19 @@ async def checked(
         parameter("system", valueUri=SCT),
         parameter("version", valueString=moment.version),
     ]
-    top = value_set.top if value_set else None
-    if top:
-        await request.must_have(top, moment)
-    facts = await request.view.facts(coding.code, moment.day)
+    codes = [coding.code] if is_concept_id(coding.code) else []
+    among = await inside(request, value_set, codes, moment) if value_set else set(codes)
+    language = request.language()
+    facts = await request.view.facts(coding.code, moment.day, language)
     if facts is None:
         return "the code %.60r isn't in %s" % (coding.code, moment.version), parts
-    language = request.query.language()
-    display = display_of(coding.code, facts.descriptions, language)
-    terms = [row for row in facts.descriptions if language in ("", row.language)]
+    terms = [row for row in facts.descriptions if language.code in ("", row.language)]
     parts += [
-        parameter("display", valueString=display),
+        parameter("display", valueString=facts.display(language)),
         parameter("inactive", valueBoolean=not facts.concept.is_active),
     ]
-    if top and not await request.view.is_within(coding.code, top, moment.day):
-        return "the code isn't %s and isn't below it on that day" % top, parts
+    if value_set and coding.code not in among:
+        return "the code isn't %s on that day" % (OUTSIDE[value_set.sort] % value_set.code), parts
     if coding.display and not is_display(coding.display, terms):
         return "%.100r isn't a term of the code on that day" % coding.display, parts
     return "", parts

@@ -7,7 +7,8 @@ name of a version, and two days that differ are refused.
 """
 
 import re
-from collections.abc import Iterable
+from collections.abc import Iterable, Mapping
+from types import MappingProxyType
 from typing import NamedTuple
 
 from ..problems import conflict, invalid, not_found
@@ -33,9 +34,12 @@ class Moment(NamedTuple):
 
 
 class Edition(NamedTuple):
-    """The edition that the store holds, by its module."""
+    """The edition that the store holds, by its module, and what else rows don't say: the language
+    reference sets that its house prefers, in their order, and the code systems of its maps."""
 
     module: str
+    languages: tuple[str, ...] = ()
+    maps: Mapping[str, str] = MappingProxyType({})
 
     def version(self, day: str) -> str:
         return "%s/%s/version/%s" % (SCT, self.module, day)

@@ -7,7 +7,7 @@ use Rattle.directory.specs.declared.entry.Entry.{Entry}
 use Rattle.directory.specs.Listings.{DirectoryValue, IsListing, IsEntry, form_of, most_entries}
 use Rattle.directory.specs.Listings.{next_layout}
 use Rattle.segment.specs.Records.{segment_in, segment_of}
-use Rattle.store_image.specs.Kept.{IsSegmentOf}
+use Rattle.store_image.specs.Kept.{IsSegmentOf, AreOfLayout}
 use Rattle.history_store.specs.declared.refusal.Refusal.{Refusal}
 use Rattle.history_store.specs.declared.refusal.Refusal.TheVariants as refusals
 use Rattle.history_store.specs.declared.preparing.Prepared.{Prepared}
@@ -48,8 +48,9 @@ IsUnprepared refusals.TooManySegments rows catalog = HasNoEntry rows catalog
 IsUnprepared refusals.Full rows catalog = HasNoPlace rows catalog
 IsUnprepared _ rows catalog = ⊥
 
--- what is prepared goes with the store
+-- what is prepared goes with the store, and is of kinds that the next version has
 pub record IsPreparedFor {D : Type 0} (s : StoreValue D) (p : Prepared) : Type 0 where
   pub apart : AreLists (s.history.rows ∷ p.index ∷ [])
   pub history : IsHistory (with_rows s.history p.index)
+  pub kinds : AreOfLayout (next_layout s.catalog.layout) p.index
   pub prepared : IsPrepared (directory_of s) s.catalog.merge p.index p

@@ -10,7 +10,7 @@ use Rattle.history_store.specs.declared.refusal.Refusal.{Refusal}
 use Rattle.history_store.specs.declared.checking.Ready.{Ready}
 use Rattle.history_store.specs.declared.checking.Next.{Next}
 use Rattle.history_store.specs.declared.checking.Next.TheVariants as nexts
-use Rattle.history_store.specs.Prepared.{IsNotSpent}
+use Rattle.history_store.specs.Prepared.{IsAdmitted}
 use Rattle.history_store.specs.StoreValue.{StoreValue}
 use Rattle.history_store.specs.Private.StoreValue.{directory_of}
 use Rattle.history_store.specs.Private.Prepared.{IsPrepared}
@@ -31,7 +31,7 @@ IsNext s fresh (nexts.WithSegment prepared) = (1 ≤ length fresh.rows.items)
 pub record IsMadeReady {D : Type 0} (honest : Type 0) (s : StoreValue D) (release : Release)
     (ready : Ready) : Type 0 where
   pub history : IsHistory s.history
-  pub room : IsNotSpent s.history.imports s.catalog.epoch
+  pub room : IsAdmitted s.history s.catalog release
   pub fresh : NewRows
   pub brings : BringsByKey (full s.history) release fresh
   pub accepted : honest → IsAcceptedAs (full s.history) release fresh

@@ -39,5 +39,14 @@ returns-in-Page c = rw c.in-Page.is c.page.ensures
 pub returns-in-Delta : goal.returns-in-Delta
 returns-in-Delta c = rw c.in-Delta.is c.delta.ensures
 
+pub returns-in-Members : goal.returns-in-Members
+returns-in-Members c = rw c.in-Members.is c.members.ensures
+
+pub returns-in-Values : goal.returns-in-Values
+returns-in-Values c = rw c.in-Values.is c.values.ensures
+
+pub returns-in-Called : goal.returns-in-Called
+returns-in-Called c = rw c.in-Called.is c.called.ensures
+
 pub returns-in-Receipt : goal.returns-in-Receipt
 returns-in-Receipt c = rw c.in-Receipt.is c.receipt.ensures

@@ -39,6 +39,15 @@ returns-in-Page g c = rw c.in-Page.is c.answer_page.ensures
 pub returns-in-Delta : goal.returns-in-Delta
 returns-in-Delta g c = rw c.in-Delta.is c.answer_delta.ensures
 
+pub returns-in-Members : goal.returns-in-Members
+returns-in-Members g c = rw c.in-Members.is c.answer_members.ensures
+
+pub returns-in-Values : goal.returns-in-Values
+returns-in-Values g c = rw c.in-Values.is c.answer_values.ensures
+
+pub returns-in-Called : goal.returns-in-Called
+returns-in-Called g c = rw c.in-Called.is c.answer_called.ensures
+
 pub returns-in-Dates : goal.returns-in-Dates
 returns-in-Dates g c = rw c.in-Dates.is c.answer_dates.ensures
 

@@ -7,7 +7,7 @@ use Rattle.history_store.specs.declared.refusal.Refusal.TheVariants as refusals
 use Rattle.history_store.proofs.Held.{held_stands}
 use Rattle.history_store.proofs.Imported.{at_mid, nothing, not_prepared, unprepared_refused}
 use Rattle.history_store.proofs.TakenByKey.{not_prepared_at_all}
-use Rattle.history_store.proofs.Checked.{ready_at, foreseen, foreseen_at_all, checked_after, of_import, counted_but, not_device}
+use Rattle.history_store.proofs.Checked.{admitted, ready_at, foreseen, foreseen_at_all, checked_after, of_import, counted_but, not_device}
 use Rattle.history_store.proofs.store.Store.make_ready.Goals as goal
 
 pub returns-then-is_empty-clause-ready : goal.returns-then-is_empty-clause-ready
@@ -15,14 +15,14 @@ returns-then-is_empty-clause-ready g c =
     let len : vec_len c.in_ok-fresh.fresh.rows ≡ length c.in_ok-fresh.fresh.rows.items = search (rules) in
     let none = nothing c.in_ok-fresh.fresh.rows.items (grind (arith, nat_tests, len, c.if-is_empty.ensures)) in
     let e = c.in_ok-fresh.ensures in
-    ready_at _ _ c.args.self.now _ c.find_new_rows.new.self c.args.release c.in_ok-fresh.fresh (nexts.WithoutSegment c.in_ok-directory.directory) _ _ c.self.view_is (c.if-is_spent.ensures.left refl) c.self-2.view_is c.self-2.invariant.0.kept.history e.still e.brings e.accepted (ap (λ n. n + 1) c.imports.ensures) (c.len.ensures ∙ len) (none, c.in_ok-directory.ensures)
+    ready_at _ _ c.args.self.now _ c.find_new_rows.new.self c.args.release c.in_ok-fresh.fresh (nexts.WithoutSegment c.in_ok-directory.directory) _ _ c.self.view_is (admitted _ _ _ _ (c.if-is_spent.ensures.left refl) c.if-is_for_later.ensures refl) c.self-2.view_is c.self-2.invariant.0.kept.history e.still e.brings e.accepted (ap (λ n. n + 1) c.imports.ensures) (c.len.ensures ∙ len) (none, c.in_ok-directory.ensures)
 
 pub returns-clause-ready : goal.returns-clause-ready
 returns-clause-ready g c =
     let len : vec_len c.in_ok-fresh.fresh.rows ≡ length c.in_ok-fresh.fresh.rows.items = search (rules) in
     let some : 1 ≤ length c.in_ok-fresh.fresh.rows.items = grind (arith, nat_tests, len, c.if-is_empty.ensures) in
     let e = c.in_ok-fresh.ensures in
-    ready_at _ _ c.args.self.now _ c.find_new_rows.new.self c.args.release c.in_ok-fresh.fresh (nexts.WithSegment c.in_ok-prepared.prepared) _ _ c.self.view_is (c.if-is_spent.ensures.left refl) c.self-2.view_is c.self-2.invariant.0.kept.history e.still e.brings e.accepted (ap (λ n. n + 1) c.imports.ensures) (c.len.ensures ∙ len) (some, c.in_ok-prepared.ensures.prepared)
+    ready_at _ _ c.args.self.now _ c.find_new_rows.new.self c.args.release c.in_ok-fresh.fresh (nexts.WithSegment c.in_ok-prepared.prepared) _ _ c.self.view_is (admitted _ _ _ _ (c.if-is_spent.ensures.left refl) c.if-is_for_later.ensures refl) c.self-2.view_is c.self-2.invariant.0.kept.history e.still e.brings e.accepted (ap (λ n. n + 1) c.imports.ensures) (c.len.ensures ∙ len) (some, c.in_ok-prepared.ensures.prepared)
 
 pub returns-clause-stood : goal.returns-clause-stood
 returns-clause-stood g c = rw (← c.self.view_is) (λ honest still. record { open_still = still; each = held_stands _ _ _ _ _ _ _ c.self.invariant.0 honest still })
@@ -34,9 +34,9 @@ returns-then-is_empty-clause-checking g c =
     let e = c.in_ok-fresh.ensures in
     let standing : g.D.Disk.is_honest c.find_new_rows.new.self.disk → c.find_new_rows.new.self.needs_reopen ≡ false → IsAcknowledged g.D.Disk.moments c.find_new_rows.new.self =
     rw (← c.self-2.view_is) (λ honest still. record { open_still = still; each = held_stands _ _ _ _ _ _ _ c.self-2.invariant.0 honest still }) in
-    let ready = ready_at (g.D.Disk.is_honest c.args.self.now.disk) _ c.args.self.now _ c.find_new_rows.new.self c.args.release c.in_ok-fresh.fresh (nexts.WithoutSegment c.in_ok-directory.directory) _ _ c.self.view_is (c.if-is_spent.ensures.left refl) c.self-2.view_is c.self-2.invariant.0.kept.history e.still e.brings e.accepted (ap (λ n. n + 1) c.imports.ensures) (c.len.ensures ∙ len) (none, c.in_ok-directory.ensures) in
+    let ready = ready_at (g.D.Disk.is_honest c.args.self.now.disk) _ c.args.self.now _ c.find_new_rows.new.self c.args.release c.in_ok-fresh.fresh (nexts.WithoutSegment c.in_ok-directory.directory) _ _ c.self.view_is (admitted _ _ _ _ (c.if-is_spent.ensures.left refl) c.if-is_for_later.ensures refl) c.self-2.view_is c.self-2.invariant.0.kept.history e.still e.brings e.accepted (ap (λ n. n + 1) c.imports.ensures) (c.len.ensures ∙ len) (none, c.in_ok-directory.ensures) in
     checked_after g.D.Disk.is_honest g.D.Disk.moments g.D.Disk.failures g.D.Disk.bytes_read g.D.Disk.other_calls c.args.self.now c.find_new_rows.new.self c.args.release _
-    (record { still = e.still; moments = e.moments; acknowledged = standing; honesty = e.honesty; failures = e.failures; other_calls = e.other_calls; looked_up = e.looked_up; bytes_read = e.bytes_read; bytes_unread = e.bytes_unread })
+    (record { still = e.still; version = (admitted _ _ _ _ (c.if-is_spent.ensures.left refl) c.if-is_for_later.ensures refl).version; moments = e.moments; acknowledged = standing; honesty = e.honesty; failures = e.failures; other_calls = e.other_calls; looked_up = e.looked_up; bytes_read = e.bytes_read; bytes_unread = e.bytes_unread })
     (foreseen _ c.find_new_rows.new.self c.args.release _ ready c.args.self.now e.still) (foreseen_at_all _ c.find_new_rows.new.self c.args.release _ ready c.args.self.now e.still) e.failures
 
 pub returns-clause-checking : goal.returns-clause-checking
@@ -46,9 +46,9 @@ returns-clause-checking g c =
     let e = c.in_ok-fresh.ensures in
     let standing : g.D.Disk.is_honest c.find_new_rows.new.self.disk → c.find_new_rows.new.self.needs_reopen ≡ false → IsAcknowledged g.D.Disk.moments c.find_new_rows.new.self =
     rw (← c.self-2.view_is) (λ honest still. record { open_still = still; each = held_stands _ _ _ _ _ _ _ c.self-2.invariant.0 honest still }) in
-    let ready = ready_at (g.D.Disk.is_honest c.args.self.now.disk) _ c.args.self.now _ c.find_new_rows.new.self c.args.release c.in_ok-fresh.fresh (nexts.WithSegment c.in_ok-prepared.prepared) _ _ c.self.view_is (c.if-is_spent.ensures.left refl) c.self-2.view_is c.self-2.invariant.0.kept.history e.still e.brings e.accepted (ap (λ n. n + 1) c.imports.ensures) (c.len.ensures ∙ len) (some, c.in_ok-prepared.ensures.prepared) in
+    let ready = ready_at (g.D.Disk.is_honest c.args.self.now.disk) _ c.args.self.now _ c.find_new_rows.new.self c.args.release c.in_ok-fresh.fresh (nexts.WithSegment c.in_ok-prepared.prepared) _ _ c.self.view_is (admitted _ _ _ _ (c.if-is_spent.ensures.left refl) c.if-is_for_later.ensures refl) c.self-2.view_is c.self-2.invariant.0.kept.history e.still e.brings e.accepted (ap (λ n. n + 1) c.imports.ensures) (c.len.ensures ∙ len) (some, c.in_ok-prepared.ensures.prepared) in
     checked_after g.D.Disk.is_honest g.D.Disk.moments g.D.Disk.failures g.D.Disk.bytes_read g.D.Disk.other_calls c.args.self.now c.find_new_rows.new.self c.args.release _
-    (record { still = e.still; moments = e.moments; acknowledged = standing; honesty = e.honesty; failures = e.failures; other_calls = e.other_calls; looked_up = e.looked_up; bytes_read = e.bytes_read; bytes_unread = e.bytes_unread })
+    (record { still = e.still; version = (admitted _ _ _ _ (c.if-is_spent.ensures.left refl) c.if-is_for_later.ensures refl).version; moments = e.moments; acknowledged = standing; honesty = e.honesty; failures = e.failures; other_calls = e.other_calls; looked_up = e.looked_up; bytes_read = e.bytes_read; bytes_unread = e.bytes_unread })
     (foreseen _ c.find_new_rows.new.self c.args.release _ ready c.args.self.now e.still) (foreseen_at_all _ c.find_new_rows.new.self c.args.release _ ready c.args.self.now e.still) e.failures
 
 pub returns-in_err-prepared-clause-checking : goal.returns-in_err-prepared-clause-checking
@@ -61,9 +61,9 @@ returns-in_err-prepared-clause-checking g c =
     let standing : g.D.Disk.is_honest c.find_new_rows.new.self.disk → c.find_new_rows.new.self.needs_reopen ≡ false → IsAcknowledged g.D.Disk.moments c.find_new_rows.new.self =
     rw (← c.self-2.view_is) (λ honest still. record { open_still = still; each = held_stands _ _ _ _ _ _ _ c.self-2.invariant.0 honest still }) in
     rw (p.1, p.2) (checked_after g.D.Disk.is_honest g.D.Disk.moments g.D.Disk.failures g.D.Disk.bytes_read g.D.Disk.other_calls c.args.self.now c.find_new_rows.new.self c.args.release _
-    (record { still = e.still; moments = e.moments; acknowledged = standing; honesty = e.honesty; failures = e.failures; other_calls = e.other_calls; looked_up = e.looked_up; bytes_read = e.bytes_read; bytes_unread = e.bytes_unread })
+    (record { still = e.still; version = (admitted _ _ _ _ (c.if-is_spent.ensures.left refl) c.if-is_for_later.ensures refl).version; moments = e.moments; acknowledged = standing; honesty = e.honesty; failures = e.failures; other_calls = e.other_calls; looked_up = e.looked_up; bytes_read = e.bytes_read; bytes_unread = e.bytes_unread })
     (λ honest.
-    let at = at_mid _ c.args.self.now _ c.find_new_rows.new.self c.args.release c.in_ok-fresh.fresh c.self.view_is (c.if-is_spent.ensures.left refl) c.self-2.view_is c.self-2.invariant.0.kept.history e.still (e.accepted honest) in
+    let at = at_mid _ c.args.self.now _ c.find_new_rows.new.self c.args.release c.in_ok-fresh.fresh c.self.view_is (admitted _ _ _ _ (c.if-is_spent.ensures.left refl) c.if-is_for_later.ensures refl) c.self-2.view_is c.self-2.invariant.0.kept.history e.still (e.accepted honest) in
     (of_import c.args.self.now c.args.release _ other (not_prepared c.args.self.now _ c.find_new_rows.new.self c.args.release c.in_ok-fresh.fresh _ c.self-2.view_is e.still at why), refused))
-    (not_prepared_at_all _ c.args.self.now _ c.find_new_rows.new.self c.args.release c.in_ok-fresh.fresh _ c.self.view_is (c.if-is_spent.ensures.left refl) c.self-2.view_is e.still e.brings why, refused)
+    (not_prepared_at_all _ c.args.self.now _ c.find_new_rows.new.self c.args.release c.in_ok-fresh.fresh _ c.self.view_is (admitted _ _ _ _ (c.if-is_spent.ensures.left refl) c.if-is_for_later.ensures refl) c.self-2.view_is e.still e.brings why, refused)
     (counted_but _ _ _ other e.failures))

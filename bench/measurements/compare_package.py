@@ -1,0 +1,303 @@
+#!/usr/bin/env python3
+"""Measures sctd on whole packages beside SQLite's own shell.
+
+compare_package.py PROGRAM FOLDER [ROWS ..]
+
+PROGRAM is the built program sctd. For each number of rows (235000, if none is given) a package is
+made in FOLDER by make_release.py, if it isn't there: of all sorts of files in the proportions of an
+international edition. Both sides import the Full release, sctd into a store of version 3 of its
+layout and the shell into a table a sort of files, keyed by id and date, with indexes for the
+questions that it makes after the rows; then the Delta. Both are asked the same, each kind of
+question in a process of its own, and their answers have to be the same lines:
+
+- members of all reference sets by their ids (GET M);
+- 100,000 members of a language reference set, active or not, in pages of 1,000 (MEMBERS), or all
+  that there are;
+- as many that are active, in pages of 1,000 by the component (VALUES); a description has one member
+  of a language at most, so a page is as long for the shell;
+- what 10,000 concepts were called (CALLED), of which the shell's answer is a join.
+
+As in compare_shell.py, a table is printed: wall and processor seconds and peaks of both sides.
+Behind it stand the bytes of both files, what the open store takes in memory, both a row too, and
+the same of a store that took only what version 2 keeps. The status is 1 where an answer is another
+one. Standard library, and the command sqlite3.
+"""
+
+from __future__ import annotations
+
+import os
+import random
+import subprocess
+import sys
+from pathlib import Path
+from typing import Iterable, Iterator, NamedTuple, Sequence
+
+import make_release as rf2
+from compare import HERE, Served
+from compare_shell import SETTINGS, Cost, Table, ran, rows_alone
+
+DEFAULT_ROWS = 235_000
+KEPT_SORTS = {**rf2.BASIC_SORTS, **rf2.FURTHER_SORTS}
+# The columns that the shell keeps as numbers, beside those of SCTIDs.
+NUMBERS = ("effectiveTime", "active", "relationshipGroup", "mapGroup", "mapPriority",
+           "attributeOrder", "descriptionLength", "grouped")
+DAYS = ("20120731", "20191231", "20251231", "20261231")
+LAST_DAY = "20261231"
+# So many members are asked for by pages of so many, so many by their ids, and so many concepts.
+MEMBERS, LIMIT, LOOKUPS, CALLED = 100_000, 1_000, 100_000, 10_000
+SEED = 7
+NEWEST = (" AND {0}.effectiveTime <= {1} AND NOT EXISTS (SELECT 1 FROM {2} y WHERE y.id = {0}.id"
+          " AND y.effectiveTime > {0}.effectiveTime AND y.effectiveTime <= {1})")
+INDEXES = (
+    "CREATE INDEX described ON D (conceptId) WHERE active = 1;",
+    "CREATE INDEX members ON Language (refsetId, id);",
+    "CREATE INDEX named ON Language (refsetId, referencedComponentId, id) WHERE active = 1;",
+)
+# How many columns a row of a description has, by which it is told from one of a member.
+DESCRIPTION_COLUMNS = len(rf2.DESCRIPTION_COLUMNS.split(" "))
+
+
+class Question(NamedTuple):
+    """A line of the protocol, and the shell's query that answers it."""
+
+    line: str
+    query: str
+
+
+def files_of(folder: Path) -> Iterator[tuple[str, Path]]:
+    """The files of a release that are kept, each with its sort."""
+    for sort, (_, name, _) in KEPT_SORTS.items():
+        where, _, file = name.rpartition("/")
+        front, _, back = file.partition("{}")
+        yield from ((sort, path) for path in (folder / where).glob(front + "*")
+                    if back.partition("_INT_")[0] in path.name)
+
+
+def rows_of(folder: Path, sort: str) -> Iterator[list[str]]:
+    """The columns of the rows of a sort of files."""
+    for one, path in files_of(folder):
+        if one == sort:
+            with open(path, encoding="utf-8", newline="") as file:
+                next(file)
+                yield from (line.rstrip("\r\n").split("\t") for line in file)
+
+
+def columns_of(sort: str) -> list[str]:
+    return KEPT_SORTS[sort].columns.split(" ")
+
+
+def table_of(sort: str) -> str:
+    """The statement that makes the table of a sort."""
+    is_member = KEPT_SORTS[sort].kind in "AM"
+    columns = []
+    for place, column in enumerate(columns_of(sort)):
+        is_number = column in NUMBERS or column.endswith("Id") or (place == 0 and not is_member)
+        columns.append("%s %s NOT NULL" % (column, "INTEGER" if is_number else "TEXT"))
+    columns.append("PRIMARY KEY (id, effectiveTime)")
+    return "CREATE TABLE %s (%s) WITHOUT ROWID;" % (sort, ", ".join(columns))
+
+
+class Shell:
+    """SQLite's shell on a file, with a table for each sort of files."""
+
+    def __init__(self, place: Path) -> None:
+        self.place, self.path = place, place / "package.shell"
+        for end in ("", "-wal", "-shm"):
+            Path(str(self.path) + end).unlink(missing_ok=True)
+        self.kept = 0
+        self.run([*SETTINGS, *map(table_of, KEPT_SORTS)])
+
+    def run(self, lines: Sequence[str]) -> tuple[bytes, Cost]:
+        """What it prints for these lines, and what they cost."""
+        cache = "PRAGMA cache_size = -%d;" % (self.kept // 1024)
+        head = ["PRAGMA synchronous = FULL;", cache] if self.kept else []
+        text = "\n".join([*head, *lines]) + "\n"
+        return ran(["sqlite3", "-batch", "-bail", str(self.path)], text.encode(), str(self.place))
+
+    def take(self, folder: Path, indexes: Sequence[str] = ()) -> Cost:
+        """Imports the files of a release, whose rows are trusted to be new."""
+        lines = ['.import --skip 1 "%s" %s' % (path, sort) for sort, path in files_of(folder)]
+        return self.run([".mode tabs", "BEGIN;", *lines, *indexes, "COMMIT;"])[1]
+
+    def asked(self, queries: Iterable[str]) -> tuple[bytes, Cost]:
+        return self.run([".mode list", '.separator "\\t" "\\n"', *queries])
+
+
+class Sctd:
+    """A store of a version of the layout, and the program on it."""
+
+    def __init__(self, program: str, place: Path, layout: int) -> None:
+        self.program, self.place = program, str(place)
+        self.path = str(place / ("package%d.store" % layout))
+        Path(self.path).unlink(missing_ok=True)
+        self.run("init", "--layout", str(layout))
+
+    def run(self, command: str, *words: str) -> tuple[bytes, Cost]:
+        return ran([self.program, command, "--store", self.path, *words], b"", self.place)
+
+    def take(self, release: Path) -> tuple[bytes, Cost]:
+        return self.run("import", "--quiet", str(release))
+
+
+def snapshot(rows: Iterable[list[str]], date: str) -> dict[str, list[str]]:
+    """Of each component the latest row up to a date."""
+    found: dict[str, list[str]] = {}
+    for row in rows:
+        if row[1] <= date and (row[0] not in found or found[row[0]][1] < row[1]):
+            found[row[0]] = row
+    return found
+
+
+def query_of_members(refset: str, date: str, after: str) -> Question:
+    newest = NEWEST.format("x", date, "Language")
+    least = "" if after == "-" else " AND x.id > '%s'" % after
+    return Question(
+        "0 MEMBERS %s %s %s %d" % (refset, date, after, LIMIT),
+        "SELECT x.* FROM Language x WHERE x.refsetId = %s%s%s ORDER BY x.id LIMIT %d;"
+        % (refset, least, newest, LIMIT))
+
+
+def query_of_values(refset: str, date: str, after: str) -> Question:
+    newest = NEWEST.format("x", date, "Language")
+    least = "" if after == "-" else " AND x.referencedComponentId > %s" % after
+    return Question(
+        "0 VALUES %s %s %s %d" % (refset, date, after, LIMIT),
+        "SELECT x.* FROM Language x WHERE x.active = 1 AND x.refsetId = %s%s%s"
+        " ORDER BY x.referencedComponentId, x.id LIMIT %d;" % (refset, least, newest, LIMIT))
+
+
+def query_of_called(concept: str, date: str, refset: str) -> Question:
+    described, named = NEWEST.format("d", date, "D"), NEWEST.format("x", date, "Language")
+    return Question(
+        "0 CALLED %s %s %s" % (concept, date, refset),
+        "SELECT d.*, x.* FROM D d JOIN Language x ON x.referencedComponentId = d.id WHERE"
+        " d.active = 1 AND d.conceptId = %s AND x.active = 1 AND x.refsetId = %s%s%s"
+        " ORDER BY d.id, x.id;" % (concept, refset, described, named))
+
+
+def query_of_lookup(sort: str, member: str, date: str) -> Question:
+    return Question(
+        "0 GET M %s %s" % (member, date),
+        "SELECT * FROM %s WHERE id = '%s' AND effectiveTime <= %s"
+        " ORDER BY effectiveTime DESC LIMIT 1;" % (sort, member, date))
+
+
+def pages(ends: Sequence[str]) -> list[str]:
+    """Behind what each page begins, where the pages together have these rows."""
+    return ["-", *ends[LIMIT - 1 : MEMBERS - 1 : LIMIT]]
+
+
+class Questions:
+    """The questions that are drawn from a Full release."""
+
+    def __init__(self, full: Path) -> None:
+        self.full, self.chance = full, random.Random(SEED)
+
+    def lookups(self) -> list[Question]:
+        ids = [(sort, row[0]) for sort in rf2.FURTHER_SORTS if KEPT_SORTS[sort].kind == "M"
+               for row in rows_of(self.full, sort)]
+        return [query_of_lookup(*self.chance.choice(ids), self.chance.choice(DAYS))
+                for _ in range(LOOKUPS)]
+
+    def of_language(self) -> tuple[list[Question], list[Question]]:
+        """Pages of the members of a language reference set, and of its values."""
+        refset = str(rf2.US_ENGLISH)
+        members = [row for row in rows_of(self.full, "Language") if row[4] == refset]
+        shown = snapshot(members, LAST_DAY).values()
+        ids = sorted(row[0] for row in shown)
+        components = sorted((row[5] for row in shown if row[2] == "1"), key=int)
+        return ([query_of_members(refset, LAST_DAY, after) for after in pages(ids)],
+                [query_of_values(refset, LAST_DAY, after) for after in pages(components)])
+
+    def called(self) -> list[Question]:
+        concepts = [row[4] for row in rows_of(self.full, "D")]
+        return [query_of_called(self.chance.choice(concepts), self.chance.choice(DAYS),
+                                str(self.chance.choice(rf2.LANGUAGES))) for _ in range(CALLED)]
+
+
+def joined(rows: bytes) -> bytes:
+    """The rows of replies to CALLED as a join has them: each member behind its description."""
+    found, description = [], b""
+    for row in rows.split(b"\n")[:-1]:
+        if row.count(b"\t") + 1 == DESCRIPTION_COLUMNS:
+            description = row
+        else:
+            found.append(description + b"\t" + row + b"\n")
+    return b"".join(found)
+
+
+def ask_both(table: Table, served: Served, shell: Shell, title: str,
+             questions: Sequence[Question]) -> None:
+    """Asks both sides, and tells what it cost."""
+    told, (wall, used) = served.timed([question.line for question in questions])
+    answered, theirs = shell.asked(question.query for question in questions)
+    theirs.peak = None
+    rows = rows_alone(told)
+    if " CALLED " in questions[0].line and rows is not None:
+        rows = joined(rows)
+    title = "%s (%d rows)" % (title, answered.count(b"\n"))
+    table.show(title, Cost(wall, used), theirs, rows == answered)
+
+
+def show_memory(what: str, sctd: Sctd, rows: int) -> None:
+    """Prints what an open store takes."""
+    served = Served(sctd)
+    held, bytes_of_file = served.held(), os.path.getsize(sctd.path)
+    print("%s: %d rows; open %d bytes, %.1f a row; file %d bytes, %.1f a row" % (
+        what, rows, held, held / rows, bytes_of_file, bytes_of_file / rows), flush=True)
+    served.end()
+
+
+def rows_in(told: bytes) -> int:
+    """How many rows a reply to an import says to be new."""
+    if not told.startswith(b"OK "):
+        raise SystemExit("import: %r" % told)
+    return int(told.split()[2])
+
+
+def compare(program: str, folder: Path, count: int) -> bool:
+    place = folder / ("package%d" % count)
+    full, delta = place / "full", place / "delta"
+    if not full.is_dir():
+        maker = os.path.join(HERE, "make_release.py")
+        subprocess.check_call([sys.executable, maker, "--package", str(place), str(count)])
+    table, shell = Table(count), Shell(place)
+    basic, sctd = (Sctd(program, place, layout) for layout in (2, 3))
+    told, ours = sctd.take(full)
+    table.show("import the Full release, with its indexes", ours, shell.take(full, INDEXES))
+    rows = rows_in(told)
+    told, ours = sctd.take(delta)
+    table.show("import a Delta of 100 rows", ours, shell.take(delta))
+    served = Served(sctd)
+    table.show("open", Cost(*served.opening, served.held()), None)
+    shell.kept = served.held()
+    drawn = Questions(full)
+    ask_both(table, served, shell, "look up 100,000 members", drawn.lookups())
+    members, values = drawn.of_language()
+    ask_both(table, served, shell, "members of a language, 1,000 a page", members)
+    ask_both(table, served, shell, "values of a language, 1,000 a page", values)
+    ask_both(table, served, shell, "what 10,000 concepts were called", drawn.called())
+    served.end()
+    show_memory("version 3, all files", sctd, rows + rows_in(told))
+    show_memory("version 2, its files", basic, rows_in(basic.take(full)[0]))
+    print("bytes of the shell's file: %d" % os.path.getsize(shell.path))
+    return table.alike
+
+
+def main(words: Sequence[str]) -> int:
+    assert __doc__
+    if len(words) < 2:
+        print(__doc__.strip(), file=sys.stderr)
+        return 2
+    sizes = [int(word) for word in words[2:]] or [DEFAULT_ROWS]
+    if len(sizes) > 1:
+        script = [sys.executable, os.path.abspath(__file__), *words[:2]]
+        return max(subprocess.call([*script, str(size)]) for size in sizes)
+    print("| Rows | Work | sctd: wall | processor | peak, MB | SQLite's shell: wall | processor"
+          " | peak, MB | processor, SQLite / sctd |")
+    print("|" + "---|" * 9)
+    return 0 if compare(os.path.abspath(words[0]), Path(words[1]).resolve(), sizes[0]) else 1
+
+
+if __name__ == "__main__":
+    sys.exit(main(sys.argv[1:]))

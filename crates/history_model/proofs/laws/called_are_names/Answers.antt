@@ -1,0 +1,5 @@
+use Rattle.history_model.proofs.Membership as membership
+use Rattle.history_model.proofs.laws.called_are_names.Goals as goal
+
+pub returns : goal.returns
+returns c = membership.called_are_names

@@ -1,0 +1,126 @@
+//! The questions about members of reference sets, and by what a concept is called in a language.
+//! None of them changes what a store holds.
+
+ghost use Rattle.std.specs.Prelude.{◌≡◌, ◌≤◌};
+
+use crate::reading::DiskRows;
+use crate::refusal::Refusal;
+use crate::store::Store;
+use disk_model::Disk;
+use links::{called, members, values};
+use rf2_rows::{EffectiveTime, Row, Sctid};
+
+impl<D: Disk> Store<D> {
+    ghost use Rattle.history_model.specs.Queries.{members, values, called};
+    ghost use Rattle.history_store.specs.Queries.{IsRowsQuery};
+
+    /// The first members of a reference set at a date, active or not, at most `limit`, ascending by
+    /// id from above `after` on.
+    pub fn members(
+        &mut self,
+        refset: Sctid,
+        time: EffectiveTime,
+        after: Option<u128>,
+        limit: u32,
+        pin: u32,
+    ) -> Result<Vec<Row>, Refusal>
+        requires { pin ≤ self.old.history.imports }
+        ensures answer { IsRowsQuery result (λ rows. rows.items) (members refset time after limit)
+            pin D.is_honest D.moments D.failures D.bytes_read D.other_calls self.old self.new }
+    {
+        if self.needs_reopen {
+            return Err(Refusal::ReopenNeeded);
+        }
+        let mut reader = DiskRows::new(
+            &mut self.disk,
+            &mut self.cache,
+            &self.directory,
+            &self.index,
+        );
+        let read = members(
+            self.alloc,
+            self.index.links(),
+            self.index.places(),
+            &mut reader,
+            refset,
+            time,
+            after,
+            limit,
+            pin,
+        );
+        self.answered(read)
+    }
+
+    /// The active members of a reference set at a date that refer to a component above `after`,
+    /// ascending by that component, then by id: the first `limit`, and with the last of them all
+    /// that refer to the same component.
+    pub fn values(
+        &mut self,
+        refset: Sctid,
+        time: EffectiveTime,
+        after: Option<u64>,
+        limit: u32,
+        pin: u32,
+    ) -> Result<Vec<Row>, Refusal>
+        requires { pin ≤ self.old.history.imports }
+        ensures answer { IsRowsQuery result (λ rows. rows.items) (values refset time after limit)
+            pin D.is_honest D.moments D.failures D.bytes_read D.other_calls self.old self.new }
+    {
+        if self.needs_reopen {
+            return Err(Refusal::ReopenNeeded);
+        }
+        let mut reader = DiskRows::new(
+            &mut self.disk,
+            &mut self.cache,
+            &self.directory,
+            &self.index,
+        );
+        let read = values(
+            self.alloc,
+            self.index.links(),
+            self.index.places(),
+            &mut reader,
+            refset,
+            time,
+            after,
+            limit,
+            pin,
+        );
+        self.answered(read)
+    }
+
+    /// By what a concept is called in a language at a date: the active descriptions about it, by
+    /// id, that have active members of the language's reference set, each followed by these members.
+    pub fn called(
+        &mut self,
+        concept: Sctid,
+        time: EffectiveTime,
+        refset: Sctid,
+        pin: u32,
+    ) -> Result<Vec<Row>, Refusal>
+        requires { pin ≤ self.old.history.imports }
+        ensures answer { IsRowsQuery result (λ rows. rows.items) (called concept time refset)
+            pin D.is_honest D.moments D.failures D.bytes_read D.other_calls self.old self.new }
+    {
+        if self.needs_reopen {
+            return Err(Refusal::ReopenNeeded);
+        }
+        let mut reader = DiskRows::new(
+            &mut self.disk,
+            &mut self.cache,
+            &self.directory,
+            &self.index,
+        );
+        let read = called(
+            self.alloc,
+            self.index.links(),
+            self.index.places(),
+            &mut reader,
+            concept,
+            time,
+            refset,
+            pin,
+        );
+        self.answered(read)
+    }
+}

@@ -1,0 +1,114 @@
+-- Words on members of reference sets that private functions and proofs need. No public clause cites
+-- them.
+use Rattle.std.specs.Prelude.{◌≡◌, ◌≤◌, ◌<◌, ◌==◌, ◌&&◌, ◌++◌, ℕ, Bool, true, List, [], ◌∷◌, map}
+use Rattle.std.specs.Prelude.{◌⊎◌, length, take, drop, nat_lt, nat_le, Option, Some, None}
+use Rattle.std.specs.List.{filter, AllByRecursion}
+use Rattle.std.specs.declared.cmp.Ordering.{Ordering}
+use Rattle.history_model.specs.declared.stamped.StampedRow.{StampedRow}
+use Rattle.history_model.specs.InOrder.{Has}
+use Rattle.history_model.specs.Queries.{is_above}
+use Rattle.segment.specs.declared.place.RowPlace.{RowPlace}
+use Rattle.as_of_index.specs.declared.chosen.Chosen.{Chosen}
+use Rattle.as_of_index.specs.Private.Chosen.{chosen_cmp}
+use Rattle.as_of_index.specs.Private.Once.{AreOnce}
+use Rattle.as_of_index.specs.Current.{IsPlaceOfRow, IsCurrentAt}
+use Rattle.links.specs.declared.membership.Membership.{Membership}
+use Rattle.links.specs.declared.member_search.Asked.{Asked}
+use Rattle.links.specs.declared.member_search.Wanted.{Wanted}
+use Rattle.links.specs.declared.member_search.Wanted.TheVariants as wanted
+use Rattle.links.specs.Edges.{Edges, membership_rank}
+
+-- the memberships of each list
+abbrev pub memberships_in : List Edges → List (List Membership)
+memberships_in lists = map (λ e. e.memberships) lists
+
+-- the number isn't above the last, if one is given
+abbrev pub is_up_to : Option ℕ → ℕ → Bool
+is_up_to None n = true
+is_up_to (Some last) n = nat_le n last
+
+abbrev pub is_between : Option ℕ → Option ℕ → ℕ → Bool
+is_between after last n = is_above after n && is_up_to last n
+
+-- the membership of a member with this id is asked for
+abbrev pub is_wanted : ℕ → Wanted → Membership → ℕ → Bool
+is_wanted refset (wanted.Above after last) m id = m.refset == refset && is_between after last id
+is_wanted refset (wanted.Values after last) m id =
+    m.active && m.refset == refset && is_between after last m.referenced
+is_wanted refset (wanted.About component) m id =
+    m.active && m.refset == refset && m.referenced == component
+
+-- between which places in the order of memberships those stand that are asked for
+abbrev pub low_rank : ℕ → Wanted → ℕ
+low_rank refset (wanted.Above after last) = membership_rank refset 0
+low_rank refset (wanted.Values None last) = membership_rank refset 0
+low_rank refset (wanted.Values (Some after) last) = membership_rank refset after
+low_rank refset (wanted.About component) = membership_rank refset component
+
+abbrev pub high_rank : ℕ → Wanted → ℕ
+high_rank refset (wanted.Above after last) = membership_rank refset 18446744073709551615
+high_rank refset (wanted.Values after None) = membership_rank refset 18446744073709551615
+high_rank refset (wanted.Values after (Some last)) = membership_rank refset last
+high_rank refset (wanted.About component) = membership_rank refset component
+
+-- what is to be read for a membership of list n
+abbrev pub member_place : ℕ → Membership → RowPlace → Chosen
+member_place n m at = record { segment = n; at = at; refset = m.refset; target = m.referenced }
+
+-- a membership of list n that is asked for, and whose row is current, gives what is to be read
+pub record GivesMember (lists : List (List StampedRow)) (asked : Asked) (n : ℕ) (m : Membership)
+    (k : Chosen) : Type 0 where
+  pub at : RowPlace
+  pub row_there : IsPlaceOfRow lists n m.row at × IsCurrentAt lists asked.time asked.pin n at
+  pub wanted_so : is_wanted asked.refset asked.wanted m at.key.id ≡ true
+  pub answer_is : member_place n m at ≡ k
+
+-- the list has what the postings give, and nothing else; with each posting is the number of its
+-- list
+pub record AreGiven {X Y : Type 0} (Gives : ℕ → X → Y → Type 0) (xs : List (ℕ × X)) (ys : List Y)
+    : Type 0 where
+  pub taken : (x : ℕ × X) (y : Y) → Has xs x → Gives x.0 x.1 y → Has ys y
+  pub only : (y : Y) → Has ys y → (x : ℕ × X) × Has xs x × Gives x.0 x.1 y
+
+-- the places of the members that are asked for, each once, in an order
+abbrev pub AreMembers : (Chosen → Chosen → Ordering) → List (List StampedRow) → Asked
+    → List (ℕ × Membership) → List Chosen → Type 0
+AreMembers cmp lists asked xs kept =
+    (all : List Chosen) × AreGiven (GivesMember lists asked) xs all × AreOnce cmp all kept
+
+-- the places of the members up to some last one, each once, in an order: all that are asked for, or
+-- so many that the first ones up to the limit are among them
+abbrev pub AreEnough : (Chosen → Chosen → Ordering) → (Option ℕ → Wanted) → ℕ
+    → List (List StampedRow) → ℕ → ℕ → ℕ → List (ℕ × Membership) → List Chosen → Type 0
+AreEnough cmp upto limit lists refset date pin xs kept = (last : Option ℕ)
+    × AreMembers cmp lists
+    (record { refset = refset; wanted = upto last; time = date; pin = pin }) xs kept
+    × ((last ≡ None) ⊎ (limit ≤ length kept))
+
+-- how many of the numbers are below one
+abbrev pub count_lesser : ℕ → List ℕ → ℕ
+count_lesser d ds = length (filter (λ other. nat_lt other d) ds)
+
+-- of numbers in order the first so many are those that fewer than the limit are below: the first
+-- ones up to the limit, and with the last of them all that are equal to it
+pub record IsCutAt (limit : ℕ) (ds : List ℕ) (count : ℕ) : Type 0 where
+  pub before : AllByRecursion (λ d. count_lesser d ds < limit) (take count ds)
+  pub behind : AllByRecursion (λ d. limit ≤ count_lesser d ds) (drop count ds)
+
+-- a place and others behind it, if there are any, else nothing
+abbrev pub with_members : Chosen → List Chosen → List Chosen
+with_members k [] = []
+with_members k (other ∷ others) = k ∷ other ∷ others
+
+-- the members of a reference set that refer to a description, at a date and a pin
+abbrev pub asked_about : ℕ → ℕ → ℕ → Chosen → Asked
+asked_about refset date pin k =
+    record { refset = refset; wanted = wanted.About k.at.key.id; time = date; pin = pin }
+
+-- the places of the descriptions that have members, each with the places of its members behind it
+abbrev pub AreNamed : List (List StampedRow) → ℕ → ℕ → ℕ → List (ℕ × Membership) → List Chosen
+    → List Chosen → Type 0
+AreNamed lists refset date pin xs [] kept = kept ≡ []
+AreNamed lists refset date pin xs (k ∷ ks) kept = (those : List Chosen) × (rest : List Chosen)
+    × AreMembers chosen_cmp lists (asked_about refset date pin k) xs those
+    × (kept ≡ with_members k those ++ rest) × AreNamed lists refset date pin xs ks rest

@@ -1,0 +1,125 @@
+//! By what a concept is called in a language.
+
+ghost use Rattle.std.specs.Prelude.{◌≡◌, ◌≢◌, ◌+◌, ◌≤◌, ◌++◌, List, map, IfOk, IfErr};
+ghost use Rattle.std.specs.Prelude.{OnOk};
+ghost use Rattle.std.specs.List.{sum_by};
+ghost use Rattle.rf2_values.specs.Key.{key_of};
+ghost use Rattle.history_model.specs.declared.stamped.StampedRow.{StampedRow};
+ghost use Rattle.history_model.specs.History.{rows_at};
+ghost use Rattle.history_model.specs.Lists.{listed};
+ghost use Rattle.history_model.specs.Queries.{called};
+ghost use Rattle.as_of_index.specs.Places.{Lists};
+ghost use Rattle.as_of_index.specs.Private.Postings.{numbered};
+ghost use Rattle.fault_counts.specs.Counting.{Counts, CountsDiskFault, CountsDamage};
+ghost use Rattle.fault_counts.specs.declared.fault.ReadFault.TheVariants as readfault;
+ghost use Rattle.links.specs.Laws.{EachPosted};
+ghost use Rattle.links.specs.Private.Memberships.{memberships_in, with_members, AreNamed};
+
+use crate::Links;
+use crate::member_pages::members_by_id;
+use crate::member_search::{Asked, Wanted};
+use crate::postings::Sealed;
+use crate::subjects::chosen_all;
+use as_of_index::{Chosen, Index, ReadFault, RowReader, read_all};
+use rf2_values::{EffectiveTime, Kind, Row, Sctid};
+use std::alloc::{AllocError, Global};
+
+/// Adds a place and others behind it, if there are any of these.
+fn push_with(kept: &mut Vec<Chosen>, k: Chosen, others: &[Chosen]) -> Result<(), AllocError>
+    ensures { OnOk result (kept.new.items ≡ kept.old.items ++ with_members k others.now) }
+{
+    if others.is_empty() {
+        return Ok(());
+    }
+    kept.push(k)?;
+    kept.extend_from_slice(others)?;
+    Ok(())
+}
+
+/// Of the descriptions at these places those that have current active members of the reference set,
+/// each with these members behind it, by id.
+fn named(
+    alloc: Global,
+    links: &[Sealed],
+    index: &Index,
+    descriptions: &[Chosen],
+    refset: u64,
+    time: EffectiveTime,
+    pin: u32,
+) -> Result<Vec<Chosen>, AllocError>
+    ensures { IfOk result (λ kept. (lists : List (List StampedRow)) → Lists index.now lists
+        → AreNamed lists refset time pin (numbered 0 (memberships_in links.now))
+        descriptions.now kept.items) }
+{
+    let mut kept = Vec::new(alloc);
+    for k in descriptions {
+        let asked = Asked {
+            refset,
+            wanted: Wanted::About(k.at.key.id),
+            time,
+            pin,
+        };
+        let those = members_by_id(alloc, links, index, &asked)?;
+        push_with(&mut kept, *k, those.as_slice())?;
+    }
+    Ok(kept)
+}
+
+/// By what the concept is called in a language at the date: of the active descriptions about it, by
+/// id, those that have active members of the language's reference set, each with these members
+/// behind it, by id, of the rows that the pin shows. It makes two bisections a list for the concept
+/// and for each of its descriptions, and one a list for each posted description of the concept and
+/// each posted active member of a description.
+pub fn called<R: RowReader>(
+    alloc: Global,
+    links: &Links,
+    index: &Index,
+    reader: &mut R,
+    concept: Sctid,
+    time: EffectiveTime,
+    refset: Sctid,
+    pin: u32,
+) -> Result<Vec<Row>, ReadFault>
+    ensures found { R.is_honest reader.old → Lists index.now (R.lists reader.old)
+        → EachPosted (R.lists reader.old) links.now
+        → IfOk result (λ rows.
+        rows.items ≡ called concept time refset (rows_at pin (listed (R.lists reader.old)))) }
+    // Whatever was read, the keys are those of these descriptions and members.
+    ensures keys { Lists index.now (R.lists reader.old) → EachPosted (R.lists reader.old) links.now
+        → IfOk result (λ rows. map key_of rows.items ≡ map key_of
+        (called concept time refset (rows_at pin (listed (R.lists reader.old))))) }
+    ensures undamaged { R.is_honest reader.old → Lists index.now (R.lists reader.old)
+        → EachPosted (R.lists reader.old) links.now
+        → IfErr result (λ e. e ≢ readfault.Damaged) }
+    // No more is read than the rows that it answers take, each read once.
+    ensures work { IfOk result (λ rows.
+        R.work reader.new ≤ R.work reader.old + sum_by R.cost rows.items) }
+    // Whatever it answers and whatever was read, no more is read than these descriptions and members take, each
+    // counted once.
+    ensures work_always { Lists index.now (R.lists reader.old)
+        → EachPosted (R.lists reader.old) links.now
+        → R.work reader.new ≤ R.work reader.old + sum_by R.cost
+        (called concept time refset (rows_at pin (listed (R.lists reader.old)))) }
+    ensures lists { R.lists reader.new ≡ R.lists reader.old }
+    ensures honesty { R.is_honest reader.old → R.is_honest reader.new }
+    ensures stays { R.stays reader.old reader.new }
+    ensures disk_faults { Counts CountsDiskFault result
+        (R.disk_faults reader.old) (R.disk_faults reader.new) }
+    ensures damages { Counts CountsDamage result (R.damages reader.old) (R.damages reader.new) }
+{
+    // Its contract says that no key is listed twice.
+    let _listed = index.lists();
+    let links = links.as_slice();
+    let concept = concept.value();
+    let descriptions = chosen_all(alloc, links, index, Kind::Description, concept, time, pin)?;
+    let kept = named(
+        alloc,
+        links,
+        index,
+        descriptions.as_slice(),
+        refset.value(),
+        time,
+        pin,
+    )?;
+    read_all(alloc, reader, kept.as_slice())
+}

@@ -1,0 +1,173 @@
+//! A reference set as a value set: its active members, by the components that they refer to.
+
+ghost use Rattle.std.specs.Prelude.{◌≡◌, ◌≢◌, ◌+◌, ◌≤◌, ℕ, List, map, IfOk, IfErr};
+ghost use Rattle.std.specs.List.{sum_by};
+ghost use Rattle.std.specs.List.Sorted.{IsNonDecreasingBy};
+ghost use Rattle.rf2_values.specs.Key.{key_of};
+ghost use Rattle.history_model.specs.declared.stamped.StampedRow.{StampedRow};
+ghost use Rattle.history_model.specs.History.{rows_at};
+ghost use Rattle.history_model.specs.Lists.{listed};
+ghost use Rattle.history_model.specs.Queries.{values};
+ghost use Rattle.as_of_index.specs.Places.{Lists};
+ghost use Rattle.as_of_index.specs.Private.Chosen.{ranked_cmp};
+ghost use Rattle.as_of_index.specs.Private.Postings.{numbered};
+ghost use Rattle.fault_counts.specs.Counting.{Counts, CountsDiskFault, CountsDamage};
+ghost use Rattle.fault_counts.specs.declared.fault.ReadFault.TheVariants as readfault;
+ghost use Rattle.links.specs.Laws.{EachPosted};
+ghost use Rattle.links.specs.declared.member_search.Wanted.TheVariants.{Values};
+ghost use Rattle.links.specs.Private.Memberships.{memberships_in, AreMembers, AreEnough};
+ghost use Rattle.links.specs.Private.Memberships.{IsCutAt};
+
+use crate::Links;
+use crate::member_search::{Asked, Wanted, between, find_members, high_rank, low_rank};
+use crate::postings::Sealed;
+use crate::references::sort_once;
+use as_of_index::{Chosen, Index, ReadFault, RowReader, read_all};
+use rf2_values::{EffectiveTime, Row, Sctid};
+use std::alloc::{AllocError, Global};
+
+/// The places of the current members that are asked for, by the component that they refer to.
+fn members_by_component(
+    alloc: Global,
+    links: &[Sealed],
+    index: &Index,
+    asked: &Asked,
+) -> Result<Vec<Chosen>, AllocError>
+    ensures { IfOk result (λ kept. (lists : List (List StampedRow)) → Lists index.now lists
+        → AreMembers ranked_cmp lists asked.now (numbered 0 (memberships_in links.now))
+        kept.items) }
+{
+    let mut kept = find_members(alloc, links, index, asked)?;
+    sort_once(&mut kept);
+    Ok(kept)
+}
+
+/// A component so far on that, in the list that comes to it first, so many posted members of the
+/// reference set are asked for up to it, or none if no list has more. Which one it is, is no matter:
+/// it is only one up to which members are looked for.
+fn component_behind(links: &[Sealed], asked: &Asked, count: usize) -> Option<u64> {
+    let mut first = None;
+    for list in links {
+        let those = between(list.memberships(), low_rank(asked), high_rank(asked));
+        if let Some(m) = those.get(count) {
+            first = match first {
+                Some(other) if other < m.referenced => Some(other),
+                _ => Some(m.referenced),
+            };
+        }
+    }
+    first
+}
+
+/// The places of the current active members that refer to a component above `after`, if that is
+/// given, by the component: of all, or of those up to some component that are at least so many. So
+/// it is seldom asked of a member behind the first so many whether it is current, which costs most.
+fn enough_by_component(
+    alloc: Global,
+    links: &[Sealed],
+    index: &Index,
+    refset: u64,
+    time: EffectiveTime,
+    after: Option<u64>,
+    limit: u32,
+    pin: u32,
+) -> Result<Vec<Chosen>, AllocError>
+    ensures { IfOk result (λ kept. (lists : List (List StampedRow)) → Lists index.now lists
+        → AreEnough ranked_cmp (λ last. Values after last) limit lists refset time pin
+        (numbered 0 (memberships_in links.now)) kept.items) }
+{
+    let all = Asked {
+        refset,
+        wanted: Wanted::Values(after, None),
+        time,
+        pin,
+    };
+    let mut count = limit as usize;
+    for _ in 0..16 {
+        let Some(last) = component_behind(links, &all, count) else {
+            break;
+        };
+        let asked = Asked {
+            refset,
+            wanted: Wanted::Values(after, Some(last)),
+            time,
+            pin,
+        };
+        let kept = members_by_component(alloc, links, index, &asked)?;
+        if limit as usize <= kept.len() {
+            return Ok(kept);
+        }
+        count = count.saturating_mul(4);
+    }
+    members_by_component(alloc, links, index, &all)
+}
+
+/// How many of the places the first so many are, and with the last of them all that refer to the
+/// same component.
+fn count_with_ties(kept: &[Chosen], limit: u32) -> usize
+    ensures { IsNonDecreasingBy (λ k. k.target) kept.now
+        → IsCutAt limit (map {B = ℕ} (λ k. k.target) kept.now) result }
+{
+    let limit = limit as usize;
+    if limit == 0 {
+        return 0;
+    }
+    if kept.len() <= limit {
+        return kept.len();
+    }
+    let last = kept[limit - 1].target;
+    kept.partition_point(|k| k.target <= last)
+}
+
+/// The active members of the reference set at the date that refer to a component above `after`, if
+/// that is given, by the component, those of one by id, of the rows that the pin shows: the first so
+/// many, and with the last of them all that refer to the same component. It makes some bisections a
+/// list, and one a list for each of the first so many posted members behind `after` of each list, and
+/// for four times as many as long as too few are current.
+pub fn values<R: RowReader>(
+    alloc: Global,
+    links: &Links,
+    index: &Index,
+    reader: &mut R,
+    refset: Sctid,
+    time: EffectiveTime,
+    after: Option<u64>,
+    limit: u32,
+    pin: u32,
+) -> Result<Vec<Row>, ReadFault>
+    ensures found { R.is_honest reader.old → Lists index.now (R.lists reader.old)
+        → EachPosted (R.lists reader.old) links.now
+        → IfOk result (λ rows.
+        rows.items ≡ values refset time after limit (rows_at pin (listed (R.lists reader.old)))) }
+    // Whatever was read, the keys are those of these members.
+    ensures keys { Lists index.now (R.lists reader.old) → EachPosted (R.lists reader.old) links.now
+        → IfOk result (λ rows. map key_of rows.items ≡ map key_of
+        (values refset time after limit (rows_at pin (listed (R.lists reader.old))))) }
+    ensures undamaged { R.is_honest reader.old → Lists index.now (R.lists reader.old)
+        → EachPosted (R.lists reader.old) links.now
+        → IfErr result (λ e. e ≢ readfault.Damaged) }
+    // No more is read than the rows that it answers take, each read once.
+    ensures work { IfOk result (λ rows.
+        R.work reader.new ≤ R.work reader.old + sum_by R.cost rows.items) }
+    // Whatever it answers and whatever was read, no more is read than these members take, each
+    // counted once.
+    ensures work_always { Lists index.now (R.lists reader.old)
+        → EachPosted (R.lists reader.old) links.now
+        → R.work reader.new ≤ R.work reader.old + sum_by R.cost
+        (values refset time after limit (rows_at pin (listed (R.lists reader.old)))) }
+    ensures lists { R.lists reader.new ≡ R.lists reader.old }
+    ensures honesty { R.is_honest reader.old → R.is_honest reader.new }
+    ensures stays { R.stays reader.old reader.new }
+    ensures disk_faults { Counts CountsDiskFault result
+        (R.disk_faults reader.old) (R.disk_faults reader.new) }
+    ensures damages { Counts CountsDamage result (R.damages reader.old) (R.damages reader.new) }
+{
+    // Its contract says that no key is listed twice.
+    let _listed = index.lists();
+    let links = links.as_slice();
+    let refset = refset.value();
+    let mut kept = enough_by_component(alloc, links, index, refset, time, after, limit, pin)?;
+    let count = count_with_ties(kept.as_slice(), limit);
+    kept.truncate(count);
+    read_all(alloc, reader, kept.as_slice())
+}

@@ -1,0 +1,278 @@
+//! Members of reference sets, and what a concept is called, computed in the plainest way.
+
+ghost use Rattle.std.specs.Prelude.{◌≡◌, ◌&&◌, ◌++◌, map, IfOk, OnOk};
+ghost use Rattle.rf2_values.specs.declared.row.Kind.TheVariants.{Member};
+ghost use Rattle.history_model.specs.InOrder.{put};
+ghost use Rattle.history_model.specs.Private.{IsPlace};
+ghost use Rattle.history_model.specs.Queries.{is_above, is_current, is_about};
+ghost use Rattle.history_model.specs.Queries.{is_member_of, is_member_above, members_above};
+ghost use Rattle.history_model.specs.Queries.{members, component_of, is_value_above, value_cmp};
+ghost use Rattle.history_model.specs.Queries.{values_above, is_among_first, values};
+ghost use Rattle.history_model.specs.Queries.{about, members_about, with_others, called};
+
+use crate::edges::about;
+use crate::snapshots::{is_above, is_current};
+use rf2_values::{Body, EffectiveTime, Kind, Row, Sctid};
+use std::alloc::{AllocError, Global};
+use std::cmp::Ordering;
+
+/// Whether the row is a member of the reference set.
+fn is_member_of(row: &Row, refset: Sctid) -> bool
+    ensures { result ≡ is_member_of refset row.now.body }
+{
+    match &row.body {
+        Body::Member(member) => member.refset == refset,
+        _ => false,
+    }
+}
+
+/// Whether the row is a member of the reference set, with an id above `after` if that is given.
+fn is_member_above(row: &Row, refset: Sctid, after: Option<u128>) -> bool
+    ensures { result ≡ is_member_above refset after row.now }
+{
+    is_member_of(row, refset) && is_above(after, row.id)
+}
+
+/// The members of the reference set at the date, with an id above `after` if that is given.
+#[tactic(auto, unfolding(history_model::specs::Queries::snapshot, history_model::specs::Queries::members_above))]
+fn members_above(
+    alloc: Global,
+    rows: &[Row],
+    refset: Sctid,
+    date: EffectiveTime,
+    after: Option<u128>,
+) -> Result<Vec<&Row>, AllocError>
+    ensures { IfOk result (λ found. map (λ row. row.now) found.items
+        ≡ members_above refset date after rows.now) }
+{
+    rows.iter()
+        .filter(|row| is_current(rows, date, row))
+        .filter(|row| is_member_above(row, refset, after))
+        .collect(alloc)
+}
+
+/// The first `limit` members of the reference set at the
+/// date, with an id above `after` if that is given.
+#[tactic(auto, using(crate::proofs::Listed::map_take), unfolding(history_model::specs::Queries::members))]
+pub fn members(
+    alloc: Global,
+    rows: &[Row],
+    refset: Sctid,
+    date: EffectiveTime,
+    after: Option<u128>,
+    limit: u32,
+) -> Result<Vec<&Row>, AllocError>
+    ensures { IfOk result (λ found. map (λ row. row.now) found.items
+        ≡ members refset date after limit rows.now) }
+{
+    let mut found = members_above(alloc, rows, refset, date, after)?;
+    found.truncate(limit as usize);
+    Ok(found)
+}
+
+/// The component that a member refers to.
+fn component_of(row: &Row) -> u64
+    ensures { result ≡ component_of row.now }
+{
+    match &row.body {
+        Body::Member(member) => member.referenced.value(),
+        _ => 0,
+    }
+}
+
+fn is_component_above(row: &Row, after: Option<u64>) -> bool
+    ensures { result ≡ is_above after (component_of row.now) }
+{
+    match after {
+        None => true,
+        Some(after) => after < component_of(row),
+    }
+}
+
+/// Whether the row is an active member of the reference set that refers to a component above
+/// `after`, if that is given.
+fn is_value_above(row: &Row, refset: Sctid, after: Option<u64>) -> bool
+    ensures { result ≡ is_value_above refset after row.now }
+{
+    row.active && is_member_of(row, refset) && is_component_above(row, after)
+}
+
+fn is_value_above_at(
+    rows: &[Row],
+    date: EffectiveTime,
+    row: &Row,
+    refset: Sctid,
+    after: Option<u64>,
+) -> bool
+    ensures { result ≡ (is_current rows.now date row.now && is_value_above refset after row.now) }
+{
+    is_current(rows, date, row) && is_value_above(row, refset, after)
+}
+
+/// The order by what members refer to, by member.
+fn value_order(a: &Row, b: &Row) -> Ordering
+    ensures { result ≡ value_cmp a.now b.now }
+{
+    (component_of(a), a.id).cmp(&(component_of(b), b.id))
+}
+
+/// Where a member that ties with this one is, or else the place at which this one is to be inserted.
+fn place_for_value(rows: &[&Row], row: &Row) -> Result<usize, usize>
+    ensures { IsPlace value_cmp row.now (map (λ r. r.now) rows.now) result }
+{
+    for (place, other) in rows.iter().enumerate() {
+        match value_order(row, other) {
+            Ordering::Less => return Err(place),
+            Ordering::Equal => return Ok(place),
+            Ordering::Greater => {}
+        }
+    }
+    Err(rows.len())
+}
+
+fn put_value<'a>(rows: &mut Vec<&'a Row>, row: &'a Row) -> Result<(), AllocError>
+    ensures { OnOk result (map (λ r. r.now) rows.new.items
+        ≡ put value_cmp row.entry.now (map (λ r. r.now) rows.old.items)) }
+{
+    if let Err(place) = place_for_value(rows, row) {
+        rows.insert(place, row)?;
+    }
+    Ok(())
+}
+
+/// The active members of the reference set at the date that refer to a component above `after`, if
+/// that is given, by what they refer to, by member.
+#[tactic(auto, unfolding(history_model::specs::Queries::snapshot, history_model::specs::Queries::values_above))]
+fn values_above(
+    alloc: Global,
+    rows: &[Row],
+    refset: Sctid,
+    date: EffectiveTime,
+    after: Option<u64>,
+) -> Result<Vec<&Row>, AllocError>
+    ensures { IfOk result (λ found. map (λ row. row.now) found.items
+        ≡ values_above refset date after rows.now) }
+{
+    let mut found = Vec::new(alloc);
+    for row in rows {
+        if is_value_above_at(rows, date, row, refset, after) {
+            put_value(&mut found, row)?;
+        }
+    }
+    Ok(found)
+}
+
+/// Whether fewer than `limit` of the rows refer to a component before the row's.
+fn is_among_first(rows: &[&Row], row: &Row, limit: u32) -> bool
+    ensures { result ≡ is_among_first limit (map (λ r. r.now) rows.now) row.now }
+{
+    let before = rows
+        .iter()
+        .filter(|other| component_of(other) < component_of(row))
+        .count();
+    before < limit as usize
+}
+
+/// The first `limit` active members of the reference set at the date that refer to a component
+/// above `after`, if that is given, and with them all that refer to the last one's component.
+#[tactic(auto, unfolding(history_model::specs::Queries::values))]
+pub fn values(
+    alloc: Global,
+    rows: &[Row],
+    refset: Sctid,
+    date: EffectiveTime,
+    after: Option<u64>,
+    limit: u32,
+) -> Result<Vec<&Row>, AllocError>
+    ensures { IfOk result (λ found. map (λ row. row.now) found.items
+        ≡ values refset date after limit rows.now) }
+{
+    let all = values_above(alloc, rows, refset, date, after)?;
+    all.iter()
+        .copied()
+        .filter(|row| is_among_first(&all, row, limit))
+        .collect(alloc)
+}
+
+/// Whether the row is active, and a member about the component.
+fn is_member_about(row: &Row, id: u128) -> bool
+    ensures { result ≡ is_about Member id row.now }
+{
+    match &row.body {
+        Body::Member(member) => row.active && u128::from(member.referenced.value()) == id,
+        _ => false,
+    }
+}
+
+/// The active members at the date that refer to the component.
+#[tactic(auto, unfolding(history_model::specs::Queries::snapshot, history_model::specs::Queries::about))]
+fn all_members_about(
+    alloc: Global,
+    rows: &[Row],
+    id: u128,
+    date: EffectiveTime,
+) -> Result<Vec<&Row>, AllocError>
+    ensures { IfOk result (λ found. map (λ row. row.now) found.items
+        ≡ about Member id date rows.now) }
+{
+    rows.iter()
+        .filter(|row| is_current(rows, date, row))
+        .filter(|row| is_member_about(row, id))
+        .collect(alloc)
+}
+
+/// Those of them that are of the reference set.
+#[tactic(auto, unfolding(history_model::specs::Queries::members_about))]
+fn members_about(
+    alloc: Global,
+    rows: &[Row],
+    refset: Sctid,
+    id: u128,
+    date: EffectiveTime,
+) -> Result<Vec<&Row>, AllocError>
+    ensures { IfOk result (λ found. map (λ row. row.now) found.items
+        ≡ members_about refset id date rows.now) }
+{
+    let all = all_members_about(alloc, rows, id, date)?;
+    all.iter()
+        .copied()
+        .filter(|row| is_member_of(row, refset))
+        .collect(alloc)
+}
+
+/// Adds a row and the others behind it, if there are any.
+fn push_with_others<'a>(
+    found: &mut Vec<&'a Row>,
+    row: &'a Row,
+    others: &[&'a Row],
+) -> Result<(), AllocError>
+    ensures { OnOk result (map (λ r. r.now) found.new.items ≡ map (λ r. r.now) found.old.items
+        ++ with_others row.entry.now (map (λ r. r.now) others.now)) }
+{
+    if !others.is_empty() {
+        found.push(row)?;
+        found.extend_from_slice(others)?;
+    }
+    Ok(())
+}
+
+/// The active descriptions about the concept at the date that have active members
+/// of the reference set, each with these members behind it.
+pub fn called(
+    alloc: Global,
+    rows: &[Row],
+    concept: Sctid,
+    date: EffectiveTime,
+    refset: Sctid,
+) -> Result<Vec<&Row>, AllocError>
+    ensures { IfOk result (λ found. map (λ row. row.now) found.items
+        ≡ called concept date refset rows.now) }
+{
+    let descriptions = about(alloc, rows, Kind::Description, concept, date)?;
+    let mut found = Vec::new(alloc);
+    for description in &descriptions {
+        let others = members_about(alloc, rows, refset, description.id, date)?;
+        push_with_others(&mut found, description, &others)?;
+    }
+    Ok(found)
+}

@@ -1,0 +1,56 @@
+//! Nothing that is known.
+
+ghost use Rattle.std.specs.Prelude.{[]};
+
+use fault_counts::ReadFault;
+use import_check::Known;
+use rf2_rows::Row;
+use rf2_values::Key;
+use std::alloc::Global;
+
+/// Knows no row, and counts how often it is asked for one.
+#[derive(Clone, Copy)]
+pub struct Unknown {
+    asked: u64,
+}
+
+impl Unknown {
+    /// Not asked yet.
+    pub fn new() -> Unknown {
+        Unknown { asked: 0 }
+    }
+
+    /// How often it was asked.
+    pub fn asked(&self) -> u64 {
+        self.asked
+    }
+}
+
+impl Known for Unknown {
+    ghost rows = { λ _. [] };
+
+    ghost disk_faults = { λ _. 0 };
+
+    ghost damages = { λ _. 0 };
+
+    ghost work = { λ _. 0 };
+
+    ghost cost = { λ _. 0 };
+
+    ghost is_honest = { λ _. ⊥ };
+
+    ghost is_sound = { λ _. ⊥ };
+
+    ghost stays = { λ _ _. Unit {0} };
+
+    ghost stays_still = { λ _. tt };
+
+    ghost stays_on = { λ _ _ _ _ _. tt };
+
+    ghost consistent = { λ _ never. absurd never };
+
+    fn row(&mut self, _alloc: Global, _key: &Key) -> Result<Option<Row>, ReadFault> {
+        self.asked = self.asked.saturating_add(1);
+        Ok(None)
+    }
+}

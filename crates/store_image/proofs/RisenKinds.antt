@@ -1,0 +1,76 @@
+-- The kinds of the rows that a directory lists, in the version that comes next.
+use Rattle.std.specs.Prelude.{All, Some, slice_get, slice_set, remove}
+use Rattle.std.proofs.Common.{◌≡◌, inl, inr, ℕ, zero, suc, List, [], ◌∷◌, sym, subst}
+use Rattle.std.specs.List.{AllByRecursion}
+use Rattle.std.proofs.lemmas.List.Elements.{recursion_from_All, All-from_recursion}
+use Rattle.rf2_values.specs.declared.row.Kind.{Kind}
+use Rattle.rf2_values.specs.declared.row.Kind.TheVariants as kinds
+use Rattle.rf2_values.specs.Row.{kind_of}
+use Rattle.history_model.specs.declared.stamped.StampedRow.{StampedRow}
+use Rattle.history_model.specs.InOrder.{Has}
+use Rattle.history_model.specs.Lists.{union}
+use Rattle.history_model.proofs.InOrder.{Has-all, all_from_has}
+use Rattle.history_model.proofs.Listings.{Has-union_cases}
+use Rattle.directory.specs.declared.layout.Layout.{Layout}
+use Rattle.directory.specs.declared.layout.Layout.TheVariants as layouts
+use Rattle.directory.specs.Listings.{DirectoryValue, next_layout}
+use Rattle.store_image.specs.Kept.{HasKind, AreOfLayout}
+use Rattle.store_image.specs.Next.{RisesTo, merged}
+
+-- ---- a version has the kinds of those before it
+
+has_next : (layout : Layout) (kind : Kind) → HasKind layout kind → HasKind (next_layout layout) kind
+has_next layouts.One kinds.Concept has = tt
+has_next layouts.One kinds.Description has = tt
+has_next layouts.One kinds.Relationship has = tt
+has_next layouts.One kinds.Association has = tt
+has_next layouts.One kinds.Concrete has = tt
+has_next layouts.One kinds.Member has = absurd has
+has_next layouts.Two kind has = has
+has_next layouts.Three kind has = has
+
+has_risen : (old new : Layout) (kind : Kind) → RisesTo old new → HasKind old kind → HasKind new kind
+has_risen old new kind rises has = elim rises [
+  | inl same ↦ subst (λ (v : Layout). HasKind v kind) (sym same) (has_next old kind has)
+  | inr three ↦ subst (λ (v : Layout). HasKind v kind) (sym three) tt
+]
+
+pub of_risen : (old : Layout) (e : DirectoryValue) (lists : List (List StampedRow)) → RisesTo old e.layout → All (AreOfLayout old) lists → All (AreOfLayout e.layout) lists
+of_risen old e lists rises all = λ k d lt. λ i s below. has_risen old e.layout _ rises (all k d lt i s below)
+
+-- ---- two lists replaced by the rows of both
+
+module _ {X : Type 0} (P : X → Type 0) where
+  got : (xs : List X) (i : ℕ) (x : X) → slice_get xs i ≡ Some x → AllByRecursion P xs → P x
+  got [] i x e all = absurd (cc)
+  got (y ∷ ys) zero x e all = subst P (cc) all.0
+  got (y ∷ ys) (suc i) x e all = got ys i x e all.1
+
+  set_all : (xs : List X) (i : ℕ) (x : X) → P x → AllByRecursion P xs → AllByRecursion P (slice_set xs i x)
+  set_all [] zero x is all = tt
+  set_all [] (suc i) x is all = tt
+  set_all (y ∷ ys) zero x is all = (is, all.1)
+  set_all (y ∷ ys) (suc i) x is all = (all.0, set_all ys i x is all.1)
+
+  removed_all : (xs : List X) (j : ℕ) → AllByRecursion P xs → AllByRecursion P (remove xs j)
+  removed_all [] zero all = tt
+  removed_all [] (suc j) all = tt
+  removed_all (y ∷ ys) zero all = all.1
+  removed_all (y ∷ ys) (suc j) all = (all.0, removed_all ys j all.1)
+
+union_kinds : (layout : Layout) (a b : List StampedRow) → AreOfLayout layout a → AreOfLayout layout b → AreOfLayout layout (union a b)
+union_kinds layout a b first second = All-from_recursion Fits (union a b) (all_from_has Fits (union a b) each) where
+  Fits : StampedRow → Type 0
+  Fits s = HasKind layout (kind_of s.row)
+
+  each : (s : StampedRow) → Has (union a b) s → HasKind layout (kind_of s.row)
+  each s has = elim (Has-union_cases a b s has) [
+    | inl l ↦ Has-all Fits a s (recursion_from_All Fits a first) l
+    | inr r ↦ Has-all Fits b s (recursion_from_All Fits b second) r
+  ]
+
+pub merged_kinds : (layout : Layout) (lists : List (List StampedRow)) (i j : ℕ) (a b : List StampedRow) → slice_get lists i ≡ Some a → slice_get lists j ≡ Some b → All (AreOfLayout layout) lists → All (AreOfLayout layout) (merged lists i j a b)
+merged_kinds layout lists i j a b a_is b_is all =
+    let each : AllByRecursion (AreOfLayout layout) lists = recursion_from_All (AreOfLayout layout) lists all in
+    let both : AreOfLayout layout (union a b) = union_kinds layout a b (got (AreOfLayout layout) lists i a a_is each) (got (AreOfLayout layout) lists j b b_is each) in
+    All-from_recursion (AreOfLayout layout) (merged lists i j a b) (removed_all (AreOfLayout layout) (slice_set lists i (union a b)) j (set_all (AreOfLayout layout) lists i (union a b) both each))

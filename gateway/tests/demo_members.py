@@ -1,0 +1,184 @@
+"""The made-up terminology as a whole package: language reference sets, the indicators why concepts
+were retired, simple reference sets, maps, and a text definition."""
+
+import uuid
+from pathlib import Path
+
+from make_release import sctid
+
+from . import demo_releases as demo
+from .demo_releases import FIRST_DAY, FULLY_SPECIFIED, Maker
+
+REFERENCE_SET, SIMPLE_MAP = "900000000000455006", "900000000000496009"
+US, GB, GERMAN = "900000000000509007", "900000000000508004", "722130004"
+PREFERRED, ACCEPTABLE = "900000000000548007", "900000000000549004"
+INDICATORS = "900000000000489007"
+AMBIGUOUS, DUPLICATE = "900000000000484002", "900000000000482003"
+CTV3 = "900000000000497000"
+# A map of the house's own, of which no release has the concept.
+HOUSE_MAP = str(sctid(4712, "00"))
+TEXT_DEFINITION = "900000000000550004"
+DEFINITION = "A break of bones of the wrist <joint>."
+FIXED = "id effectiveTime active moduleId refsetId referencedComponentId"
+FILES = {
+    "T": ("Terminology/sct2_TextDefinition_Delta-en_INT_%s.txt", demo.COLUMNS["D"]),
+    "language": (
+        "Refset/Language/der2_cRefset_LanguageDelta-en_INT_%s.txt",
+        FIXED + " acceptabilityId",
+    ),
+    "simple": ("Refset/Content/der2_Refset_SimpleDelta_INT_%s.txt", FIXED),
+    "value": ("Refset/Content/der2_cRefset_AttributeValueDelta_INT_%s.txt", FIXED + " valueId"),
+    "map": ("Refset/Map/der2_sRefset_SimpleMapDelta_INT_%s.txt", FIXED + " mapTarget"),
+    "odd": ("Refset/Map/der2_ssRefset_OddMapDelta_INT_%s.txt", FIXED + " mapTarget advice"),
+}
+# Concepts of metadata, with their parents.
+METADATA = (
+    ("reference set", REFERENCE_SET, "Reference set (foundation metadata concept)", "root"),
+    ("us", US, "United States English (foundation metadata concept)", "reference set"),
+    ("gb", GB, "Great Britain English (foundation metadata concept)", "reference set"),
+    ("indicators", INDICATORS, "Indicators (foundation metadata concept)", "reference set"),
+    ("ambiguous", AMBIGUOUS, "Ambiguous component (foundation metadata concept)", "root"),
+    ("duplicate", DUPLICATE, "Duplicate component (foundation metadata concept)", "root"),
+    ("simple map", SIMPLE_MAP, "Simple map (foundation metadata concept)", "reference set"),
+    ("ctv3", CTV3, "CTV3 simple map (foundation metadata concept)", "simple map"),
+    ("odd", "", "Odd map <b>bold</b> (foundation metadata concept)", "simple map"),
+    ("set", "", "Wrists of the house (foundation metadata concept)", "reference set"),
+    ("left", "", "Left by all (foundation metadata concept)", "reference set"),
+    ("never", "", "Never filled (foundation metadata concept)", "reference set"),
+)
+
+
+class WholeMaker(Maker):
+    """Collects the rows of members too."""
+
+    def __init__(self) -> None:
+        super().__init__()
+        self.numbers = 0
+        for kinds in self.rows.values():
+            kinds.update({name: [] for name in FILES})
+
+    def member(
+        self,
+        file: str,
+        day: str,
+        refset: str,
+        component: str,
+        *further: str,
+        known: str = "",
+        active: str = "1",
+    ) -> str:
+        self.numbers += 1
+        known = known or str(uuid.UUID(int=1_000_000 + self.numbers))
+        self.put(file, day, known, day, active, demo.CORE, refset, component, *further)
+        return known
+
+    def described(self, name: str, text: str) -> str:
+        """The id of a description by its concept and its term."""
+        kinds = self.rows.values()
+        found = (row for rows in kinds for row in rows["D"] if row[4] == self.codes[name])
+        return next(row[0] for row in found if row[7] == text)
+
+    def in_language(self, day: str, refset: str, name: str, text: str, how: str) -> str:
+        return self.member("language", day, refset, self.described(name, text), how)
+
+    def write(self, folder: Path) -> None:
+        members = {
+            release: {file: kinds.pop(file) for file in FILES}
+            for release, kinds in self.rows.items()
+        }
+        super().write(folder)
+        for release, files in members.items():
+            for file, rows in files.items():
+                name, columns = FILES[file]
+                path = folder / release / (name % release)
+                path.parent.mkdir(parents=True, exist_ok=True)
+                lines = [columns.replace(" ", "\t"), *("\t".join(row) for row in rows)]
+                path.write_bytes("".join(line + "\n" for line in lines).encode())
+
+
+def make(folder: Path) -> dict[str, str]:
+    """Writes the releases, and returns the codes of their concepts by name."""
+    maker = WholeMaker()
+    demo.fill(maker)
+    metadata(maker)
+    languages(maker)
+    indicators(maker)
+    simple_sets(maker)
+    maps(maker)
+    maker.write(folder)
+    return maker.codes
+
+
+def metadata(maker: WholeMaker) -> None:
+    for name, code, text, parent in METADATA:
+        if code:
+            maker.codes[name] = code
+        maker.concept(name, FIRST_DAY, text, parents=(parent,))
+
+
+def languages(maker: WholeMaker) -> None:
+    """One that is spelled in two ways, one whose preferred term changes, and a definition."""
+    code = maker.concept("anaemia", FIRST_DAY, "Anemia (disorder)", "Anemia", parents=("disease",))
+    maker.term(code, FIRST_DAY, "Anaemia")
+    maker.term(code, FIRST_DAY, "An\u00e4mie", language="de")
+    for refset, text, how in (
+        (US, "Anemia (disorder)", PREFERRED),
+        (GB, "Anemia (disorder)", PREFERRED),
+        (US, "Anemia", PREFERRED),
+        (GB, "Anaemia", PREFERRED),
+        (GERMAN, "An\u00e4mie", PREFERRED),
+    ):
+        maker.in_language(FIRST_DAY, refset, "anaemia", text, how)
+    # Acceptable in GB for some years.
+    known = maker.in_language(FIRST_DAY, GB, "anaemia", "Anemia", ACCEPTABLE)
+    spelled = maker.described("anaemia", "Anemia")
+    maker.member("language", "20190131", GB, spelled, ACCEPTABLE, known=known, active="0")
+    name = "Fracture of wrist (disorder)"
+    maker.in_language(FIRST_DAY, US, "wrist", name, PREFERRED)
+    broken = maker.in_language(FIRST_DAY, US, "wrist", "Broken wrist", PREFERRED)
+    maker.in_language("20170731", US, "wrist", "Wrist fracture", PREFERRED)
+    spelled = maker.described("wrist", "Broken wrist")
+    maker.member("language", "20170731", US, spelled, PREFERRED, known=broken, active="0")
+    # Both spellings of the house's second language.
+    maker.in_language("20180705", US, "wrist", "Breach of wrist", ACCEPTABLE)
+    definition = maker.new("1")
+    columns = (maker.codes["wrist"], "en", TEXT_DEFINITION, DEFINITION, demo.CASE_INSENSITIVE)
+    maker.put("T", FIRST_DAY, definition, FIRST_DAY, "1", demo.CORE, *columns)
+    maker.member("language", FIRST_DAY, US, definition, PREFERRED)
+
+
+def indicators(maker: WholeMaker) -> None:
+    """Why two concepts were retired; of the first another reason is given later."""
+    wrist, radius = maker.codes["wrist"], maker.codes["radius"]
+    known = maker.member("value", "20210131", INDICATORS, wrist, AMBIGUOUS)
+    maker.member("value", "20220731", INDICATORS, wrist, DUPLICATE, known=known)
+    maker.member("value", "20220731", INDICATORS, radius, DUPLICATE)
+
+
+def simple_sets(maker: WholeMaker) -> None:
+    """A set that a concept leaves and comes back to, with a member that is no concept's, one that
+    the store has no concept of, and two of one concept; and a set that all have left."""
+    codes = maker.codes
+    chosen, left = codes["set"], codes["left"]
+    known = maker.member("simple", FIRST_DAY, chosen, codes["wrist"])
+    maker.member("simple", "20200131", chosen, codes["wrist"], known=known, active="0")
+    maker.member("simple", "20210131", chosen, codes["wrist"], known=known)
+    maker.member("simple", "20170731", chosen, codes["limb"])
+    maker.member("simple", "20170731", chosen, codes["limb"])
+    maker.member("simple", "20200731", chosen, codes["radius"])
+    maker.member("simple", FIRST_DAY, chosen, maker.described("wrist", "Broken wrist"))
+    codes["absent"] = maker.new("0")
+    maker.member("simple", "20220731", chosen, codes["absent"])
+    known = maker.member("simple", FIRST_DAY, left, codes["drug"])
+    maker.member("simple", "20190131", left, codes["drug"], known=known, active="0")
+
+
+def maps(maker: WholeMaker) -> None:
+    codes = maker.codes
+    maker.member("map", FIRST_DAY, CTV3, codes["wrist"], "S23..")
+    known = maker.member("map", FIRST_DAY, CTV3, codes["limb"], "X1")
+    maker.member("map", "20190131", CTV3, codes["limb"], "X2")
+    maker.member("map", "20200131", CTV3, codes["limb"], "X3", known=known)
+    maker.member("map", FIRST_DAY, CTV3, codes["drug"], "")
+    maker.member("map", FIRST_DAY, HOUSE_MAP, codes["limb"], "H1")
+    maker.member("odd", FIRST_DAY, codes["odd"], codes["limb"], "Y1", "ask <i>them</i>")
