@@ -3,8 +3,8 @@
 /// Which files of a package are read.
 #[derive(Clone, Copy, Debug, PartialEq, Eq)]
 pub enum Scope {
-    /// The files of concepts, descriptions, relationships and associations.
+    /// Those of concepts, descriptions, relationships, associations and concrete values.
     Basic,
-    /// Those, the text definitions, and the members of every other reference set.
+    /// Those, and those of text definitions and of the members of every other reference set.
     Whole,
 }

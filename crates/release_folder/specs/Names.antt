@@ -1,25 +1,50 @@
 -- Which files of a folder are release files, by their names.
-use Rattle.std.specs.Prelude.{◌≡◌, ◌⊎◌, ◌≤◌, ◌-◌, ◌≢◌, ℕ, Bool, List, ◌++◌, All, Any, length, codes, string_bytes}
+use Rattle.std.specs.Prelude.{◌≡◌, ◌⊎◌, ◌≤◌, ◌-◌, ◌≢◌, ◌++◌, ℕ, Bool, List, All, Any, length, take, drop, codes, string_bytes}
+use Rattle.std.specs.List.{AllZip}
 use Rattle.std.specs.List.Sorted.{IsPermutation, IsSortedBy}
 use Rattle.std.specs.Ordering.{is_lt}
 use Rattle.std.specs.String.{string_cmp}
 use Rattle.memchr.specs.Find.{OccursAt}
 use Rattle.bstr.specs.Text.{Contains}
+use Rattle.import_check.specs.InOrder.{joined}
 use Rattle.import_check.specs.declared.release.ReleaseFile.{ReleaseFile}
+use Rattle.import_check.specs.declared.scope.Scope.{Scope}
+use Rattle.import_check.specs.declared.scope.Scope.TheVariants as scopes
 use Rattle.rf2_values.specs.declared.row.Kind.{Kind}
 use Rattle.rf2_values.specs.declared.row.Kind.TheVariants as kind
+use Rattle.release_folder.specs.declared.part.Part.{Part}
 
--- what the name of a file of a kind begins with
-abbrev pub beginning : Kind → List ℕ
-beginning kind.Concept = codes "sct2_Concept_"
-beginning kind.Description = codes "sct2_Description_"
-beginning kind.Relationship = codes "sct2_Relationship_"
-beginning kind.Association = codes "der2_cRefset_Association"
-beginning kind.Concrete = codes "sct2_RelationshipConcreteValues_"
+-- the letter of a column of a reference set: `c` for a component, `i` for an integer, `s` for a text
+abbrev pub IsColumnLetter : ℕ → Type 0
+IsColumnLetter byte = (byte ≡ 99) ⊎ (byte ≡ 105) ⊎ (byte ≡ 115)
+
+-- letters of columns, as many as there are, and then `Refset_`
+pub record BeginsAsRefset (name : List ℕ) : Type 0 where
+  pub columns : ℕ
+  pub letters : All IsColumnLetter (take columns name)
+  pub refset : OccursAt (drop columns name) (codes "Refset_") 0
+
+-- the name of a file of a reference set begins so, and it isn't one of associations
+pub record IsMemberName (name : List ℕ) : Type 0 where
+  pub begins : OccursAt name (codes "der2_") 0 ⊎ OccursAt name (codes "sct2_") 0
+  pub refset : BeginsAsRefset (drop 5 name)
+  pub other : OccursAt name (codes "der2_cRefset_Association") 0 → ⊥
+
+-- the name of a file of the kind begins so, where the scope has files of the kind
+abbrev pub Begins : Scope → Kind → List ℕ → Type 0
+Begins scope kind.Concept name = OccursAt name (codes "sct2_Concept_") 0
+Begins scope kind.Relationship name = OccursAt name (codes "sct2_Relationship_") 0
+Begins scope kind.Association name = OccursAt name (codes "der2_cRefset_Association") 0
+Begins scope kind.Concrete name = OccursAt name (codes "sct2_RelationshipConcreteValues_") 0
+Begins scopes.Basic kind.Description name = OccursAt name (codes "sct2_Description_") 0
+Begins scopes.Basic kind.Member name = ⊥
+Begins scopes.Whole kind.Description name =
+    OccursAt name (codes "sct2_Description_") 0 ⊎ OccursAt name (codes "sct2_TextDefinition_") 0
+Begins scopes.Whole kind.Member name = IsMemberName name
 
 -- the name of a file of the kind that is taken: of a Delta or a Full release, and of a text
-pub record IsTaken (kind : Kind) (name : List ℕ) : Type 0 where
-  pub begins : OccursAt name (beginning kind) 0
+pub record IsTaken (scope : Scope) (kind : Kind) (name : List ℕ) : Type 0 where
+  pub begins : Begins scope kind name
   pub holds : Contains name (codes "Delta") ⊎ Contains name (codes "Full")
   pub ends : (length (codes ".txt") ≤ length name)
       × OccursAt name (codes ".txt") (length name - length (codes ".txt"))
@@ -36,31 +61,52 @@ pub record Lacks (files : List ReleaseFile) (missing : Kind) : Type 0 where
 
 -- a file whose name says that it is one to take, of its
 -- kind, and of no more bytes than a count of 32 bits can say
-pub record IsTakenFile (file : ReleaseFile) : Type 0 where
-  pub named : IsTaken file.kind (string_bytes file.name)
+pub record IsTakenFile (scope : Scope) (file : ReleaseFile) : Type 0 where
+  pub named : IsTaken scope file.kind (string_bytes file.name)
   pub small : length file.bytes.items ≤ 4294967295
 
 -- a name comes before another, byte by byte
 abbrev pub has_lesser_name : ReleaseFile → ReleaseFile → Bool
 has_lesser_name a b = is_lt (string_cmp a.name b.name)
 
--- the files of one part and then those of another, each in the order of names
-pub record AreInOrder (files : List ReleaseFile) : Type 0 where
+-- a folder's name comes before another's, byte by byte
+abbrev pub has_lesser_folder : Part → Part → Bool
+has_lesser_folder a b = is_lt (string_cmp a.folder b.folder)
+
+-- so many folders of Refset have files that are read, at most
+abbrev pub AreFolders : Scope → ℕ → Type 0
+AreFolders scopes.Basic n = n ≤ 1
+AreFolders scopes.Whole n = Unit {0}
+
+-- the files of one part and then those of others, each in the order of names
+pub record AreInOrder (scope : Scope) (files : List ReleaseFile) : Type 0 where
   pub first : List ReleaseFile
-  pub second : List ReleaseFile
-  pub files_are : files ≡ first ++ second
+  pub others : List (List ReleaseFile)
+  pub files_are : files ≡ first ++ joined others
   pub first_sorted : IsSortedBy has_lesser_name first
-  pub second_sorted : IsSortedBy has_lesser_name second
+  pub others_sorted : All (IsSortedBy has_lesser_name) others
+  pub few : AreFolders scope (length others)
 
 -- the same files, in the order of names
 pub record AreSorted (files sorted : List ReleaseFile) : Type 0 where
   pub permutation : IsPermutation files sorted
   pub in_order : IsSortedBy has_lesser_name sorted
 
--- the files of Terminology and then those of Refset/Content, each in the order of names
-pub record AreOfParts (terminology content files : List ReleaseFile) : Type 0 where
+-- the files of these folders, one folder after the other, each in the order of names
+pub record AreOfFolders (folders : List Part) (files : List ReleaseFile) : Type 0 where
+  pub lists : List (List ReleaseFile)
+  pub each : AllZip (λ part list. AreSorted part.files.items list) folders lists
+  pub files_are : files ≡ joined lists
+
+-- The files of Terminology, and then those of the folders of Refset in the order of the folders'
+-- names, each in the order of names.
+pub record AreOfParts (terminology : List ReleaseFile) (refset : List Part)
+    (files : List ReleaseFile) : Type 0 where
   pub first : List ReleaseFile
-  pub second : List ReleaseFile
-  pub files_are : files ≡ first ++ second
+  pub folders : List Part
+  pub rest : List ReleaseFile
+  pub files_are : files ≡ first ++ rest
   pub first_sorted : AreSorted terminology first
-  pub second_sorted : AreSorted content second
+  pub same_folders : IsPermutation refset folders
+  pub folders_sorted : IsSortedBy has_lesser_folder folders
+  pub rest_sorted : AreOfFolders folders rest

@@ -1,41 +1,49 @@
 //! Reading a folder.
 
-ghost use Rattle.std.specs.Prelude.{◌≡◌, ◌≢◌, ◌≤◌, ◌↔◌, [], length, All, IfOk, OnOk, IsErrOf};
+ghost use Rattle.std.specs.Prelude.{◌≡◌, ◌≢◌, ◌≤◌, ◌↔◌, [], length, All, IfOk, OnOk, IsErr};
+ghost use Rattle.std.specs.Prelude.{IsErrOf};
 ghost use Rattle.std.specs.List.Sorted.{IsPermutation, IsSortedBy};
-ghost use Rattle.release_folder.specs.Names.{IsTakenFile, AreInOrder, AreOfParts, has_lesser_name};
+ghost use Rattle.release_folder.specs.Names.{IsTakenFile, AreInOrder, AreOfParts, AreFolders};
+ghost use Rattle.release_folder.specs.Names.{has_lesser_name, has_lesser_folder};
+ghost use Rattle.release_folder.specs.Private.{IsTakenPart, AddSorted, AddFolders};
 ghost use Rattle.release_folder.specs.declared.fault.FolderFault.TheVariants.{NoFolder};
 
 use crate::fault::FolderFault;
 use crate::guards::{
-    CONTENT, LARGEST, TERMINOLOGY, check_file, check_folder, check_parts, nothing_in, unlisted,
+    INNER, LARGEST, REFSET, TERMINOLOGY, check_file, check_folder, check_parts, is_folder,
+    nothing_in, unlisted,
 };
 use crate::names::{kind_to_take, shown_name};
 use crate::obstacle::{Obstacle, ReadFault};
+use crate::part::Part;
 use crate::passed_over::tell_passed_over;
 use crate::watcher::{Unwatched, Watcher};
-use import_check::{Release, ReleaseFile};
-use std::alloc::Global;
+use import_check::{Release, ReleaseFile, Scope};
+use std::alloc::{AllocError, Global};
 use std::fs::{self, File, Files};
 use std::io::{self, ErrorKind, Read};
 
-/// The release in the folder `name` below `dir`: the files of the folders Terminology and then
-/// Refset/Content, the names of each in byte order, as far as their names are those of concept,
-/// description, relationship or association files of a Delta or a Full release.
+/// The release in the folder `name` below `dir`: the files of the folder Terminology and then those
+/// of Refset/Content, the names of each in byte order, as far as their names are those of concept,
+/// description, relationship, association or concrete value files of a Delta or a Full release. Of
+/// the whole of a package, the files of each folder of Refset, the folders' names in byte order, and
+/// those of text definitions and of the members of every other reference set too.
 pub fn read_folder<R: Files<File = File> + AllocGlobal + Clone + Drop>(
     rt: &R,
     alloc: Global,
     dir: &str,
     name: &str,
+    scope: Scope,
 ) -> Result<Release, FolderFault>
     // Each file has a name to take and isn't too large, and there is one.
     // What a folder holds no clause can say.
-    ensures taken { IfOk result (λ release. All IsTakenFile release.files.items) }
+    ensures taken { IfOk result (λ release. All (IsTakenFile scope) release.files.items) }
     ensures some { IfOk result (λ release. release.files.items ≢ []) }
-    // The files of one folder stand before those of the other, each part
+    // The files of one folder stand before those of the others, each part
     // in the byte order of names; `release_of` says which come first.
-    ensures in_order { IfOk result (λ release. AreInOrder release.files.items) }
+    ensures in_order { IfOk result (λ release. AreInOrder scope release.files.items) }
 {
-    match read_release(rt, alloc, dir, name, &mut Unwatched) {
+    match read_release(rt, alloc, dir, name, scope, &mut Unwatched) {
         Ok(release) => Ok(release),
         Err(fault) => Err(fault.fault()),
     }
@@ -49,49 +57,125 @@ pub fn read_release<R: Files<File = File> + AllocGlobal + Clone + Drop, W: Watch
     alloc: Global,
     dir: &str,
     name: &str,
+    scope: Scope,
     watcher: &mut W,
 ) -> Result<Release, ReadFault>
-    ensures taken { IfOk result (λ release. All IsTakenFile release.files.items) }
+    ensures taken { IfOk result (λ release. All (IsTakenFile scope) release.files.items) }
     ensures some { IfOk result (λ release. release.files.items ≢ []) }
-    ensures in_order { IfOk result (λ release. AreInOrder release.files.items) }
+    ensures in_order { IfOk result (λ release. AreInOrder scope release.files.items) }
 {
     let root = format!(in alloc; "{dir}/{name}")?;
     check_folder(rt, alloc, &root)?;
     check_parts(rt, alloc, &root)?;
-    tell_passed_over(rt, alloc, &root, watcher)?;
-    let terminology = files_of(rt, alloc, &root, TERMINOLOGY, watcher)?;
-    let content = files_of(rt, alloc, &root, CONTENT, watcher)?;
-    match release_of(terminology, content) {
+    let folders = refset_folders(rt, alloc, &root, scope)?;
+    tell_passed_over(rt, alloc, &root, scope, watcher)?;
+    let terminology = files_of(rt, alloc, &root, TERMINOLOGY, scope, watcher)?;
+    let refset = parts_of(rt, alloc, &root, folders, scope, watcher)?;
+    match release_of(terminology, refset) {
         Ok(release) => Ok(release),
         Err(FolderFault::OutOfMemory) => Err(ReadFault::OutOfMemory),
-        Err(FolderFault::NoFolder) => Err(nothing_in(rt, alloc, &root)),
+        Err(FolderFault::NoFolder) => Err(nothing_in(rt, alloc, &root, scope)),
     }
 }
 
-/// The release of the files of its two folders: those of Terminology and then those of
-/// Refset/Content, each in the byte order of their names. With no file there is no release.
-pub fn release_of(
-    terminology: Vec<ReleaseFile>,
-    content: Vec<ReleaseFile>,
-) -> Result<Release, FolderFault>
+/// The release of the files of its folders: those of Terminology and then those of the folders of
+/// Refset in the byte order of the folders' names, each in the byte order of their names. With no
+/// file there is no release.
+pub fn release_of(terminology: Vec<ReleaseFile>, refset: Vec<Part>) -> Result<Release, FolderFault>
     ensures in_order { IfOk result
-        (λ release. AreOfParts terminology.items content.items release.files.items) }
+        (λ release. AreOfParts terminology.items refset.items release.files.items) }
     ensures some { IfOk result (λ release. release.files.items ≢ []) }
     // Without a file the answer is never that memory ran out.
     ensures none { IsErrOf result NoFolder
-        ↔ ((terminology.items ≡ []) × (content.items ≡ [])) }
+        ↔ ((terminology.items ≡ []) × All (λ part. part.files.items ≡ []) refset.items) }
 {
     let mut files = terminology;
-    let mut later = content;
+    let mut folders = refset;
     sort_by_name(&mut files);
-    sort_by_name(&mut later);
-    if files.is_empty() && later.is_empty() {
+    sort_by_folder(&mut folders);
+    add_folders(folders, &mut files)?;
+    if files.is_empty() {
         return Err(FolderFault::NoFolder);
     }
-    match files.append(&mut later) {
-        Ok(()) => Ok(Release { files }),
-        Err(_) => Err(FolderFault::OutOfMemory),
+    Ok(Release { files })
+}
+
+/// Adds the files of folders, one folder after the other, each in the byte order of their names.
+fn add_folders(folders: Vec<Part>, files: &mut Vec<ReleaseFile>) -> Result<(), AllocError>
+    ensures ok { OnOk result (AddFolders folders.items files.old.items files.new.items) }
+    ensures some { IsErr result → All (λ part. part.files.items ≡ []) folders.items → ⊥ }
+{
+    for part in folders {
+        add_sorted(part.files, files)?;
     }
+    Ok(())
+}
+
+/// Adds the files of one folder in the byte order of their names.
+fn add_sorted(later: Vec<ReleaseFile>, files: &mut Vec<ReleaseFile>) -> Result<(), AllocError>
+    ensures ok { OnOk result (AddSorted later.items files.old.items files.new.items) }
+    ensures some { IsErr result → later.items ≢ [] }
+{
+    let mut later = later;
+    sort_by_name(&mut later);
+    if later.is_empty() {
+        return Ok(());
+    }
+    files.append(&mut later)
+}
+
+/// The names of the folders of a release's Refset that are read, in byte order.
+fn refset_folders<R: Files<File = File> + AllocGlobal + Clone + Drop>(
+    rt: &R,
+    alloc: Global,
+    root: &str,
+    scope: Scope,
+) -> Result<Vec<String>, ReadFault>
+    ensures { IfOk result (λ folders. AreFolders scope (length folders.items)) }
+{
+    match scope {
+        Scope::Basic => Ok(vec![in alloc; String::from_str(alloc, INNER)?]?),
+        Scope::Whole => all_refset_folders(rt, alloc, root),
+    }
+}
+
+/// The names of all folders of a release's Refset, in byte order. What is no folder isn't one of
+/// them, but for what is called Content.
+fn all_refset_folders<R: Files<File = File> + AllocGlobal + Clone + Drop>(
+    rt: &R,
+    alloc: Global,
+    root: &str,
+) -> Result<Vec<String>, ReadFault> {
+    let mut folders = Vec::new(alloc);
+    let refset = format!(in alloc; "{root}/{REFSET}")?;
+    for name in names_in(rt, alloc, &refset)? {
+        let path = format!(in alloc; "{refset}/{name}")?;
+        if is_folder(rt, alloc, &path)? || name.as_str() == INNER {
+            folders.push(name)?;
+        }
+    }
+    Ok(folders)
+}
+
+/// The release files of some folders of a release's Refset.
+fn parts_of<R: Files<File = File> + AllocGlobal + Clone + Drop, W: Watcher>(
+    rt: &R,
+    alloc: Global,
+    root: &str,
+    folders: Vec<String>,
+    scope: Scope,
+    watcher: &mut W,
+) -> Result<Vec<Part>, ReadFault>
+    ensures taken { IfOk result (λ parts. All (IsTakenPart scope) parts.items) }
+    ensures many { IfOk result (λ parts. length parts.items ≡ length folders.items) }
+{
+    let mut parts = Vec::new(alloc);
+    for folder in folders {
+        let part = format!(in alloc; "{REFSET}/{folder}")?;
+        let files = files_of(rt, alloc, root, &part, scope, watcher)?;
+        parts.push(Part { folder, files })?;
+    }
+    Ok(parts)
 }
 
 /// The release files of one folder of a release.
@@ -100,13 +184,14 @@ fn files_of<R: Files<File = File> + AllocGlobal + Clone + Drop, W: Watcher>(
     alloc: Global,
     root: &str,
     part: &str,
+    scope: Scope,
     watcher: &mut W,
 ) -> Result<Vec<ReleaseFile>, ReadFault>
-    ensures { IfOk result (λ files. All IsTakenFile files.items) }
+    ensures { IfOk result (λ files. All (IsTakenFile scope) files.items) }
 {
     let folder = format!(in alloc; "{root}/{part}")?;
     let mut files = Vec::new(alloc);
-    add_files(rt, alloc, &folder, &mut files, watcher)?;
+    add_files(rt, alloc, &folder, scope, &mut files, watcher)?;
     Ok(files)
 }
 
@@ -118,18 +203,28 @@ fn sort_by_name(files: &mut Vec<ReleaseFile>)
     files.sort_unstable_by(|a, b| a.name.cmp(&b.name));
 }
 
+/// Sorts folders by their names, byte by byte.
+fn sort_by_folder(folders: &mut Vec<Part>)
+    ensures permutation { IsPermutation folders.old.items folders.new.items }
+    ensures sorted { IsSortedBy has_lesser_folder folders.new.items }
+{
+    folders.sort_unstable_by(|a, b| a.folder.cmp(&b.folder));
+}
+
 /// Adds the release files of one folder. An absent folder has none.
 fn add_files<R: Files<File = File> + AllocGlobal + Clone + Drop, W: Watcher>(
     rt: &R,
     alloc: Global,
     folder: &str,
+    scope: Scope,
     files: &mut Vec<ReleaseFile>,
     watcher: &mut W,
 ) -> Result<(), ReadFault>
-    ensures { All IsTakenFile files.old.items → OnOk result (All IsTakenFile files.new.items) }
+    ensures { All (IsTakenFile scope) files.old.items
+        → OnOk result (All (IsTakenFile scope) files.new.items) }
 {
     for name in names_in(rt, alloc, folder)? {
-        if let Some(kind) = kind_to_take(name.as_bytes()) {
+        if let Some(kind) = kind_to_take(name.as_bytes(), scope) {
             watcher.reads(&shown_name(alloc, name.as_bytes())?);
             let path = format!(in alloc; "{folder}/{name}")?;
             let bytes = whole_file(rt, alloc, &path)?;

@@ -7,6 +7,7 @@ ghost use Rattle.release_folder.specs.declared.fault.FolderFault.TheVariants.{No
 
 use crate::listing::misnamed_in;
 use crate::obstacle::{Obstacle, ReadFault};
+use import_check::Scope;
 use std::alloc::{AllocError, Global};
 use std::fs::{self, File, Files, Metadata};
 use std::io::{self, ErrorKind};
@@ -20,8 +21,11 @@ pub(crate) const TERMINOLOGY: &str = "Terminology";
 /// The folder of a release that holds its association reference sets.
 pub(crate) const CONTENT: &str = "Refset/Content";
 
-/// The folder that holds `Content`.
+/// The folder that holds `Content`, and the folders of the other reference sets.
 pub(crate) const REFSET: &str = "Refset";
+
+/// The name of the folder of association reference sets in it.
+pub(crate) const INNER: &str = "Content";
 
 /// What is at a path, if anything is. A link that leads nowhere is refused, and not taken for
 /// nothing.
@@ -65,6 +69,18 @@ pub(crate) fn check_parts<R: Files<File = File>>(
         let _ = look(rt, alloc, path.as_str())?;
     }
     Ok(())
+}
+
+/// Whether a folder is at a path. A link that leads nowhere is refused.
+pub(crate) fn is_folder<R: Files<File = File>>(
+    rt: &R,
+    alloc: Global,
+    path: &str,
+) -> Result<bool, ReadFault> {
+    match look(rt, alloc, path)? {
+        Some(metadata) => Ok(metadata.is_dir()),
+        None => Ok(false),
+    }
 }
 
 /// Refuses a release file that isn't a regular file, or is too large.
@@ -126,27 +142,43 @@ fn has_folder<R: Files<File = File>>(
     }
 }
 
+/// Where the reference sets of a release stand that are read.
+fn refset_in(scope: Scope) -> &'static str {
+    match scope {
+        Scope::Basic => CONTENT,
+        Scope::Whole => REFSET,
+    }
+}
+
 /// Why there is no file to take in a release's folder.
 fn lack_of<R: Files<File = File>>(
     rt: &R,
     alloc: Global,
     root: &str,
+    scope: Scope,
 ) -> Result<Obstacle, AllocError> {
-    if has_folder(rt, alloc, root, TERMINOLOGY)? || has_folder(rt, alloc, root, CONTENT)? {
-        return Ok(Obstacle::NothingToTake);
+    let refset = refset_in(scope);
+    if has_folder(rt, alloc, root, TERMINOLOGY)? || has_folder(rt, alloc, root, refset)? {
+        return Ok(Obstacle::NothingToTake { refset });
     }
     for inner in ["Full", "Delta"] {
         if has_folder(rt, alloc, root, inner)? {
-            return Ok(Obstacle::Package(inner));
+            return Ok(Obstacle::Package { refset, inner });
         }
     }
-    Ok(Obstacle::NoParts)
+    Ok(Obstacle::NoParts { refset })
 }
 
 /// Tells why there is no file to take.
-pub(crate) fn nothing_in<R: Files<File = File>>(rt: &R, alloc: Global, root: &str) -> ReadFault
+pub(crate) fn nothing_in<R: Files<File = File>>(
+    rt: &R,
+    alloc: Global,
+    root: &str,
+    scope: Scope,
+) -> ReadFault
     ensures { folder_fault result ≡ NoFolder }
 {
-    let obstacle = lack_of(rt, alloc, root).unwrap_or(Obstacle::NoParts);
+    let refset = refset_in(scope);
+    let obstacle = lack_of(rt, alloc, root, scope).unwrap_or(Obstacle::NoParts { refset });
     ReadFault::met(alloc, root, obstacle)
 }

@@ -9,6 +9,7 @@ mod listing;
 mod names;
 mod nearly;
 mod obstacle;
+mod part;
 mod passed_over;
 mod watcher;
 
@@ -18,4 +19,5 @@ pub use lacking::lacks;
 pub use names::kind_to_take;
 pub use nearly::is_nearly_to_take;
 pub use obstacle::{Obstacle, ReadFault};
+pub use part::Part;
 pub use watcher::{Unwatched, Watcher};

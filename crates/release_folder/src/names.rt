@@ -4,56 +4,118 @@ ghost use Rattle.std.specs.Prelude.{◌≡◌, ◌↔◌, ◌⊎◌, IsTrue, IfO
 ghost use Rattle.std.specs.Prelude.{string_bytes, encode_utf8_all};
 ghost use Rattle.std.specs.List.{AllByRecursion};
 ghost use Rattle.memchr.specs.Find.{OccursAt};
-ghost use Rattle.bstr.specs.Text.{Contains};
+ghost use Rattle.import_check.specs.declared.scope.Scope.TheVariants as scopes;
 ghost use Rattle.rf2_values.specs.declared.row.Kind.{Kind};
-ghost use Rattle.release_folder.specs.Names.{beginning, IsTaken};
+ghost use Rattle.release_folder.specs.Names.{IsColumnLetter, BeginsAsRefset, IsMemberName};
+ghost use Rattle.release_folder.specs.Names.{Begins, IsTaken};
 ghost use Rattle.shown_names.specs.Shown.{shown, IsPrintable};
 
 use bstr::ByteSlice;
+use import_check::Scope;
 use rf2_values::Kind;
 use shown_names::Shown;
 use std::alloc::{AllocError, Global};
 
-/// What the name of a file of a kind begins with.
-pub(crate) fn beginning_of(kind: Kind) -> &'static [u8]
-    ensures { result.now ≡ beginning kind }
+/// What the name of a file of associations begins with.
+const ASSOCIATION: &[u8] = b"der2_cRefset_Association";
+
+/// How many bytes stand before the letters of a reference set's columns.
+const BEFORE_LETTERS: usize = 5;
+
+/// Whether it is the letter of a column of a reference set.
+pub(crate) fn is_column_letter(byte: u8) -> bool
+    ensures { IsTrue result ↔ IsColumnLetter byte }
+{
+    byte == b'c' || byte == b'i' || byte == b's'
+}
+
+/// Whether letters of columns stand first, as many as there are, and then `Refset_`.
+fn begins_as_refset(name: &[u8]) -> bool
+    ensures { IsTrue result ↔ BeginsAsRefset name.now }
+{
+    for i in 0..name.len() {
+        if !is_column_letter(name[i]) {
+            let rest = &name[i..];
+            return rest.starts_with_str(b"Refset_");
+        }
+    }
+    false
+}
+
+/// Whether it is the name of a file of a reference set that isn't one of associations.
+fn is_member_name(name: &[u8]) -> bool
+    ensures { IsTrue result ↔ IsMemberName name.now }
+{
+    if !has_prefix(name) {
+        return false;
+    }
+    !name.starts_with_str(ASSOCIATION) && begins_as_refset(&name[BEFORE_LETTERS..])
+}
+
+/// Whether what stands before the letters of a reference set's columns stands first.
+fn has_prefix(name: &[u8]) -> bool
+    ensures { IsTrue result
+        ↔ (OccursAt name.now (codes "der2_") 0 ⊎ OccursAt name.now (codes "sct2_") 0) }
+{
+    name.starts_with_str(b"der2_") || name.starts_with_str(b"sct2_")
+}
+
+/// Whether the name of a file of the kind begins so, of those that each scope has.
+fn begins_basic(kind: Kind, name: &[u8]) -> bool
+    ensures { IsTrue result ↔ Begins scopes.Basic kind name.now }
 {
     match kind {
-        Kind::Concept => b"sct2_Concept_",
-        Kind::Description => b"sct2_Description_",
-        Kind::Relationship => b"sct2_Relationship_",
-        Kind::Association => b"der2_cRefset_Association",
-        Kind::Concrete => b"sct2_RelationshipConcreteValues_",
+        Kind::Concept => name.starts_with_str(b"sct2_Concept_"),
+        Kind::Description => name.starts_with_str(b"sct2_Description_"),
+        Kind::Relationship => name.starts_with_str(b"sct2_Relationship_"),
+        Kind::Association => name.starts_with_str(ASSOCIATION),
+        Kind::Concrete => name.starts_with_str(b"sct2_RelationshipConcreteValues_"),
+        Kind::Member => false,
+    }
+}
+
+/// Whether the name of a file of the kind begins so.
+fn begins(scope: Scope, kind: Kind, name: &[u8]) -> bool
+    ensures { IsTrue result ↔ Begins scope kind name.now }
+{
+    match (scope, kind) {
+        (Scope::Whole, Kind::Member) => is_member_name(name),
+        (Scope::Whole, Kind::Description) => {
+            begins_basic(kind, name) || name.starts_with_str(b"sct2_TextDefinition_")
+        }
+        _ => begins_basic(kind, name),
     }
 }
 
 /// Whether the name is that of a file of the kind to take.
-fn is_taken(kind: Kind, name: &[u8]) -> bool
-    ensures { IsTrue result ↔ IsTaken kind name.now }
+fn is_taken(scope: Scope, kind: Kind, name: &[u8]) -> bool
+    ensures { IsTrue result ↔ IsTaken scope kind name.now }
 {
-    let begins = name.starts_with_str(beginning_of(kind));
+    let begins = begins(scope, kind, name);
     let holds = name.contains_str(b"Delta") || name.contains_str(b"Full");
     let ends = name.ends_with_str(b".txt");
     begins && holds && ends
 }
 
-/// The kind of the file with this name, if it is one to take: a text of a Delta or a Full release.
-/// Names are compared byte by byte.
-pub fn kind_to_take(name: &[u8]) -> Option<Kind>
+/// The kind of the file with this name, if it is one to take in the scope: a text of a Delta or a
+/// Full release. Names are compared byte by byte.
+pub fn kind_to_take(name: &[u8], scope: Scope) -> Option<Kind>
     ensures { MatchOption result
-        ((kind : Kind) → IsTaken kind name.now → ⊥)
-        (λ kind. IsTaken kind name.now) }
+        ((kind : Kind) → IsTaken scope kind name.now → ⊥)
+        (λ kind. IsTaken scope kind name.now) }
 {
-    if is_taken(Kind::Concept, name) {
+    if is_taken(scope, Kind::Concept, name) {
         Some(Kind::Concept)
-    } else if is_taken(Kind::Description, name) {
+    } else if is_taken(scope, Kind::Description, name) {
         Some(Kind::Description)
-    } else if is_taken(Kind::Relationship, name) {
+    } else if is_taken(scope, Kind::Relationship, name) {
         Some(Kind::Relationship)
-    } else if is_taken(Kind::Association, name) {
+    } else if is_taken(scope, Kind::Association, name) {
         Some(Kind::Association)
-    } else if is_taken(Kind::Concrete, name) {
+    } else if is_taken(scope, Kind::Concrete, name) {
         Some(Kind::Concrete)
+    } else if is_taken(scope, Kind::Member, name) {
+        Some(Kind::Member)
     } else {
         None
     }

@@ -1,15 +1,15 @@
 //! Names that people may take for those of release files.
 
-use crate::names::{beginning_of, kind_to_take};
-use rf2_values::Kind;
+use crate::names::{is_column_letter, kind_to_take};
+use import_check::Scope;
 
-/// All kinds, each with files of its own.
-const KINDS: [Kind; 5] = [
-    Kind::Concept,
-    Kind::Description,
-    Kind::Relationship,
-    Kind::Association,
-    Kind::Concrete,
+/// What the names of files begin with, in each scope.
+const BEGINNINGS: [&str; 5] = [
+    "sct2_Concept_",
+    "sct2_Description_",
+    "sct2_Relationship_",
+    "der2_cRefset_Association",
+    "sct2_RelationshipConcreteValues_",
 ];
 
 /// Whether the name begins so, whatever the case of its letters.
@@ -28,18 +28,18 @@ fn ends_with(name: &[u8], ending: &[u8]) -> bool {
     }
 }
 
-/// Whether the name at the end of a path isn't one to take, but would be if case didn't count, and
-/// if an `x`, as packages set before the names of files of a beta release, weren't there.
-pub fn is_nearly_to_take(path: &[u8]) -> bool {
+/// Whether the name at the end of a path isn't one to take in the scope, but would be if case didn't
+/// count, and if an `x`, as packages set before the names of files of a beta release, weren't there.
+pub fn is_nearly_to_take(path: &[u8], scope: Scope) -> bool {
     let name = match path.iter().rposition(|byte| *byte == b'/') {
         Some(at) => path.get(at.saturating_add(1)..).unwrap_or(path),
         None => path,
     };
-    kind_to_take(name).is_none() && is_alike(name)
+    kind_to_take(name, scope).is_none() && is_alike(name, scope)
 }
 
 /// Whether the name is like one to take.
-fn is_alike(name: &[u8]) -> bool {
+fn is_alike(name: &[u8], scope: Scope) -> bool {
     let rest = match name {
         [b'x' | b'X', rest @ ..] => rest,
         _ => name,
@@ -50,8 +50,32 @@ fn is_alike(name: &[u8]) -> bool {
         || rest
             .windows(4)
             .any(|part| part.eq_ignore_ascii_case(b"Full"));
-    let begins = KINDS
+    begins_alike(rest, scope) && holds && ends_with(rest, b".txt")
+}
+
+/// Whether a name begins like one to take.
+fn begins_alike(name: &[u8], scope: Scope) -> bool {
+    let begins = BEGINNINGS
         .iter()
-        .any(|kind| begins_with(rest, beginning_of(*kind)));
-    begins && holds && ends_with(rest, b".txt")
+        .any(|beginning| begins_with(name, beginning.as_bytes()));
+    begins
+        || match scope {
+            Scope::Basic => false,
+            Scope::Whole => begins_with(name, b"sct2_TextDefinition_") || is_like_member(name),
+        }
+}
+
+/// Whether a name begins like that of a file of a reference set.
+fn is_like_member(name: &[u8]) -> bool {
+    if !begins_with(name, b"der2_") && !begins_with(name, b"sct2_") {
+        return false;
+    }
+    let letters = name.get(5..).unwrap_or_default();
+    match letters
+        .iter()
+        .position(|byte| !is_column_letter(byte.to_ascii_lowercase()))
+    {
+        Some(at) => begins_with(letters.get(at..).unwrap_or_default(), b"Refset_"),
+        None => false,
+    }
 }

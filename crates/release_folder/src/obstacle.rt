@@ -28,13 +28,21 @@ pub enum Obstacle {
     TooLarge,
     #[error("the name of a file in it isn't UTF-8")]
     NotUtf8,
-    #[error("no folder Terminology or Refset/Content in it")]
-    NoParts,
+    /// Neither a folder of the terminology is in it, nor the one of its reference sets.
+    #[error("no folder Terminology or {refset} in it")]
+    NoParts {
+        refset: &'static str,
+    },
     /// A package of several releases was named, and this is the folder of one of them.
-    #[error("no folder Terminology or Refset/Content in it; its folder {0} is the one to name")]
-    Package(&'static str),
-    #[error("no file to take in Terminology or Refset/Content")]
-    NothingToTake,
+    #[error("no folder Terminology or {refset} in it; its folder {inner} is the one to name")]
+    Package {
+        refset: &'static str,
+        inner: &'static str,
+    },
+    #[error("no file to take in Terminology or {refset}")]
+    NothingToTake {
+        refset: &'static str,
+    },
 }
 
 /// Why a release wasn't read.

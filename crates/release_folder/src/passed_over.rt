@@ -1,12 +1,16 @@
 //! The files of a release's folder that aren't read, in whichever folder they stand.
 
 ghost use Rattle.std.specs.Prelude.{◌≡◌, ◌↔◌, ◌++◌, IsTrue, IfOk};
-ghost use Rattle.release_folder.specs.Private.{IsReadFolder, IsPassedOver};
+ghost use Rattle.release_folder.specs.Private.{IsInRefset, IsReadRefset, IsReadFolder};
+ghost use Rattle.release_folder.specs.Private.{IsPassedOver, is_slash};
+ghost use Rattle.std.specs.List.{count_by};
 
 use crate::guards::{CONTENT, REFSET, TERMINOLOGY};
 use crate::listing::names_of;
 use crate::names::{kind_to_take, shown_name};
 use crate::watcher::Watcher;
+use bstr::ByteSlice;
+use import_check::Scope;
 use std::alloc::{AllocError, Global};
 use std::fs::{self, File, Files};
 
@@ -28,6 +32,7 @@ pub(crate) fn tell_passed_over<R: Files<File = File>, W: Watcher>(
     rt: &R,
     alloc: Global,
     root: &str,
+    scope: Scope,
     watcher: &mut W,
 ) -> Result<(), AllocError> {
     let mut walk = Walk {
@@ -39,7 +44,7 @@ pub(crate) fn tell_passed_over<R: Files<File = File>, W: Watcher>(
         let Some(folder) = walk.folders.pop() else {
             break;
         };
-        look_into(rt, alloc, root, &folder, &mut walk)?;
+        look_into(rt, alloc, root, &folder, scope, &mut walk)?;
     }
     tell_all(alloc, walk, watcher)
 }
@@ -63,6 +68,7 @@ fn look_into<R: Files<File = File>>(
     alloc: Global,
     root: &str,
     folder: &str,
+    scope: Scope,
     walk: &mut Walk,
 ) -> Result<(), AllocError> {
     let path = format!(in alloc; "{root}/{folder}")?;
@@ -72,9 +78,9 @@ fn look_into<R: Files<File = File>>(
         return Ok(());
     };
     for name in names {
-        if let Some(inner) = folder_named(rt, alloc, root, folder, &name)? {
+        if let Some(inner) = folder_named(rt, alloc, root, folder, &name, scope)? {
             walk.folders.push(inner)?;
-        } else if is_passed_over(folder, &name) {
+        } else if is_passed_over(folder, &name, scope) {
             walk.passed.push(path_of(alloc, folder, &name)?)?;
         }
     }
@@ -88,13 +94,14 @@ fn folder_named<R: Files<File = File>>(
     root: &str,
     folder: &str,
     name: &[u8],
+    scope: Scope,
 ) -> Result<Option<String>, AllocError> {
     let Ok(name) = str::from_utf8(name) else {
         return Ok(None);
     };
     let inner = format!(in alloc; "{folder}{name}")?;
     let path = format!(in alloc; "{root}/{inner}")?;
-    let found = if is_followed(&inner) {
+    let found = if is_followed(&inner, scope) {
         fs::metadata(rt, &path)
     } else {
         fs::symlink_metadata(rt, &path)
@@ -106,22 +113,70 @@ fn folder_named<R: Files<File = File>>(
 }
 
 /// Whether a link in this place of a release is followed, as it is where the release is read.
-fn is_followed(path: &str) -> bool {
-    path == TERMINOLOGY || path == REFSET || path == CONTENT
+fn is_followed(path: &str, scope: Scope) -> bool {
+    path == TERMINOLOGY
+        || path == REFSET
+        || match scope {
+            Scope::Basic => path == CONTENT,
+            Scope::Whole => is_below_refset(path),
+        }
+}
+
+/// Whether it is the path of what stands in Refset.
+fn is_below_refset(path: &str) -> bool {
+    match path.rsplit_once('/') {
+        Some((above, _)) => above == REFSET,
+        None => false,
+    }
 }
 
 /// Whether the files of this folder of a release are read. Its name ends with a slash.
-fn is_read(folder: &str) -> bool
-    ensures { IsTrue result ↔ IsReadFolder folder.now }
+fn is_read(folder: &str, scope: Scope) -> bool
+    ensures { IsTrue result ↔ IsReadFolder scope folder.now }
 {
-    folder == "Terminology/" || folder == "Refset/Content/"
+    folder == "Terminology/" || is_read_refset(folder, scope)
+}
+
+/// Whether it is a folder of Refset whose files are read.
+fn is_read_refset(folder: &str, scope: Scope) -> bool
+    ensures { IsTrue result ↔ IsReadRefset scope folder.now }
+{
+    match scope {
+        Scope::Basic => folder == "Refset/Content/",
+        Scope::Whole => is_in_refset(folder.as_bytes()),
+    }
+}
+
+/// Whether it is the path of a folder that stands in Refset.
+fn is_in_refset(folder: &[u8]) -> bool
+    ensures { IsTrue result ↔ IsInRefset folder.now }
+{
+    let (begins, ends) = (
+        folder.starts_with_str(b"Refset/"),
+        folder.ends_with_str(b"/"),
+    );
+    let slashes = slashes_in(folder);
+    begins && ends && slashes == 2
+}
+
+/// How many slashes a path has.
+fn slashes_in(path: &[u8]) -> usize
+    ensures { result ≡ count_by is_slash path.now }
+{
+    let mut count = 0;
+    for byte in path {
+        if *byte == b'/' {
+            count += 1;
+        }
+    }
+    count
 }
 
 /// Whether a file of this name isn't read in this folder of a release.
-fn is_passed_over(folder: &str, name: &[u8]) -> bool
-    ensures { IsTrue result ↔ IsPassedOver folder.now name.now }
+fn is_passed_over(folder: &str, name: &[u8], scope: Scope) -> bool
+    ensures { IsTrue result ↔ IsPassedOver scope folder.now name.now }
 {
-    !(is_read(folder) && kind_to_take(name).is_some())
+    !(is_read(folder, scope) && kind_to_take(name, scope).is_some())
 }
 
 /// A file's path below the release's folder.

@@ -1,4 +1,4 @@
-use Rattle.std.proofs.Common.{◌≢◌, All, take}
+use Rattle.std.proofs.Common.{All, take}
 use Rattle.release_folder.specs.Names.{IsFullOfConcepts}
 use Rattle.release_folder.proofs.lacking.has_concepts.Given as goal
 

@@ -1,5 +1,4 @@
 use Rattle.std.proofs.Common.{◌≢◌, All, take}
-use Rattle.release_folder.specs.Names.{IsFullOfConcepts}
 use Rattle.release_folder.proofs.lacking.has_kind.Given as goal
 
 abbrev pub invariant-loop-file : goal.invariant-loop-file
