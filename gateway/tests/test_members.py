@@ -548,9 +548,15 @@ class AsBefore(unittest.TestCase):
             self.assertFalse(any("extension" in one for one in said["parameter"]))
         said = fhir(LOOKUP, system=SCT, code=codes["wrist"], displayLanguage="de")[1]
         self.assertEqual(told(said, "display"), ["Handgelenksfraktur"])
+        asked: tuple[tuple[str, dict[str, str]], ...] = (
+            (EXPAND, {}),
+            (EXPAND, {"filter": "fracture"}),
+            ("ValueSet/$validate-code", {"system": SCT, "code": codes["limb"]}),
+        )
         for what in ("refset", "refset/" + codes["wrist"]):
-            status, said = fhir(EXPAND, url=SCT + "?fhir_vs=" + what)
-            self.assertEqual((status, issue(said)), (422, "not-supported"), what)
+            for path, words in asked:
+                status, said = fhir(path, url=SCT + "?fhir_vs=" + what, **words)
+                self.assertEqual((status, issue(said)), (422, "not-supported"), (path, what))
         url = "%s?fhir_cm=%s" % (SCT, demo.CTV3)
         words = {"url": url, "system": SCT, "code": codes["wrist"]}
         self.assertIn(fhir(TRANSLATE, **words)[0], (404, 422))
