@@ -620,6 +620,13 @@ FAULTS = [
         MEMBERS,
     ),
     Fault(
+        "a map that the house names needs its concept",
+        "fhir/translation.py",
+        "    if system is None and not await view.is_within(refset, SIMPLE_MAP, day):",
+        "    if not await view.is_within(refset, SIMPLE_MAP, day):",
+        MEMBERS,
+    ),
+    Fault(
         "a map with other columns is a simple one",
         "fhir/translation.py",
         "    if any(len(further) != MAP_COLUMNS for further in of_map):",

@@ -113,6 +113,8 @@ class Releases:
 
     def __init__(self, chance: random.Random, folder: str) -> None:
         self.chance, self.folder = chance, folder
+        # A server wants a folder to look in, also before there is a release.
+        os.makedirs(folder, exist_ok=True)
         self.edition = rf2.Edition(chance.getrandbits(32))
         self.edition.made.update({sort: [] for sort in SORTS})
         self.lines: dict[str, list[Columns]] = {sort: [] for sort in SORTS}

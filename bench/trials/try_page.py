@@ -4,13 +4,15 @@
 try_page.py PROGRAM [PICTURE]
 
 PROGRAM is the built `sctd`. A record, a retired concept, hostile terms, a search, a phone's width,
-and the page without its script: the console may say nothing, no dialog may open, nothing may break
-the page's policy, and nothing may be wider than the window. Each field has a label, and each text a
-contrast of at least 4.5 to what is behind it. PICTURE is written with the record's page. Where
-there is no Chromium or no h11, that is said and the status is 3; it is 1 where something is wrong.
+the page without its script, and records of whole packages: the console may say nothing, no dialog
+may open, nothing may break the page's policy, and nothing may be wider than the window. Each field
+has a label, and each text a contrast of at least 4.5 to what is behind it. PICTURE is written with
+the page of a package's record. Where there is no Chromium or no h11, that is said and the status is
+3; it is 1 where something is wrong.
 """
 
 import base64
+import functools
 import os
 import shutil
 import socket
@@ -105,7 +107,7 @@ class Page:
                 raise Wrong("%s: no %r" % (what, part))
 
 
-def desk(page, codes, picture):
+def desk(page, codes):
     text = page.open("a record", q=codes["wrist"], date="2018-01-01")
     page.says(
         "a record",
@@ -119,11 +121,6 @@ def desk(page, codes, picture):
     )
     if not page.browser.value("document.getElementById('copy').checkVisibility()"):
         raise Wrong("a record: no button that copies the line")
-    taken = base64.b64decode(
-        page.browser.ask("Page.captureScreenshot", format="png", captureBeyondViewport=True)["data"]
-    )
-    if picture:
-        write(picture, taken)
     text = page.open("a retired concept", q=codes["radius"])
     page.says(
         "a retired concept", text, "was inactive", "Same as", "Fracture of distal radius (disorder)"
@@ -143,6 +140,34 @@ def desk(page, codes, picture):
     page.says(
         "a refusal", page.open("a refusal", q="<img src=x onerror=alert(1)>"), "No term begins"
     )
+
+
+def whole(page, codes, picture):
+    """Records of whole packages: what they were called, why they were retired, their sets."""
+    page.browser.width(DESK)
+    text = page.open("a record of a package", q=codes["wrist"], date="2018-01-01")
+    page.says(
+        "a record of a package",
+        text,
+        "in short \u201cWrist fracture\u201d",
+        "(since 31 January 2021: Duplicate component)",
+        "Preferred term",
+        "A break of bones of the wrist <joint>.",
+        "Why retired",
+        "Wrists of the house",
+        "since 31 January 2015",
+        "Reference set withdrawn",
+    )
+    taken = base64.b64decode(
+        page.browser.ask("Page.captureScreenshot", format="png", captureBeyondViewport=True)["data"]
+    )
+    if picture:
+        write(picture, taken)
+    text = page.open("a hostile map", q=codes["limb"])
+    page.says("a hostile map", text, "Odd map <b>bold</b>", "ask <i>them</i>")
+    page.browser.width(PHONE, True)
+    for name in ("wrist", "limb", "anaemia"):
+        page.open("a package on a phone", q=codes[name], date="2018-01-01")
 
 
 def write(picture, taken):
@@ -194,31 +219,44 @@ def without_script(page, codes):
     page.browser.ask("Emulation.setScriptExecutionDisabled", value=False)
 
 
-def looked_at(page, codes, picture):
+def looked_at(page, codes):
     browser = page.browser
     browser.width(DESK)
-    desk(page, codes, picture)
+    desk(page, codes)
     suggestions(page, codes)
     phone(page, codes)
     without_script(page, codes)
 
 
 def tried(path, program, picture):
-    from tests.house import Gateway, House
+    from tests.house import House
+    from tests.test_members import WORDS
 
     os.environ.update(SCTD_PROGRAM=program, SCTD_HUB=os.path.join(ROOT, "examples", "hub.py"))
-    house = House()
-    gateway = browser = None
+    browser = chromium.Browser(path)
+    try:
+        in_house(House, (), lambda codes, base: looked_at(Page(browser, base), codes))
+        in_house(
+            functools.partial(House, layout=3, is_whole=True),
+            WORDS,
+            lambda codes, base: whole(Page(browser, base), codes, picture),
+        )
+    finally:
+        browser.close()
+
+
+def in_house(make, words, look):
+    """Looks at the page of a gateway that listens where a browser reaches it."""
+    from tests.house import Gateway
+
+    house, gateway = make(), None
     try:
         with tempfile.TemporaryDirectory() as folder:
             with socket.create_server(("127.0.0.1", 0)) as free:
                 place = "127.0.0.1:%d" % free.getsockname()[1]
-            gateway = Gateway(house.questions, Path(folder), place)
-            browser = chromium.Browser(path)
-            looked_at(Page(browser, "http://%s/" % place), house.codes, picture)
+            gateway = Gateway(house.questions, Path(folder), place, words)
+            look(house.codes, "http://%s/" % place)
     finally:
-        if browser:
-            browser.close()
         if gateway:
             gateway.stop()
         house.end()

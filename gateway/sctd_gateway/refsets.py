@@ -76,3 +76,9 @@ async def with_members(view: View, day: str) -> list[str]:
     if len(below) > limits.REFSET_CHOICE:
         raise TooCostly("there are more than %d reference sets" % limits.REFSET_CHOICE)
     return await view.have_values(below, day)
+
+
+async def which_of(view: View, codes: Sequence[str], day: str) -> set[str]:
+    """Those of the concepts that are such reference sets."""
+    found = await view.those_within(codes, REFERENCE_SET, day) - {REFERENCE_SET}
+    return set(await view.have_values(sorted(found, key=int), day))

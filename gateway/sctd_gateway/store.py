@@ -199,6 +199,11 @@ class View:
         line = "MEMBERS %s %s %s 1" % (refset, self.latest, FIRST)
         return bool(members_of((await self.ask([line]))[0]))
 
+    async def has_members(self) -> bool:
+        """Whether the store has a member of any reference set."""
+        line = "PAGE M %s %s 1" % (self.latest, FIRST)
+        return bool(members_of((await self.ask([line]))[0]))
+
     async def children(self, code: str, day: str) -> list[str]:
         return ids((await self.ask(["CHILDREN %s %s" % (code, day)]))[0])
 

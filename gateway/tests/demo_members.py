@@ -31,20 +31,24 @@ FILES = {
     "map": ("Refset/Map/der2_sRefset_SimpleMapDelta_INT_%s.txt", FIXED + " mapTarget"),
     "odd": ("Refset/Map/der2_ssRefset_OddMapDelta_INT_%s.txt", FIXED + " mapTarget advice"),
 }
+METADATA_TAG = " (foundation metadata concept)"
+US_NAME = "United States of America English language reference set"
+GB_NAME = "Great Britain English language reference set"
+INDICATORS_NAME = "Concept inactivation indicator attribute value reference set"
 # Concepts of metadata, with their parents.
 METADATA = (
-    ("reference set", REFERENCE_SET, "Reference set (foundation metadata concept)", "root"),
-    ("us", US, "United States English (foundation metadata concept)", "reference set"),
-    ("gb", GB, "Great Britain English (foundation metadata concept)", "reference set"),
-    ("indicators", INDICATORS, "Indicators (foundation metadata concept)", "reference set"),
-    ("ambiguous", AMBIGUOUS, "Ambiguous component (foundation metadata concept)", "root"),
-    ("duplicate", DUPLICATE, "Duplicate component (foundation metadata concept)", "root"),
-    ("simple map", SIMPLE_MAP, "Simple map (foundation metadata concept)", "reference set"),
-    ("ctv3", CTV3, "CTV3 simple map (foundation metadata concept)", "simple map"),
-    ("odd", "", "Odd map <b>bold</b> (foundation metadata concept)", "simple map"),
-    ("set", "", "Wrists of the house (foundation metadata concept)", "reference set"),
-    ("left", "", "Left by all (foundation metadata concept)", "reference set"),
-    ("never", "", "Never filled (foundation metadata concept)", "reference set"),
+    ("reference set", REFERENCE_SET, "Reference set", "root"),
+    ("us", US, US_NAME, "reference set"),
+    ("gb", GB, GB_NAME, "reference set"),
+    ("indicators", INDICATORS, INDICATORS_NAME, "reference set"),
+    ("ambiguous", AMBIGUOUS, "Ambiguous component", "root"),
+    ("duplicate", DUPLICATE, "Duplicate component", "root"),
+    ("simple map", SIMPLE_MAP, "Simple map type reference set", "reference set"),
+    ("ctv3", CTV3, "CTV3 simple map reference set", "simple map"),
+    ("odd", "", "Odd map <b>bold</b>", "simple map"),
+    ("set", "", "Wrists of the house", "reference set"),
+    ("left", "", "Left by all", "reference set"),
+    ("never", "", "Never filled", "reference set"),
 )
 
 
@@ -113,7 +117,7 @@ def metadata(maker: WholeMaker) -> None:
     for name, code, text, parent in METADATA:
         if code:
             maker.codes[name] = code
-        maker.concept(name, FIRST_DAY, text, parents=(parent,))
+        maker.concept(name, FIRST_DAY, text + METADATA_TAG, parents=(parent,))
 
 
 def languages(maker: WholeMaker) -> None:

@@ -473,11 +473,11 @@ class Page(Whole):
 
     def test_preferred_terms(self) -> None:
         text = self.page("anaemia", date="2018-01-01")
-        gb, us = "Anaemia Great Britain English", "Anemia United States English"
+        gb, us = "Anaemia " + demo.GB_NAME, "Anemia " + demo.US_NAME
         self.assertEqual(self.row(text, "Preferred term"), [[gb, us], [gb, us]])
         self.assertIn("in short \u201c<bdi>Anaemia</bdi>\u201d", text)
         text = self.page("wrist", date="2016-01-01")
-        us = " United States English"
+        us = " " + demo.US_NAME
         self.assertEqual(
             self.row(text, "Preferred term"),
             [["Broken wrist%s only then" % us], ["Wrist fracture%s not then" % us]],
@@ -506,16 +506,19 @@ class Page(Whole):
                 ["Duplicate component %s not then" % demo.DUPLICATE],
             ],
         )
-        changed = "Indicators changed: <bdi>%s component</bdi> \u2192 <bdi>%s component</bdi>"
-        self.assertIn(changed % ("Ambiguous", "Duplicate"), text)
+        changed = " changed: <bdi>%s component</bdi> \u2192 <bdi>%s component</bdi>"
+        self.assertIn(demo.INDICATORS_NAME + changed % ("Ambiguous", "Duplicate"), text)
         self.assertEqual(self.row(self.page("limb"), "Why retired"), [])
 
     def test_reference_sets(self) -> None:
         name = "Wrists of the house %s " % self.codes["set"]
         text = self.page("wrist", date="2018-01-01")
         then, now = self.row(text, "Reference sets")
-        ctv3 = "CTV3 simple map %s since 31 January 2015: S23.." % demo.CTV3
-        indicators = "Indicators %s since 31 January 2021: Duplicate component" % demo.INDICATORS
+        ctv3 = "CTV3 simple map reference set %s since 31 January 2015: S23.." % demo.CTV3
+        indicators = "%s %s since 31 January 2021: Duplicate component" % (
+            demo.INDICATORS_NAME,
+            demo.INDICATORS,
+        )
         self.assertEqual(then, [name + "since 31 January 2015 only then", ctv3])
         self.assertEqual(
             sorted(now),
@@ -523,7 +526,7 @@ class Page(Whole):
         )
         # On the days between it wasn't in the set; the history has each of them.
         between = self.row(self.page("wrist", date="2020-01-31"), "Reference sets")[0]
-        self.assertEqual(between, [ctv3 + ""])
+        self.assertEqual(between, [ctv3])
         for part in ("added", "withdrawn"):
             self.assertIn("Reference set %s: <bdi>Wrists of the house</bdi>" % part, text)
         limb = self.row(self.page("limb"), "Reference sets")[0]
@@ -545,9 +548,15 @@ class AsBefore(unittest.TestCase):
             self.assertFalse(any("extension" in one for one in said["parameter"]))
         said = fhir(LOOKUP, system=SCT, code=codes["wrist"], displayLanguage="de")[1]
         self.assertEqual(told(said, "display"), ["Handgelenksfraktur"])
+        asked: tuple[tuple[str, dict[str, str]], ...] = (
+            (EXPAND, {}),
+            (EXPAND, {"filter": "fracture"}),
+            ("ValueSet/$validate-code", {"system": SCT, "code": codes["limb"]}),
+        )
         for what in ("refset", "refset/" + codes["wrist"]):
-            status, said = fhir(EXPAND, url=SCT + "?fhir_vs=" + what)
-            self.assertEqual((status, issue(said)), (422, "not-supported"), what)
+            for path, words in asked:
+                status, said = fhir(path, url=SCT + "?fhir_vs=" + what, **words)
+                self.assertEqual((status, issue(said)), (422, "not-supported"), (path, what))
         url = "%s?fhir_cm=%s" % (SCT, demo.CTV3)
         words = {"url": url, "system": SCT, "code": codes["wrist"]}
         self.assertIn(fhir(TRANSLATE, **words)[0], (404, 422))

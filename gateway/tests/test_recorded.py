@@ -30,6 +30,7 @@ LINES = [
         f"{AT}HISTORY C {CODE}",
         f"{AT}TIMELINE [DRVAM] {CODE}",
         f"{AT}PAGE C {DAY} {AFTER} {COUNT}",
+        f"{AT}PAGE M {DAY} - 1",
         f"{AT}SEARCH {DAY} {AFTER} {COUNT} [^\\x00-\\x1f\\x7f-\\x9f]{{1,200}}",
     )
 ]

@@ -3,7 +3,7 @@
 import unittest
 from typing import Any
 
-from .house import SCT, Json, Shared, told, version
+from .house import SCT, Json, Shared, issue, told, version
 
 
 class Validate(unittest.TestCase):
@@ -94,6 +94,17 @@ class Validate(unittest.TestCase):
         ):
             said = self.member("limb", "wrist", systemVersion=version(day))
             self.assertEqual(told(said, "result"), [valid], day)
+
+    def test_member_of_the_reference_sets(self) -> None:
+        """Of which this store has none."""
+        for what in ("=refset", "=refset/" + self.codes["limb"]):
+            status, said = self.house.gateway.fhir(
+                "ValueSet/$validate-code",
+                url=SCT + "?fhir_vs" + what,
+                system=SCT,
+                code=self.codes["wrist"],
+            )
+            self.assertEqual((status, issue(said)), (422, "not-supported"), what)
 
     def test_member_of_its_own(self) -> None:
         self.assertEqual(told(self.member("limb", "limb"), "result"), [True])

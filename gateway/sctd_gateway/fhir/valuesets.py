@@ -6,7 +6,7 @@ from collections.abc import Sequence
 from typing import NamedTuple
 
 from .. import refsets
-from ..problems import invalid, not_found, not_supported
+from ..problems import Problem, invalid, not_found, not_supported
 from ..snomed import REFERENCE_SET, is_concept_id
 from .inputs import SCT
 from .request import Request
@@ -72,7 +72,10 @@ async def inside(
             await must_be_kept(request, value_set.code, moment)
         return found
     if value_set.sort is Sort.ARE_REFSETS:
-        return set(await refsets_there(request, moment)).intersection(codes)
+        found = await refsets.which_of(view, codes, day)
+        if not found and not await view.has_members():
+            raise no_refsets()
+        return found
     return set(codes)
 
 
@@ -90,7 +93,11 @@ async def must_be_kept(request: Request, refset: str, moment: Moment) -> None:
 async def refsets_there(request: Request, moment: Moment) -> list[str]:
     found = await refsets.with_members(request.view, moment.day)
     if not found:
-        raise not_supported(
-            "the store has no reference set with members on that day below %s" % REFERENCE_SET
-        )
+        raise no_refsets()
     return found
+
+
+def no_refsets() -> Problem:
+    return not_supported(
+        "the store has no reference set with members on that day below %s" % REFERENCE_SET
+    )
