@@ -601,7 +601,7 @@ const PACKAGE: [(&str, &str); 8] = [
 /// Writes a package, and files beside its own that aren't read.
 fn write_package(rt: &HostRuntime) -> Result<(), Fail> {
     for (folder, name) in PACKAGE {
-        let folder = format!(in rt.alloc(); "releases/package/{folder}")?;
+        let folder = format!(in rt.alloc(); "releases/made/{folder}")?;
         write_in(rt, &folder, name, b"id")?;
     }
     for (folder, name) in [
@@ -615,7 +615,7 @@ fn write_package(rt: &HostRuntime) -> Result<(), Fail> {
             "der2_cRefset_LanguageSnapshot-en_INT_20260131.txt",
         ),
     ] {
-        let folder = format!(in rt.alloc(); "releases/package/{folder}")?;
+        let folder = format!(in rt.alloc(); "releases/made/{folder}")?;
         write_in(rt, &folder, name, b"id")?;
     }
     Ok(())
@@ -623,7 +623,7 @@ fn write_package(rt: &HostRuntime) -> Result<(), Fail> {
 
 /// Whether the files of the package that stand at these places are those that are read of it.
 fn are_read(rt: &HostRuntime, scope: Scope, places: &[usize]) -> bool {
-    let Ok(read) = read_folder(rt, rt.alloc(), "releases", "package", scope) else {
+    let Ok(read) = read_folder(rt, rt.alloc(), "releases", "made", scope) else {
         return false;
     };
     for (file, place) in read.files.iter().zip(places) {
@@ -641,7 +641,7 @@ fn a_package_is_read_whole_or_in_its_basic_files(rt: HostRuntime) -> Result<(), 
     assert!(rt; are_read(&rt, Scope::Basic, &[0, 4]));
     assert!(rt; are_read(&rt, Scope::Whole, &[0, 1, 2, 3, 4, 5, 6, 7]));
     // A link to a folder is read as one.
-    rt.symlink("Map", "releases/package/Refset/also")?;
+    rt.symlink("Map", "releases/made/Refset/also")?;
     assert!(rt; are_read(&rt, Scope::Basic, &[0, 4]));
     assert!(rt; are_read(&rt, Scope::Whole, &[0, 1, 2, 3, 4, 5, 6, 6, 7]));
     Ok(())
@@ -649,35 +649,36 @@ fn a_package_is_read_whole_or_in_its_basic_files(rt: HostRuntime) -> Result<(), 
 
 /// Folders of packages that can't be read whole.
 const WHOLE_FOLDERS: [&str; 5] = [
-    "releases/device/Refset/Language",
-    "releases/nowhere/Refset",
-    "releases/plain/Refset",
-    "releases/none/Refset/Language",
-    "releases/nested/Refset/Map/der2_sRefset_SimpleMapFull_INT_20260131.txt",
+    "releases/device3/Refset/Language",
+    "releases/nowhere3/Refset",
+    "releases/plain3/Refset",
+    "releases/none3/Refset/Language",
+    "releases/nested3/Refset/Map/der2_sRefset_SimpleMapFull_INT_20260131.txt",
 ];
 
 /// What stands in their way.
 const WHOLE_OBSTACLES: [(&str, &str); 5] = [
     (
-        "device",
-        "releases/device/Refset/Language/der2_cRefset_LanguageFull-en_INT_20260131.txt: not a \
+        "device3",
+        "releases/device3/Refset/Language/der2_cRefset_LanguageFull-en_INT_20260131.txt: not a \
          regular file",
     ),
     (
-        "nowhere",
-        "releases/nowhere/Refset/Language: a link that leads nowhere",
+        "nowhere3",
+        "releases/nowhere3/Refset/Language: a link that leads nowhere",
     ),
     (
-        "plain",
-        "releases/plain/Refset/Content: Not a directory (os error 20)",
+        "plain3",
+        "releases/plain3/Refset/Content: Not a directory (os error 20)",
     ),
     (
-        "none",
-        "releases/none: no file to take in Terminology or Refset",
+        "none3",
+        "releases/none3: no file to take in Terminology or Refset",
     ),
     (
-        "nested",
-        "releases/nested/Refset/Map/der2_sRefset_SimpleMapFull_INT_20260131.txt: not a regular file",
+        "nested3",
+        "releases/nested3/Refset/Map/der2_sRefset_SimpleMapFull_INT_20260131.txt: not a regular \
+         file",
     ),
 ];
 
@@ -686,10 +687,10 @@ fn what_stood_in_the_way_of_a_whole_package_is_told(rt: HostRuntime) -> Result<(
     for path in WHOLE_FOLDERS {
         fs::create_dir_all(&rt, path)?;
     }
-    let device = "releases/device/Refset/Language/der2_cRefset_LanguageFull-en_INT_20260131.txt";
+    let device = "releases/device3/Refset/Language/der2_cRefset_LanguageFull-en_INT_20260131.txt";
     rt.symlink("/dev/zero", device)?;
-    rt.symlink("there", "releases/nowhere/Refset/Language")?;
-    write_in(&rt, "releases/plain/Refset", "Content", b"")?;
+    rt.symlink("there", "releases/nowhere3/Refset/Language")?;
+    write_in(&rt, "releases/plain3/Refset", "Content", b"")?;
     for (name, text) in WHOLE_OBSTACLES {
         assert!(rt;
             obstacle_of(&rt, name, Scope::Whole)?.as_str() == text,
