@@ -678,8 +678,8 @@ FAULTS = [
     Fault(
         "the page doesn't say why a code was retired",
         "page_record.py",
-        "for reason in side.reasons for name in",
-        "for reason in [] for name in",
+        "for reason in side.reasons]",
+        "for reason in []]",
         MEMBERS,
     ),
     Fault(

@@ -246,8 +246,9 @@ class Reasons(Whole):
             ("wrist", "2021-01-31", [demo.AMBIGUOUS]),
             ("wrist", "2022-07-30", [demo.AMBIGUOUS]),
             ("wrist", "2022-07-31", [demo.DUPLICATE]),
-            ("radius", "2022-07-31", [demo.DUPLICATE]),
+            ("radius", "2022-07-31", [demo.DUPLICATE, demo.AMBIGUOUS]),
             ("lost", "2022-07-31", []),
+            ("carpal", "2022-07-31", [demo.PENDING_MOVE, demo.AMBIGUOUS]),
         ):
             found = properties(self.lookup(name, date=date)).get("inactivationIndicator", [])
             self.assertEqual(found, reasons, (name, date))
@@ -508,7 +509,11 @@ class Page(Whole):
         )
         changed = " changed: <bdi>%s component</bdi> \u2192 <bdi>%s component</bdi>"
         self.assertIn(demo.INDICATORS_NAME + changed % ("Ambiguous", "Duplicate"), text)
-        self.assertEqual(self.row(self.page("limb"), "Why retired"), [])
+        for active in ("limb", "carpal"):
+            self.assertEqual(self.row(self.page(active), "Why retired"), [], active)
+        self.assertIn(demo.INDICATORS_NAME, self.page("carpal"))
+        two = ": <bdi>Duplicate component</bdi>, <bdi>Ambiguous component</bdi>)"
+        self.assertIn(two, self.page("radius"))
 
     def test_reference_sets(self) -> None:
         name = "Wrists of the house %s " % self.codes["set"]
