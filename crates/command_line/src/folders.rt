@@ -182,12 +182,7 @@ impl<F: Folders, E: Write> Source for FolderSource<'_, F, E> {
 
     ghost releases = { λ s. F.releases s.folders.now s.dir.now };
 
-    fn release(
-        &mut self,
-        alloc: Global,
-        name: &str,
-        scope: Scope,
-    ) -> Result<Release, SourceFault> {
+    fn release(&mut self, alloc: Global, name: &str, scope: Scope) -> Result<Release, SourceFault> {
         let given = self
             .folders
             .release(alloc, self.dir, name, scope, self.quiet, self.faults);

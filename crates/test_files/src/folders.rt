@@ -345,12 +345,7 @@ fn make_watched(rt: &HostRuntime) -> Result<(), Fail> {
 }
 
 /// Whether the watcher is told these lines while a release is read, and it is read.
-fn are_told(
-    rt: &HostRuntime,
-    name: &str,
-    scope: Scope,
-    wanted: &[&str],
-) -> bool {
+fn are_told(rt: &HostRuntime, name: &str, scope: Scope, wanted: &[&str]) -> bool {
     let mut notes = Notes {
         alloc: rt.alloc(),
         lines: Vec::new(rt.alloc()),
@@ -454,26 +449,98 @@ fn what_a_full_release_lacks(rt: HostRuntime) -> Result<(), Fail> {
 
 /// Names of files that stand in packages, and of which kind they are in each scope.
 const NAMES: [(&str, Option<Kind>, Option<Kind>); 26] = [
-    ("sct2_Concept_Full_INT_20260131.txt", Some(Kind::Concept), Some(Kind::Concept)),
-    ("sct2_Description_Delta-de_XX_20260131.txt", Some(Kind::Description), Some(Kind::Description)),
-    ("sct2_TextDefinition_Full-en_INT_20260131.txt", None, Some(Kind::Description)),
-    ("sct2_TextDefinition_Snapshot-en_INT_20260131.txt", None, None),
-    ("sct2_Relationship_Full_INT_20260131.txt", Some(Kind::Relationship), Some(Kind::Relationship)),
-    ("sct2_RelationshipConcreteValues_Full_INT_20260131.txt", Some(Kind::Concrete), Some(Kind::Concrete)),
+    (
+        "sct2_Concept_Full_INT_20260131.txt",
+        Some(Kind::Concept),
+        Some(Kind::Concept),
+    ),
+    (
+        "sct2_Description_Delta-de_XX_20260131.txt",
+        Some(Kind::Description),
+        Some(Kind::Description),
+    ),
+    (
+        "sct2_TextDefinition_Full-en_INT_20260131.txt",
+        None,
+        Some(Kind::Description),
+    ),
+    (
+        "sct2_TextDefinition_Snapshot-en_INT_20260131.txt",
+        None,
+        None,
+    ),
+    (
+        "sct2_Relationship_Full_INT_20260131.txt",
+        Some(Kind::Relationship),
+        Some(Kind::Relationship),
+    ),
+    (
+        "sct2_RelationshipConcreteValues_Full_INT_20260131.txt",
+        Some(Kind::Concrete),
+        Some(Kind::Concrete),
+    ),
     ("sct2_StatedRelationship_Full_INT_20260131.txt", None, None),
     ("sct2_Identifier_Full_INT_20260131.txt", None, None),
-    ("der2_cRefset_AssociationFull_INT_20260131.txt", Some(Kind::Association), Some(Kind::Association)),
-    ("der2_cRefset_AssociationReferenceFull_INT_20260131.txt", Some(Kind::Association), Some(Kind::Association)),
-    ("der2_cRefset_AttributeValueFull_INT_20260131.txt", None, Some(Kind::Member)),
-    ("der2_cRefset_LanguageFull-en_INT_20260131.txt", None, Some(Kind::Member)),
-    ("der2_cRefset_LanguageSnapshot-en_INT_20260131.txt", None, None),
-    ("der2_Refset_SimpleFull_INT_20260131.txt", None, Some(Kind::Member)),
-    ("der2_sRefset_SimpleMapDelta_INT_20260131.txt", None, Some(Kind::Member)),
-    ("der2_ssRefset_ModuleDependencyFull_INT_20260131.txt", None, Some(Kind::Member)),
-    ("der2_iisssccRefset_ExtendedMapFull_INT_20260131.txt", None, Some(Kind::Member)),
-    ("sct2_sRefset_OWLExpressionFull_INT_20260131.txt", None, Some(Kind::Member)),
-    ("sct2_sRefset_OWLExpressionFull_INT_20260131.csv", None, None),
-    ("der2_sRefset_AssociationFull_INT_20260131.txt", None, Some(Kind::Member)),
+    (
+        "der2_cRefset_AssociationFull_INT_20260131.txt",
+        Some(Kind::Association),
+        Some(Kind::Association),
+    ),
+    (
+        "der2_cRefset_AssociationReferenceFull_INT_20260131.txt",
+        Some(Kind::Association),
+        Some(Kind::Association),
+    ),
+    (
+        "der2_cRefset_AttributeValueFull_INT_20260131.txt",
+        None,
+        Some(Kind::Member),
+    ),
+    (
+        "der2_cRefset_LanguageFull-en_INT_20260131.txt",
+        None,
+        Some(Kind::Member),
+    ),
+    (
+        "der2_cRefset_LanguageSnapshot-en_INT_20260131.txt",
+        None,
+        None,
+    ),
+    (
+        "der2_Refset_SimpleFull_INT_20260131.txt",
+        None,
+        Some(Kind::Member),
+    ),
+    (
+        "der2_sRefset_SimpleMapDelta_INT_20260131.txt",
+        None,
+        Some(Kind::Member),
+    ),
+    (
+        "der2_ssRefset_ModuleDependencyFull_INT_20260131.txt",
+        None,
+        Some(Kind::Member),
+    ),
+    (
+        "der2_iisssccRefset_ExtendedMapFull_INT_20260131.txt",
+        None,
+        Some(Kind::Member),
+    ),
+    (
+        "sct2_sRefset_OWLExpressionFull_INT_20260131.txt",
+        None,
+        Some(Kind::Member),
+    ),
+    (
+        "sct2_sRefset_OWLExpressionFull_INT_20260131.csv",
+        None,
+        None,
+    ),
+    (
+        "der2_sRefset_AssociationFull_INT_20260131.txt",
+        None,
+        Some(Kind::Member),
+    ),
     ("der2_cdRefset_LanguageFull_INT_20260131.txt", None, None),
     ("der2_CRefset_LanguageFull_INT_20260131.txt", None, None),
     ("xder2_cRefset_LanguageFull-en_INT_20260131.txt", None, None),
@@ -507,13 +574,28 @@ fn kinds_of_files_in_each_scope(rt: HostRuntime) {
 /// The folders and the files of a package, as they are read.
 const PACKAGE: [(&str, &str); 8] = [
     ("Terminology", "sct2_Concept_Full_INT_20260131.txt"),
-    ("Terminology", "sct2_TextDefinition_Full-en_INT_20260131.txt"),
-    ("Terminology", "sct2_sRefset_OWLExpressionFull_INT_20260131.txt"),
+    (
+        "Terminology",
+        "sct2_TextDefinition_Full-en_INT_20260131.txt",
+    ),
+    (
+        "Terminology",
+        "sct2_sRefset_OWLExpressionFull_INT_20260131.txt",
+    ),
     ("Refset/Content", "der2_Refset_SimpleFull_INT_20260131.txt"),
-    ("Refset/Content", "der2_cRefset_AssociationFull_INT_20260131.txt"),
-    ("Refset/Language", "der2_cRefset_LanguageFull-en_INT_20260131.txt"),
+    (
+        "Refset/Content",
+        "der2_cRefset_AssociationFull_INT_20260131.txt",
+    ),
+    (
+        "Refset/Language",
+        "der2_cRefset_LanguageFull-en_INT_20260131.txt",
+    ),
     ("Refset/Map", "der2_sRefset_SimpleMapFull_INT_20260131.txt"),
-    ("Refset/map", "der2_iisssccRefset_ExtendedMapFull_INT_20260131.txt"),
+    (
+        "Refset/map",
+        "der2_iisssccRefset_ExtendedMapFull_INT_20260131.txt",
+    ),
 ];
 
 /// Writes a package, and files beside its own that aren't read.
@@ -524,8 +606,14 @@ fn write_package(rt: &HostRuntime) -> Result<(), Fail> {
     }
     for (folder, name) in [
         ("Refset", "der2_Refset_SimpleFull_INT_20260131.txt"),
-        ("Refset/Map/old", "der2_sRefset_SimpleMapFull_INT_20250131.txt"),
-        ("Refset/Language", "der2_cRefset_LanguageSnapshot-en_INT_20260131.txt"),
+        (
+            "Refset/Map/old",
+            "der2_sRefset_SimpleMapFull_INT_20250131.txt",
+        ),
+        (
+            "Refset/Language",
+            "der2_cRefset_LanguageSnapshot-en_INT_20260131.txt",
+        ),
     ] {
         let folder = format!(in rt.alloc(); "releases/package/{folder}")?;
         write_in(rt, &folder, name, b"id")?;
@@ -603,7 +691,10 @@ fn what_stood_in_the_way_of_a_whole_package_is_told(rt: HostRuntime) -> Result<(
     rt.symlink("there", "releases/nowhere/Refset/Language")?;
     write_in(&rt, "releases/plain/Refset", "Content", b"")?;
     for (name, text) in WHOLE_OBSTACLES {
-        assert!(rt; obstacle_of(&rt, name, Scope::Whole)?.as_str() == text, "{name}");
+        assert!(rt;
+            obstacle_of(&rt, name, Scope::Whole)?.as_str() == text,
+            "{name}"
+        );
     }
     Ok(())
 }
